@@ -1,0 +1,3 @@
+pub mod HashLength
+pub mod ParameterSets
+pub mod Params

@@ -1,0 +1,8 @@
+//! The LMS parameter sets, and how keys, digests and signatures lie in bytes.
+#![tactic(auto)]
+
+mod faults;
+mod params;
+
+pub use faults::KeyFault;
+pub use params::{LmotsRow, LmsRow, Params};
