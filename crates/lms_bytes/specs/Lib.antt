@@ -1,3 +1,6 @@
+pub mod Bytes
+pub mod Digits
 pub mod HashLength
 pub mod ParameterSets
 pub mod Params
+pub mod Val

@@ -3,6 +3,8 @@
 
 mod faults;
 mod params;
+mod val;
 
 pub use faults::KeyFault;
 pub use params::{LmotsRow, LmsRow, Params};
+pub use val::Val;

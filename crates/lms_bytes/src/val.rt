@@ -1,0 +1,77 @@
+//! Hash values.
+
+ghost use Rattle.std.specs.Prelude.{◌≡◌, ℕ, ◌+◌, ◌-◌, ◌<◌, ◌≤◌, length, take, drop};
+ghost use Rattle.lms_bytes.specs.Bytes.{xor};
+ghost use Rattle.lms_bytes.specs.HashLength.{IsHashLength};
+
+use std::marker::Model;
+
+/// A hash value of 24 or 32 bytes: a chain value, a node, a digest, a randomizer or a mask.
+#[derive(Clone, Copy, Debug, PartialEq, Eq)]
+pub struct Val {
+    bytes: [u8; 32],
+    length: u8,
+}
+
+impl Model for Val {
+    ghost use Rattle.std.specs.Prelude.{ℕ, List, take};
+
+    ghost Value = { List ℕ };
+
+    ghost use Rattle.lms_bytes.specs.Val.{filled, IsFilled, filled-view};
+
+    ghost view = { λ v. take v.length v.bytes };
+
+    ghost invariant = { IsFilled };
+
+    ghost inverse = { filled };
+
+    ghost inverse_ok = { filled-view };
+}
+
+impl Val {
+    /// The value of these 24 or 32 bytes.
+    pub fn of(bytes: &[u8]) -> Val
+        requires { IsHashLength (length bytes.now) }
+        ensures { result ≡ bytes.now }
+    {
+        let mut out = [0; 32];
+        out[..bytes.len()].copy_from_slice(bytes);
+        Val {
+            bytes: out,
+            length: bytes.len() as u8,
+        }
+    }
+
+    /// Its bytes.
+    pub fn bytes(&self) -> &[u8]
+        ensures bytes { result.now ≡ self.now }
+        ensures hash_length { IsHashLength (length self.now) }
+    {
+        &self.bytes[..self.length as usize]
+    }
+
+    /// Each byte XOR the other's byte at its place.
+    pub fn xor(&self, other: &Val) -> Val
+        requires { length self.now ≡ length other.now }
+        ensures { result ≡ xor self.now other.now }
+    {
+        let mut out = [0; 32];
+        let (left, right) = (self.bytes(), other.bytes());
+        write_xor(left, right, &mut out[..left.len()]);
+        Val {
+            bytes: out,
+            length: left.len() as u8,
+        }
+    }
+}
+
+fn write_xor(left: &[u8], right: &[u8], out: &mut [u8])
+    requires others { length left.now ≡ length right.now }
+    requires room { length left.now ≡ length out.old }
+    ensures { out.new ≡ xor left.now right.now }
+{
+    for i in 0..left.len() {
+        out[i] = left[i] ^ right[i];
+    }
+}
