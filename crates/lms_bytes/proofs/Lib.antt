@@ -1,1 +1,3 @@
+pub mod Coef
+pub mod Shortfall
 pub mod Xor

@@ -49,6 +49,7 @@ pub struct Params {
     pub ghost ots_is: { lmots_row ots ≡ Some (record { n = n; w = w; p = p; ls = ls }) },
     pub ghost hash_length: { IsHashLength n } by { IsHashLength-prop n },
     pub ghost digit_width: { IsDigitWidth w } by { IsDigitWidth-prop w },
+    pub ghost checksum_shift: { ls ≤ 8 },
     pub ghost digest_digits: { 8 * n / w ≤ p },
     pub ghost checksum_digits: { p * w ≤ 8 * n + 16 },
     pub ghost checksum_fits: { 8 * n / w * (2 ^ w - 1) * 2 ^ ls < 2 ^ 16 },
@@ -64,6 +65,7 @@ fn find_lmots_row(code: u32) -> Option<LmotsRow>
     ensures row { result ≡ lmots_row code }
     ensures hash_length { IfSome result (λ r. IsHashLength r.n) }
     ensures digit_width { IfSome result (λ r. IsDigitWidth r.w) }
+    ensures checksum_shift { IfSome result (λ r. r.ls ≤ 8) }
     ensures digest_digits { IfSome result (λ r. 8 * r.n / r.w ≤ r.p) }
     ensures checksum_digits { IfSome result (λ r. r.p * r.w ≤ 8 * r.n + 16) }
     ensures checksum_fits { IfSome result (λ r. 8 * r.n / r.w * (2 ^ r.w - 1) * 2 ^ r.ls < 2 ^ 16) }
