@@ -1,3 +1,5 @@
 pub mod Coef
+pub mod Layouts
+pub mod Parts
 pub mod Shortfall
 pub mod Xor

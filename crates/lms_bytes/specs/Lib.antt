@@ -3,4 +3,6 @@ pub mod Digits
 pub mod HashLength
 pub mod ParameterSets
 pub mod Params
+pub mod PublicKey
+pub mod Signature
 pub mod Val

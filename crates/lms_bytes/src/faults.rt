@@ -14,3 +14,20 @@ pub enum KeyFault {
     /// The length in bytes is not that of the parameter set.
     Length { got: usize, want: usize },
 }
+
+/// Why bytes are no signature of a parameter set (RFC 8554 section 5.4.2, Algorithm 6a).
+#[derive(Clone, Copy, Debug, PartialEq, Eq)]
+pub enum SigFault {
+    /// Fewer than the eight bytes of the leaf's number and the LM-OTS typecode.
+    Short,
+    /// The LM-OTS typecode is not the key's.
+    OtsCode { got: u32 },
+    /// Too few bytes for the LM-OTS signature and the LMS typecode.
+    TooShort { got: usize },
+    /// The LMS typecode is not the key's.
+    LmsCode { got: u32 },
+    /// The tree has no leaf of this number.
+    Leaf { q: u32 },
+    /// The length in bytes is not that of the parameter set.
+    Length { got: usize, want: usize },
+}

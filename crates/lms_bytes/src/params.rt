@@ -49,6 +49,9 @@ pub struct Params {
     pub ghost ots_is: { lmots_row ots ≡ Some (record { n = n; w = w; p = p; ls = ls }) },
     pub ghost hash_length: { IsHashLength n } by { IsHashLength-prop n },
     pub ghost digit_width: { IsDigitWidth w } by { IsDigitWidth-prop w },
+    pub ghost lms_small: { lms ≤ 14 },
+    pub ghost ots_small: { ots ≤ 8 },
+    pub ghost height: { h ≤ 25 },
     pub ghost checksum_shift: { ls ≤ 8 },
     pub ghost digest_digits: { 8 * n / w ≤ p },
     pub ghost checksum_digits: { p * w ≤ 8 * n + 16 },
@@ -65,6 +68,7 @@ fn find_lmots_row(code: u32) -> Option<LmotsRow>
     ensures row { result ≡ lmots_row code }
     ensures hash_length { IfSome result (λ r. IsHashLength r.n) }
     ensures digit_width { IfSome result (λ r. IsDigitWidth r.w) }
+    ensures small { IfSome result (λ _. code ≤ 8) }
     ensures checksum_shift { IfSome result (λ r. r.ls ≤ 8) }
     ensures digest_digits { IfSome result (λ r. 8 * r.n / r.w ≤ r.p) }
     ensures checksum_digits { IfSome result (λ r. r.p * r.w ≤ 8 * r.n + 16) }
@@ -90,6 +94,8 @@ fn find_lmots_row(code: u32) -> Option<LmotsRow>
 #[tactic(auto, unfolding(crate::specs::ParameterSets::lms_row))]
 fn find_lms_row(code: u32) -> Option<LmsRow>
     ensures row { result ≡ lms_row code }
+    ensures small { IfSome result (λ _. code ≤ 14) }
+    ensures height { IfSome result (λ r. r.h ≤ 25) }
     ensures path_length { IfSome result (λ r. r.h * r.m ≤ 800) }
     ensures leaf_count { IfSome result (λ r. 2 ^ r.h ≤ 2 ^ 25) }
 {
