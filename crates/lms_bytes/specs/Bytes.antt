@@ -1,5 +1,5 @@
 -- Strings of bytes.
-use Rattle.std.specs.Prelude.{ℕ, List, [], ◌∷◌, take, drop, bit_xor}
+use Rattle.std.specs.Prelude.{ℕ, zero, suc, List, [], ◌∷◌, ◌++◌, take, drop, bit_xor}
 use Rattle.std.specs.Int.{w16, w32, to_be_bytes, from_be_bytes}
 
 -- u8str, u16str, u32str and strTou32 (RFC 8554 section 3.1.1)
@@ -23,3 +23,8 @@ bytes_at s place count = take count (drop place s)
 abbrev pub xor : List ℕ → List ℕ → List ℕ
 xor (a ∷ rest) (b ∷ others) = bit_xor a b ∷ xor rest others
 xor rest others = []
+
+-- f 0 || f 1 || .. || f (count - 1)
+unfoldable pub joined : (ℕ → List ℕ) → ℕ → List ℕ
+joined f zero = []
+joined f (suc count) = joined f count ++ f count

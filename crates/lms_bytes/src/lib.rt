@@ -1,7 +1,7 @@
 //! The LMS parameter sets, and how keys, digests and signatures lie in bytes.
 #![tactic(auto)]
 
-mod bytes;
+pub mod bytes;
 mod digits;
 mod faults;
 mod key_layout;

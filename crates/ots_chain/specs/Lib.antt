@@ -1,0 +1,4 @@
+pub mod Chains
+pub mod Hash
+pub mod LeafKey
+pub mod MessageHash
