@@ -27,7 +27,7 @@ fn checksum_of(params: &Params, digest: &Val) -> u16
     requires { length digest.now ≡ params.now.n }
     ensures { result ≡ checksum params.now digest.now }
 {
-    let sum = shortfall_of(digest.bytes(), params.w);
+    let sum = shortfall_of(digest.bytes(), params.w, params.greatest_digit());
     sum << params.ls
 }
 
@@ -49,24 +49,17 @@ fn digit_in(s: &[u8], i: usize, w: u8) -> u8
     }
 }
 
-/// How far the digits of `s` fall short of the greatest digit, together.
+/// How far the digits of `s` fall short of the greatest digit 2^w - 1, together.
 #[tactic(auto, unfolding(crate::specs::Digits::shortfall))]
-fn shortfall_of(s: &[u8], w: u8) -> u16
+fn shortfall_of(s: &[u8], w: u8, greatest: u16) -> u16
     requires width { IsDigitWidth w }
+    requires greatest { greatest ≡ 2 ^ w - 1 }
     requires short { length s.now ≤ 32 }
     ensures { result ≡ shortfall s.now w (8 * length s.now / w) }
 {
-    let greatest = greatest_digit(w);
     let mut sum = 0;
     'digits: for i in 0..8 * s.len() / w as usize {
         sum += greatest - digit_in(s, i, w) as u16;
     }
     sum
-}
-
-fn greatest_digit(w: u8) -> u16
-    requires { IsDigitWidth w }
-    ensures { result ≡ 2 ^ w - 1 }
-{
-    (1 << w) - 1
 }

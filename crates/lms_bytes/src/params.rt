@@ -145,4 +145,18 @@ impl Params {
             h: tree.h,
         })
     }
+
+    /// The number of leaves, 2^h.
+    pub fn leaves(&self) -> u32
+        ensures { result ≡ 2 ^ self.now.h }
+    {
+        1 << self.h
+    }
+
+    /// The greatest digit, 2^w - 1, which is also the number of steps in a chain.
+    pub fn greatest_digit(&self) -> u16
+        ensures { result ≡ 2 ^ self.now.w - 1 }
+    {
+        (1 << self.w) - 1
+    }
 }

@@ -70,7 +70,7 @@ fn find_fault(params: &Params, bytes: &[u8]) -> Option<SigFault>
         return Some(SigFault::LmsCode { got });
     }
     let leaf = u32_at(bytes, 0);
-    if leaf >= 1 << params.h {
+    if leaf >= params.leaves() {
         return Some(SigFault::Leaf { q: leaf });
     }
     let want = tree + 4 + n * params.h as usize;

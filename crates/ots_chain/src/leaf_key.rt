@@ -2,7 +2,7 @@
 
 ghost use Rattle.std.specs.Prelude.{◌≡◌, ℕ, ◌+◌, ◌-◌, ◌*◌, ◌<◌, ◌≤◌, ◌^◌, ◌++◌, length, take};
 ghost use Rattle.lms_bytes.specs.Bytes.{bytes_at, u16str, u32str};
-ghost use Rattle.lms_bytes.specs.HashLength.{IsHashLength, IsDigitWidth};
+ghost use Rattle.lms_bytes.specs.HashLength.{IsHashLength};
 ghost use Rattle.ots_chain.specs.LeafKey.{seed_leaf_key, candidate_leaf_key};
 ghost use Rattle.ots_chain.specs.Hash.{hash};
 ghost use Rattle.sha2.specs.Hashers.{Holds256};
@@ -17,7 +17,7 @@ pub fn leaf_key_of(params: &Params, id: &KeyId, q: u32, seed: &Val) -> Val
     requires { length seed.now ≡ params.now.n }
     ensures { result ≡ seed_leaf_key params.now id.now q seed.now }
 {
-    let greatest = greatest_digit(params.w);
+    let greatest = params.greatest_digit();
     let mut hasher = begin_leaf_key(id, q);
     'chains: for i in 0..params.p {
         let start = secret(params, id, q, i, seed);
@@ -34,7 +34,7 @@ pub fn leaf_key_from(params: &Params, id: &KeyId, q: u32, digest: &Val, chains: 
     requires chains { length chains.now ≡ params.now.p * params.now.n }
     ensures { result ≡ candidate_leaf_key params.now id.now q digest.now chains.now }
 {
-    let greatest = greatest_digit(params.w);
+    let greatest = params.greatest_digit();
     let mut hasher = begin_leaf_key(id, q);
     'chains: for i in 0..params.p {
         let start = value_at(chains, params.n, i);
@@ -73,11 +73,4 @@ fn cut(digest: [u8; 32], n: u8) -> Val
     ensures { result ≡ take n digest }
 {
     Val::of(&digest[..n as usize])
-}
-
-fn greatest_digit(w: u8) -> u16
-    requires { IsDigitWidth w }
-    ensures { result ≡ 2 ^ w - 1 }
-{
-    (1 << w) - 1
 }
