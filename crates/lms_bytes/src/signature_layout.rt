@@ -1,6 +1,6 @@
 //! How LMS signatures are read and written.
 
-ghost use Rattle.std.specs.Prelude.{◌≡◌, ◌+◌, ◌*◌, ◌^◌, ◌<◌, ℕ, List, length, IfNone, IfOk, IfErr, IsOkAnd};
+ghost use Rattle.std.specs.Prelude.{◌≡◌, ◌+◌, ◌*◌, ◌^◌, ◌<◌, ℕ, List, length, None, IfNone, IfOk, OnOk, IfErr, IsOkAnd};
 ghost use Rattle.lms_bytes.specs.Bytes.{u32str, str_to_u32, bytes_at};
 ghost use Rattle.lms_bytes.specs.Signature.{HasLayout, signature_fault, signature_length, tree_place};
 
@@ -28,6 +28,7 @@ pub fn read_signature<'a>(params: &Params, bytes: &'a [u8]) -> Result<SigView<'a
         (q : ℕ) (c y path : List ℕ) → HasLayout params.now bytes.now q c y path
         → IsOkAnd result (λ s. (s.leaf ≡ q) × (s.c.now ≡ c) × (s.chains.now ≡ y) × (s.path.now ≡ path))
     }
+    ensures faultless { OnOk result (signature_fault params.now bytes.now ≡ None) }
     ensures refused { IfErr result (λ fault. signature_fault params.now bytes.now ≡ Some fault) }
 {
     if let Some(fault) = find_fault(params, bytes) {

@@ -7,7 +7,7 @@ ghost use Rattle.lms_bytes.specs.HashLength.{IsHashLength};
 use std::marker::Model;
 
 /// A hash value of 24 or 32 bytes: a chain value, a node, a digest, a randomizer or a mask.
-#[derive(Clone, Copy, Debug, PartialEq, Eq)]
+#[derive(Clone, Copy, Debug)]
 pub struct Val {
     bytes: [u8; 32],
     length: u8,
@@ -27,6 +27,27 @@ impl Model for Val {
     ghost inverse = { filled };
 
     ghost inverse_ok = { filled-view };
+}
+
+impl PartialEq for Val {
+    ghost use Rattle.std.specs.Str.{bytes_eq};
+    ghost use Rattle.std.specs.Cmp.Rules.{comparing};
+    ghost use Rattle.std.proofs.Common.{rules};
+
+    ghost eq = { bytes_eq };
+
+    ghost laws = { Prim.search (comparing, rules) };
+
+    fn eq(&self, other: &Val) -> bool {
+        self.bytes() == other.bytes()
+    }
+}
+
+impl Eq for Val {
+    ghost use Rattle.std.specs.Cmp.Rules.{comparing};
+    ghost use Rattle.std.proofs.Common.{rules};
+
+    ghost laws = { Prim.search (comparing, rules) };
 }
 
 impl Val {

@@ -15,7 +15,8 @@ use sha2::{Digest, Sha256};
 /// K of leaf `q` of the key with this seed (RFC 8554 section 4.3, Algorithm 1).
 pub fn leaf_key_of(params: &Params, id: &KeyId, q: u32, seed: &Val) -> Val
     requires { length seed.now ≡ params.now.n }
-    ensures { result ≡ seed_leaf_key params.now id.now q seed.now }
+    ensures leaf_key { result ≡ seed_leaf_key params.now id.now q seed.now }
+    ensures length { length result ≡ params.now.n }
 {
     let greatest = params.greatest_digit();
     let mut hasher = begin_leaf_key(id, q);
@@ -31,8 +32,9 @@ pub fn leaf_key_of(params: &Params, id: &KeyId, q: u32, seed: &Val) -> Val
 /// (RFC 8554 section 4.6, Algorithm 4b).
 pub fn leaf_key_from(params: &Params, id: &KeyId, q: u32, digest: &Val, chains: &[u8]) -> Val
     requires digest { length digest.now ≡ params.now.n }
-    requires chains { length chains.now ≡ params.now.p * params.now.n }
-    ensures { result ≡ candidate_leaf_key params.now id.now q digest.now chains.now }
+    requires chains { length chains.now ≡ params.now.n * params.now.p }
+    ensures leaf_key { result ≡ candidate_leaf_key params.now id.now q digest.now chains.now }
+    ensures length { length result ≡ params.now.n }
 {
     let greatest = params.greatest_digit();
     let mut hasher = begin_leaf_key(id, q);
@@ -70,7 +72,8 @@ fn value_at(values: &[u8], n: u8, i: u16) -> Val
 /// The first `n` bytes of a digest.
 fn cut(digest: [u8; 32], n: u8) -> Val
     requires { IsHashLength n }
-    ensures { result ≡ take n digest }
+    ensures bytes { result ≡ take n digest }
+    ensures length { length result ≡ n }
 {
     Val::of(&digest[..n as usize])
 }

@@ -48,9 +48,13 @@ impl MessageHash {
 
     /// The digest Q of the message (RFC 8554 section 4.5).
     pub fn finish(self) -> Val
-        ensures {
+        ensures digest {
             (params : Params) (id : List ℕ) (q : ℕ) (c message : List ℕ) → HasTaken self params id q c message
             → result ≡ message_digest params id q c message
+        }
+        ensures length {
+            (params : Params) (id : List ℕ) (q : ℕ) (c message : List ℕ) → HasTaken self params id q c message
+            → length result ≡ params.n
         }
     {
         let digest: [u8; 32] = self.hasher.finalize();

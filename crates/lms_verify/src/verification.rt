@@ -1,0 +1,71 @@
+//! RFC 8554's Algorithm 6.
+
+ghost use Rattle.std.specs.Prelude.{◌≡◌, ◌*◌, ◌^◌, ◌<◌, ℕ, Some, length};
+ghost use Rattle.lms_bytes.specs.Signature.{signature_fault};
+ghost use Rattle.lms_bytes.specs.declared.faults.SigFault.{SigFault};
+ghost use Rattle.lms_verify.specs.Accepts.{AcceptsAt, root_of_parts};
+ghost use Rattle.ots_chain.specs.MessageHash.{message_digest};
+ghost use Rattle.lms_verify.specs.Verdict.{IsVerdict};
+
+use lms_bytes::{PublicKey, SigFault, SigView, Val, read_signature};
+use merkle_path::root_from;
+use ots_chain::{MessageHash, leaf_key_from};
+
+/// What verification says of a message and a signature.
+#[derive(Clone, Copy, Debug, PartialEq, Eq)]
+pub enum Verdict {
+    /// The signature is accepted; this leaf signed.
+    Accepted { leaf: u32 },
+    /// The bytes are no signature of the key's parameter set.
+    Malformed(SigFault),
+    /// The signature leads to another root than the key's.
+    OtherRoot { got: Val, want: Val },
+}
+
+/// Verifies a signature that is all of `sig` (RFC 8554 section 5.4.2, Algorithm 6). It takes no memory.
+pub fn verify(key: &PublicKey, message: &[u8], sig: &[u8]) -> Verdict
+    ensures verdict { IsVerdict key.now message.now sig.now result }
+    ensures accepted { (q : ℕ) → AcceptsAt key.now message.now sig.now q → result ≡ Verdict.Accepted q }
+    ensures malformed {
+        (fault : SigFault) → signature_fault key.now.params sig.now ≡ Some fault → result ≡ Verdict.Malformed fault
+    }
+{
+    let view = match read_signature(&key.params, sig) {
+        Ok(view) => view,
+        Err(fault) => return Verdict::Malformed(fault),
+    };
+    let got = candidate_root_of(key, message, &view);
+    if got == key.root {
+        Verdict::Accepted { leaf: view.leaf }
+    } else {
+        Verdict::OtherRoot {
+            got,
+            want: key.root,
+        }
+    }
+}
+
+/// The candidate root that a signature leads to (RFC 8554 section 5.4.2, Algorithm 6a, steps 3 and 4).
+fn candidate_root_of(key: &PublicKey, message: &[u8], view: &SigView) -> Val
+    requires leaf { view.now.leaf < 2 ^ key.now.params.h }
+    requires c { length view.now.c.now ≡ key.now.params.n }
+    requires chains { length view.now.chains.now ≡ key.now.params.n * key.now.params.p }
+    requires path { length view.now.path.now ≡ key.now.params.n * key.now.params.h }
+    ensures { result ≡ root_of_parts key.now message.now view.now.leaf view.now.c.now view.now.chains.now view.now.path.now }
+{
+    let digest = digest_of(key, message, view);
+    let leaf_key = leaf_key_from(&key.params, &key.id, view.leaf, &digest, view.chains);
+    root_from(&key.params, &key.id, view.leaf, &leaf_key, view.path)
+}
+
+/// The digest of the message under the signature's randomizer.
+fn digest_of(key: &PublicKey, message: &[u8], view: &SigView) -> Val
+    requires { length view.now.c.now ≡ key.now.params.n }
+    ensures digest { result ≡ message_digest key.now.params key.now.id view.now.leaf view.now.c.now message.now }
+    ensures length { length result ≡ key.now.params.n }
+{
+    let c = Val::of(view.c);
+    let mut hash = MessageHash::new(&key.params, &key.id, view.leaf, &c);
+    hash.update(message);
+    hash.finish()
+}
