@@ -2,9 +2,11 @@
 
 ghost use Rattle.std.specs.Prelude.{◌≡◌, ◌<◌, ◌≤◌, ◌≢◌, ◌⊎◌, ℕ, Bool, List, Option, Some, None, length, option_map, IsTrue, IfOk};
 ghost use Rattle.disk_trait.specs.Faults.{Rose};
+ghost use Rattle.stream_io.specs.declared.store.ReadAllFault.TheVariants.{Failed, NoMemory};
 
+use crate::failed::Failed;
 use disk_trait::Faults;
-use std::alloc::Global;
+use std::alloc::{AllocError, Global};
 
 /// Why a file was not read.
 #[derive(Clone, Copy, Debug, PartialEq, Eq)]
@@ -18,6 +20,22 @@ pub enum ReadAllFault {
     },
     /// Want of memory.
     NoMemory,
+}
+
+impl From<Failed> for ReadAllFault {
+    ghost from_gives = { λ _ fault. fault ≡ Failed };
+
+    fn from(_failed: Failed) -> ReadAllFault {
+        ReadAllFault::Failed
+    }
+}
+
+impl From<AllocError> for ReadAllFault {
+    ghost from_gives = { λ _ fault. fault ≡ NoMemory };
+
+    fn from(_error: AllocError) -> ReadAllFault {
+        ReadAllFault::NoMemory
+    }
 }
 
 /// What files are read from.
