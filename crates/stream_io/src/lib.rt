@@ -24,3 +24,6 @@ pub use sink::{Sink, write_whole};
 pub use stdout_sink::StdoutSink;
 pub use store::{ReadAllFault, Store};
 pub use tcp_net::TcpNet;
+
+#[cfg(test)]
+mod tests;
