@@ -2,5 +2,7 @@
 #![tactic(auto)]
 
 mod faults;
+mod no_memory;
 
 pub use faults::Faults;
+pub use no_memory::NoMemory;

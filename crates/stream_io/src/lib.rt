@@ -1,0 +1,29 @@
+//! Streams, stores and nets: the traits by which the code above meets the outside, their forms in memory, and thin
+//! adapters over the system.
+#![tactic(auto)]
+
+mod calls;
+mod failed;
+mod file_store;
+mod mem_net;
+mod mem_sink;
+mod mem_store;
+mod net;
+mod sink;
+mod stdout_sink;
+mod store;
+mod tcp_net;
+
+pub use failed::Failed;
+pub use file_store::FileStore;
+pub use mem_net::MemNet;
+pub use mem_sink::MemSink;
+pub use mem_store::MemStore;
+pub use net::Net;
+pub use sink::{Sink, write_whole};
+pub use stdout_sink::StdoutSink;
+pub use store::{ReadAllFault, Store};
+pub use tcp_net::TcpNet;
+
+#[cfg(test)]
+mod tests;

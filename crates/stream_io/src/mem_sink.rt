@@ -1,0 +1,80 @@
+//! A sink in memory.
+
+ghost use Rattle.std.specs.Prelude.{◌≡◌, ◌-◌, ◌<◌, ◌↔◌, [], IsTrue, IfOk, true, vec_len, vec_capacity};
+ghost use Rattle.stream_io.specs.Calls.{is_empty};
+
+use crate::calls::Calls;
+use crate::failed::Failed;
+use crate::sink::Sink;
+use disk_trait::{Faults, NoMemory};
+use std::alloc::Global;
+
+/// A sink that keeps what is written to it, in memory that is taken when it is made.
+#[derive(Drop)]
+pub struct MemSink {
+    written: Vec<u8>,
+    most: usize,
+    calls: Calls,
+    ghost takes_some: { 0 < most },
+}
+
+impl MemSink {
+    /// A sink with room for `capacity` bytes. One write takes at most `most` bytes. The writes whose numbers are
+    /// listed fail; the first write has the number 0.
+    pub fn new(
+        alloc: Global,
+        capacity: usize,
+        most: usize,
+        failing: Vec<u64>,
+    ) -> Result<MemSink, NoMemory>
+        requires { 0 < most }
+        ensures told { IfOk result (λ s. IsTrue (⟦<MemSink as Sink>⟧.told s)) }
+        ensures steady { IfOk result (λ s. IsTrue (⟦<MemSink as Faults>⟧.steady s) ↔ (failing.items ≡ [])) }
+        ensures written { IfOk result (λ s. ⟦<MemSink as Sink>⟧.written s ≡ []) }
+        ensures room { IfOk result (λ s. ⟦<MemSink as Sink>⟧.room s ≡ capacity) }
+        ensures count { IfOk result (λ s. ⟦<MemSink as Faults>⟧.count s ≡ 0) }
+    {
+        let written = Vec::with_capacity(alloc, capacity)?;
+        Ok(MemSink {
+            written,
+            most,
+            calls: Calls::new(failing),
+        })
+    }
+
+    /// All that was written.
+    pub fn written(&self) -> &[u8]
+        ensures { result.now ≡ ⟦<MemSink as Sink>⟧.written self.now }
+    {
+        self.written.as_slice()
+    }
+}
+
+impl Faults for MemSink {
+    ghost count = { λ s. s.calls.faults };
+
+    ghost steady = { λ s. is_empty s.calls.failing.items };
+
+    fn faults(&self) -> u64 {
+        self.calls.faults
+    }
+}
+
+impl Sink for MemSink {
+    ghost told = { λ _. true };
+
+    ghost written = { λ s. s.written.items };
+
+    ghost room = { λ s. vec_capacity s.written - vec_len s.written };
+
+    fn write(&mut self, bytes: &[u8]) -> Result<usize, Failed> {
+        self.calls.make()?;
+        let room = self.written.capacity() - self.written.len();
+        let taken = bytes.len().min(self.most).min(room);
+        if taken < bytes.len().min(1) {
+            return Err(self.calls.fail());
+        }
+        self.written.extend_from_slice(&bytes[..taken]).unwrap();
+        Ok(taken)
+    }
+}

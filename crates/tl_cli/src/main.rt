@@ -1,0 +1,38 @@
+//! The program: the tool over files, sockets, the machine's clock and standard output.
+#![tactic(auto)]
+
+use disk_trait::NoMemory;
+use std::env;
+use std::io::ErrorKind;
+use std::process::ExitCode;
+use stream_io::{FileStore, StdoutSink, TcpNet, write_whole};
+use tool_run::{SystemClocks, run_tool};
+
+/// The words after the program's name. Where one of them is no text there are none, which is a faulty command line too.
+fn words(rt: &HostRuntime) -> Result<Vec<String>, NoMemory> {
+    match env::args(rt) {
+        Ok(words) => Ok(words.skip(1).collect(rt.alloc())?),
+        Err(error) if error.kind() == ErrorKind::OutOfMemory => Err(NoMemory),
+        Err(_) => Ok(Vec::new(rt.alloc())),
+    }
+}
+
+fn main(rt: HostRuntime) -> ExitCode {
+    let mut out = StdoutSink::new(rt);
+    let Ok(words) = words(&rt) else {
+        let _ = write_whole(&mut out, b"error 14 memory\n");
+        return ExitCode::from(14);
+    };
+    let mut store = FileStore::new(rt);
+    let mut net = TcpNet::new();
+    let mut time = SystemClocks::new(rt);
+    ExitCode::from(run_tool(
+        &rt,
+        rt.alloc(),
+        words.as_slice(),
+        &mut store,
+        &mut net,
+        &mut time,
+        &mut out,
+    ))
+}
