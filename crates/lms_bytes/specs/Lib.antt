@@ -1,5 +1,6 @@
 pub mod Bytes
 pub mod Digits
+pub mod FaultNumbers
 pub mod HashLength
 pub mod ParameterSets
 pub mod Params

@@ -1,5 +1,7 @@
 //! Why keys and signatures are refused.
 
+ghost use Rattle.std.specs.Prelude.{◌≡◌};
+
 /// Why bytes are no public key, or why typecodes are no parameter set.
 #[derive(Clone, Copy, Debug, PartialEq, Eq)]
 pub enum KeyFault {
@@ -13,6 +15,23 @@ pub enum KeyFault {
     MixedWidths,
     /// The length in bytes is not that of the parameter set.
     Length { got: usize, want: usize },
+}
+
+impl KeyFault {
+    ghost use Rattle.lms_bytes.specs.FaultNumbers.{key_fault_number};
+
+    /// The number that users see: the place of its test in the order of the tests, from 1 on.
+    pub fn number(&self) -> u8
+        ensures { result ≡ key_fault_number self.now }
+    {
+        match self {
+            KeyFault::Short => 1,
+            KeyFault::UnknownLms { .. } => 2,
+            KeyFault::UnknownOts { .. } => 3,
+            KeyFault::MixedWidths => 4,
+            KeyFault::Length { .. } => 5,
+        }
+    }
 }
 
 /// Why bytes are no signature of a parameter set (RFC 8554 section 5.4.2, Algorithm 6a).
@@ -30,4 +49,22 @@ pub enum SigFault {
     Leaf { q: u32 },
     /// The length in bytes is not that of the parameter set.
     Length { got: usize, want: usize },
+}
+
+impl SigFault {
+    ghost use Rattle.lms_bytes.specs.FaultNumbers.{signature_fault_number};
+
+    /// The number that users see: the place of its test in the order of the tests, from 1 on.
+    pub fn number(&self) -> u8
+        ensures { result ≡ signature_fault_number self.now }
+    {
+        match self {
+            SigFault::Short => 1,
+            SigFault::OtsCode { .. } => 2,
+            SigFault::TooShort { .. } => 3,
+            SigFault::LmsCode { .. } => 4,
+            SigFault::Leaf { .. } => 5,
+            SigFault::Length { .. } => 6,
+        }
+    }
 }

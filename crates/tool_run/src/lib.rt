@@ -2,12 +2,17 @@
 #![tactic(auto)]
 
 mod clocks;
+mod ending;
 mod split;
 mod tool;
+mod verify;
 mod words;
 
 pub use clocks::{Clocks, MemClock, MemClocks, SystemClock, SystemClocks};
 pub use tool::run_tool;
+
+/// The longest file that is read whole, in bytes.
+pub const FILE_LIMIT: u64 = 67_108_864;
 
 #[cfg(test)]
 mod tests;

@@ -1,0 +1,14 @@
+-- The ends of the program's calls as ends.
+use Rattle.std.specs.Prelude.{string_bytes}
+use Rattle.tool_run.specs.Ending as spec
+use Rattle.tool_run.specs.declared.ending.Ending.{Ending}
+use Rattle.tool_run.specs.declared.ending.Ending.TheVariants.{Verified, Usage, StoreFailed, Unreadable, TooLong, NoMemory}
+
+-- the end, with the bytes of the names in it
+abbrev pub ending : Ending → spec.Ending
+ending (Verified verdict) = spec.Verified verdict
+ending Usage = spec.Usage
+ending StoreFailed = spec.StoreFailed
+ending (Unreadable name fault) = spec.Unreadable (string_bytes name) fault
+ending (TooLong got) = spec.TooLong got
+ending NoMemory = spec.NoMemory
