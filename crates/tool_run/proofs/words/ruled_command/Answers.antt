@@ -1,5 +1,3 @@
-use Rattle.std.proofs.Common.{rules, string_bytes}
-use Rattle.tool_run.specs.Words.{is_option}
 use Rattle.tool_run.proofs.Options.{list_any-map}
 use Rattle.tool_run.proofs.words.ruled_command.Goals as goal
 
