@@ -27,5 +27,5 @@ row_of [] = None
 row_of (name ∷ words) = if bytes_eq name (codes "verify") then verify_of words else None
 
 -- the command that the words are, if they are one: none where a word begins with `-`
-abbrev pub command_of : List (List ℕ) → Option Row
+unfoldable pub command_of : List (List ℕ) → Option Row
 command_of words = if list_any is_option words then None else row_of words

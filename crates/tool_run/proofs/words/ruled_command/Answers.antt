@@ -1,10 +1,11 @@
-use Rattle.std.proofs.Common.{rules, string_bytes}
-use Rattle.tool_run.specs.Words.{is_option}
+use Rattle.tool_run.specs.Words.{command_of}
 use Rattle.tool_run.proofs.Options.{list_any-map}
 use Rattle.tool_run.proofs.words.ruled_command.Goals as goal
 
 pub returns-then-has_option : goal.returns-then-has_option
+unfolding command_of
 returns-then-has_option c = rw list_any-map (rw (← c.has_option.ensures, c.if-has_option.true))
 
 pub returns : goal.returns
+unfolding command_of
 returns c = rw list_any-map (rw (← c.has_option.ensures, c.if-has_option.false) c.row_of.ensures)
