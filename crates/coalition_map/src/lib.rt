@@ -4,6 +4,8 @@
 pub mod laws;
 mod members;
 mod plan;
+#[cfg(test)]
+mod tests;
 
 pub use members::Members;
 pub use plan::{Plan, PlanFault};
