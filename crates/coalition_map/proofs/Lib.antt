@@ -1,0 +1,2 @@
+pub mod Unranking
+pub mod Ranking

@@ -1,0 +1,5 @@
+use Rattle.coalition_map.specs.CoalitionLaws.{coalition-distinct}
+use Rattle.coalition_map.proofs.laws.one_number_each.Goals as goal
+
+pub returns : goal.returns
+returns c = coalition-distinct
