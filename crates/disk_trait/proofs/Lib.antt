@@ -1,0 +1,6 @@
+mod Calls
+mod Filled
+mod Images
+mod Marks
+mod States
+mod Written

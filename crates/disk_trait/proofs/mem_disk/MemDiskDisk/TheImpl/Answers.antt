@@ -1,0 +1,41 @@
+use Rattle.std.proofs.Common.{length, refl, rules}
+use Rattle.disk_trait.specs.MemDisk.{write_fails, sync_fails}
+use Rattle.disk_trait.proofs.Calls.{write-bytes, write-torn, write-cause, write-count, write-steady, write-room, sync-stable, sync-images, sync-cause, sync-count, sync-bytes, sync-steady, sync-room}
+use Rattle.disk_trait.proofs.mem_disk.MemDiskDisk.TheImpl.Goals as goal
+
+pub write_at-tells : goal.write_at-tells
+write_at-tells c =
+    let disk = c.args.self.now in
+    let bytes = c.args.bytes.now in
+    let fails = write_fails disk c.args.at (length bytes) in
+    record {
+      bytes = λ told. rw (c.ensures.outcome, c.ensures.after) (write-bytes disk c.args.at bytes fails);
+      torn = λ told. rw (c.ensures.outcome, c.ensures.after) (write-torn disk c.args.at bytes fails);
+      images = λ honest. c.ensures.images;
+      within = search rules;
+      fits = search rules;
+      succeeds = search rules;
+      cause = rw (c.ensures.outcome, c.ensures.after) (write-cause disk c.args.at bytes fails);
+      count = rw c.ensures.after (write-count disk c.args.at bytes fails);
+      stays_told = refl;
+      stays_honest = refl;
+      stays_steady = rw c.ensures.after (write-steady disk c.args.at bytes fails);
+      stays_room = rw c.ensures.after (write-room disk c.args.at bytes fails);
+    }
+
+pub sync-tells : goal.sync-tells
+sync-tells c =
+    let disk = c.args.self.now in
+    let fails = sync_fails disk in
+    record {
+      stable = λ honest told. rw (c.ensures.outcome, c.ensures.after) (sync-stable disk fails);
+      images = λ honest. rw c.ensures.after (sync-images disk fails);
+      same = λ told. rw c.ensures.after (sync-bytes disk fails);
+      succeeds = search rules;
+      cause = rw (c.ensures.outcome, c.ensures.after) (sync-cause disk fails);
+      count = rw c.ensures.after (sync-count disk fails);
+      stays_told = refl;
+      stays_honest = refl;
+      stays_steady = rw c.ensures.after (sync-steady disk fails);
+      stays_room = rw c.ensures.after (sync-room disk fails);
+    }
