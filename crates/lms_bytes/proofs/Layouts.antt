@@ -1,11 +1,16 @@
 -- A signature's parts, found again in its bytes.
-use Rattle.std.proofs.Common.{◌≡◌, ℕ, ◌+◌, ◌*◌, ◌^◌, ◌<◌, ◌≤◌, List, [], ◌++◌, length, None, Some, Bool, true, false, nat_lt, ◌==◌, refl, sym, ◌∙◌, ap, append_assoc, arith, length-append, append-nil}
+use Rattle.std.proofs.Common.{◌≡◌, ℕ, ◌+◌, ◌*◌, ◌^◌, ◌<◌, ◌≤◌, List, [], ◌++◌, length, Option, None, Some, Bool, true, false, nat_lt, ◌==◌, refl, sym, ◌∙◌, ap, append_assoc, arith, length-append, append-nil}
 use Rattle.std.proofs.Math.Seq.{drop-append_seam, take-append_seam}
 use Rattle.std.proofs.lemmas.Nat.{from_be_bytes-to_be_bytes_4}
 use Rattle.std.proofs.lemmas.Bool.Decides.{nat_tests}
 use Rattle.lms_bytes.specs.Bytes.{bytes_at, u32str, str_to_u32}
+use Rattle.lms_bytes.specs.ParameterSets.{lms_row, lmots_row}
+use Rattle.lms_bytes.specs.Params.{codes_fault}
+use Rattle.lms_bytes.specs.PublicKey.{public_bytes}
 use Rattle.lms_bytes.specs.Signature.{HasLayout, signature_fault, signature_length, tree_place}
+use Rattle.lms_bytes.specs.declared.params.LmsRow.{LmsRow}
 use Rattle.lms_bytes.specs.declared.params.Params.{Params}
+use Rattle.lms_bytes.specs.declared.public_key.PublicKey.{PublicKey}
 
 -- a part that others stand round
 middle : (x y z s : List ℕ) (place count : ℕ) → s ≡ x ++ (y ++ z) → place ≡ length x → count ≡ length y → bytes_at s place count ≡ y
@@ -93,3 +98,38 @@ layout_passes params bytes q c y path l =
     let same_ots : params.ots == params.ots ≡ true = grind (arith, nat_tests) in
     let same_lms : params.lms == params.lms ≡ true = grind (arith, nat_tests) in
     rw (e0, e4, et, long, same_ots, enough, same_lms, inside, exact) refl
+
+-- what lies where in the bytes of a public key
+pub record KeyLies (key : PublicKey) (bytes : List ℕ) : Type 0 where
+  pub len : length bytes ≡ 24 + key.params.n
+  pub lms_at : str_to_u32 (bytes_at bytes 0 4) ≡ key.params.lms
+  pub ots_at : str_to_u32 (bytes_at bytes 4 4) ≡ key.params.ots
+  pub id_at : bytes_at bytes 8 16 ≡ key.id
+  pub root_at : bytes_at bytes 24 key.params.n ≡ key.root
+
+pub key_lies : (key : PublicKey) (bytes : List ℕ) → bytes ≡ public_bytes key → KeyLies key bytes
+key_lies key bytes parts =
+    let a = u32str key.params.lms in
+    let b = u32str key.params.ots in
+    let id_length = key.id_length in
+    let root_length = key.root_length in
+    record {
+      len = ap length parts ∙ simp length-append (omega arith);
+      lms_at = number_of key.params.lms (bytes_at bytes 0 4) (omega (arith, key.params.lms_small)) (rw parts refl);
+      ots_at = number_of key.params.ots (bytes_at bytes 4 4) (omega (arith, key.params.ots_small)) (rw parts refl);
+      id_at = middle (a ++ b) key.id key.root bytes _ _ (parts ∙ simp append_assoc) refl (sym id_length);
+      root_at = middle ((a ++ b) ++ key.id) key.root [] bytes 24 key.params.n (parts ∙ rw (append-nil key.root) refl) (simp length-append (omega arith)) (sym root_length)
+    }
+
+-- the typecodes of a parameter set are accepted
+pub codes_accepted : (params : Params) → codes_fault params.lms params.ots ≡ None
+unfolding codes_fault
+codes_accepted params =
+    let same : params.n == params.n ≡ true = grind (arith, nat_tests) in
+    rw (params.lms_is, codes_fault) (rw (params.ots_is) (rw same refl))
+
+-- the LMS typecode decides the hash length
+pub same_hash_length : (a b : Params) → a.lms ≡ b.lms → a.n ≡ b.n
+same_hash_length a b same =
+    let m : Option LmsRow → ℕ = λ row. elim row [ None ↦ 0 | Some tree ↦ tree.m ] in
+    ap m (sym a.lms_is ∙ (ap lms_row same ∙ b.lms_is))

@@ -1,5 +1,5 @@
 -- Parts of a string, one behind the other.
-use Rattle.std.proofs.Common.{◌≡◌, ℕ, ◌+◌, ◌<◌, ◌≤◌, List, ◌++◌, length, get_or, take, drop, refl, sym, inl, inr, arith, length-take, length-drop, take_all}
+use Rattle.std.proofs.Common.{◌≡◌, ℕ, ◌+◌, ◌-◌, ◌<◌, ◌≤◌, List, ◌++◌, length, get_or, take, drop, refl, sym, ap, ◌∙◌, inl, inr, arith, length-take, length-drop, take_all}
 use Rattle.std.proofs.lemmas.Bool.{cases_lt}
 use Rattle.std.proofs.lemmas.List.{get_or-take, get_or-drop, get_or_past, drop-drop}
 use Rattle.std.proofs.lemmas.Nat.{be_bytes_4}
@@ -44,3 +44,11 @@ six_parts s a b c d e f n m k len is_a is_b is_c is_d is_e is_f =
     let all : length s ≡ 8 + n + m + 4 + k = omega arith in
     rw (is_a, is_b, is_c, is_d, is_e, is_f, front s 4 4, front s 8 n, front s (8 + n) m, front s (8 + n + m) 4, front s (8 + n + m + 4) k)
     (whole s (8 + n + m + 4 + k) all)
+
+-- what agrees from a place on agrees from a later one on
+pub deeper : (a b : List ℕ) (m n : ℕ) → drop m a ≡ drop m b → m ≤ n → drop n a ≡ drop n b
+deeper a b m n e h =
+    let k : m + (n - m) ≡ n = omega arith in
+    let at_a : drop n a ≡ drop (n - m) (drop m a) = rw (drop-drop, k) refl in
+    let at_b : drop n b ≡ drop (n - m) (drop m b) = rw (drop-drop, k) refl in
+    at_a ∙ (ap (drop (n - m)) e ∙ sym at_b)

@@ -2,6 +2,8 @@ pub mod Bytes
 pub mod Digits
 pub mod FaultNumbers
 pub mod HashLength
+pub mod IdHash
+pub mod MessageId
 pub mod ParameterSets
 pub mod Params
 pub mod PublicKey

@@ -1,5 +1,5 @@
 -- How a public key lies in bytes.
-use Rattle.std.specs.Prelude.{ℕ, ◌+◌, List, ◌++◌, length, Option, Some, None, ◌==◌, nat_lt, if◌then◌else◌}
+use Rattle.std.specs.Prelude.{◌≡◌, ℕ, ◌+◌, List, ◌++◌, length, Option, Some, None, ◌==◌, nat_lt, if◌then◌else◌}
 use Rattle.lms_bytes.specs.Bytes.{u32str, str_to_u32, bytes_at}
 use Rattle.lms_bytes.specs.ParameterSets.{lms_row}
 use Rattle.lms_bytes.specs.Params.{codes_fault}
@@ -10,6 +10,13 @@ use Rattle.lms_bytes.specs.declared.faults.KeyFault.TheVariants.{Short, Length}
 -- u32str(type) || u32str(otstype) || I || T[1] (RFC 8554 section 5.3)
 abbrev pub public_bytes : PublicKey → List ℕ
 public_bytes key = u32str key.params.lms ++ u32str key.params.ots ++ key.id ++ key.root
+
+-- two keys have the same typecodes, identifier and root: all else of them follows from the typecodes
+pub record SameKey (a b : PublicKey) : Type 0 where
+  pub lms : b.params.lms ≡ a.params.lms
+  pub ots : b.params.ots ≡ a.params.ots
+  pub id : b.id ≡ a.id
+  pub root : b.root ≡ a.root
 
 -- the length of a public key of this LMS typecode
 abbrev pub public_length : ℕ → ℕ

@@ -1,9 +1,10 @@
 //! How public keys are read and written.
 
-ghost use Rattle.std.specs.Prelude.{◌≡◌, ◌+◌, ◌++◌, length, None, Some, IfOk, IfErr};
-ghost use Rattle.lms_bytes.specs.PublicKey.{public_bytes, public_fault};
+ghost use Rattle.std.specs.Prelude.{◌≡◌, ◌+◌, ◌≤◌, ◌++◌, length, take, drop, None, Some, IfOk, OnOk, IfErr, IsOkAnd};
+ghost use Rattle.lms_bytes.specs.PublicKey.{SameKey, public_bytes, public_fault};
+ghost use Rattle.lms_bytes.specs.declared.public_key.PublicKey.{PublicKey};
 
-use crate::bytes::{part, u32_at};
+use crate::bytes::{part, put, u32_at};
 use crate::faults::KeyFault;
 use crate::params::Params;
 use crate::public_key::PublicKey;
@@ -13,7 +14,8 @@ use crate::val::Val;
 #[tactic(auto, unfolding(crate::specs::PublicKey::public_fault))]
 pub fn read_public(bytes: &[u8]) -> Result<PublicKey, KeyFault>
     ensures key { IfOk result (λ key. bytes.now ≡ public_bytes key) }
-    ensures accepted { IfOk result (λ _. public_fault bytes.now ≡ None) }
+    ensures read { (key : PublicKey) → bytes.now ≡ public_bytes key → IsOkAnd result (SameKey key) }
+    ensures faultless { OnOk result (public_fault bytes.now ≡ None) }
     ensures refused { IfErr result (λ fault. public_fault bytes.now ≡ Some fault) }
 {
     if bytes.len() < 8 {
@@ -34,4 +36,18 @@ pub fn read_public(bytes: &[u8]) -> Result<PublicKey, KeyFault>
         id,
         root: Val::of(part(bytes, 24, params.n as usize)),
     })
+}
+
+/// Writes a public key at the front of `out`, and answers its length, `24 + n`.
+pub fn write_public(key: &PublicKey, out: &mut [u8]) -> usize
+    requires { 24 + key.now.params.n ≤ length out.old }
+    ensures length { result ≡ 24 + key.now.params.n }
+    ensures bytes { take result out.new ≡ public_bytes key.now }
+    ensures rest { drop result out.new ≡ drop result out.old }
+{
+    put(out, 0, &key.params.lms.to_be_bytes());
+    put(out, 4, &key.params.ots.to_be_bytes());
+    put(out, 8, &key.id);
+    put(out, 24, key.root.bytes());
+    24 + key.params.n as usize
 }

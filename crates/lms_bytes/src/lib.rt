@@ -2,18 +2,22 @@
 #![tactic(auto)]
 
 pub mod bytes;
+mod ask;
 mod digits;
 mod faults;
 mod key_layout;
+mod message;
 mod params;
 mod public_key;
 mod signature_layout;
 mod val;
 
+pub use ask::{Ask, ReplyHead, Second};
 pub use digits::digit;
 pub use faults::{KeyFault, SigFault};
-pub use key_layout::read_public;
+pub use key_layout::{read_public, write_public};
+pub use message::{IdHash, LIMIT, MessageId};
 pub use params::{LmotsRow, LmsRow, Params};
 pub use public_key::{KeyId, PublicKey};
-pub use signature_layout::{SigView, read_signature};
+pub use signature_layout::{SigView, read_signature, write_layout};
 pub use val::Val;

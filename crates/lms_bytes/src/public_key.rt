@@ -15,5 +15,6 @@ pub struct PublicKey {
     pub id: KeyId,
     /// The node T[1], of the set's hash length.
     pub root: Val,
+    pub ghost id_length: { length id ≡ 16 },
     pub ghost root_length: { length root ≡ params.n },
 }

@@ -1,12 +1,13 @@
 //! How LMS signatures are read and written.
 
-ghost use Rattle.std.specs.Prelude.{◌≡◌, ◌+◌, ◌*◌, ◌^◌, ◌<◌, ℕ, List, length, None, IfNone, IfOk, OnOk, IfErr, IsOkAnd};
+ghost use Rattle.std.specs.Prelude.{◌≡◌, ◌+◌, ◌*◌, ◌^◌, ◌<◌, ◌≤◌, ℕ, List, length, take, drop, None, IfNone, IfOk, OnOk, IfErr, IsOkAnd};
 ghost use Rattle.lms_bytes.specs.Bytes.{u32str, str_to_u32, bytes_at};
-ghost use Rattle.lms_bytes.specs.Signature.{HasLayout, signature_fault, signature_length, tree_place};
+ghost use Rattle.lms_bytes.specs.Signature.{HasLayout, signature_bytes, signature_fault, signature_length, tree_place};
 
-use crate::bytes::{part, u32_at};
+use crate::bytes::{part, put, u32_at};
 use crate::faults::SigFault;
 use crate::params::Params;
+use crate::val::Val;
 
 /// The parts of an LMS signature, where they lie.
 #[derive(Clone, Copy, Debug, PartialEq, Eq)]
@@ -82,4 +83,32 @@ fn find_fault(params: &Params, bytes: &[u8]) -> Option<SigFault>
         });
     }
     None
+}
+
+/// Writes the signature with these parts at the front of `out`, and answers its length.
+pub fn write_layout(
+    params: &Params,
+    leaf: u32,
+    c: &Val,
+    chains: &[u8],
+    path: &[u8],
+    out: &mut [u8],
+) -> usize
+    requires c { length c.now ≡ params.now.n }
+    requires chains { length chains.now ≡ params.now.n * params.now.p }
+    requires path { length path.now ≡ params.now.n * params.now.h }
+    requires room { signature_length params.now ≤ length out.old }
+    ensures length { result ≡ signature_length params.now }
+    ensures bytes { take result out.new ≡ signature_bytes params.now leaf c.now chains.now path.now }
+    ensures rest { drop result out.new ≡ drop result out.old }
+{
+    let n = params.n as usize;
+    let tree = 8 + n + chains.len();
+    put(out, 0, &leaf.to_be_bytes());
+    put(out, 4, &params.ots.to_be_bytes());
+    put(out, 8, c.bytes());
+    put(out, 8 + n, chains);
+    put(out, tree, &params.lms.to_be_bytes());
+    put(out, tree + 4, path);
+    tree + 4 + path.len()
 }
