@@ -51,7 +51,7 @@ lies params bytes q c y path l =
       c_at = middle (a ++ b) c (y ++ (e ++ path)) bytes _ _ (parts ∙ simp append_assoc) refl (sym c_length);
       y_at = middle ((a ++ b) ++ c) y (e ++ path) bytes _ _ (parts ∙ simp append_assoc) (simp length-append (omega arith)) (sym y_length);
       lms_at = middle (((a ++ b) ++ c) ++ y) e path bytes _ _ (parts ∙ simp append_assoc) place refl;
-      path_at = middle ((((a ++ b) ++ c) ++ y) ++ e) path [] bytes _ _ (parts ∙ rw (append-nil path) refl) (simp length-append (omega arith)) (sym path_length)
+      path_at = middle ((((a ++ b) ++ c) ++ y) ++ e) path [] bytes _ _ (parts ∙ rw (append-nil path) refl) (simp length-append (omega arith)) (sym path_length);
     }
 
 number_of : (x : ℕ) (s : List ℕ) → x < 2 ^ 32 → s ≡ u32str x → str_to_u32 s ≡ x
@@ -76,7 +76,7 @@ one_layout params bytes q q' c y path c' y' path' l l' =
       leaf = sym (number_of q _ (leaf_fits params q l.leaf) a.q_at) ∙ number_of q' _ (leaf_fits params q' l'.leaf) b.q_at;
       c_same = sym a.c_at ∙ b.c_at;
       y_same = sym a.y_at ∙ b.y_at;
-      path_same = sym a.path_at ∙ b.path_at
+      path_same = sym a.path_at ∙ b.path_at;
     }
 
 -- what has a layout passes every test
@@ -118,7 +118,7 @@ key_lies key bytes parts =
       lms_at = number_of key.params.lms (bytes_at bytes 0 4) (omega (arith, key.params.lms_small)) (rw parts refl);
       ots_at = number_of key.params.ots (bytes_at bytes 4 4) (omega (arith, key.params.ots_small)) (rw parts refl);
       id_at = middle (a ++ b) key.id key.root bytes _ _ (parts ∙ simp append_assoc) refl (sym id_length);
-      root_at = middle ((a ++ b) ++ key.id) key.root [] bytes 24 key.params.n (parts ∙ rw (append-nil key.root) refl) (simp length-append (omega arith)) (sym root_length)
+      root_at = middle ((a ++ b) ++ key.id) key.root [] bytes 24 key.params.n (parts ∙ rw (append-nil key.root) refl) (simp length-append (omega arith)) (sym root_length);
     }
 
 -- the typecodes of a parameter set are accepted

@@ -13,8 +13,8 @@ bytes_at-below : (s : List ℕ) (place count : ℕ) → ((i : ℕ) → get_or s 
 bytes_at-below s place count below i = elim (cases_lt i count) [
   | inl h ↦ rw (get_or-take count (drop place s) i 0 h, get_or-drop place s i 0) (below (place + i))
   | inr h ↦
-    let past : length (bytes_at s place count) ≤ i = omega (arith, length-take count (drop place s)) in
-    rw (get_or_past (bytes_at s place count) i 0 past) (omega arith)
+      let past : length (bytes_at s place count) ≤ i = omega (arith, length-take count (drop place s)) in
+      rw (get_or_past (bytes_at s place count) i 0 past) (omega arith)
 ]
 
 -- the number in four bytes, written again

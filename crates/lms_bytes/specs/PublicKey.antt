@@ -20,7 +20,7 @@ pub record SameKey (a b : PublicKey) : Type 0 where
 
 -- the length of a public key of this LMS typecode
 abbrev pub public_length : ℕ → ℕ
-public_length lms = elim (lms_row lms) [ | None ↦ 0 | Some tree ↦ 24 + tree.m ]
+public_length lms = elim (lms_row lms) [ None ↦ 0 | Some tree ↦ 24 + tree.m ]
 
 -- the first test of RFC 8554's Algorithm 6, step 1 to 2, that bytes fail as a public key, or none
 unfoldable pub public_fault : List ℕ → Option KeyFault
@@ -29,6 +29,6 @@ public_fault bytes =
     elim (codes_fault (str_to_u32 (bytes_at bytes 0 4)) (str_to_u32 (bytes_at bytes 4 4))) [
       | Some fault ↦ Some fault
       | None ↦
-        let want = public_length (str_to_u32 (bytes_at bytes 0 4)) in
-        if length bytes == want then None else Some (Length (length bytes) want)
+          let want = public_length (str_to_u32 (bytes_at bytes 0 4)) in
+          if length bytes == want then None else Some (Length (length bytes) want)
     ]

@@ -33,10 +33,10 @@ signature_fault params bytes =
     let q = str_to_u32 (bytes_at bytes 0 4) in
     if nat_lt (length bytes) 8 then Some Short else
     if ots == params.ots then (
-      if nat_lt (length bytes) (12 + params.n * (params.p + 1)) then Some (TooShort (length bytes)) else
-      if lms == params.lms then (
-        if nat_lt q (2 ^ params.h) then (
-          if length bytes == signature_length params then None else Some (Length (length bytes) (signature_length params))
-        ) else Some (Leaf q)
-      ) else Some (LmsCode lms)
+    if nat_lt (length bytes) (12 + params.n * (params.p + 1)) then Some (TooShort (length bytes)) else
+    if lms == params.lms then (
+    if nat_lt q (2 ^ params.h) then (
+    if length bytes == signature_length params then None else Some (Length (length bytes) (signature_length params))
+    ) else Some (Leaf q)
+    ) else Some (LmsCode lms)
     ) else Some (OtsCode ots)

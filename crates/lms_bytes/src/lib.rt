@@ -1,8 +1,8 @@
 //! The LMS parameter sets, and how keys, digests and signatures lie in bytes.
 #![tactic(auto)]
 
-pub mod bytes;
 mod ask;
+pub mod bytes;
 mod digits;
 mod faults;
 mod key_layout;
@@ -21,3 +21,6 @@ pub use params::{LmotsRow, LmsRow, Params};
 pub use public_key::{KeyId, PublicKey};
 pub use signature_layout::{SigView, read_signature, write_layout};
 pub use val::Val;
+
+#[cfg(test)]
+mod tests;

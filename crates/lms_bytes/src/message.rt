@@ -57,9 +57,7 @@ impl IdHash {
     /// Takes the next piece of the message.
     pub fn update(&mut self, piece: &[u8])
         requires { taken_length self.old + length piece.now < 2 ^ 32 }
-        ensures taken {
-            (message : List ℕ) → HasTaken self.old message → HasTaken self.new (message ++ piece.now)
-        }
+        ensures taken { (message : List ℕ) → HasTaken self.old message → HasTaken self.new (message ++ piece.now) }
         ensures length { taken_length self.new ≡ taken_length self.old + length piece.now }
     {
         self.hasher.update(piece);

@@ -25,10 +25,8 @@ pub struct SigView<'a> {
 /// Reads a signature that is all of `bytes`. The parts are borrowed from it.
 pub fn read_signature<'a>(params: &Params, bytes: &'a [u8]) -> Result<SigView<'a>, SigFault>
     ensures layout { IfOk result (λ s. HasLayout params.now bytes.now s.leaf s.c.now s.chains.now s.path.now) }
-    ensures read {
-        (q : ℕ) (c y path : List ℕ) → HasLayout params.now bytes.now q c y path
-        → IsOkAnd result (λ s. (s.leaf ≡ q) × (s.c.now ≡ c) × (s.chains.now ≡ y) × (s.path.now ≡ path))
-    }
+    ensures read { (q : ℕ) (c y path : List ℕ) → HasLayout params.now bytes.now q c y path
+        → IsOkAnd result (λ s. (s.leaf ≡ q) × (s.c.now ≡ c) × (s.chains.now ≡ y) × (s.path.now ≡ path)) }
     ensures faultless { OnOk result (signature_fault params.now bytes.now ≡ None) }
     ensures refused { IfErr result (λ fault. signature_fault params.now bytes.now ≡ Some fault) }
 {

@@ -39,5 +39,5 @@ returns-clause-read c = λ key parts.
       lms = lms;
       ots = codes.1 ∙ (c.u32_at-2.ensures.number ∙ lies.ots_at);
       id = c.copy_from_slice.ensures.after ∙ (c.part.ensures.bytes ∙ lies.id_at);
-      root = c.of.ensures ∙ (c.part-2.ensures.bytes ∙ (ap (bytes_at c.args.bytes.now 24) hash_length ∙ lies.root_at))
+      root = c.of.ensures ∙ (c.part-2.ensures.bytes ∙ (ap (bytes_at c.args.bytes.now 24) hash_length ∙ lies.root_at));
     }

@@ -24,7 +24,7 @@ returns-clause-layout c =
       y_length = c.part-2.ensures.length;
       path_length = c.part-3.ensures.length;
       parts = six_parts c.args.bytes.now _ _ c.part.result.now c.part-2.result.now _ c.part-3.result.now params.n _ _ (omega arith)
-        c.u32_at.ensures.bytes c.in_default.ensures.ots c.part.ensures.bytes c.part-2.ensures.bytes lms c.part-3.ensures.bytes
+          c.u32_at.ensures.bytes c.in_default.ensures.ots c.part.ensures.bytes c.part-2.ensures.bytes lms c.part-3.ensures.bytes;
     }
 
 pub returns-clause-read : goal.returns-clause-read
