@@ -1,0 +1,249 @@
+//! The lock and its passes.
+#![tactic(auto)]
+
+ghost use Rattle.std.specs.Prelude.{◌≡◌, ℕ, ◌+◌, ◌-◌, ◌^◌, ◌<◌, ◌≤◌, ◌⊎◌, max, true, false, Bool, List, [], ◌∷◌, ◌++◌, length, drop, count_by, IfOk, IfErr, OnErr, MatchResult, is_ok, All, vec_len, vec_capacity};
+ghost use mathlib.Core.List.{IsPrefix};
+ghost use Rattle.turn_lock.specs.Known.{opening_of, starting, one_of, lock_of};
+ghost use Rattle.turn_lock.specs.Pass.{first_pass, longer_of, SamePass, IsWhole};
+
+use crate::kept::Kept;
+use crate::steps;
+use crate::steps::{Home, Place, Words};
+use crate::view::Start;
+use std::alloc::Global;
+use std::marker::Model;
+use std::snapshot::Snapshot;
+use std::sync::Wait;
+
+/// The first ticket that is worn.
+const WORN_FROM: u64 = 1 << 62;
+
+/// Want of memory.
+#[derive(Clone, Copy, Debug, PartialEq, Eq)]
+pub struct NoMemory;
+
+/// The pass has drawn a ticket of 2^62 or more, and has no more turns.
+#[derive(Clone, Copy, Debug, PartialEq, Eq)]
+pub struct Worn;
+
+/// A lock round a value. Contracts see it as a `Lock` of `specs/Lock.antt`: which lock it is, the value that it was made with, its first ticket and how many passes it has.
+#[derive(Drop)]
+pub struct TurnLock<T: Kept> {
+    table: Home<T>,
+}
+
+impl<T: Kept> Model for TurnLock<T> {
+    ghost use Rattle.std.specs.Prelude.{◌≡◌};
+    ghost use Rattle.turn_lock.specs.Lock.{Lock};
+    ghost use Rattle.turn_lock.specs.Known.{lock_of};
+
+    ghost Value = { Lock T };
+
+    ghost view = { λ l. lock_of l.table.shared.table_id l.table.shared.key };
+
+    ghost invariant = { λ l. (l.table.shared.table_id.words ≡ 2) × (l.table.shared.table_id.slots ≡ 1) };
+}
+
+/// What takes turns of a lock. Contracts see it as a `Seen` of `specs/Pass.antt`: its lock, what it has seen of the value, how many passes are joined in it, and whether it holds the turn.
+#[derive(Drop)]
+pub struct Pass<T: Kept> {
+    seat: Place<T>,
+    made: Snapshot<Start<T>>,
+    joined: u32,
+    greatest: u64,
+}
+
+impl<T: Kept> Model for Pass<T> {
+    ghost use Rattle.turn_lock.specs.Pass.{Seen};
+    ghost use Rattle.turn_lock.specs.Known.{lock_of, seen_of, IsSettled};
+
+    ghost Value = { Seen T T.Entry T.Name };
+
+    ghost view = { λ p. seen_of T.name (lock_of p.seat.table_id p.made.value) p.seat.me.0 };
+
+    ghost invariant = { λ p. IsSettled T.entries T.number T.name p.made.value p.seat.me p.joined p.greatest };
+}
+
+impl<T: Kept> TurnLock<T> {
+    /// A lock round this value, whose tickets begin with `first`, and its passes. No pass is made later.
+    pub fn new(
+        alloc: Global,
+        value: T,
+        passes: u32,
+        first: u64,
+    ) -> Result<(TurnLock<T>, Vec<Pass<T>>), (T, NoMemory)>
+        requires passes { (1 ≤ passes) × (passes ≤ 4096) }
+        requires first { first ≤ 2 ^ 62 }
+        ensures lock { IfOk result (λ r. (r.0.opening ≡ value) × (r.0.first ≡ first) × (r.0.passes ≡ passes)) }
+        ensures count { IfOk result (λ r. vec_len r.1 ≡ passes) }
+        ensures passes { IfOk result (λ r. All (λ p. p ≡ first_pass T.entries T.number T.name r.0) r.1.items) }
+        ensures refused { IfErr result (λ r. r.0 ≡ value) }
+    {
+        let Ok(room) = Vec::with_capacity(alloc, passes as usize) else {
+            return Err((value, NoMemory));
+        };
+        let start = Start {
+            value: Snapshot::of(&value),
+            first,
+            passes,
+        };
+        match steps::open(alloc, value, &start) {
+            Ok((table, seat)) => {
+                let made = deal(&table.shared, &start, seat, room);
+                Ok((TurnLock { table }, made))
+            }
+            Err(value) => Err((value, NoMemory)),
+        }
+    }
+
+    /// Draws a ticket, waits until it is served, and takes the value out of the lock. A pass that is worn draws none.
+    pub fn take(&self, rt: &impl Wait, pass: &mut Pass<T>) -> Result<T, Worn>
+        requires lock { pass.old.lock ≡ self.now }
+        requires idle { pass.old.in_turn ≡ false }
+
+        // The value goes on from what the pass had seen.
+        ensures begins { IfOk result (λ v. IsPrefix pass.old.log (T.entries v)) }
+        ensures reaches { IfOk result (λ v. pass.old.floor ≤ T.number v) }
+        ensures named { IfOk result (λ v. T.name v ≡ pass.old.name) }
+
+        // The pass has seen the value, and holds the turn.
+        ensures log { MatchResult result (λ v. pass.new.log ≡ T.entries v) (λ _. pass.new.log ≡ pass.old.log) }
+        ensures floor { MatchResult result (λ v. pass.new.floor ≡ T.number v) (λ _. pass.new.floor ≡ pass.old.floor) }
+        ensures turn { pass.new.in_turn ≡ is_ok result }
+
+        // The ticket that is drawn is the greatest so far. Where all passes are joined, it is the first one and those that were drawn.
+        ensures worn { MatchResult result (λ _. pass.new.greatest < 2 ^ 62) (λ _. 2 ^ 62 ≤ pass.new.greatest) }
+        ensures draws { pass.old.greatest < 2 ^ 62 → pass.new.draws ≡ pass.old.draws + 1 }
+        ensures still_worn { 2 ^ 62 ≤ pass.old.greatest → pass.new ≡ pass.old }
+        ensures greatest { pass.old.greatest ≤ pass.new.greatest }
+        ensures next { pass.old.greatest < 2 ^ 62 → pass.old.joined ≡ self.now.passes → pass.new.greatest ≡ self.now.first + pass.old.draws }
+
+        ensures rises { pass.new.rises ≡ pass.old.rises }
+        ensures own { pass.new.own ≡ pass.old.own }
+        ensures joined { pass.new.joined ≡ pass.old.joined }
+        ensures same { SamePass pass.old pass.new }
+    {
+        if pass.greatest >= WORN_FROM {
+            return Err(Worn);
+        }
+        let ticket = steps::draw(&self.table.shared, &mut pass.seat);
+        pass.greatest = ticket;
+        if ticket >= WORN_FROM {
+            return Err(Worn);
+        }
+        Ok(steps::wait(rt, &self.table.shared, &mut pass.seat, ticket))
+    }
+
+    /// Puts the value back, and passes the turn on. Its entries are then part of the lock's log.
+    pub fn give(&self, pass: &mut Pass<T>, value: T)
+        requires lock { pass.old.lock ≡ self.now }
+        requires turn { pass.old.in_turn ≡ true }
+        requires begins { IsPrefix pass.old.log (T.entries value) }
+        requires reaches { pass.old.floor ≤ T.number value }
+        requires named { T.name value ≡ pass.old.name }
+        ensures log { pass.new.log ≡ T.entries value }
+        ensures floor { pass.new.floor ≡ T.number value }
+        ensures rises { pass.new.rises ≡ pass.old.rises + (T.number value - pass.old.floor) }
+        ensures own { pass.new.own ≡ pass.old.own ++ drop (length pass.old.log) (T.entries value) }
+        ensures turn { pass.new.in_turn ≡ false }
+        ensures draws { pass.new.draws ≡ pass.old.draws }
+        ensures greatest { pass.new.greatest ≡ pass.old.greatest }
+        ensures joined { pass.new.joined ≡ pass.old.joined }
+        ensures same { SamePass pass.old pass.new }
+    {
+        steps::pass_on(&self.table.shared, &mut pass.seat, value);
+    }
+
+    /// Joins another pass in this one.
+    pub fn meet(&self, pass: &mut Pass<T>, other: Pass<T>)
+        requires lock { (pass.old.lock ≡ self.now) × (other.lock ≡ self.now) }
+        requires idle { (pass.old.in_turn ≡ false) × (other.in_turn ≡ false) }
+        ensures one_log { IsPrefix pass.old.log other.log ⊎ IsPrefix other.log pass.old.log }
+        ensures log { pass.new.log ≡ longer_of pass.old.log other.log }
+        ensures floor { pass.new.floor ≡ max pass.old.floor other.floor }
+        ensures rises { pass.new.rises ≡ pass.old.rises + other.rises }
+        ensures draws { pass.new.draws ≡ pass.old.draws + other.draws }
+        ensures own { pass.new.own ≡ pass.old.own ++ other.own }
+        ensures greatest { pass.new.greatest ≡ max pass.old.greatest other.greatest }
+        ensures joined { pass.new.joined ≡ pass.old.joined + other.joined }
+        ensures turn { pass.new.in_turn ≡ false }
+        ensures same { SamePass pass.old pass.new }
+
+        // Once all passes are joined, the sums are the lock's.
+        ensures whole { pass.new.joined ≡ self.now.passes → IsWhole T.entries T.number pass.new }
+    {
+        let Pass {
+            seat,
+            made: _,
+            joined,
+            greatest,
+        } = other;
+        steps::join(&self.table.shared, &mut pass.seat, seat);
+        pass.joined += joined;
+        pass.greatest = pass.greatest.max(greatest);
+    }
+
+    /// How many of the passes that the lock was made with are joined in this one.
+    pub fn joined(pass: &Pass<T>) -> u32
+        ensures { result ≡ pass.now.joined }
+    {
+        pass.joined
+    }
+
+    /// The value, once all passes are joined in this one.
+    pub fn close(self, pass: Pass<T>) -> T
+        requires lock { pass.lock ≡ self }
+        requires all { pass.joined ≡ self.passes }
+        requires idle { pass.in_turn ≡ false }
+        ensures log { T.entries result ≡ pass.log }
+        ensures number { T.number result ≡ pass.floor }
+        ensures named { T.name result ≡ pass.name }
+        ensures tickets { 0 < pass.draws → pass.greatest < self.first + pass.draws }
+        ensures rises { pass.floor ≡ T.number self.opening + pass.rises }
+        ensures entries { (test : T.Entry → Bool) → count_by test pass.log ≡ count_by test (T.entries self.opening) + count_by test pass.own }
+    {
+        let TurnLock { table } = self;
+        let Pass {
+            seat,
+            made: _,
+            joined: _,
+            greatest: _,
+        } = pass;
+        steps::close(table, seat)
+    }
+}
+
+// Splits the first seat into as many passes as there are to be.
+fn deal<T: Kept>(
+    words: &Words<T>,
+    start: &Start<T>,
+    mut seat: Place<T>,
+    mut passes: Vec<Pass<T>>,
+) -> Vec<Pass<T>>
+    requires table { (seat.table_id ≡ words.now.table_id) × (words.now.table_id.words ≡ 2) }
+    requires seat { seat.me ≡ (starting (opening_of T.entries T.number T.name start.now.value.value start.now.first start.now.passes), []) }
+    requires some { 0 < start.now.passes }
+    requires room { (vec_len passes ≡ 0) × (start.now.passes ≤ vec_capacity passes) }
+    ensures count { vec_len result ≡ start.now.passes }
+    ensures passes { All (λ p. p ≡ first_pass T.entries T.number T.name (lock_of seat.table_id start.now)) result.items }
+{
+    for _ in 1..start.passes {
+        let one = steps::split(words, &mut seat);
+        passes.push_reserved(first(start, one));
+    }
+    passes.push_reserved(first(start, seat));
+    passes
+}
+
+// A pass that has seen no turn yet.
+fn first<T: Kept>(start: &Start<T>, seat: Place<T>) -> Pass<T>
+    requires { seat.me ≡ (one_of (starting (opening_of T.entries T.number T.name start.now.value.value start.now.first start.now.passes)), []) }
+    ensures { result ≡ first_pass T.entries T.number T.name (lock_of seat.table_id start.now) }
+{
+    Pass {
+        seat,
+        made: Snapshot::of(start),
+        joined: 1,
+        greatest: 0,
+    }
+}
