@@ -54,9 +54,6 @@ above_all : (draws greatest next : ℕ) → (0 < draws → greatest < next) → 
 above_all zero greatest next below undrawn = let e = undrawn refl in omega arith
 above_all (suc d) greatest next below undrawn = let e = below (omega arith) in omega arith
 
-same_opening : {E N : Type 0} (o p : Opening E N) → ◌≡◌ {A = Option (Opening E N)} (Some o) (Some p) → o ≡ p
-same_opening o p e = cc
-
 below_both : (d e g h n : ℕ) → (0 < d → g < n) → (0 < e → h < n) → (d ≡ 0 → g ≡ 0) → (e ≡ 0 → h ≡ 0) → 0 < d + e → max g h < n
 below_both zero zero g h n p q a b any = absurd (omega arith)
 below_both zero (suc e) g h n p q a b any = let z = a refl in let lt = q (omega arith) in omega arith
@@ -87,7 +84,7 @@ module _ {T E N : Type 0} (entries : T → List E) (number : T → ℕ) (name : 
     pub next : r.next ≡ o.first + v.draws
     pub log : v.log ≡ r.all
     pub floor : v.floor ≡ r.most
-    pub knows : KnowsAll o v
+    pub knows : KnowsAll v
 
   pub empty_else : (s : S) (r : Rule s) (id : ℕ) (v : K) → get_elem? s.views id ≡ some v → v.parts ≡ o.passes → (j : ℕ) (d : K) → j ≢ id → get_elem? s.views j ≡ some d → d.parts ≡ 0
   empty_else s r id v at all j d n e =
@@ -113,7 +110,7 @@ module _ {T E N : Type 0} (entries : T → List E) (number : T → ℕ) (name : 
         next = next;
         log = log;
         floor = floor;
-        knows = record {
+        knows = subst (λ (p : Opening E N). KnowsAll (record v { opening = p })) (sym ((r.each_seat id v at).made part)) record {
           tickets = λ h. let b = (r.each_seat id v at).below h in omega arith;
           rises = (let a = r.risen in omega arith);
           entries = λ q. ap (count_by q) log ∙ (r.added q ∙ ap (λ (z : ℕ). count_by q o.entries + z) (only (λ (d : K). count_by q d.own) refl (λ d b. ap (count_by q) b.own)));
@@ -202,7 +199,7 @@ module _ {T E N : Type 0} (entries : T → List E) (number : T → ℕ) (name : 
           slots = refl;
           view = refl;
           above = above;
-          next = λ p is all. let same : o ≡ p = same_opening o p (sym (mine.made part) ∙ is) in
+          next = λ all. let same : o ≡ me.0.opening = sym (mine.made part) in
               subst (λ (x : Opening E N). r.next ≡ x.first + me.0.draws) same (whole s r id me.0 at (all ∙ ap (λ (x : Opening E N). x.passes) (sym same)) part).next;
         },
       ))
@@ -211,7 +208,7 @@ module _ {T E N : Type 0} (entries : T → List E) (number : T → ℕ) (name : 
   found_turn : (slots id t : ℕ) (me : Me (Option T) K) (st : Step (Option T)) (s : S) (r : Rule s) → get_elem? s.views id ≡ some me.0 → me.0.stage ≡ Waiting t → r.serving ≡ t
       → Goes entries number name o s 1 id me (λ n. n) (Looked entries number name st me) (r.next ∷ r.serving ∷ [])
   found_turn slots id t me st s r at waits here = ⊎_elim
-      (λ (p : (v : T) × (s.homes ≡ some (Some v) ∷ []) × (entries v ≡ r.all) × (number v ≡ r.most) × (name v ≡ o.name)).
+      (λ (p : (v : T) × (s.homes ≡ some (Some v) ∷ []) × (entries v ≡ r.all) × (number v ≡ r.most) × (Some (name v) ≡ o.name)).
       let v : T = p.0 in
       let w : K = holding me.0 t (entries v) (number v) in
       let mine = r.each_seat id me.0 at in
@@ -249,7 +246,7 @@ module _ {T E N : Type 0} (entries : T → List E) (number : T → ℕ) (name : 
             ap (λ (x : ℕ). holding me.0 x (entries v) (number v)) same,
             begun,
             reached,
-            (λ q made. p.4 ∙ ap (λ (x : Opening E N). x.name) (same_opening o q (sym (mine.made some_parts) ∙ made))),
+            p.4 ∙ ap (λ (x : Opening E N). x.name) (sym (mine.made some_parts)),
           )),
           (λ ne. absurd (ne (here ∙ same))),
         )),
@@ -303,14 +300,13 @@ module _ {T E N : Type 0} (entries : T → List E) (number : T → ℕ) (name : 
           view = refl;
           begins = prefix_both me.0.beside me.0.log r.all mine.beside_begins mine.begins mine.shorter;
           few = (let a = r.whole in let b = r.small in omega arith);
-          all = λ p is all. let same : o ≡ p = same_opening o p (sym (mine.made part) ∙ is) in
-              subst (λ (x : Opening E N). KnowsAll x me.0) same (whole s r id me.0 at (all ∙ ap (λ (x : Opening E N). x.passes) (sym same)) part).knows;
+          all = λ all. (whole s r id me.0 at (all ∙ ap (λ (x : Opening E N). x.passes) (mine.made part)) part).knows;
         },
       ))
 
   -- passing on
   pub passes_on : (slots id t : ℕ) (me : Me (Option T) K) (st : Step (Option T)) (v : T) → me.0.stage ≡ Holding t → me.1 ≡ (0, Some v) ∷ [] → 0 < me.0.parts → IsPrefix me.0.log (entries v) → me.0.floor ≤ number v
-      → ((p : Opening E N) × (me.0.opening ≡ Some p) × (name v ≡ p.name)) → Allows Rule slots id me 1 (λ n. (n + 1) % 2 ^ 64) (PassedOn entries number st me)
+      → Some (name v) ≡ me.0.opening.name → Allows Rule slots id me 1 (λ n. (n + 1) % 2 ^ 64) (PassedOn entries number st me)
   passes_on slots id t me st v holds out part begins reached its s r _ at _ = subst (Goes entries number name o s 1 id me (λ n. (n + 1) % 2 ^ 64) (PassedOn entries number st me)) (sym r.words)
       (let mine = r.each_seat id me.0 at in
       let stands : Stands r.next r.serving r.all r.most me.0 (Holding t) = subst (Stands r.next r.serving r.all r.most me.0) holds mine.stands in
@@ -323,7 +319,7 @@ module _ {T E N : Type 0} (entries : T → List E) (number : T → ℕ) (name : 
       let longer : IsPrefix r.all (entries v) = subst (λ (x : List E). IsPrefix x (entries v)) all begins in
       let w : K = given me.0 (entries v) (number v) in
       let inside : id < length s.views = get_elem-below s.views id me.0 at in
-      let named : name v ≡ o.name = its.2 ∙ ap (λ (x : Opening E N). x.name) (sym (same_opening o its.0 (sym (mine.made part) ∙ its.1))) in
+      let named : Some (name v) ≡ o.name = its ∙ ap (λ (x : Opening E N). x.name) (mine.made part) in
       let fresh : drop (length me.0.log) (entries v) ≡ begins.0 = ap (drop (length me.0.log)) (sym begins.1) ∙ drop-append_seam me.0.log begins.0 in
       let one : length s.homes ≡ 1 = ⊎_elim (λ p. ap length p.1) (λ p. ap length p.0) r.home in
       let back : homes_after s.homes me.1 gives ≡ some (Some v) ∷ [] = ap (λ (c : List (ℕ × Option T)). homes_after s.homes c gives) out ∙ set_only s.homes (some (Some v)) one in
@@ -512,7 +508,7 @@ module _ {T E N : Type 0} (entries : T → List E) (number : T → ℕ) (name : 
       }
 
   -- a new table
-  pub opens : (v : T) → entries v ≡ o.entries → number v ≡ o.number → name v ≡ o.name → 0 < o.passes → o.passes ≤ 4096 → o.first ≤ 2 ^ 62 → Rule (opening (o.first ∷ o.first ∷ []) (Some v ∷ []) (starting o))
+  pub opens : (v : T) → entries v ≡ o.entries → number v ≡ o.number → Some (name v) ≡ o.name → 0 < o.passes → o.passes ≤ 4096 → o.first ≤ 2 ^ 62 → Rule (opening (o.first ∷ o.first ∷ []) (Some v ∷ []) (starting o))
   opens v same_entries same_number same_name part few low =
       let d : K = starting o in
       let k : Knows o o.first o.first o.entries o.number d = record {
@@ -553,8 +549,8 @@ module _ {T E N : Type 0} (entries : T → List E) (number : T → ℕ) (name : 
     pub is : slot ≡ Some value
     pub log : entries value ≡ v.log
     pub floor : number value ≡ v.floor
-    pub named : name value ≡ o.name
-    pub knows : KnowsAll o v
+    pub named : Some (name value) ≡ v.opening.name
+    pub knows : KnowsAll v
 
   not_out : (s : S) (r : Rule s) (id : ℕ) (v : K) → get_elem? s.views id ≡ some v → v.parts ≡ o.passes → v.stage ≡ Idle → IsOut entries number name o r.serving s.homes s.views → ⊥
   not_out s r id v at all idle p = dite (ℕ_discrete p.1.0 id)
@@ -567,12 +563,12 @@ module _ {T E N : Type 0} (entries : T → List E) (number : T → ℕ) (name : 
       let r = final.1.0 in
       let at = final.1.1 in
       let w = whole s r id v at all part in ⊎_elim
-      (λ (p : (x : T) × (s.homes ≡ some (Some x) ∷ []) × (entries x ≡ r.all) × (number x ≡ r.most) × (name x ≡ o.name)). record {
+      (λ (p : (x : T) × (s.homes ≡ some (Some x) ∷ []) × (entries x ≡ r.all) × (number x ≡ r.most) × (Some (name x) ≡ o.name)). record {
         value = p.0;
         is = some-injective slot (Some p.0) (sym at_slot ∙ final.4 0 (Some p.0) (ap (λ hs. get_elem? hs 0) p.1));
         log = p.2 ∙ sym w.log;
         floor = p.3 ∙ sym w.floor;
-        named = p.4;
+        named = p.4 ∙ ap (λ (x : Opening E N). x.name) (sym ((r.each_seat id v at).made part));
         knows = w.knows;
       })
       (λ (p : IsOut entries number name o r.serving s.homes s.views). absurd (not_out s r id v at all idle p))

@@ -76,7 +76,7 @@ module _ {T E N : Type 0} (entries : T → List E) (number : T → ℕ) (name : 
 
   -- the value is at home
   abbrev pub AtHome : List E → ℕ → List (mo.Option (Option T)) → Type 0
-  AtHome all most homes = (v : T) × (homes ≡ some (Some v) ∷ []) × (entries v ≡ all) × (number v ≡ most) × (name v ≡ o.name)
+  AtHome all most homes = (v : T) × (homes ≡ some (Some v) ∷ []) × (entries v ≡ all) × (number v ≡ most) × (Some (name v) ≡ o.name)
 
   -- a seat holds the turn
   abbrev pub IsOut : ℕ → List (mo.Option (Option T)) → List K → Type 0

@@ -7,12 +7,11 @@ use Rattle.turn_lock.specs.Pass.{Seen, longer_of}
 use Rattle.turn_lock.specs.declared.view.Known.{Known}
 use Rattle.turn_lock.specs.declared.view.Opening.{Opening}
 use Rattle.turn_lock.specs.declared.view.Stage.{Stage}
-use Rattle.turn_lock.specs.declared.view.Start.{Start}
 use Rattle.turn_lock.specs.declared.view.Stage.TheVariants.{Idle, Waiting, Holding}
 
 -- what a lock is made with, by what its value means
 abbrev pub opening_of : {T E N : Type 0} → (T → List E) → (T → ℕ) → (T → N) → T → ℕ → ℕ → Opening E N
-opening_of entries number name value first passes = record { entries = entries value; number = number value; name = name value; first = first; passes = passes }
+opening_of entries number name value first passes = record { entries = entries value; number = number value; name = Some (name value); first = first; passes = passes }
 
 -- the shorter of two logs
 abbrev pub shorter_of : {E : Type 0} → List E → List E → List E
@@ -31,7 +30,7 @@ module _ {E N : Type 0} where
     greatest = 0;
     parts = o.passes;
     stage = Idle;
-    opening = Some o;
+    opening = o;
   }
 
   -- the seat, with one pass less
@@ -80,7 +79,7 @@ module _ {E N : Type 0} where
     greatest = 0;
     parts = 0;
     stage = Idle;
-    opening = None;
+    opening = record { entries = []; number = 0; name = None; first = 0; passes = 0 };
   }
 
   -- the seat that drew this ticket
@@ -127,31 +126,37 @@ slots_of Idle = []
 slots_of (Waiting t) = []
 slots_of (Holding t) = (0, None) ∷ []
 
--- the lock of a table
-abbrev pub lock_of : {T : Type 0} → TableId → Start T → Lock T
-lock_of id start = record { id = id; opening = start.value.value; first = start.first; passes = start.passes }
+-- the lock of a table that was made with this
+abbrev pub lock_of : {E N : Type 0} → TableId → Opening E N → Lock E N
+lock_of id o = record {
+  id = id;
+  opening_log = o.entries;
+  opening_number = o.number;
+  name = o.name;
+  first_ticket = o.first;
+  passes = o.passes;
+}
 
--- what a pass of this lock has seen, by what its seat knows
-abbrev pub seen_of : {T E N : Type 0} → (T → N) → Lock T → Known E N → Seen T E N
-seen_of name lock d = record {
-  lock = lock;
+-- what a pass has seen, by what its seat knows
+abbrev pub seen_of : {E N : Type 0} → TableId → Known E N → Seen E N
+seen_of id d = record {
+  lock = lock_of id d.opening;
   log = d.log;
   floor = d.floor;
   rises = d.rises;
   draws = d.draws;
   own = d.own;
   greatest = d.greatest;
-  name = name lock.opening;
+  name = d.opening.name;
   joined = d.parts;
   in_turn = holds_turn d.stage;
 }
 
 -- a pass between two calls: its two numbers are its seat's, and its seat doesn't wait
-pub record IsSettled {T E N : Type 0} (entries : T → List E) (number : T → ℕ) (name : T → N) (start : Start T) (m : Me (Option T) (Known E N)) (joined greatest : ℕ) : Type 0 where
+pub record IsSettled {T E N : Type 0} (m : Me (Option T) (Known E N)) (joined greatest : ℕ) : Type 0 where
   pub count : joined ≡ m.0.parts
   pub drawn : greatest ≡ m.0.greatest
   pub some_part : 0 < m.0.parts
   pub alone : m.0.beside ≡ []
-  pub made : m.0.opening ≡ Some (opening_of entries number name start.value.value start.first start.passes)
   pub slots : m.1 ≡ slots_of m.0.stage
   pub at_rest : is_waiting m.0.stage ≡ false

@@ -1,10 +1,12 @@
 -- A lock.
-use Rattle.std.specs.Prelude.{ℕ}
+use Rattle.std.specs.Prelude.{ℕ, List, Option}
 use Rattle.atomic_table.specs.Seated.{TableId}
 
--- which lock it is, the value that it was made with, its first ticket, and how many passes were made with it
-pub record Lock (T : Type 0) : Type 0 where
+-- Which lock it is, and what it was made with: the entries, the number and the name of its first value, its first ticket, and how many passes it has
+pub record Lock (E N : Type 0) : Type 0 where
   pub id : TableId
-  pub opening : T
-  pub first : ℕ
+  pub opening_log : List E
+  pub opening_number : ℕ
+  pub name : Option N
+  pub first_ticket : ℕ
   pub passes : ℕ

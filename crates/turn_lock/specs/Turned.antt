@@ -43,7 +43,7 @@ module _ {E N : Type 0} where
     pub reached : d.floor ≤ most
     pub below : 0 < d.draws → d.greatest < next
     pub undrawn : d.draws ≡ 0 → d.greatest ≡ 0
-    pub made : 0 < d.parts → d.opening ≡ Some o
+    pub made : 0 < d.parts → d.opening ≡ o
     pub stands : Stands next serving all most d d.stage
     pub blank : d.parts ≡ 0 → IsBlank d
 
@@ -56,7 +56,7 @@ pub record Turned {T E N : Type 0} (entries : T → List E) (number : T → ℕ)
   pub words : s.words ≡ next ∷ serving ∷ []
   pub order : serving ≤ next
   -- the value is at home, and stands for the log; or a seat holds the turn
-  pub home : ((v : T) × (s.homes ≡ some (Some v) ∷ []) × (entries v ≡ all) × (number v ≡ most) × (name v ≡ o.name)) ⊎ ((s.homes ≡ none ∷ []) × ((j : ℕ) × (d : Known E N) × (get_elem? s.views j ≡ some d) × (d.stage ≡ Holding serving)))
+  pub home : ((v : T) × (s.homes ≡ some (Some v) ∷ []) × (entries v ≡ all) × (number v ≡ most) × (Some (name v) ≡ o.name)) ⊎ ((s.homes ≡ none ∷ []) × ((j : ℕ) × (d : Known E N) × (get_elem? s.views j ≡ some d) × (d.stage ≡ Holding serving)))
   -- what each seat knows is so, and no two have one ticket
   pub each_seat : (j : ℕ) (d : Known E N) → get_elem? s.views j ≡ some d → Knows o next serving all most d
   pub apart : (i j : ℕ) (d e : Known E N) (t : ℕ) → get_elem? s.views i ≡ some d → get_elem? s.views j ≡ some e → HasTicket d.stage t → HasTicket e.stage t → i ≡ j

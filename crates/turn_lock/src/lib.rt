@@ -5,6 +5,8 @@ mod kept;
 mod lock;
 mod plays;
 mod steps;
+#[cfg(test)]
+mod tests;
 mod view;
 
 pub use kept::Kept;

@@ -35,11 +35,11 @@ pub struct TurnLock<T: Kept> {
 impl<T: Kept> Model for TurnLock<T> {
     ghost use Rattle.std.specs.Prelude.{◌≡◌};
     ghost use Rattle.turn_lock.specs.Lock.{Lock};
-    ghost use Rattle.turn_lock.specs.Known.{lock_of};
+    ghost use Rattle.turn_lock.specs.Known.{lock_of, opening_of};
 
-    ghost Value = { Lock T };
+    ghost Value = { Lock T.Entry T.Name };
 
-    ghost view = { λ l. lock_of l.table.shared.table_id l.table.shared.key };
+    ghost view = { λ l. lock_of l.table.shared.table_id (opening_of T.entries T.number T.name l.table.shared.key.value.value l.table.shared.key.first l.table.shared.key.passes) };
 
     ghost invariant = { λ l. (l.table.shared.table_id.words ≡ 2) × (l.table.shared.table_id.slots ≡ 1) };
 }
@@ -48,20 +48,19 @@ impl<T: Kept> Model for TurnLock<T> {
 #[derive(Drop)]
 pub struct Pass<T: Kept> {
     seat: Place<T>,
-    made: Snapshot<Start<T>>,
     joined: u32,
     greatest: u64,
 }
 
 impl<T: Kept> Model for Pass<T> {
     ghost use Rattle.turn_lock.specs.Pass.{Seen};
-    ghost use Rattle.turn_lock.specs.Known.{lock_of, seen_of, IsSettled};
+    ghost use Rattle.turn_lock.specs.Known.{seen_of, IsSettled};
 
-    ghost Value = { Seen T T.Entry T.Name };
+    ghost Value = { Seen T.Entry T.Name };
 
-    ghost view = { λ p. seen_of T.name (lock_of p.seat.table_id p.made.value) p.seat.me.0 };
+    ghost view = { λ p. seen_of p.seat.table_id p.seat.me.0 };
 
-    ghost invariant = { λ p. IsSettled T.entries T.number T.name p.made.value p.seat.me p.joined p.greatest };
+    ghost invariant = { λ p. IsSettled p.seat.me p.joined p.greatest };
 }
 
 impl<T: Kept> TurnLock<T> {
@@ -74,9 +73,10 @@ impl<T: Kept> TurnLock<T> {
     ) -> Result<(TurnLock<T>, Vec<Pass<T>>), (T, NoMemory)>
         requires passes { (1 ≤ passes) × (passes ≤ 4096) }
         requires first { first ≤ 2 ^ 62 }
-        ensures lock { IfOk result (λ r. (r.0.opening ≡ value) × (r.0.first ≡ first) × (r.0.passes ≡ passes)) }
+        ensures opening { IfOk result (λ r. (r.0.opening_log ≡ T.entries value) × (r.0.opening_number ≡ T.number value) × (r.0.name ≡ Some (T.name value))) }
+        ensures numbers { IfOk result (λ r. (r.0.first_ticket ≡ first) × (r.0.passes ≡ passes)) }
         ensures count { IfOk result (λ r. vec_len r.1 ≡ passes) }
-        ensures passes { IfOk result (λ r. All (λ p. p ≡ first_pass T.entries T.number T.name r.0) r.1.items) }
+        ensures passes { IfOk result (λ r. All (λ p. p ≡ first_pass r.0) r.1.items) }
         ensures refused { IfErr result (λ r. r.0 ≡ value) }
     {
         let Ok(room) = Vec::with_capacity(alloc, passes as usize) else {
@@ -89,7 +89,7 @@ impl<T: Kept> TurnLock<T> {
         };
         match steps::open(alloc, value, &start) {
             Ok((table, seat)) => {
-                let made = deal(&table.shared, &start, seat, room);
+                let made = deal(&table.shared, seat, passes, room);
                 Ok((TurnLock { table }, made))
             }
             Err(value) => Err((value, NoMemory)),
@@ -104,7 +104,7 @@ impl<T: Kept> TurnLock<T> {
         // The value goes on from what the pass had seen.
         ensures begins { IfOk result (λ v. IsPrefix pass.old.log (T.entries v)) }
         ensures reaches { IfOk result (λ v. pass.old.floor ≤ T.number v) }
-        ensures named { IfOk result (λ v. T.name v ≡ pass.old.name) }
+        ensures named { IfOk result (λ v. Some (T.name v) ≡ pass.old.name) }
 
         // The pass has seen the value, and holds the turn.
         ensures log { MatchResult result (λ v. pass.new.log ≡ T.entries v) (λ _. pass.new.log ≡ pass.old.log) }
@@ -116,7 +116,7 @@ impl<T: Kept> TurnLock<T> {
         ensures draws { pass.old.greatest < 2 ^ 62 → pass.new.draws ≡ pass.old.draws + 1 }
         ensures still_worn { 2 ^ 62 ≤ pass.old.greatest → pass.new ≡ pass.old }
         ensures greatest { pass.old.greatest ≤ pass.new.greatest }
-        ensures next { pass.old.greatest < 2 ^ 62 → pass.old.joined ≡ self.now.passes → pass.new.greatest ≡ self.now.first + pass.old.draws }
+        ensures next { pass.old.greatest < 2 ^ 62 → pass.old.joined ≡ self.now.passes → pass.new.greatest ≡ self.now.first_ticket + pass.old.draws }
 
         ensures rises { pass.new.rises ≡ pass.old.rises }
         ensures own { pass.new.own ≡ pass.old.own }
@@ -140,7 +140,7 @@ impl<T: Kept> TurnLock<T> {
         requires turn { pass.old.in_turn ≡ true }
         requires begins { IsPrefix pass.old.log (T.entries value) }
         requires reaches { pass.old.floor ≤ T.number value }
-        requires named { T.name value ≡ pass.old.name }
+        requires named { Some (T.name value) ≡ pass.old.name }
         ensures log { pass.new.log ≡ T.entries value }
         ensures floor { pass.new.floor ≡ T.number value }
         ensures rises { pass.new.rises ≡ pass.old.rises + (T.number value - pass.old.floor) }
@@ -170,11 +170,10 @@ impl<T: Kept> TurnLock<T> {
         ensures same { SamePass pass.old pass.new }
 
         // Once all passes are joined, the sums are the lock's.
-        ensures whole { pass.new.joined ≡ self.now.passes → IsWhole T.entries T.number pass.new }
+        ensures whole { pass.new.joined ≡ self.now.passes → IsWhole pass.new }
     {
         let Pass {
             seat,
-            made: _,
             joined,
             greatest,
         } = other;
@@ -197,15 +196,14 @@ impl<T: Kept> TurnLock<T> {
         requires idle { pass.in_turn ≡ false }
         ensures log { T.entries result ≡ pass.log }
         ensures number { T.number result ≡ pass.floor }
-        ensures named { T.name result ≡ pass.name }
-        ensures tickets { 0 < pass.draws → pass.greatest < self.first + pass.draws }
-        ensures rises { pass.floor ≡ T.number self.opening + pass.rises }
-        ensures entries { (test : T.Entry → Bool) → count_by test pass.log ≡ count_by test (T.entries self.opening) + count_by test pass.own }
+        ensures named { Some (T.name result) ≡ pass.name }
+        ensures tickets { 0 < pass.draws → pass.greatest < self.first_ticket + pass.draws }
+        ensures rises { pass.floor ≡ self.opening_number + pass.rises }
+        ensures entries { (test : T.Entry → Bool) → count_by test pass.log ≡ count_by test self.opening_log + count_by test pass.own }
     {
         let TurnLock { table } = self;
         let Pass {
             seat,
-            made: _,
             joined: _,
             greatest: _,
         } = pass;
@@ -213,37 +211,38 @@ impl<T: Kept> TurnLock<T> {
     }
 }
 
-// Splits the first seat into as many passes as there are to be.
+impl<T: Kept> Pass<T> {
+    // A pass that has seen no turn yet.
+    fn first(seat: Place<T>) -> Pass<T>
+        requires { seat.me ≡ (one_of (starting seat.me.0.opening), []) }
+        ensures { result ≡ first_pass (lock_of seat.table_id seat.me.0.opening) }
+    {
+        Pass {
+            seat,
+            joined: 1,
+            greatest: 0,
+        }
+    }
+}
+
+// Splits the first seat into so many passes, for which there is room.
 fn deal<T: Kept>(
     words: &Words<T>,
-    start: &Start<T>,
     mut seat: Place<T>,
+    count: u32,
     mut passes: Vec<Pass<T>>,
 ) -> Vec<Pass<T>>
     requires table { (seat.table_id ≡ words.now.table_id) × (words.now.table_id.words ≡ 2) }
-    requires seat { seat.me ≡ (starting (opening_of T.entries T.number T.name start.now.value.value start.now.first start.now.passes), []) }
-    requires some { 0 < start.now.passes }
-    requires room { (vec_len passes ≡ 0) × (start.now.passes ≤ vec_capacity passes) }
-    ensures count { vec_len result ≡ start.now.passes }
-    ensures passes { All (λ p. p ≡ first_pass T.entries T.number T.name (lock_of seat.table_id start.now)) result.items }
+    requires seat { seat.me ≡ (starting seat.me.0.opening, []) }
+    requires count { (0 < count) × (count ≡ seat.me.0.opening.passes) }
+    requires room { (vec_len passes ≡ 0) × (count ≤ vec_capacity passes) }
+    ensures count { vec_len result ≡ count }
+    ensures passes { All (λ p. p ≡ first_pass (lock_of seat.table_id seat.me.0.opening)) result.items }
 {
-    for _ in 1..start.passes {
+    for _ in 1..count {
         let one = steps::split(words, &mut seat);
-        passes.push_reserved(first(start, one));
+        passes.push_reserved(Pass::first(one));
     }
-    passes.push_reserved(first(start, seat));
+    passes.push_reserved(Pass::first(seat));
     passes
-}
-
-// A pass that has seen no turn yet.
-fn first<T: Kept>(start: &Start<T>, seat: Place<T>) -> Pass<T>
-    requires { seat.me ≡ (one_of (starting (opening_of T.entries T.number T.name start.now.value.value start.now.first start.now.passes)), []) }
-    ensures { result ≡ first_pass T.entries T.number T.name (lock_of seat.table_id start.now) }
-{
-    Pass {
-        seat,
-        made: Snapshot::of(start),
-        joined: 1,
-        greatest: 0,
-    }
 }

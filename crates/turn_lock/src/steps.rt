@@ -5,7 +5,6 @@ ghost use Rattle.std.specs.Prelude.{◌≡◌, ◌≢◌, ℕ, ◌+◌, ◌^◌,
 ghost use mathlib.Core.List.{IsPrefix};
 ghost use Rattle.turn_lock.specs.Known.{opening_of, starting, holding, given, rest_of, one_of, both_of, compared, drawn_by};
 ghost use Rattle.turn_lock.specs.Plays.{KnowsAll};
-ghost use Rattle.turn_lock.specs.declared.view.Opening.{Opening};
 ghost use Rattle.turn_lock.specs.declared.view.Stage.TheVariants.{Idle, Waiting, Holding};
 
 use crate::kept::Kept;
@@ -81,7 +80,7 @@ pub fn draw<T: Kept>(words: &Words<T>, seat: &mut Place<T>) -> u64
     ensures slots { seat.new.me.1 ≡ seat.old.me.1 }
     ensures view { seat.new.me.0 ≡ drawn_by seat.old.me.0 result }
     ensures above { seat.old.me.0.greatest ≤ result }
-    ensures next { (o : Opening T.Entry T.Name) → seat.old.me.0.opening ≡ Some o → seat.old.me.0.parts ≡ o.passes → result ≡ o.first + seat.old.me.0.draws }
+    ensures next { seat.old.me.0.parts ≡ seat.old.me.0.opening.passes → result ≡ seat.old.me.0.opening.first + seat.old.me.0.draws }
 {
     words.fetch_add::<Draw>(seat, TICKET, 1)
 }
@@ -95,7 +94,7 @@ pub fn wait<T: Kept>(rt: &impl Wait, words: &Words<T>, seat: &mut Place<T>, tick
     ensures view { seat.new.me.0 ≡ holding seat.old.me.0 ticket (T.entries result) (T.number result) }
     ensures begins { IsPrefix seat.old.me.0.log (T.entries result) }
     ensures reached { seat.old.me.0.floor ≤ T.number result }
-    ensures named { (o : Opening T.Entry T.Name) → seat.old.me.0.opening ≡ Some o → T.name result ≡ o.name }
+    ensures named { Some (T.name result) ≡ seat.old.me.0.opening.name }
 {
     'waits: for _ in rt.forever() {
         let served = look(words, seat, ticket);
@@ -114,7 +113,7 @@ fn look<T: Kept>(words: &Words<T>, seat: &mut Place<T>, ticket: u64) -> u64
     requires table { (seat.old.table_id ≡ words.now.table_id) × (words.now.table_id.words ≡ 2) }
     requires waits { (seat.old.me.0.stage ≡ Waiting ticket) × (seat.old.me.1 ≡ []) }
     ensures table { seat.new.table_id ≡ seat.old.table_id }
-    ensures served { result ≡ ticket → (v : T) × (seat.new.me.1 ≡ (0, Some v) ∷ []) × (seat.new.me.0 ≡ holding seat.old.me.0 ticket (T.entries v) (T.number v)) × IsPrefix seat.old.me.0.log (T.entries v) × (seat.old.me.0.floor ≤ T.number v) × ((o : Opening T.Entry T.Name) → seat.old.me.0.opening ≡ Some o → T.name v ≡ o.name) }
+    ensures served { result ≡ ticket → (v : T) × (seat.new.me.1 ≡ (0, Some v) ∷ []) × (seat.new.me.0 ≡ holding seat.old.me.0 ticket (T.entries v) (T.number v)) × IsPrefix seat.old.me.0.log (T.entries v) × (seat.old.me.0.floor ≤ T.number v) × (Some (T.name v) ≡ seat.old.me.0.opening.name) }
     ensures not_yet { result ≢ ticket → seat.new.me ≡ seat.old.me }
 {
     words.load::<Look<T>>(seat, SERVING)
@@ -126,7 +125,7 @@ pub fn pass_on<T: Kept>(words: &Words<T>, seat: &mut Place<T>, value: T)
     requires holds { ((t : ℕ) × (seat.old.me.0.stage ≡ Holding t)) × (seat.old.me.1 ≡ (0, None) ∷ []) × (0 < seat.old.me.0.parts) }
     requires begins { IsPrefix seat.old.me.0.log (T.entries value) }
     requires reached { seat.old.me.0.floor ≤ T.number value }
-    requires named { (o : Opening T.Entry T.Name) × (seat.old.me.0.opening ≡ Some o) × (T.name value ≡ o.name) }
+    requires named { Some (T.name value) ≡ seat.old.me.0.opening.name }
     ensures table { seat.new.table_id ≡ seat.old.table_id }
     ensures seat { seat.new.me ≡ (given seat.old.me.0 (T.entries value) (T.number value), []) }
 {
@@ -156,7 +155,7 @@ pub fn join<T: Kept>(words: &Words<T>, seat: &mut Place<T>, other: Place<T>)
     ensures seat { seat.new.me ≡ (compared (both_of seat.old.me.0 other.me.0), []) }
     ensures begins { IsPrefix (both_of seat.old.me.0 other.me.0).beside (both_of seat.old.me.0 other.me.0).log }
     ensures few { seat.old.me.0.parts + other.me.0.parts ≤ 4096 }
-    ensures all { (o : Opening T.Entry T.Name) → seat.old.me.0.opening ≡ Some o → seat.old.me.0.parts + other.me.0.parts ≡ o.passes → KnowsAll o (both_of seat.old.me.0 other.me.0) }
+    ensures all { seat.old.me.0.parts + other.me.0.parts ≡ seat.old.me.0.opening.passes → KnowsAll (both_of seat.old.me.0 other.me.0) }
 {
     words.join_seat::<TakeIn>(seat, other);
     words.load::<Compare>(seat, TICKET);
@@ -169,8 +168,8 @@ pub fn close<T: Kept>(table: Home<T>, seat: Place<T>) -> T
     requires idle { seat.me.0.stage ≡ Idle }
     ensures log { T.entries result ≡ seat.me.0.log }
     ensures number { T.number result ≡ seat.me.0.floor }
-    ensures named { T.name result ≡ T.name table.shared.key.value.value }
-    ensures all { KnowsAll (opening_of T.entries T.number T.name table.shared.key.value.value table.shared.key.first table.shared.key.passes) seat.me.0 }
+    ensures named { Some (T.name result) ≡ seat.me.0.opening.name }
+    ensures all { KnowsAll seat.me.0 }
 {
     let mut closed = table.close_with(seat);
     let slot = closed.take(VALUE);

@@ -16,7 +16,8 @@ pub struct Start<T> {
 pub struct Opening<E, N> {
     pub entries: LinkedList<E>,
     pub number: u64,
-    pub name: N,
+    /// It is there, but in a seat that was joined to another.
+    pub name: Option<N>,
     pub first: u64,
     pub passes: u64,
 }
@@ -49,6 +50,6 @@ pub struct Known<E, N> {
     /// How many passes are joined in it, and 0 once it was joined to another.
     pub parts: u64,
     pub stage: Stage,
-    /// What the lock was made with, unless it was joined to another.
-    pub opening: Option<Opening<E, N>>,
+    /// What the lock was made with.
+    pub opening: Opening<E, N>,
 }
