@@ -1,27 +1,25 @@
 -- Each step keeps the rule of a lock's table, and tells what it is said to tell.
-use Rattle.std.proofs.Common.{◌≡◌, ◌≢◌, ℕ, zero, suc, ◌+◌, ◌-◌, ◌%◌, ◌^◌, ◌<◌, ◌≤◌, ◌⊎◌, max, Bool, true, false, nat_lt, nat_le, cond, List, [], ◌∷◌, ◌++◌, length, drop, set, get_or, count_by, Option, Some, None, refl, sym, ap, ◌∙◌, subst, inl, inr, ⊎_elim, arith, le_refl}
+use Rattle.std.proofs.Common.{◌≡◌, ◌≢◌, ℕ, zero, suc, ◌+◌, ◌%◌, ◌^◌, ◌<◌, ◌≤◌, ◌⊎◌, max, Bool, true, false, nat_lt, cond, List, [], ◌∷◌, ◌++◌, length, drop, set, count_by, Option, Some, None, refl, sym, ap, ◌∙◌, subst, inl, inr, ⊎_elim, arith, le_refl}
 use Rattle.std.proofs.Math.Nat.{mod-eq_of_lt}
 use Rattle.std.proofs.Math.Seq.{drop-append_seam}
-use Rattle.std.proofs.lemmas.Bool.Decides.{nat_tests}
 use mathlib.Core.Logic.{dite}
 use mathlib.Core.Option.{none, some, some-injective, some-ne-none}
 use mathlib.Core.Option as mo
 use mathlib.Core.List.{IsPrefix}
 use native.Mathlib.Decide.{dec_le, ℕ_discrete}
 use lib.ListN.{get_elem?}
-use Rattle.atomic_table.specs.Table.{State, Me, Step, keeps, takes, gives, Allows, Splits, Joins, Final, Seen, opening, homes_after, carried_after}
+use Rattle.atomic_table.specs.Table.{rest, State, Me, Step, keeps, takes, gives, Allows, Splits, Joins, Final, Seen, opening, homes_after, carried_after}
 use Rattle.atomic_table.proofs.Lists.{at_set, at_snoc, at_longer, set_here, set_else}
 use Rattle.turn_lock.specs.declared.view.Known.{Known}
 use Rattle.turn_lock.specs.declared.view.Opening.{Opening}
 use Rattle.turn_lock.specs.declared.view.Stage.{Stage}
 use Rattle.turn_lock.specs.declared.view.Stage.TheVariants.{Idle, Waiting, Holding}
-use Rattle.turn_lock.specs.Pass.{longer_of}
 use Rattle.turn_lock.specs.Known.{starting, rest_of, one_of, both_of, spent, drawn_by, holding, given, compared, worn_parts}
 use Rattle.turn_lock.specs.Turned.{HasTicket, total, Stands, IsBlank, Knows, Turned}
 use Rattle.turn_lock.specs.Plays.{KnowsAll, Drew, Compared, Looked, PassedOn}
 use Rattle.turn_lock.proofs.Prefixes.{prefix_all, prefix_none, prefix_trans, prefix_length, prefix_both, longer_prefix, shorter_prefix, shorter_is, longer_left, longer_right}
 use Rattle.turn_lock.proofs.Totals.{total_set, total_snoc, total_zero, total_none, total_one, total_at, count_append, worn_parts-fresh, worn_parts-worn, worn_parts-both}
-use Rattle.turn_lock.proofs.Rule.{idle_not_held, waits_not_held, waits_not_idle, get_elem-below, same_at, idle_has_none, stands_more, below_next, waiting_on, old_seat, AtHome, IsOut, Home, HasKnower, Adds, rebuilt, still_known, next_small, Goes, home_stays, unmoved, same_low}
+use Rattle.turn_lock.proofs.Rule.{idle_not_held, waits_not_held, waits_not_idle, get_elem-below, same_at, idle_has_none, stands_more, below_next, waiting_on, old_seat, IsOut, rebuilt, still_known, next_small, Goes, home_stays, unmoved, same_low}
 
 abbrev ticket_of : Stage → ℕ
 ticket_of Idle = 0
@@ -48,6 +46,10 @@ value_or v ((_, None) ∷ _) = v
 
 slot_value : {T : Type 0} (v u : T) → ◌≡◌ {A = List (ℕ × Option T)} ((0, Some v) ∷ []) ((0, Some u) ∷ []) → v ≡ u
 slot_value v u e = ap (value_or v) e
+
+-- the one slot that is out, as `exchange` asks for it
+pub slot_out : {T : Type 0} (out : List (ℕ × Option T)) (v : T) → out ≡ (0, Some v) ∷ [] → (x : Option T) × (out ≡ (0, x) ∷ rest out)
+slot_out {T} out v e = (Some v, e ∙ ap (λ (o : List (ℕ × Option T)). (0, Some v) ∷ rest o) (sym e))
 
 -- the greatest ticket is no more than the next one
 above_all : (draws greatest next : ℕ) → (0 < draws → greatest < next) → (draws ≡ 0 → greatest ≡ 0) → greatest ≤ next

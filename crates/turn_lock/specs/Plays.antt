@@ -29,7 +29,7 @@ pub record Compared {T E N : Type 0} (st : Step (Option T)) (m : Me (Option T) (
 
 -- where the ticket is served, the seat has the value, which goes on from what it knew
 abbrev pub Looked : {T E N : Type 0} → (T → List E) → (T → ℕ) → (T → N) → Step (Option T) → Me (Option T) (Known E N) → ℕ → Me (Option T) (Known E N) → Type 0
-Looked {T} {E} {N} entries number name st m found m' = (t : ℕ) → m.0.stage ≡ Waiting t →
+Looked {T} entries number name st m found m' = (t : ℕ) → m.0.stage ≡ Waiting t →
     (found ≡ t → (v : T) × (m'.1 ≡ (0, Some v) ∷ m.1) × (m'.0 ≡ holding m.0 t (entries v) (number v)) × IsPrefix m.0.log (entries v) × (m.0.floor ≤ number v) × (Some (name v) ≡ m.0.opening.name))
     × (found ≢ t → m' ≡ m)
 

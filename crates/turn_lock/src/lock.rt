@@ -1,7 +1,7 @@
 //! The lock and its passes.
 #![tactic(auto)]
 
-ghost use Rattle.std.specs.Prelude.{◌≡◌, ℕ, ◌+◌, ◌-◌, ◌^◌, ◌<◌, ◌≤◌, ◌⊎◌, max, true, false, Bool, List, [], ◌∷◌, ◌++◌, length, drop, count_by, IfOk, IfErr, OnErr, MatchResult, is_ok, All, vec_len, vec_capacity};
+ghost use Rattle.std.specs.Prelude.{◌≡◌, ◌+◌, ◌-◌, ◌^◌, ◌<◌, ◌≤◌, ◌⊎◌, max, true, false, Bool, [], ◌++◌, length, drop, count_by, IfOk, IfErr, MatchResult, is_ok, All, vec_len, vec_capacity};
 ghost use mathlib.Core.List.{IsPrefix};
 ghost use Rattle.turn_lock.specs.Known.{opening_of, starting, one_of, lock_of};
 ghost use Rattle.turn_lock.specs.Pass.{first_pass, longer_of, SamePass, IsWhole};
@@ -65,6 +65,7 @@ impl<T: Kept> Model for Pass<T> {
 
 impl<T: Kept> TurnLock<T> {
     /// A lock round this value, whose tickets begin with `first`, and its passes. No pass is made later.
+    /// Where memory runs out, the value comes back. No later call of the lock takes memory.
     pub fn new(
         alloc: Global,
         value: T,
@@ -96,7 +97,8 @@ impl<T: Kept> TurnLock<T> {
         }
     }
 
-    /// Draws a ticket, waits until it is served, and takes the value out of the lock. A pass that is worn draws none.
+    /// Draws a ticket, waits until it is served, and takes the value out of the lock, so that the pass holds the turn.
+    /// `Worn`: the pass drew a ticket of 2^62 or more, now or earlier. It holds no turn then, and draws no more.
     pub fn take(&self, rt: &impl Wait, pass: &mut Pass<T>) -> Result<T, Worn>
         requires lock { pass.old.lock ≡ self.now }
         requires idle { pass.old.in_turn ≡ false }
@@ -106,12 +108,12 @@ impl<T: Kept> TurnLock<T> {
         ensures reaches { IfOk result (λ v. pass.old.floor ≤ T.number v) }
         ensures named { IfOk result (λ v. Some (T.name v) ≡ pass.old.name) }
 
-        // The pass has seen the value, and holds the turn.
+        // The pass has seen the value, and holds the turn. A worn one sees nothing.
         ensures log { MatchResult result (λ v. pass.new.log ≡ T.entries v) (λ _. pass.new.log ≡ pass.old.log) }
         ensures floor { MatchResult result (λ v. pass.new.floor ≡ T.number v) (λ _. pass.new.floor ≡ pass.old.floor) }
         ensures turn { pass.new.in_turn ≡ is_ok result }
 
-        // The ticket that is drawn is the greatest so far. Where all passes are joined, it is the first one and those that were drawn.
+        // A ticket that is drawn is then the greatest. Where all passes are joined in this one, it is the first ticket and as many more as were drawn.
         ensures worn { MatchResult result (λ _. pass.new.greatest < 2 ^ 62) (λ _. 2 ^ 62 ≤ pass.new.greatest) }
         ensures draws { pass.old.greatest < 2 ^ 62 → pass.new.draws ≡ pass.old.draws + 1 }
         ensures still_worn { 2 ^ 62 ≤ pass.old.greatest → pass.new ≡ pass.old }
@@ -154,7 +156,7 @@ impl<T: Kept> TurnLock<T> {
         steps::pass_on(&self.table.shared, &mut pass.seat, value);
     }
 
-    /// Joins another pass in this one.
+    /// Joins another pass in this one. Of their two logs one begins the other, and the longer is kept.
     pub fn meet(&self, pass: &mut Pass<T>, other: Pass<T>)
         requires lock { (pass.old.lock ≡ self.now) × (other.lock ≡ self.now) }
         requires idle { (pass.old.in_turn ≡ false) × (other.in_turn ≡ false) }

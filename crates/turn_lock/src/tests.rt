@@ -1,11 +1,10 @@
 //! Turns of one thread and of many.
 #![tactic(auto)]
 
-ghost use Rattle.std.specs.Prelude.{◌≡◌, ℕ, ◌+◌, ◌≤◌, ◌<◌, ◌^◌, [], ◌∷◌, ◌++◌, false, All, IfSome, IfNone, vec_len, length};
+ghost use Rattle.std.specs.Prelude.{◌≡◌, ◌+◌, ◌≤◌, ◌<◌, ◌^◌, false, All, IfSome, length};
 ghost use mathlib.Core.List.{IsPrefix};
-ghost use Rattle.turn_lock.specs.Pass.{first_pass};
 
-use crate::{Kept, Pass, TurnLock, Worn};
+use crate::{Kept, Pass, TurnLock};
 use std::alloc::Global;
 use std::process::Abort;
 use std::sync::Wait;
@@ -73,38 +72,23 @@ fn add_each(
     true
 }
 
-// The same, with a pass that comes and goes.
-fn add_and_return(
-    rt: &impl Wait,
-    lock: &TurnLock<Numbers>,
-    mut pass: Pass<Numbers>,
-    from: u64,
-    count: u64,
-) -> Pass<Numbers>
-    requires idle { (pass.lock ≡ lock.now) × (pass.in_turn ≡ false) }
-    requires small { from + count < 2 ^ 32 }
-    ensures { (result.lock ≡ lock.now) × (result.in_turn ≡ false) }
-{
-    add_each(rt, lock, &mut pass, from, count);
-    pass
-}
-
 // Each pass in a thread of its own, where there are as many.
 fn add_in_threads<R: Threads + Wait + Sync>(
     rt: &R,
     lock: &TurnLock<Numbers>,
     passes: &mut [Pass<Numbers>],
+    each: u64,
 )
     requires idle { All (λ p. (p.lock ≡ lock.now) × (p.in_turn ≡ false)) passes.old }
-    requires some { (0 < length passes.old) × (length passes.old ≤ 4096) }
+    requires some { (0 < length passes.old) × (length passes.old ≤ 4096) × (each ≤ 100) }
     ensures { All (λ p. (p.lock ≡ lock.now) × (p.in_turn ≡ false)) passes.new }
 {
     let threads = passes.len();
     let add = |place: usize, pass: &mut Pass<Numbers>|
-        requires { (place < 4096) × (pass.now.lock ≡ lock.now) × (pass.now.in_turn ≡ false) }
+        requires { (place < 4096) × (each ≤ 100) × (pass.now.lock ≡ lock.now) × (pass.now.in_turn ≡ false) }
         ensures { (pass.exit.now.lock ≡ lock.entry.now) × (pass.exit.now.in_turn ≡ false) }
     {
-        add_each(rt, lock, pass, place as u64 * 100, 10);
+        add_each(rt, lock, pass, place as u64 * 100, each);
     };
     thread::for_each_mut(rt, passes, threads, &add);
 }
@@ -142,6 +126,23 @@ fn meet_forwards(
         joined = next;
     }
     joined
+}
+
+// Joins all passes.
+fn meet_all(
+    lock: &TurnLock<Numbers>,
+    mut passes: Vec<Pass<Numbers>>,
+    forwards: bool,
+) -> Option<Pass<Numbers>>
+    requires { All (λ p. (p.lock ≡ lock.now) × (p.in_turn ≡ false)) passes.items }
+    ensures { IfSome result (λ p. (p.lock ≡ lock.now) × (p.in_turn ≡ false)) }
+{
+    let last = passes.pop()?;
+    if forwards {
+        Some(meet_forwards(lock, last, passes))
+    } else {
+        Some(meet_backwards(lock, last, passes))
+    }
 }
 
 // Closes the lock, whose passes are all joined in this one.
@@ -200,49 +201,23 @@ fn one_pass_takes_turns(rt: HostRuntime) -> Result<(), Fail> {
 }
 
 #[test]
-fn two_threads_take_turns(rt: HostRuntime) -> Result<(), Fail> {
-    let numbers = Numbers::with_room(rt.alloc(), 200)?;
-    let Ok((lock, mut passes)) = TurnLock::new(rt.alloc(), numbers, 2, 0) else {
-        panic!(rt; "memory")
-    };
-    let (Some(second), Some(first)) = (passes.pop(), passes.pop()) else {
-        panic!(rt; "two passes")
-    };
-    let (handle, shared) = (&rt, &lock);
-    let (mut first, second) = thread::join(
-        handle,
-        move || add_and_return(handle, shared, first, 0, 100),
-        move || add_and_return(handle, shared, second, 100, 100),
-    );
-    lock.meet(&mut first, second);
-    let numbers = close(&rt, lock, first, 2);
-    assert!(rt; numbers.turns == 200 && numbers.items.len() == 200);
-    for from in [0, 100] {
-        assert!(rt; next_after(&rt, numbers.items.as_slice(), from) == from + 100);
-    }
-    Ok(())
-}
-
-#[test]
 fn many_threads_take_turns(rt: HostRuntime) -> Result<(), Fail> {
-    for forwards in [false, true] {
+    for (threads, each, forwards) in [(2, 100, false), (64, 10, false), (64, 10, true)] {
         let numbers = Numbers::with_room(rt.alloc(), 640)?;
-        let Ok((lock, mut passes)) = TurnLock::new(rt.alloc(), numbers, 64, 0) else {
+        let Ok((lock, mut passes)) = TurnLock::new(rt.alloc(), numbers, threads, 0) else {
             panic!(rt; "memory")
         };
-        add_in_threads(&rt, &lock, passes.as_mut_slice());
-        let Some(last) = passes.pop() else {
-            panic!(rt; "64 passes")
+        add_in_threads(&rt, &lock, passes.as_mut_slice(), each);
+        let Some(pass) = meet_all(&lock, passes, forwards) else {
+            panic!(rt; "passes")
         };
-        let pass = if forwards {
-            meet_forwards(&lock, last, passes)
-        } else {
-            meet_backwards(&lock, last, passes)
-        };
-        let numbers = close(&rt, lock, pass, 64);
-        assert!(rt; numbers.turns == 640 && numbers.items.len() == 640);
-        for place in 0..64 {
-            assert!(rt; next_after(&rt, numbers.items.as_slice(), place * 100) == place * 100 + 10);
+        let numbers = close(&rt, lock, pass, threads);
+        let all = u64::from(threads) * each;
+        assert!(rt; numbers.turns == all && numbers.items.len() as u64 == all);
+        for place in 0..u64::from(threads) {
+            assert!(rt;
+                next_after(&rt, numbers.items.as_slice(), place * 100) == place * 100 + each
+            );
         }
     }
     Ok(())

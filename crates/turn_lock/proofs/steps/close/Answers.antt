@@ -1,4 +1,4 @@
-use Rattle.std.proofs.Common.{◌≡◌, Some, None, rules, sym, ◌∙◌}
+use Rattle.std.proofs.Common.{◌≡◌, Some, sym, ◌∙◌}
 use Rattle.turn_lock.proofs.Moves.{closes}
 use Rattle.turn_lock.proofs.steps.close.Goals as goal
 

@@ -1,4 +1,4 @@
-use Rattle.std.proofs.Common.{◌≡◌, Some, [], ◌∷◌, rules, refl, ap}
+use Rattle.std.proofs.Common.{◌≡◌, Some, [], ◌∷◌, rules, refl}
 use Rattle.turn_lock.specs.Known.{opening_of}
 use Rattle.turn_lock.proofs.Moves.{opens}
 use Rattle.turn_lock.proofs.steps.open.Goals as goal
