@@ -15,6 +15,6 @@ candidate_leaf params id q key path = refl
 
 pub candidate_above : (params : Params) (id : List ℕ) (q : ℕ) (key path : List ℕ) (level : ℕ)
     → candidate_node params id q key path (level + 1) ≡ parent_node params id ((2 ^ params.h + q) / 2 ^ level)
-      (candidate_node params id q key path level) (bytes_at path (params.n * level) params.n)
+    (candidate_node params id q key path level) (bytes_at path (params.n * level) params.n)
 unfolding candidate_node
 candidate_above params id q key path level = rw (add-one level) refl

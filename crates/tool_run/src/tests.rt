@@ -240,7 +240,7 @@ fn faults_of_the_outside_have_their_status(rt: HostRuntime) -> Result<(), AllocE
     let (status, written) = verify_run(&rt, alloc, &mut store, 10)?;
     assert_eq!(rt; status, 3);
     assert!(rt; written.as_slice() == b"accepted l".as_slice());
-    let files = files_of(alloc, &key[..7], &message, &signature)?;
+    let files = files_of(alloc, b"short", &message, &signature)?;
     let mut store = MemStore::new(files, Vec::new(alloc));
     let (status, _) = verify_run(&rt, alloc, &mut store, 10)?;
     assert_eq!(rt; status, 4);
