@@ -1,7 +1,7 @@
 //! A count under a lock.
 #![tactic(auto)]
 
-ghost use Rattle.std.specs.Prelude.{◌≡◌, ◌+◌, ◌*◌, ◌≤◌, [], length, false, All, IfSome};
+ghost use Rattle.std.specs.Prelude.{◌≡◌, ◌+◌, ◌-◌, ◌*◌, ◌^◌, ◌<◌, ◌≤◌, min, [], length, false, All, IfSome};
 ghost use Rattle.turn_lock.specs.Pass.{first_pass};
 ghost use Rattle.turn_bench.specs.Turns.{IsDone};
 
@@ -29,19 +29,30 @@ impl Kept for Count {
     ghost name = { λ _. tt };
 }
 
+impl Count {
+    fn raise(&mut self)
+        ensures { self.new.turns ≡ min (self.old.turns + 1) (2 ^ 64 - 1) }
+    {
+        self.turns = self.turns.saturating_add(1);
+    }
+}
+
+// Takes so many turns, unless the pass is worn before.
 fn count_each(rt: &impl Wait, lock: &TurnLock<Count>, pass: &mut Pass<Count>, each: u64)
     requires lock { pass.old.lock ≡ lock.now }
     requires idle { pass.old.in_turn ≡ false }
     ensures lock { pass.new.lock ≡ pass.old.lock }
     ensures idle { pass.new.in_turn ≡ false }
     ensures joined { pass.new.joined ≡ pass.old.joined }
+    ensures draws { pass.new.draws ≤ pass.old.draws + each }
     ensures rises { pass.new.rises ≤ pass.old.rises + each }
+    ensures all { pass.new.greatest < 2 ^ 62 → pass.new.floor < 2 ^ 64 - 1 → pass.new.rises ≡ pass.old.rises + each }
 {
     for _ in 0..each {
         let Ok(mut count) = lock.take(rt, pass) else {
             return;
         };
-        count.turns = count.turns.saturating_add(1);
+        count.raise();
         lock.give(pass, count);
     }
 }
@@ -92,7 +103,7 @@ pub fn take_turns<R: Threads + Wait + Sync>(
     each: u64,
 ) -> Option<u64>
     requires { (1 ≤ threads) × (threads ≤ 4096) }
-    ensures { IfSome result (λ turns. turns ≤ threads * each) }
+    ensures { threads * each < 2 ^ 62 → IfSome result (λ turns. turns ≡ threads * each) }
 {
     let Ok((lock, mut passes)) = TurnLock::new(alloc, Count { turns: 0 }, threads, 0) else {
         return None;

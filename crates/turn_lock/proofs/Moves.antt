@@ -114,6 +114,7 @@ module _ {T E N : Type 0} (entries : T → List E) (number : T → ℕ) (name : 
         floor = floor;
         knows = subst (λ (p : Opening E N). KnowsAll (record v { opening = p })) (sym ((r.each_seat id v at).made part)) record {
           tickets = λ h. let b = (r.each_seat id v at).below h in omega arith;
+          no_ticket = (r.each_seat id v at).undrawn;
           rises = (let a = r.risen in omega arith);
           entries = λ q. ap (count_by q) log ∙ (r.added q ∙ ap (λ (z : ℕ). count_by q o.entries + z) (only (λ (d : K). count_by q d.own) refl (λ d b. ap (count_by q) b.own)));
         };

@@ -48,6 +48,7 @@ module _ {E N : Type 0} where
   pub record IsWhole (pass : Seen E N) : Type 0 where
     -- each ticket that was drawn is below the next one
     pub tickets : 0 < pass.draws → pass.greatest < pass.lock.first_ticket + pass.draws
+    pub no_ticket : pass.draws ≡ 0 → pass.greatest ≡ 0
     -- the number rose in turns alone
     pub rises : pass.floor ≡ pass.lock.opening_number + pass.rises
     -- each entry stands in the log as often as in the first list and the own entries together

@@ -9,6 +9,7 @@ use Rattle.turn_lock.specs.declared.view.Stage.TheVariants.{Waiting}
 -- what is true of a seat in which all passes are joined
 pub record KnowsAll {E N : Type 0} (d : Known E N) : Type 0 where
   pub tickets : 0 < d.draws → d.greatest < d.opening.first + d.draws
+  pub no_ticket : d.draws ≡ 0 → d.greatest ≡ 0
   pub rises : d.floor ≡ d.opening.number + d.rises
   pub entries : (test : E → Bool) → count_by test d.log ≡ count_by test d.opening.entries + count_by test d.own
 

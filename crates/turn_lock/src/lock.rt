@@ -199,7 +199,10 @@ impl<T: Kept> TurnLock<T> {
         ensures log { T.entries result ≡ pass.log }
         ensures number { T.number result ≡ pass.floor }
         ensures named { Some (T.name result) ≡ pass.name }
+
+        // Each ticket that was drawn is below the next one. The number rose in turns alone, and in turns alone entries were added.
         ensures tickets { 0 < pass.draws → pass.greatest < self.first_ticket + pass.draws }
+        ensures no_ticket { pass.draws ≡ 0 → pass.greatest ≡ 0 }
         ensures rises { pass.floor ≡ self.opening_number + pass.rises }
         ensures entries { (test : T.Entry → Bool) → count_by test pass.log ≡ count_by test self.opening_log + count_by test pass.own }
     {
