@@ -1,5 +1,5 @@
 -- One level up.
-use Rattle.std.proofs.Common.{◌≡◌, ℕ, zero, suc, ◌+◌, ◌*◌, ◌/◌, ◌^◌, List, refl, sym, ◌∙◌, ap, add-one}
+use Rattle.std.proofs.Common.{◌≡◌, ℕ, ◌+◌, ◌*◌, ◌/◌, ◌^◌, List, refl, add-one}
 use Rattle.std.proofs.Math.Nat.{pow-suc, div-div-eq-div-mul}
 use Rattle.lms_bytes.specs.Bytes.{bytes_at}
 use Rattle.lms_bytes.specs.declared.params.Params.{Params}
@@ -15,6 +15,6 @@ candidate_leaf params id q key path = refl
 
 pub candidate_above : (params : Params) (id : List ℕ) (q : ℕ) (key path : List ℕ) (level : ℕ)
     → candidate_node params id q key path (level + 1) ≡ parent_node params id ((2 ^ params.h + q) / 2 ^ level)
-      (candidate_node params id q key path level) (bytes_at path (params.n * level) params.n)
+    (candidate_node params id q key path level) (bytes_at path (params.n * level) params.n)
 unfolding candidate_node
 candidate_above params id q key path level = rw (add-one level) refl

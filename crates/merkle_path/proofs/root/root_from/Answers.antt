@@ -1,4 +1,4 @@
-use Rattle.std.proofs.Common.{◌≡◌, ◌+◌, ◌/◌, ◌^◌, ◌∙◌, sym, ap, ℕ, arith}
+use Rattle.std.proofs.Common.{◌≡◌, ◌+◌, ◌^◌, arith}
 use Rattle.merkle_path.proofs.Levels.{halved, candidate_leaf, candidate_above}
 use Rattle.merkle_path.proofs.root.root_from.Goals as goal
 
@@ -9,7 +9,7 @@ levels-init c =
     record {
       place = omega arith;
       value = rw (candidate_leaf params c.args.id.now c.args.q c.args.key.now c.args.path.now, ← r) c.hash_leaf-node.ensures.node;
-      size = c.hash_leaf-node.ensures.length
+      size = c.hash_leaf-node.ensures.length;
     }
 
 pub levels-preserved : goal.levels-preserved
@@ -20,5 +20,5 @@ levels-preserved c =
     record {
       place = rw here.place (halved (2 ^ params.h + c.args.q) level);
       value = rw (candidate_above params c.args.id.now c.args.q c.args.key.now c.args.path.now level, ← here.place, ← here.value, ← c.part.ensures.bytes, ← c.of-sibling.ensures) c.hash_parent-node.ensures.node;
-      size = c.hash_parent-node.ensures.length
+      size = c.hash_parent-node.ensures.length;
     }
