@@ -20,5 +20,5 @@ seed_leaf_key params id q seed =
 abbrev pub candidate_leaf_key : Params → List ℕ → ℕ → List ℕ → List ℕ → List ℕ
 candidate_leaf_key params id q digest y =
     leaf_key_of_ends params id q (λ i.
-      let digit = digit_of params digest i in
-      steps params id q i digit (2 ^ params.w - 1 - digit) (bytes_at y (params.n * i) params.n))
+    let digit = digit_of params digest i in
+    steps params id q i digit (2 ^ params.w - 1 - digit) (bytes_at y (params.n * i) params.n))

@@ -38,24 +38,18 @@ impl MessageHash {
 
     /// Takes the next piece of the message.
     pub fn update(&mut self, piece: &[u8])
-        ensures {
-            (params : Params) (id : List ℕ) (q : ℕ) (c message : List ℕ) → HasTaken self.old params id q c message
-            → HasTaken self.new params id q c (message ++ piece.now)
-        }
+        ensures { (params : Params) (id : List ℕ) (q : ℕ) (c message : List ℕ) → HasTaken self.old params id q c message
+            → HasTaken self.new params id q c (message ++ piece.now) }
     {
         self.hasher.update(piece);
     }
 
     /// The digest Q of the message (RFC 8554 section 4.5).
     pub fn finish(self) -> Val
-        ensures digest {
-            (params : Params) (id : List ℕ) (q : ℕ) (c message : List ℕ) → HasTaken self params id q c message
-            → result ≡ message_digest params id q c message
-        }
-        ensures length {
-            (params : Params) (id : List ℕ) (q : ℕ) (c message : List ℕ) → HasTaken self params id q c message
-            → length result ≡ params.n
-        }
+        ensures digest { (params : Params) (id : List ℕ) (q : ℕ) (c message : List ℕ) → HasTaken self params id q c message
+            → result ≡ message_digest params id q c message }
+        ensures length { (params : Params) (id : List ℕ) (q : ℕ) (c message : List ℕ) → HasTaken self params id q c message
+            → length result ≡ params.n }
     {
         let digest: [u8; 32] = self.hasher.finalize();
         Val::of(&digest[..self.hash_length as usize])
