@@ -1,1 +1,7 @@
+pub mod Climb
+pub mod Joined
+pub mod Lengths
 pub mod Levels
+pub mod Rows
+pub mod Siblings
+pub mod Trees

@@ -1,6 +1,6 @@
 -- The nodes of an LMS tree. Node 1 is the root, nodes 2r and 2r + 1 are below node r, and node 2^h + q is leaf q.
-use Rattle.std.specs.Prelude.{ℕ, zero, suc, ◌+◌, ◌-◌, ◌*◌, ◌/◌, ◌%◌, ◌^◌, ◌==◌, List, ◌++◌, take, if◌then◌else◌}
-use Rattle.lms_bytes.specs.Bytes.{u16str, u32str, bytes_at}
+use Rattle.std.specs.Prelude.{ℕ, zero, suc, ◌+◌, ◌-◌, ◌*◌, ◌/◌, ◌%◌, ◌^◌, ◌==◌, List, ◌++◌, take, bit_xor, if◌then◌else◌}
+use Rattle.lms_bytes.specs.Bytes.{u16str, u32str, bytes_at, joined}
 use Rattle.lms_bytes.specs.declared.params.Params.{Params}
 use Rattle.merkle_path.specs.declared.TheConstants.{D_LEAF, D_INTR}
 use Rattle.sha2.specs.Sha256.{sha256}
@@ -17,6 +17,18 @@ inner_node params id r left right = take params.n (sha256 (id ++ u32str r ++ u16
 unfoldable pub node : Params → List ℕ → (ℕ → List ℕ) → ℕ → ℕ → List ℕ
 node params id key zero r = leaf_node params id r (key (r - 2 ^ params.h))
 node params id key (suc level) r = inner_node params id r (node params id key level (2 * r)) (node params id key level (2 * r + 1))
+
+-- T[1], from the public values of the leaves (RFC 8554 section 5.3)
+abbrev pub root : Params → List ℕ → (ℕ → List ℕ) → List ℕ
+root params id key = node params id key params.h 1
+
+-- the number of the node beside leaf q's ancestor this many levels above the leaves (RFC 8554 section 5.4)
+abbrev pub sibling : ℕ → ℕ → ℕ → ℕ
+sibling h q level = bit_xor ((2 ^ h + q) / 2 ^ level) 1
+
+-- path[0] || path[1] || .. || path[h - 1] of leaf q (RFC 8554 section 5.4)
+abbrev pub path : Params → List ℕ → (ℕ → List ℕ) → ℕ → List ℕ
+path params id key q = joined (λ level. node params id key level (sibling params.h q level)) params.h
 
 -- the parent of node r and its sibling, the even one on the left
 abbrev pub parent_node : Params → List ℕ → ℕ → List ℕ → List ℕ → List ℕ

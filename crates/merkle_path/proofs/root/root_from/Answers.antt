@@ -1,4 +1,4 @@
-use Rattle.std.proofs.Common.{◌≡◌, ◌+◌, ◌/◌, ◌^◌, ◌∙◌, sym, ap, ℕ, arith}
+use Rattle.std.proofs.Common.{◌≡◌, ◌+◌, ◌^◌, arith}
 use Rattle.merkle_path.proofs.Levels.{halved, candidate_leaf, candidate_above}
 use Rattle.merkle_path.proofs.root.root_from.Goals as goal
 
