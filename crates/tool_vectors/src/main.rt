@@ -18,7 +18,13 @@ const REFUSED: [&[&str]; 4] = [
     &["verify", "5-3.key", "5-3.message", "5-4.signature"],
     &["verify", "10-8.message", "10-8.message", "10-8.signature"],
     &["verify", "10-8.key", "10-8.message", "none"],
-    &["verify", "10-8.key", "10-8.message", "10-8.signature", "more"],
+    &[
+        "verify",
+        "10-8.key",
+        "10-8.message",
+        "10-8.signature",
+        "more",
+    ],
 ];
 
 /// Runs the tool with these words, and answers its status.
