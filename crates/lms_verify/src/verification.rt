@@ -26,9 +26,7 @@ pub enum Verdict {
 pub fn verify(key: &PublicKey, message: &[u8], sig: &[u8]) -> Verdict
     ensures verdict { IsVerdict key.now message.now sig.now result }
     ensures accepted { (q : ℕ) → AcceptsAt key.now message.now sig.now q → result ≡ Verdict.Accepted q }
-    ensures malformed {
-        (fault : SigFault) → signature_fault key.now.params sig.now ≡ Some fault → result ≡ Verdict.Malformed fault
-    }
+    ensures malformed { (fault : SigFault) → signature_fault key.now.params sig.now ≡ Some fault → result ≡ Verdict.Malformed fault }
 {
     let view = match read_signature(&key.params, sig) {
         Ok(view) => view,

@@ -14,15 +14,15 @@ returns-then-eq-clause-verdict c =
       y = c.in-Ok.view.chains.now;
       path = c.in-Ok.view.path.now;
       layout = c.in-Ok.ensures.layout;
-      root_is = sym c.candidate_root_of-got.ensures ∙ same
+      root_is = sym c.candidate_root_of-got.ensures ∙ same;
     }
 
 pub returns-else-eq-clause-accepted : goal.returns-else-eq-clause-accepted
 returns-else-eq-clause-accepted c = λ q a.
     let parts = c.in-Ok.ensures.read q a.c a.y a.path a.layout in
     let moved : root_of_parts c.args.key.now c.args.message.now c.in-Ok.view.leaf c.in-Ok.view.c.now c.in-Ok.view.chains.now c.in-Ok.view.path.now
-          ≡ root_of_parts c.args.key.now c.args.message.now q a.c a.y a.path =
-      rw (parts.0, parts.1, parts.2, parts.3) refl in
+    ≡ root_of_parts c.args.key.now c.args.message.now q a.c a.y a.path =
+    rw (parts.0, parts.1, parts.2, parts.3) refl in
     let same = c.candidate_root_of-got.ensures ∙ (moved ∙ a.root_is) in
     let equal = (bytes_eq-Decides c.candidate_root_of-got.result c.args.key.now.root).1 same in
     let unequal = c.if-eq.ensures in

@@ -1,4 +1,3 @@
-use Rattle.std.proofs.Common.{sym}
 use Rattle.std.proofs.lemmas.Result.{err_from_is_err_and}
 use Rattle.tool_run.proofs.Reading.{key_not_read, refusal_told}
 use Rattle.tool_run.proofs.verify.read_key.Goals as goal
