@@ -1,6 +1,10 @@
 //! Verification of LMS signatures.
 #![tactic(auto)]
 
+pub mod laws;
 mod verification;
 
 pub use verification::{Verdict, verify};
+
+#[cfg(test)]
+mod tests;
