@@ -2,7 +2,7 @@
 //! implementation made, and on words and files that it has to refuse. It prints the status behind each line.
 #![tactic(auto)]
 
-use std::alloc::AllocError;
+use std::alloc::{AllocError, Global};
 use std::io;
 use stream_io::{FileStore, StdoutSink, TcpNet};
 use tool_run::{SystemClocks, run_tool};
@@ -27,26 +27,8 @@ const REFUSED: [&[&str]; 4] = [
     ],
 ];
 
-/// Runs the tool with these words, and answers its status.
-fn run_words(rt: &HostRuntime, words: &[String]) -> u8 {
-    let mut store = FileStore::new(*rt);
-    let mut net = TcpNet::new();
-    let mut time = SystemClocks::new(*rt);
-    let mut out = StdoutSink::new(*rt);
-    run_tool(
-        rt,
-        rt.alloc(),
-        words,
-        &mut store,
-        &mut net,
-        &mut time,
-        &mut out,
-    )
-}
-
 /// The words `verify NAME.key NAME.message NAME.signature`.
-fn verify_words(rt: &HostRuntime, name: &str) -> Result<Vec<String>, AllocError> {
-    let alloc = rt.alloc();
+fn verify_words(alloc: Global, name: &str) -> Result<Vec<String>, AllocError> {
     let mut words = Vec::new(alloc);
     words.push(String::from_str(alloc, "verify")?)?;
     words.push(format!(in alloc; "{name}.key")?)?;
@@ -56,23 +38,41 @@ fn verify_words(rt: &HostRuntime, name: &str) -> Result<Vec<String>, AllocError>
 }
 
 /// A list of words.
-fn words_of(rt: &HostRuntime, texts: &[&str]) -> Result<Vec<String>, AllocError> {
-    let mut words = Vec::new(rt.alloc());
+fn words_of(alloc: Global, texts: &[&str]) -> Result<Vec<String>, AllocError> {
+    let mut words = Vec::new(alloc);
     for text in texts {
-        words.push(String::from_str(rt.alloc(), text)?)?;
+        words.push(String::from_str(alloc, text)?)?;
     }
     Ok(words)
 }
 
-fn main(rt: HostRuntime) -> io::Result<()> {
+/// The lists of words that the tool is run with.
+fn cases(alloc: Global) -> Result<Vec<Vec<String>>, AllocError> {
+    let mut cases = Vec::new(alloc);
     for name in VECTORS {
-        let words = verify_words(&rt, name)?;
-        let status = run_words(&rt, words.as_slice());
-        println!(rt; "status {status}")?;
+        cases.push(verify_words(alloc, name)?)?;
     }
     for texts in REFUSED {
-        let words = words_of(&rt, texts)?;
-        let status = run_words(&rt, words.as_slice());
+        cases.push(words_of(alloc, texts)?)?;
+    }
+    Ok(cases)
+}
+
+fn main(rt: HostRuntime) -> io::Result<()> {
+    let mut store = FileStore::new(rt);
+    let mut net = TcpNet::new();
+    let mut time = SystemClocks::new(rt);
+    let mut out = StdoutSink::new(rt);
+    for words in &cases(rt.alloc())? {
+        let status = run_tool(
+            &rt,
+            rt.alloc(),
+            words.as_slice(),
+            &mut store,
+            &mut net,
+            &mut time,
+            &mut out,
+        );
         println!(rt; "status {status}")?;
     }
     Ok(())
