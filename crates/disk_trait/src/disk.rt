@@ -94,13 +94,15 @@ pub trait Disk: Pages {
         ensures stays_steady { Self.steady self.new ≡ Self.steady self.old }
         ensures stays_room { Self.room self.new ≡ Self.room self.old };
 
-    /// Makes what was written stable.
+    /// Makes what was written stable. What is there has room, also after a failed sync.
     fn sync(&mut self) -> Result<(), DiskFault>
         ensures stable { IsTrue (Self.honest self.old) → IsTrue (Self.told self.old)
             → OnOk result (Only (Self.reads self.old) (Self.may_leave self.new)) }
         ensures images { IsTrue (Self.honest self.old)
             → (image : List ℕ) → Self.may_leave self.new image → Self.may_leave self.old image }
         ensures same { IsTrue (Self.told self.old) → Self.reads self.new ≡ Self.reads self.old }
+        ensures has_room { IsTrue (Self.told self.old)
+            → length (Self.reads self.old) ≤ Self.room self.old }
 
         ensures succeeds { IsTrue (Self.steady self.old) → IsOk result }
         ensures cause { OnErr result (Rose (Self.count self.old) (Self.count self.new)) }

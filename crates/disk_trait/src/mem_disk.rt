@@ -191,7 +191,8 @@ impl MemDisk {
 
     // Whether a write or a sync that comes fails whatever its arguments are.
     fn is_refusing(&self) -> bool
-        ensures { result ≡ sync_fails self.now }
+        ensures value { result ≡ sync_fails self.now }
+        ensures has_room { length self.now.bytes ≤ self.now.capacity }
     {
         self.is_listed() || self.bound != usize::MAX && self.bound <= self.changes
     }
@@ -355,6 +356,7 @@ impl Disk for MemDisk {
     fn sync(&mut self) -> Result<(), DiskFault>
         ensures outcome { result ≡ (if sync_fails self.old then Err (record {}) else Ok tt) }
         ensures after { self.new ≡ (if sync_fails self.old then changed true self.old else with_stable self.old) }
+        ensures has_room { length self.old.bytes ≤ self.old.capacity }
     {
         if self.is_refusing() {
             self.change(true);

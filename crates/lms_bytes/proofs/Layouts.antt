@@ -1,10 +1,10 @@
 -- A signature's parts, found again in its bytes.
-use Rattle.std.proofs.Common.{◌≡◌, ℕ, ◌+◌, ◌*◌, ◌^◌, ◌<◌, ◌≤◌, List, [], ◌++◌, length, Option, None, Some, Bool, true, false, nat_lt, ◌==◌, refl, sym, ◌∙◌, ap, append_assoc, arith, length-append, append-nil}
+use Rattle.std.proofs.Common.{◌≡◌, ℕ, ◌+◌, ◌*◌, ◌^◌, ◌<◌, List, [], ◌++◌, length, Option, None, Some, true, false, nat_lt, ◌==◌, refl, sym, ◌∙◌, ap, append_assoc, arith, length-append, append-nil}
 use Rattle.std.proofs.Math.Seq.{drop-append_seam, take-append_seam}
 use Rattle.std.proofs.lemmas.Nat.{from_be_bytes-to_be_bytes_4}
 use Rattle.std.proofs.lemmas.Bool.Decides.{nat_tests}
 use Rattle.lms_bytes.specs.Bytes.{bytes_at, u32str, str_to_u32}
-use Rattle.lms_bytes.specs.ParameterSets.{lms_row, lmots_row}
+use Rattle.lms_bytes.specs.ParameterSets.{lms_row}
 use Rattle.lms_bytes.specs.Params.{codes_fault}
 use Rattle.lms_bytes.specs.PublicKey.{public_bytes}
 use Rattle.lms_bytes.specs.Signature.{HasLayout, signature_fault, signature_length, tree_place}

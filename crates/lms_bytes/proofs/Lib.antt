@@ -1,4 +1,5 @@
 pub mod Coef
+pub mod Examples
 pub mod Layouts
 pub mod Parts
 pub mod Shortfall

@@ -1,7 +1,7 @@
 -- The checksum fits its two bytes.
-use Rattle.std.proofs.Common.{◌≡◌, ℕ, zero, suc, ◌+◌, ◌-◌, ◌*◌, ◌%◌, ◌/◌, ◌^◌, ◌<◌, ◌≤◌, List, arith}
+use Rattle.std.proofs.Common.{◌≡◌, ℕ, zero, suc, ◌-◌, ◌*◌, ◌%◌, ◌^◌, ◌<◌, ◌≤◌, List, arith}
 use Rattle.std.proofs.Math.Nat.{mul-le-mul_right, mod-eq_of_lt}
-use Rattle.lms_bytes.specs.Digits.{shortfall, coef}
+use Rattle.lms_bytes.specs.Digits.{shortfall}
 
 shortfall-le : (s : List ℕ) (w k : ℕ) → shortfall s w k ≤ k * (2 ^ w - 1)
 unfolding shortfall

@@ -41,7 +41,7 @@ fn digits_have_their_checksum_behind_them(rt: HostRuntime) {
         }
     }
     let params = set_of(&rt, 5, 3);
-    let ones = Val::of(&[0xff; 32]);
+    let ones = Val::of(&[0xff; 32][..params.n as usize]);
     for i in 0..params.p {
         let wanted = if i < 64 { 15 } else { 0 };
         assert_eq!(rt; digit(&params, &ones, i), wanted, "digit {i}");
@@ -78,10 +78,11 @@ fn typecodes_make_sets(rt: HostRuntime) {
 
 #[test]
 fn a_public_key_is_read_as_it_is_written(rt: HostRuntime) {
+    let params = set_of(&rt, 10, 7);
     let key = PublicKey {
-        params: set_of(&rt, 10, 7),
+        params,
         id: [0x11; 16],
-        root: Val::of(&[0x22; 24]),
+        root: Val::of(&[0x22; 32][..params.n as usize]),
     };
     let mut bytes = [0x33; 56];
     assert_eq!(rt; write_public(&key, &mut bytes), 48);
@@ -107,16 +108,26 @@ fn a_public_key_is_read_as_it_is_written(rt: HostRuntime) {
     }
 }
 
+/// Why so many bytes at the front are no signature, if they are none.
+fn front_fault(params: &Params, bytes: &[u8], length: usize) -> Option<SigFault> {
+    let front = bytes.get(..length)?;
+    read_signature(params, front).err()
+}
+
 #[test]
 fn a_signature_is_read_as_it_is_written(rt: HostRuntime) {
     let params = set_of(&rt, 10, 8);
-    let mut bytes = [0; 781];
+    let n = params.n as usize;
+    let c = Val::of(&[1; 32][..n]);
+    let chains = [2; 8480];
+    let path = [3; 800];
+    let mut bytes = [0; 9400];
     let written = write_layout(
         &params,
         31,
-        &Val::of(&[1; 24]),
-        &[2; 624],
-        &[3; 120],
+        &c,
+        &chains[..n * params.p as usize],
+        &path[..n * params.h as usize],
         &mut bytes,
     );
     assert_eq!(rt; written, 780);
@@ -127,10 +138,9 @@ fn a_signature_is_read_as_it_is_written(rt: HostRuntime) {
     assert!(rt; view.path == [3; 120].as_slice());
     let cut = [(7, 1), (659, 3), (779, 6), (781, 6)];
     for (length, number) in cut {
-        let fault = read_signature(&params, &bytes[..length])
-            .err()
-            .map(|fault| fault.number());
-        assert_eq!(rt; fault, Some(number), "{length} bytes");
+        let fault = front_fault(&params, &bytes, length);
+        let found = fault.map(|fault| fault.number());
+        assert_eq!(rt; found, Some(number), "{length} bytes");
     }
     // A byte of the leaf's number, of the LM-OTS typecode and of the LMS typecode.
     let changed: [(usize, u8, SigFault); 3] = [
@@ -141,7 +151,7 @@ fn a_signature_is_read_as_it_is_written(rt: HostRuntime) {
     for (place, byte, want) in changed {
         let mut other = bytes;
         other[place] = byte;
-        let fault = read_signature(&params, &other[..780]).err();
+        let fault = front_fault(&params, &other, 780);
         assert_eq!(rt; fault, Some(want), "byte {place}");
     }
 }

@@ -19,9 +19,10 @@ pub record LiesWithin (a b : StoreRun) : Type 0 where
   pub ends : a.count_after ≤ b.count_after
 
 pub read_within : (a b : StoreRun) → LiesWithin a b → (name : List ℕ) (reading : Reading) → IsRead a name reading → IsRead b name reading
-read_within a b w name Failed r =
-    (let rose = r.0 in let begins = w.begins in let ends = w.ends in omega arith,
-     λ told steady. rw (← w.file) (r.1 (rw w.told told) (rw w.steady steady)))
+read_within a b w name Failed r = (
+  let rose = r.0 in let begins = w.begins in let ends = w.ends in omega arith,
+  λ told steady. rw (← w.file) (r.1 (rw w.told told) (rw w.steady steady)),
+)
 read_within a b w name (TooLong got) r = (r.0, λ told. rw (← w.file) (r.1 (rw w.told told)))
 read_within a b w name (Bytes bytes) r = (r.0, λ told. rw (← w.file) (r.1 (rw w.told told)))
 
@@ -70,7 +71,7 @@ comes_on told steady file count a b c one two = record {
   told_stays = two.told_stays ∙ one.told_stays;
   steady_stays = two.steady_stays ∙ one.steady_stays;
   file_stays = two.file_stays ∙ one.file_stays;
-  count_grows = let x = one.count_grows in let y = two.count_grows in omega arith
+  count_grows = let x = one.count_grows in let y = two.count_grows in omega arith;
 }
 
 -- the run from b to c within the run from a to d
@@ -82,7 +83,7 @@ run_within told steady file count a b c d one two = record {
   steady = one.steady_stays;
   file = one.file_stays;
   begins = one.count_grows;
-  ends = two.count_grows
+  ends = two.count_grows;
 }
 
 pub stays : {S : Type 0} (told steady : S → Bool) (file : S → List ℕ → Option (List ℕ)) (count : S → ℕ) (a : S)

@@ -16,16 +16,16 @@ pub data VerifyEnds (store : StoreRun) (key message signature : List ℕ) : Endi
   key_failed : IsRead store key Failed → VerifyEnds store key message signature ending.StoreFailed
   key_too_long : (got : ℕ) → IsRead store key (TooLong got) → VerifyEnds store key message signature (ending.TooLong got)
   key_refused : (bytes : List ℕ) (fault : KeyFault) → IsRead store key (Bytes bytes) → public_fault bytes ≡ Some fault
-    → VerifyEnds store key message signature (ending.Unreadable key (key_fault_number fault))
+      → VerifyEnds store key message signature (ending.Unreadable key (key_fault_number fault))
   message_failed : (public : PublicKey) → IsRead store key (Bytes (public_bytes public)) → IsRead store message Failed
-    → VerifyEnds store key message signature ending.StoreFailed
+      → VerifyEnds store key message signature ending.StoreFailed
   message_too_long : (public : PublicKey) (got : ℕ) → IsRead store key (Bytes (public_bytes public))
-    → IsRead store message (TooLong got) → VerifyEnds store key message signature (ending.TooLong got)
+      → IsRead store message (TooLong got) → VerifyEnds store key message signature (ending.TooLong got)
   signature_failed : (public : PublicKey) (text : List ℕ) → IsRead store key (Bytes (public_bytes public))
-    → IsRead store message (Bytes text) → IsRead store signature Failed → VerifyEnds store key message signature ending.StoreFailed
+      → IsRead store message (Bytes text) → IsRead store signature Failed → VerifyEnds store key message signature ending.StoreFailed
   signature_too_long : (public : PublicKey) (text : List ℕ) (got : ℕ) → IsRead store key (Bytes (public_bytes public))
-    → IsRead store message (Bytes text) → IsRead store signature (TooLong got)
-    → VerifyEnds store key message signature (ending.TooLong got)
+      → IsRead store message (Bytes text) → IsRead store signature (TooLong got)
+      → VerifyEnds store key message signature (ending.TooLong got)
   verified : (public : PublicKey) (text bytes : List ℕ) (says : Verdict) → IsRead store key (Bytes (public_bytes public))
-    → IsRead store message (Bytes text) → IsRead store signature (Bytes bytes) → IsVerdict public text bytes says
-    → VerifyEnds store key message signature (ending.Verified says)
+      → IsRead store message (Bytes text) → IsRead store signature (Bytes bytes) → IsVerdict public text bytes says
+      → VerifyEnds store key message signature (ending.Verified says)

@@ -20,7 +20,7 @@ store_run told steady file count before after = record {
   file = file before;
   file_after = file after;
   count = count before;
-  count_after = count after
+  count_after = count after;
 }
 
 -- an output: whether it tells what was written and whether it is steady, the room that it has, all that was written to
@@ -43,7 +43,7 @@ output_run told steady room written count before after = record {
   written = written before;
   written_after = written after;
   count = count before;
-  count_after = count after
+  count_after = count after;
 }
 
 pub record World : Type 0 where

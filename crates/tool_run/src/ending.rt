@@ -76,9 +76,7 @@ fn verdict_line(alloc: Global, verdict: &Verdict) -> Result<String, AllocError>
 
 /// The line of a signature that leads to another root than the key's.
 fn roots_line(alloc: Global, got: &Val, want: &Val) -> Result<String, AllocError>
-    ensures {
-        IfOk result (λ line. string_bytes line ≡ line_of (spec.Verified (verdict.OtherRoot got.now want.now)))
-    }
+    ensures { IfOk result (λ line. string_bytes line ≡ line_of (spec.Verified (verdict.OtherRoot got.now want.now))) }
 {
     let got = hex::encode(alloc, got.bytes())?;
     let want = hex::encode(alloc, want.bytes())?;

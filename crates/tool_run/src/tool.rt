@@ -25,21 +25,21 @@ pub fn run_tool<R: Threads + Wait + Sync, S: Store, N: Net, T: Clocks, O: Sink>(
     time: &mut T,
     out: &mut O,
 ) -> u8
-    ensures run {
-        ToolRun (map string_bytes words.now)
+    ensures run { ToolRun (map string_bytes words.now)
         (record {
-            store = store_run S.told S.steady S.file S.count store.old store.new;
-            output = output_run O.told O.steady O.room O.written O.count out.old out.new
+          store = store_run S.told S.steady S.file S.count store.old store.new;
+          output = output_run O.told O.steady O.room O.written O.count out.old out.new;
         })
-        result
-    }
+        result }
 {
     let end = match command_of(alloc, words) {
-        Some(Command::Verify {
-            key,
-            message,
-            signature,
-        }) => verify_files(alloc, store, key, message, signature),
+        Some(
+            Command::Verify {
+                key,
+                message,
+                signature,
+            },
+        ) => verify_files(alloc, store, key, message, signature),
         None => Ending::Usage,
     };
     finish(alloc, &end, out)
@@ -47,10 +47,8 @@ pub fn run_tool<R: Threads + Wait + Sync, S: Store, N: Net, T: Clocks, O: Sink>(
 
 /// Prints the line of an end, and answers its status.
 fn finish<O: Sink>(alloc: Global, end: &Ending, out: &mut O) -> u8
-    ensures {
-        let run = output_run O.told O.steady O.room O.written O.count out.old out.new in
-        EndsSo run (ending end.now) result
-    }
+    ensures { let run = output_run O.told O.steady O.room O.written O.count out.old out.new in
+        EndsSo run (ending end.now) result }
 {
     match end.line(alloc) {
         Ok(line) => print(line.as_bytes(), end.status(), out),
@@ -60,11 +58,9 @@ fn finish<O: Sink>(alloc: Global, end: &Ending, out: &mut O) -> u8
 
 /// Prints a line, and answers the status: 3 in the place of 0 where the line cannot be printed whole.
 fn print<O: Sink>(line: &[u8], status: u8, out: &mut O) -> u8
-    ensures {
-        let run = output_run O.told O.steady O.room O.written O.count out.old out.new in
+    ensures { let run = output_run O.told O.steady O.room O.written O.count out.old out.new in
         (IsPrinted run line.now × (result ≡ status))
-        ⊎ (IsCutShort run line.now × (result ≡ (if status == 0 then 3 else status)))
-    }
+        ⊎ (IsCutShort run line.now × (result ≡ (if status == 0 then 3 else status))) }
 {
     match write_whole(out, line) {
         Ok(()) => status,

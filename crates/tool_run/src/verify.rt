@@ -23,10 +23,8 @@ pub(crate) fn verify_files<S: Store>(
     message: &str,
     signature: &str,
 ) -> Ending
-    ensures cause {
-        let run = store_run S.told S.steady S.file S.count store.old store.new in
-        (ending result ≡ spec.NoMemory) ⊎ VerifyEnds run key.now message.now signature.now (ending result)
-    }
+    ensures cause { let run = store_run S.told S.steady S.file S.count store.old store.new in
+        (ending result ≡ spec.NoMemory) ⊎ VerifyEnds run key.now message.now signature.now (ending result) }
     ensures file { S.file store.new ≡ S.file store.old }
 {
     match read_and_verify(alloc, store, key, message, signature) {
@@ -43,14 +41,10 @@ fn read_and_verify<S: Store>(
     message: &str,
     signature: &str,
 ) -> Result<Verdict, Ending>
-    ensures verdict {
-        let run = store_run S.told S.steady S.file S.count store.old store.new in
-        IfOk result (λ verdict. VerifyEnds run key.now message.now signature.now (spec.Verified verdict))
-    }
-    ensures refused {
-        let run = store_run S.told S.steady S.file S.count store.old store.new in
-        IfErr result (λ end. (ending end ≡ spec.NoMemory) ⊎ VerifyEnds run key.now message.now signature.now (ending end))
-    }
+    ensures verdict { let run = store_run S.told S.steady S.file S.count store.old store.new in
+        IfOk result (λ verdict. VerifyEnds run key.now message.now signature.now (spec.Verified verdict)) }
+    ensures refused { let run = store_run S.told S.steady S.file S.count store.old store.new in
+        IfErr result (λ end. (ending end ≡ spec.NoMemory) ⊎ VerifyEnds run key.now message.now signature.now (ending end)) }
     ensures file { S.file store.new ≡ S.file store.old }
 {
     let public = read_key(alloc, store, key)?;
@@ -60,20 +54,12 @@ fn read_and_verify<S: Store>(
 }
 
 /// Reads a public key.
-fn read_key<S: Store>(
-    alloc: Global,
-    store: &mut S,
-    name: &str,
-) -> Result<PublicKey, Ending>
-    ensures key {
-        let run = store_run S.told S.steady S.file S.count store.old store.new in
-        IfOk result (λ public. IsRead run name.now (Bytes (public_bytes public)))
-    }
-    ensures refused {
-        let run = store_run S.told S.steady S.file S.count store.old store.new in
+fn read_key<S: Store>(alloc: Global, store: &mut S, name: &str) -> Result<PublicKey, Ending>
+    ensures key { let run = store_run S.told S.steady S.file S.count store.old store.new in
+        IfOk result (λ public. IsRead run name.now (Bytes (public_bytes public))) }
+    ensures refused { let run = store_run S.told S.steady S.file S.count store.old store.new in
         IfErr result (λ end. (ending end ≡ spec.NoMemory)
-            ⊎ ((message signature : List ℕ) → VerifyEnds run name.now message signature (ending end)))
-    }
+        ⊎ ((message signature : List ℕ) → VerifyEnds run name.now message signature (ending end))) }
     ensures file { S.file store.new ≡ S.file store.old }
     ensures count { S.count store.old ≤ S.count store.new }
     ensures told { S.told store.new ≡ S.told store.old }
@@ -97,19 +83,11 @@ fn unreadable(alloc: Global, name: &str, fault: u8) -> Ending
 }
 
 /// Reads a file whole.
-fn read_file<S: Store>(
-    alloc: Global,
-    store: &mut S,
-    name: &str,
-) -> Result<Vec<u8>, Ending>
-    ensures bytes {
-        let run = store_run S.told S.steady S.file S.count store.old store.new in
-        IfOk result (λ bytes. IsRead run name.now (Bytes bytes.items))
-    }
-    ensures refused {
-        let run = store_run S.told S.steady S.file S.count store.old store.new in
-        IfErr result (λ end. FailsToRead run name.now (ending end))
-    }
+fn read_file<S: Store>(alloc: Global, store: &mut S, name: &str) -> Result<Vec<u8>, Ending>
+    ensures bytes { let run = store_run S.told S.steady S.file S.count store.old store.new in
+        IfOk result (λ bytes. IsRead run name.now (Bytes bytes.items)) }
+    ensures refused { let run = store_run S.told S.steady S.file S.count store.old store.new in
+        IfErr result (λ end. FailsToRead run name.now (ending end)) }
     ensures file { S.file store.new ≡ S.file store.old }
     ensures count { S.count store.old ≤ S.count store.new }
     ensures told { S.told store.new ≡ S.told store.old }

@@ -1,4 +1,4 @@
-use Rattle.std.proofs.Common.{◌≡◌, ◌∙◌, ap, arith}
+use Rattle.std.proofs.Common.{◌∙◌, ap, arith}
 use Rattle.lms_bytes.specs.Bytes.{bytes_at}
 use Rattle.lms_bytes.proofs.Parts.{four_parts}
 use Rattle.lms_bytes.proofs.Layouts.{key_lies, codes_accepted, same_hash_length}

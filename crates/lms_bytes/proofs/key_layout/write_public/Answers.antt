@@ -1,4 +1,4 @@
-use Rattle.std.proofs.Common.{◌≡◌, ◌+◌, ◌∙◌, ap, length, arith}
+use Rattle.std.proofs.Common.{◌+◌, ◌∙◌, ap, length, arith}
 use Rattle.lms_bytes.proofs.Parts.{deeper}
 use Rattle.lms_bytes.proofs.key_layout.write_public.Goals as goal
 

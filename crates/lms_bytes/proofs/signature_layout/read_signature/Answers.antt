@@ -1,6 +1,6 @@
 use Rattle.std.proofs.Common.{◌≡◌, ◌+◌, ◌*◌, arith}
 use Rattle.lms_bytes.specs.Bytes.{bytes_at, u32str}
-use Rattle.lms_bytes.specs.Signature.{HasLayout, tree_place}
+use Rattle.lms_bytes.specs.Signature.{tree_place}
 use Rattle.lms_bytes.proofs.Parts.{six_parts}
 use Rattle.lms_bytes.proofs.Layouts.{layout_passes, one_layout, next_row}
 use Rattle.lms_bytes.proofs.signature_layout.read_signature.Goals as goal

@@ -1,4 +1,4 @@
-use Rattle.std.proofs.Common.{◌≡◌, ◌+◌, ◌∙◌, ap, length, arith}
+use Rattle.std.proofs.Common.{◌+◌, ◌∙◌, ap, length, arith}
 use Rattle.lms_bytes.proofs.Parts.{deeper}
 use Rattle.lms_bytes.proofs.signature_layout.write_layout.Goals as goal
 

@@ -1,4 +1,4 @@
-use Rattle.std.proofs.Common.{◌≡◌, ◌<◌, length, arith, refl}
+use Rattle.std.proofs.Common.{◌<◌, length, arith, refl}
 use Rattle.std.proofs.lemmas.List.{take_more_set}
 use Rattle.lms_bytes.proofs.Xor.{xor_take_more}
 use Rattle.lms_bytes.proofs.val.write_xor.Goals as goal

@@ -15,9 +15,9 @@ returns-in_err-text-clause-refused g c =
     let one = c.in_ok-public.ensures in
     let two = c.in_err-text.ensures in
     let first : Comes told steady file count c.args.store.now c.read_key.new.store =
-      record { told_stays = one.told; steady_stays = one.steady; file_stays = one.file; count_grows = one.count } in
+    record { told_stays = one.told; steady_stays = one.steady; file_stays = one.file; count_grows = one.count } in
     let second : Comes told steady file count c.read_key.new.store c.read_file.new.store =
-      record { told_stays = two.told; steady_stays = two.steady; file_stays = two.file; count_grows = two.count } in
+    record { told_stays = two.told; steady_stays = two.steady; file_stays = two.file; count_grows = two.count } in
     let none = stays told steady file count c.args.store.now in
     let end = stays told steady file count c.read_file.new.store in
     let key = read_within _ _ (run_within told steady file count _ _ _ _ none second) c.args.key.now (Bytes (public_bytes c.in_ok-public.public)) one.key in
@@ -35,11 +35,11 @@ returns-in_err-bytes-clause-refused g c =
     let two = c.in_ok-text.ensures in
     let three = c.in_err-bytes.ensures in
     let first : Comes told steady file count c.args.store.now c.read_key.new.store =
-      record { told_stays = one.told; steady_stays = one.steady; file_stays = one.file; count_grows = one.count } in
+    record { told_stays = one.told; steady_stays = one.steady; file_stays = one.file; count_grows = one.count } in
     let second : Comes told steady file count c.read_key.new.store c.read_file.new.store =
-      record { told_stays = two.told; steady_stays = two.steady; file_stays = two.file; count_grows = two.count } in
+    record { told_stays = two.told; steady_stays = two.steady; file_stays = two.file; count_grows = two.count } in
     let third : Comes told steady file count c.read_file.new.store c.read_file-2.new.store =
-      record { told_stays = three.told; steady_stays = three.steady; file_stays = three.file; count_grows = three.count } in
+    record { told_stays = three.told; steady_stays = three.steady; file_stays = three.file; count_grows = three.count } in
     let none = stays told steady file count c.args.store.now in
     let end = stays told steady file count c.read_file-2.new.store in
     let key = read_within _ _ (run_within told steady file count _ _ _ _ none (comes_on told steady file count _ _ _ second third)) c.args.key.now (Bytes (public_bytes c.in_ok-public.public)) one.key in
@@ -57,11 +57,11 @@ returns-clause-verdict g c =
     let two = c.in_ok-text.ensures in
     let three = c.in_ok-bytes.ensures in
     let first : Comes told steady file count c.args.store.now c.read_key.new.store =
-      record { told_stays = one.told; steady_stays = one.steady; file_stays = one.file; count_grows = one.count } in
+    record { told_stays = one.told; steady_stays = one.steady; file_stays = one.file; count_grows = one.count } in
     let second : Comes told steady file count c.read_key.new.store c.read_file.new.store =
-      record { told_stays = two.told; steady_stays = two.steady; file_stays = two.file; count_grows = two.count } in
+    record { told_stays = two.told; steady_stays = two.steady; file_stays = two.file; count_grows = two.count } in
     let third : Comes told steady file count c.read_file.new.store c.read_file-2.new.store =
-      record { told_stays = three.told; steady_stays = three.steady; file_stays = three.file; count_grows = three.count } in
+    record { told_stays = three.told; steady_stays = three.steady; file_stays = three.file; count_grows = three.count } in
     let none = stays told steady file count c.args.store.now in
     let end = stays told steady file count c.read_file-2.new.store in
     let key = read_within _ _ (run_within told steady file count _ _ _ _ none (comes_on told steady file count _ _ _ second third)) c.args.key.now (Bytes (public_bytes c.in_ok-public.public)) one.key in

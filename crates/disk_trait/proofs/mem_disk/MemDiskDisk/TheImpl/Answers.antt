@@ -31,6 +31,7 @@ sync-tells c =
       stable = λ honest told. rw (c.ensures.outcome, c.ensures.after) (sync-stable disk fails);
       images = λ honest. rw c.ensures.after (sync-images disk fails);
       same = λ told. rw c.ensures.after (sync-bytes disk fails);
+      has_room = λ told. c.ensures.has_room;
       succeeds = search rules;
       cause = rw (c.ensures.outcome, c.ensures.after) (sync-cause disk fails);
       count = rw c.ensures.after (sync-count disk fails);

@@ -1,0 +1,4 @@
+pub mod Prefixes
+pub mod Totals
+pub mod Rule
+pub mod Moves

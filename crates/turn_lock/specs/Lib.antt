@@ -1,0 +1,5 @@
+pub mod Lock
+pub mod Pass
+pub mod Known
+pub mod Turned
+pub mod Plays

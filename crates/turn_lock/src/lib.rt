@@ -1,0 +1,13 @@
+//! A lock round one value, whose turns are drawn by number. Its passes keep what they have seen of the value, and passes that have met have one log.
+#![tactic(auto)]
+
+mod kept;
+mod lock;
+mod plays;
+mod steps;
+#[cfg(test)]
+mod tests;
+mod view;
+
+pub use kept::Kept;
+pub use lock::{NoMemory, Pass, TurnLock, Worn};

@@ -1,0 +1,250 @@
+//! The lock and its passes.
+#![tactic(auto)]
+
+ghost use Rattle.std.specs.Prelude.{◌≡◌, ◌+◌, ◌-◌, ◌^◌, ◌<◌, ◌≤◌, ◌⊎◌, max, true, false, Bool, [], ◌++◌, length, drop, count_by, IfOk, IfErr, MatchResult, is_ok, All, vec_len, vec_capacity};
+ghost use mathlib.Core.List.{IsPrefix};
+ghost use Rattle.turn_lock.specs.Known.{opening_of, starting, one_of, lock_of};
+ghost use Rattle.turn_lock.specs.Pass.{first_pass, longer_of, SamePass, IsWhole};
+
+use crate::kept::Kept;
+use crate::steps;
+use crate::steps::{Home, Place, Words};
+use crate::view::Start;
+use std::alloc::Global;
+use std::marker::Model;
+use std::snapshot::Snapshot;
+use std::sync::Wait;
+
+/// The first ticket that is worn.
+const WORN_FROM: u64 = 1 << 62;
+
+/// Want of memory.
+#[derive(Clone, Copy, Debug, PartialEq, Eq)]
+pub struct NoMemory;
+
+/// The pass has drawn a ticket of 2^62 or more, and has no more turns.
+#[derive(Clone, Copy, Debug, PartialEq, Eq)]
+pub struct Worn;
+
+/// A lock round a value. Contracts see it as a `Lock` of `specs/Lock.antt`: which lock it is, the value that it was made with, its first ticket and how many passes it has.
+#[derive(Drop)]
+pub struct TurnLock<T: Kept> {
+    table: Home<T>,
+}
+
+impl<T: Kept> Model for TurnLock<T> {
+    ghost use Rattle.std.specs.Prelude.{◌≡◌};
+    ghost use Rattle.turn_lock.specs.Lock.{Lock};
+    ghost use Rattle.turn_lock.specs.Known.{lock_of, opening_of};
+
+    ghost Value = { Lock T.Entry T.Name };
+
+    ghost view = { λ l. lock_of l.table.shared.table_id (opening_of T.entries T.number T.name l.table.shared.key.value.value l.table.shared.key.first l.table.shared.key.passes) };
+
+    ghost invariant = { λ l. (l.table.shared.table_id.words ≡ 2) × (l.table.shared.table_id.slots ≡ 1) };
+}
+
+/// What takes turns of a lock. Contracts see it as a `Seen` of `specs/Pass.antt`: its lock, what it has seen of the value, how many passes are joined in it, and whether it holds the turn.
+#[derive(Drop)]
+pub struct Pass<T: Kept> {
+    seat: Place<T>,
+    joined: u32,
+    greatest: u64,
+}
+
+impl<T: Kept> Model for Pass<T> {
+    ghost use Rattle.turn_lock.specs.Pass.{Seen};
+    ghost use Rattle.turn_lock.specs.Known.{seen_of, IsSettled};
+
+    ghost Value = { Seen T.Entry T.Name };
+
+    ghost view = { λ p. seen_of p.seat.table_id p.seat.me.0 };
+
+    ghost invariant = { λ p. IsSettled p.seat.me p.joined p.greatest };
+}
+
+impl<T: Kept> TurnLock<T> {
+    /// A lock round this value, whose tickets begin with `first`, and its passes. No pass is made later.
+    /// Where memory runs out, the value comes back. No later call of the lock takes memory.
+    pub fn new(
+        alloc: Global,
+        value: T,
+        passes: u32,
+        first: u64,
+    ) -> Result<(TurnLock<T>, Vec<Pass<T>>), (T, NoMemory)>
+        requires passes { (1 ≤ passes) × (passes ≤ 4096) }
+        requires first { first ≤ 2 ^ 62 }
+        ensures opening { IfOk result (λ r. (r.0.opening_log ≡ T.entries value) × (r.0.opening_number ≡ T.number value) × (r.0.name ≡ Some (T.name value))) }
+        ensures numbers { IfOk result (λ r. (r.0.first_ticket ≡ first) × (r.0.passes ≡ passes)) }
+        ensures count { IfOk result (λ r. vec_len r.1 ≡ passes) }
+        ensures passes { IfOk result (λ r. All (λ p. p ≡ first_pass r.0) r.1.items) }
+        ensures refused { IfErr result (λ r. r.0 ≡ value) }
+    {
+        let Ok(room) = Vec::with_capacity(alloc, passes as usize) else {
+            return Err((value, NoMemory));
+        };
+        let start = Start {
+            value: Snapshot::of(&value),
+            first,
+            passes,
+        };
+        match steps::open(alloc, value, &start) {
+            Ok((table, seat)) => {
+                let made = deal(&table.shared, seat, passes, room);
+                Ok((TurnLock { table }, made))
+            }
+            Err(value) => Err((value, NoMemory)),
+        }
+    }
+
+    /// Draws a ticket, waits until it is served, and takes the value out of the lock, so that the pass holds the turn.
+    /// `Worn`: the pass drew a ticket of 2^62 or more, now or earlier. It holds no turn then, and draws no more.
+    pub fn take(&self, rt: &impl Wait, pass: &mut Pass<T>) -> Result<T, Worn>
+        requires lock { pass.old.lock ≡ self.now }
+        requires idle { pass.old.in_turn ≡ false }
+
+        // The value goes on from what the pass had seen.
+        ensures begins { IfOk result (λ v. IsPrefix pass.old.log (T.entries v)) }
+        ensures reaches { IfOk result (λ v. pass.old.floor ≤ T.number v) }
+        ensures named { IfOk result (λ v. Some (T.name v) ≡ pass.old.name) }
+
+        // The pass has seen the value, and holds the turn. A worn one sees nothing.
+        ensures log { MatchResult result (λ v. pass.new.log ≡ T.entries v) (λ _. pass.new.log ≡ pass.old.log) }
+        ensures floor { MatchResult result (λ v. pass.new.floor ≡ T.number v) (λ _. pass.new.floor ≡ pass.old.floor) }
+        ensures turn { pass.new.in_turn ≡ is_ok result }
+
+        // A ticket that is drawn is then the greatest. Where all passes are joined in this one, it is the first ticket and as many more as were drawn.
+        ensures worn { MatchResult result (λ _. pass.new.greatest < 2 ^ 62) (λ _. 2 ^ 62 ≤ pass.new.greatest) }
+        ensures draws { pass.old.greatest < 2 ^ 62 → pass.new.draws ≡ pass.old.draws + 1 }
+        ensures still_worn { 2 ^ 62 ≤ pass.old.greatest → pass.new ≡ pass.old }
+        ensures greatest { pass.old.greatest ≤ pass.new.greatest }
+        ensures next { pass.old.greatest < 2 ^ 62 → pass.old.joined ≡ self.now.passes → pass.new.greatest ≡ self.now.first_ticket + pass.old.draws }
+
+        ensures rises { pass.new.rises ≡ pass.old.rises }
+        ensures own { pass.new.own ≡ pass.old.own }
+        ensures joined { pass.new.joined ≡ pass.old.joined }
+        ensures same { SamePass pass.old pass.new }
+    {
+        if pass.greatest >= WORN_FROM {
+            return Err(Worn);
+        }
+        let ticket = steps::draw(&self.table.shared, &mut pass.seat);
+        pass.greatest = ticket;
+        if ticket >= WORN_FROM {
+            return Err(Worn);
+        }
+        Ok(steps::wait(rt, &self.table.shared, &mut pass.seat, ticket))
+    }
+
+    /// Puts the value back, and passes the turn on. Its entries are then part of the lock's log.
+    pub fn give(&self, pass: &mut Pass<T>, value: T)
+        requires lock { pass.old.lock ≡ self.now }
+        requires turn { pass.old.in_turn ≡ true }
+        requires begins { IsPrefix pass.old.log (T.entries value) }
+        requires reaches { pass.old.floor ≤ T.number value }
+        requires named { Some (T.name value) ≡ pass.old.name }
+        ensures log { pass.new.log ≡ T.entries value }
+        ensures floor { pass.new.floor ≡ T.number value }
+        ensures rises { pass.new.rises ≡ pass.old.rises + (T.number value - pass.old.floor) }
+        ensures own { pass.new.own ≡ pass.old.own ++ drop (length pass.old.log) (T.entries value) }
+        ensures turn { pass.new.in_turn ≡ false }
+        ensures draws { pass.new.draws ≡ pass.old.draws }
+        ensures greatest { pass.new.greatest ≡ pass.old.greatest }
+        ensures joined { pass.new.joined ≡ pass.old.joined }
+        ensures same { SamePass pass.old pass.new }
+    {
+        steps::pass_on(&self.table.shared, &mut pass.seat, value);
+    }
+
+    /// Joins another pass in this one. Of their two logs one begins the other, and the longer is kept.
+    pub fn meet(&self, pass: &mut Pass<T>, other: Pass<T>)
+        requires lock { (pass.old.lock ≡ self.now) × (other.lock ≡ self.now) }
+        requires idle { (pass.old.in_turn ≡ false) × (other.in_turn ≡ false) }
+        ensures one_log { IsPrefix pass.old.log other.log ⊎ IsPrefix other.log pass.old.log }
+        ensures log { pass.new.log ≡ longer_of pass.old.log other.log }
+        ensures floor { pass.new.floor ≡ max pass.old.floor other.floor }
+        ensures rises { pass.new.rises ≡ pass.old.rises + other.rises }
+        ensures draws { pass.new.draws ≡ pass.old.draws + other.draws }
+        ensures own { pass.new.own ≡ pass.old.own ++ other.own }
+        ensures greatest { pass.new.greatest ≡ max pass.old.greatest other.greatest }
+        ensures joined { pass.new.joined ≡ pass.old.joined + other.joined }
+        ensures turn { pass.new.in_turn ≡ false }
+        ensures same { SamePass pass.old pass.new }
+
+        // Once all passes are joined, the sums are the lock's.
+        ensures whole { pass.new.joined ≡ self.now.passes → IsWhole pass.new }
+    {
+        let Pass {
+            seat,
+            joined,
+            greatest,
+        } = other;
+        steps::join(&self.table.shared, &mut pass.seat, seat);
+        pass.joined += joined;
+        pass.greatest = pass.greatest.max(greatest);
+    }
+
+    /// How many of the passes that the lock was made with are joined in this one.
+    pub fn joined(pass: &Pass<T>) -> u32
+        ensures { result ≡ pass.now.joined }
+    {
+        pass.joined
+    }
+
+    /// The value, once all passes are joined in this one.
+    pub fn close(self, pass: Pass<T>) -> T
+        requires lock { pass.lock ≡ self }
+        requires all { pass.joined ≡ self.passes }
+        requires idle { pass.in_turn ≡ false }
+        ensures log { T.entries result ≡ pass.log }
+        ensures number { T.number result ≡ pass.floor }
+        ensures named { Some (T.name result) ≡ pass.name }
+        ensures tickets { 0 < pass.draws → pass.greatest < self.first_ticket + pass.draws }
+        ensures rises { pass.floor ≡ self.opening_number + pass.rises }
+        ensures entries { (test : T.Entry → Bool) → count_by test pass.log ≡ count_by test self.opening_log + count_by test pass.own }
+    {
+        let TurnLock { table } = self;
+        let Pass {
+            seat,
+            joined: _,
+            greatest: _,
+        } = pass;
+        steps::close(table, seat)
+    }
+}
+
+impl<T: Kept> Pass<T> {
+    // A pass that has seen no turn yet.
+    fn first(seat: Place<T>) -> Pass<T>
+        requires { seat.me ≡ (one_of (starting seat.me.0.opening), []) }
+        ensures { result ≡ first_pass (lock_of seat.table_id seat.me.0.opening) }
+    {
+        Pass {
+            seat,
+            joined: 1,
+            greatest: 0,
+        }
+    }
+}
+
+// Splits the first seat into so many passes, for which there is room.
+fn deal<T: Kept>(
+    words: &Words<T>,
+    mut seat: Place<T>,
+    count: u32,
+    mut passes: Vec<Pass<T>>,
+) -> Vec<Pass<T>>
+    requires table { (seat.table_id ≡ words.now.table_id) × (words.now.table_id.words ≡ 2) }
+    requires seat { seat.me ≡ (starting seat.me.0.opening, []) }
+    requires count { (0 < count) × (count ≡ seat.me.0.opening.passes) }
+    requires room { (vec_len passes ≡ 0) × (count ≤ vec_capacity passes) }
+    ensures count { vec_len result ≡ count }
+    ensures passes { All (λ p. p ≡ first_pass (lock_of seat.table_id seat.me.0.opening)) result.items }
+{
+    for _ in 1..count {
+        let one = steps::split(words, &mut seat);
+        passes.push_reserved(Pass::first(one));
+    }
+    passes.push_reserved(Pass::first(seat));
+    passes
+}

@@ -1,0 +1,179 @@
+//! The steps of a turn, on the two words and the slot of a lock's table.
+#![tactic(auto)]
+
+ghost use Rattle.std.specs.Prelude.{◌≡◌, ◌≢◌, ℕ, ◌+◌, ◌^◌, ◌<◌, ◌≤◌, [], ◌∷◌, None, Some, IfOk, IfErr};
+ghost use mathlib.Core.List.{IsPrefix};
+ghost use Rattle.turn_lock.specs.Known.{opening_of, starting, holding, given, rest_of, one_of, both_of, compared, drawn_by};
+ghost use Rattle.turn_lock.specs.Plays.{KnowsAll};
+ghost use Rattle.turn_lock.specs.declared.view.Stage.TheVariants.{Idle, Waiting, Holding};
+
+use crate::kept::Kept;
+use crate::plays::{Compare, Draw, Look, PassOn, SplitOff, TakeIn, Turns};
+use crate::view::{Known, Start};
+use atomic_table::{Seat, Shared, Table};
+use std::alloc::Global;
+use std::sync::Wait;
+
+/// The word of the next ticket.
+const TICKET: usize = 0;
+
+/// The word of the ticket that is served.
+const SERVING: usize = 1;
+
+/// The slot of the value.
+const VALUE: usize = 0;
+
+/// The words and the slot of a lock, as its passes share them.
+pub type Words<T> = Shared<
+    Option<T>,
+    Known<<T as Kept>::Entry, <T as Kept>::Name>,
+    Start<T>,
+    Turns<T>,
+>;
+
+/// The same, with their memory.
+pub type Home<T> = Table<
+    Option<T>,
+    Known<<T as Kept>::Entry, <T as Kept>::Name>,
+    Start<T>,
+    Turns<T>,
+    Global,
+>;
+
+/// What a pass steps with.
+pub type Place<T> = Seat<Option<T>, Known<<T as Kept>::Entry, <T as Kept>::Name>>;
+
+/// The table of a lock, and its first seat.
+pub fn open<T: Kept>(alloc: Global, value: T, start: &Start<T>) -> Result<(Home<T>, Place<T>), T>
+    requires value { start.now.value.value ≡ value }
+    requires passes { (0 < start.now.passes) × (start.now.passes ≤ 4096) }
+    requires first { start.now.first ≤ 2 ^ 62 }
+    ensures table { IfOk result (λ r. (r.0.shared.table_id.words ≡ 2) × (r.0.shared.table_id.slots ≡ 1) × (r.0.shared.key ≡ start.now) × (r.1.table_id ≡ r.0.shared.table_id)) }
+    ensures seat { IfOk result (λ r. r.1.me ≡ (starting (opening_of T.entries T.number T.name value start.now.first start.now.passes), [])) }
+    ensures value { IfErr result (λ v. v ≡ value) }
+{
+    let mut slots = Vec::new(alloc);
+    if let Err(failed) = slots.push(Some(value)) {
+        slots.destroy_empty();
+        let Some(value) = failed.value else {
+            unreachable!()
+        };
+        return Err(value);
+    }
+    match Table::new(alloc, &[start.first, start.first], slots, start) {
+        Ok(made) => Ok(made),
+        Err(mut refused) => {
+            let Some(Some(value)) = refused.slots.pop() else {
+                unreachable!()
+            };
+            refused.slots.destroy_empty();
+            Err(value)
+        }
+    }
+}
+
+/// Draws a ticket.
+pub fn draw<T: Kept>(words: &Words<T>, seat: &mut Place<T>) -> u64
+    requires table { (seat.old.table_id ≡ words.now.table_id) × (words.now.table_id.words ≡ 2) }
+    requires idle { (seat.old.me.0.stage ≡ Idle) × (seat.old.me.0.greatest < 2 ^ 62) × (0 < seat.old.me.0.parts) }
+    ensures table { seat.new.table_id ≡ seat.old.table_id }
+    ensures slots { seat.new.me.1 ≡ seat.old.me.1 }
+    ensures view { seat.new.me.0 ≡ drawn_by seat.old.me.0 result }
+    ensures above { seat.old.me.0.greatest ≤ result }
+    ensures next { seat.old.me.0.parts ≡ seat.old.me.0.opening.passes → result ≡ seat.old.me.0.opening.first + seat.old.me.0.draws }
+{
+    words.fetch_add::<Draw>(seat, TICKET, 1)
+}
+
+/// Waits until the ticket is served, and takes the value out.
+pub fn wait<T: Kept>(rt: &impl Wait, words: &Words<T>, seat: &mut Place<T>, ticket: u64) -> T
+    requires table { (seat.old.table_id ≡ words.now.table_id) × (words.now.table_id.words ≡ 2) }
+    requires waits { (seat.old.me.0.stage ≡ Waiting ticket) × (seat.old.me.1 ≡ []) }
+    ensures table { seat.new.table_id ≡ seat.old.table_id }
+    ensures out { seat.new.me.1 ≡ (0, None) ∷ [] }
+    ensures view { seat.new.me.0 ≡ holding seat.old.me.0 ticket (T.entries result) (T.number result) }
+    ensures begins { IsPrefix seat.old.me.0.log (T.entries result) }
+    ensures reached { seat.old.me.0.floor ≤ T.number result }
+    ensures named { Some (T.name result) ≡ seat.old.me.0.opening.name }
+{
+    'waits: for _ in rt.forever() {
+        let served = look(words, seat, ticket);
+        if served == ticket {
+            let taken = words.exchange(seat, VALUE, None);
+            let Some(value) = taken else { unreachable!() };
+            return value;
+        }
+        words.park(rt, SERVING, (served % (1 << 32)) as u32);
+    }
+    unreachable!()
+}
+
+// Which ticket is served. Where it is this one, the slot is out with the seat.
+fn look<T: Kept>(words: &Words<T>, seat: &mut Place<T>, ticket: u64) -> u64
+    requires table { (seat.old.table_id ≡ words.now.table_id) × (words.now.table_id.words ≡ 2) }
+    requires waits { (seat.old.me.0.stage ≡ Waiting ticket) × (seat.old.me.1 ≡ []) }
+    ensures table { seat.new.table_id ≡ seat.old.table_id }
+    ensures served { result ≡ ticket → (v : T) × (seat.new.me.1 ≡ (0, Some v) ∷ []) × (seat.new.me.0 ≡ holding seat.old.me.0 ticket (T.entries v) (T.number v)) × IsPrefix seat.old.me.0.log (T.entries v) × (seat.old.me.0.floor ≤ T.number v) × (Some (T.name v) ≡ seat.old.me.0.opening.name) }
+    ensures not_yet { result ≢ ticket → seat.new.me ≡ seat.old.me }
+{
+    words.load::<Look<T>>(seat, SERVING)
+}
+
+/// Puts the value back, and passes the turn on.
+pub fn pass_on<T: Kept>(words: &Words<T>, seat: &mut Place<T>, value: T)
+    requires table { (seat.old.table_id ≡ words.now.table_id) × (words.now.table_id.words ≡ 2) }
+    requires holds { ((t : ℕ) × (seat.old.me.0.stage ≡ Holding t)) × (seat.old.me.1 ≡ (0, None) ∷ []) × (0 < seat.old.me.0.parts) }
+    requires begins { IsPrefix seat.old.me.0.log (T.entries value) }
+    requires reached { seat.old.me.0.floor ≤ T.number value }
+    requires named { Some (T.name value) ≡ seat.old.me.0.opening.name }
+    ensures table { seat.new.table_id ≡ seat.old.table_id }
+    ensures seat { seat.new.me ≡ (given seat.old.me.0 (T.entries value) (T.number value), []) }
+{
+    let empty = words.exchange(seat, VALUE, Some(value));
+    let None = empty else { unreachable!() };
+    words.fetch_add::<PassOn<T>>(seat, SERVING, 1);
+    words.wake_all(SERVING);
+}
+
+/// Splits a pass off.
+pub fn split<T: Kept>(words: &Words<T>, seat: &mut Place<T>) -> Place<T>
+    requires table { (seat.old.table_id ≡ words.now.table_id) × (words.now.table_id.words ≡ 2) }
+    requires idle { (seat.old.me.0.stage ≡ Idle) × (seat.old.me.0.greatest < 2 ^ 62) × (1 < seat.old.me.0.parts) }
+    ensures table { (seat.new.table_id ≡ seat.old.table_id) × (result.table_id ≡ seat.old.table_id) }
+    ensures left { seat.new.me ≡ (rest_of seat.old.me.0, seat.old.me.1) }
+    ensures right { result.me ≡ (one_of seat.old.me.0, []) }
+{
+    words.split_seat::<SplitOff>(seat)
+}
+
+/// Joins another pass, and compares the two logs.
+pub fn join<T: Kept>(words: &Words<T>, seat: &mut Place<T>, other: Place<T>)
+    requires table { (seat.old.table_id ≡ words.now.table_id) × (other.table_id ≡ words.now.table_id) × (words.now.table_id.words ≡ 2) }
+    requires idle { (seat.old.me.0.stage ≡ Idle) × (seat.old.me.1 ≡ []) × (0 < seat.old.me.0.parts) }
+    requires idle_too { (other.me.0.stage ≡ Idle) × (other.me.1 ≡ []) }
+    ensures table { seat.new.table_id ≡ seat.old.table_id }
+    ensures seat { seat.new.me ≡ (compared (both_of seat.old.me.0 other.me.0), []) }
+    ensures begins { IsPrefix (both_of seat.old.me.0 other.me.0).beside (both_of seat.old.me.0 other.me.0).log }
+    ensures few { seat.old.me.0.parts + other.me.0.parts ≤ 4096 }
+    ensures all { seat.old.me.0.parts + other.me.0.parts ≡ seat.old.me.0.opening.passes → KnowsAll (both_of seat.old.me.0 other.me.0) }
+{
+    words.join_seat::<TakeIn>(seat, other);
+    words.load::<Compare>(seat, TICKET);
+}
+
+/// Takes the value out of the table for good.
+pub fn close<T: Kept>(table: Home<T>, seat: Place<T>) -> T
+    requires table { (seat.table_id ≡ table.shared.table_id) × (table.shared.table_id.words ≡ 2) × (table.shared.table_id.slots ≡ 1) }
+    requires all { (seat.me.0.parts ≡ table.shared.key.passes) × (0 < seat.me.0.parts) }
+    requires idle { seat.me.0.stage ≡ Idle }
+    ensures log { T.entries result ≡ seat.me.0.log }
+    ensures number { T.number result ≡ seat.me.0.floor }
+    ensures named { Some (T.name result) ≡ seat.me.0.opening.name }
+    ensures all { KnowsAll seat.me.0 }
+{
+    let mut closed = table.close_with(seat);
+    let slot = closed.take(VALUE);
+    closed.free();
+    let Some(value) = slot else { unreachable!() };
+    value
+}
