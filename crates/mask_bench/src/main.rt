@@ -44,7 +44,11 @@ fn main(rt: HostRuntime) -> io::Result<ExitCode> {
         println!(rt; "wanted: keyed or plain, and a number of masks")?;
         return Ok(ExitCode::from(2));
     };
-    let all = if way.as_str() == "plain" { plain(&params, leaves) } else { keyed(&params, leaves) };
+    let all = if way.as_str() == "plain" {
+        plain(&params, leaves)
+    } else {
+        keyed(&params, leaves)
+    };
     println!(rt; "{leaves} masks: {all}")?;
     Ok(ExitCode::SUCCESS)
 }

@@ -1,0 +1,7 @@
+pub mod Joined
+pub mod Xor
+pub mod Chains
+pub mod Members
+pub mod Reference
+pub mod Unmasking
+pub mod Pads

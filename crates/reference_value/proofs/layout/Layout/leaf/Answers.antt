@@ -1,0 +1,9 @@
+use Rattle.std.proofs.Common.{◌^◌}
+use Rattle.reference_value.specs.Places.{leaf_length}
+use Rattle.reference_value.proofs.Joined.{row-fits}
+use Rattle.reference_value.proofs.layout.Layout.leaf.Goals as goal
+
+pub returns-clause-within : goal.returns-clause-within
+returns-clause-within c =
+    let layout = c.args.self.now in
+    rw (c.leaf_bytes.ensures, c.k.ensures.value) (row-fits (leaf_length layout.params layout.plan.k) c.args.q (2 ^ layout.params.h) c.requires)

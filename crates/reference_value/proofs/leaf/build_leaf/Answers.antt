@@ -1,0 +1,55 @@
+use Rattle.std.proofs.Common.{◌≡◌, [], ◌∙◌, length, ap, refl, arith}
+use Rattle.coalition_map.specs.MemberLaws.{below-none, below-all, below-more_in, below-more_out}
+use Rattle.reference_value.specs.Dealing.{Dealing, members_of}
+use Rattle.reference_value.proofs.Members.{building-none, building-more, built, tag-room}
+use Rattle.reference_value.proofs.leaf.build_leaf.Goals as goal
+use Rattle.reference_value.proofs.leaf.build_leaf.Goals.{then-has, else-has}
+
+pub trustees-init : goal.trustees-init
+trustees-init c =
+    let none = below-none 1 _ 1 c.members-members.result c.members-members.ensures.subset.ascending (omega arith) in
+    rw none (building-none _ c.args.q c.args.params.now.n c.bytes.result.now [] c.put.new.out c.write_chains.new.out refl (c.bytes.ensures.bytes ∙ c.randomizer-c.ensures.randomizer)
+    (ap length c.bytes.ensures.bytes ∙ c.randomizer-c.ensures.length) c.put.ensures.front c.write_chains.ensures)
+
+pub add_member-requires-clause-room : goal.add_member-requires-clause-room
+add_member-requires-clause-room c =
+    let room = tag-room _ c.args.plan.now.k c.trustees.t c.members-members.result c.members-members.ensures.subset (c.has.ensures.0 c.if-has.true) in
+    let k = c.k.ensures.value in
+    let size = c.split_at_mut-front.ensures.front_len in
+    omega (arith, c.trustees.invariant.ends, c.trustees.auto.front)
+
+pub overflow_add-place : goal.overflow_add-place
+overflow_add-place c =
+    let room = tag-room _ c.args.plan.now.k c.trustees.t c.members-members.result c.members-members.ensures.subset (c.has.ensures.0 c.if-has.true) in
+    let plan = c.k.ensures.plan.threshold in
+    omega (arith, c.trustees.invariant.ends)
+
+pub trustees-preserved : goal.trustees-preserved
+trustees-preserved c =
+    elim c.if-has.branch [
+      | then-has w ↦
+          let next = below-more_in 1 _ c.trustees.t c.members-members.result c.members-members.ensures.subset.ascending (c.has.ensures.0 w.if-has.true) in
+          rw (next, w.place-is, w.front-is, w.chains-is) (building-more _ c.args.q _ c.trustees.t c.trustees.place w.new-key.result _ _ _ _ _ c.trustees.invariant w.new-key.ensures
+          c.randomizer-c.ensures.randomizer w.add_member.ensures.front w.add_member.ensures.chains)
+      | else-has w ↦
+          let same = below-more_out c.trustees.t c.members-members.result (λ m. let has = c.has.ensures.1 m in let not = w.if-has.false in cc) in
+          rw (same, w.place-is, w.front-is, w.chains-is) c.trustees.invariant
+    ]
+
+pub returns : goal.returns
+returns c =
+    let d : Dealing = record {
+      params = c.args.params.now;
+      plan = c.args.plan.now;
+      id = c.args.id.now;
+      seed = c.args.seed.now;
+      random_key = c.args.random_key.now;
+      keys = c.args.keys.now;
+    } in
+    let all = below-all 1 _ c.trustees.t c.members-members.result c.members-members.ensures.subset.ascending (omega arith) in
+    let members : c.members-members.result ≡ members_of d c.args.q = c.members-members.ensures.members ∙ rw c.coalition_of.ensures.number refl in
+    let k = c.k.ensures.value in
+    let subset = c.members-members.ensures.subset.size in
+    let done = rw all at c.trustees.invariant in
+    built d c.args.q c.trustees.place c.trustees.front c.trustees.chains (rw members at done)
+    (omega (arith, c.trustees.auto.front, c.split_at_mut-front.ensures.front_len, done.ends))

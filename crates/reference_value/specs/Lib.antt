@@ -1,0 +1,6 @@
+pub mod Dealing
+pub mod Places
+pub mod Joins
+pub mod Masking
+pub mod Paged
+pub mod Pads

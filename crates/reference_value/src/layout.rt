@@ -1,0 +1,72 @@
+//! Where the values of a reference lie.
+
+ghost use Rattle.std.specs.Prelude.{◌≡◌, ℕ, ◌+◌, ◌*◌, ◌<◌, ◌≤◌, ◌^◌, Contains, length};
+ghost use Rattle.coalition_map.specs.Coalitions.{leaf_members};
+ghost use Rattle.reference_value.specs.Places.{cell_place, leaf_length, leaf_place, leaves_length, tag_place};
+
+use crate::leaf::{TAG, chain_bytes, leaf_bytes};
+use coalition_map::Plan;
+use lms_bytes::Params;
+
+/// The parameter set and the plan of a reference, which say where its values lie among the leaves.
+#[derive(Clone, Copy, Debug)]
+pub(crate) struct Layout {
+    pub(crate) params: Params,
+    pub(crate) plan: Plan,
+    ghost same_height: { plan.h ≡ params.h },
+}
+
+impl Layout {
+    pub(crate) fn new(params: &Params, plan: &Plan) -> Layout
+        requires { plan.now.h ≡ params.now.h }
+        ensures params { result.params ≡ params.now }
+        ensures plan { result.plan ≡ plan.now }
+    {
+        Layout {
+            params: *params,
+            plan: *plan,
+        }
+    }
+
+    /// Where leaf `q` begins, and in it the randomizer.
+    pub(crate) fn leaf(&self, q: u32) -> usize
+        requires { q < 2 ^ self.now.params.h }
+        ensures place { result ≡ leaf_place self.now.params self.now.plan q }
+        ensures within { result + leaf_length self.now.params self.now.plan.k ≤ leaves_length self.now.params self.now.plan }
+        ensures small { leaves_length self.now.params self.now.plan ≤ 2 ^ 50 }
+    {
+        leaf_bytes(&self.params, self.plan.k()) * q as usize
+    }
+
+    /// Where the check tag of leaf `q` for its member `t` begins.
+    pub(crate) fn tag(&self, q: u32, t: u8) -> usize
+        requires leaf { q < 2 ^ self.now.params.h }
+        requires member { Contains (leaf_members self.now.plan q) t }
+        ensures place { result ≡ tag_place self.now.params self.now.plan q t }
+        ensures within { result + TAG ≤ leaves_length self.now.params self.now.plan }
+        ensures small { leaves_length self.now.params self.now.plan ≤ 2 ^ 50 }
+    {
+        let members = self.plan.members(self.plan.coalition_of(q));
+        let mut place = self.leaf(q) + self.params.n as usize;
+        'others: for other in 1..t {
+            if members.has(other) {
+                place += TAG;
+            }
+        }
+        place
+    }
+
+    /// Where the cell of chain `i` of leaf `q` after `j` steps begins.
+    pub(crate) fn cell(&self, q: u32, i: u16, j: u8) -> usize
+        requires leaf { q < 2 ^ self.now.params.h }
+        requires chain { i < self.now.params.p }
+        requires step { j < 2 ^ self.now.params.w }
+        ensures place { result ≡ cell_place self.now.params self.now.plan q i j }
+        ensures within { result + self.now.params.n ≤ leaves_length self.now.params self.now.plan }
+        ensures small { leaves_length self.now.params self.now.plan ≤ 2 ^ 50 }
+    {
+        let n = self.params.n as usize;
+        let cells = self.leaf(q) + n + TAG * self.plan.k() as usize;
+        cells + chain_bytes(&self.params) * i as usize + n * j as usize
+    }
+}

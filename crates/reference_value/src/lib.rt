@@ -1,0 +1,19 @@
+//! The reference value: the chain values of every leaf, masked for its members, and how masks are joined to them.
+#![tactic(auto)]
+
+mod cells;
+mod joins;
+pub mod laws;
+mod layout;
+mod leaf;
+mod paged;
+mod whole;
+
+pub use cells::{Cells, RefFault};
+pub use joins::{join_chains, join_randomizer};
+pub use leaf::{build_leaf, leaf_bytes};
+pub use paged::Paged;
+pub use whole::Whole;
+
+#[cfg(test)]
+mod tests;

@@ -1,0 +1,10 @@
+mod Blank
+mod Copied
+mod Kept
+mod Loads
+mod Parts
+mod PutA
+mod PutB
+mod Puts
+mod Shown
+mod Shut

@@ -1,0 +1,27 @@
+use Rattle.std.proofs.Common.{◌+◌, ◌≤◌, List, ℕ, length, ◌∙◌, sym, arith}
+use Rattle.slot_file.specs.Layout.{file_size}
+use Rattle.slot_file.specs.Files.{IsFile}
+use Rattle.slot_file.specs.Gated.{Gated}
+use Rattle.slot_file.proofs.Kept.{slot-within, gated_stays}
+use Rattle.slot_file.proofs.slots.Slots.put.Goals as goal
+
+pub invariant_of-self : goal.invariant_of-self
+invariant_of-self g c =
+    let slots = c.args.self.now in
+    let is_start = c.slot_start-start.ensures.value in
+    let inside = slot-within slots.header.version c.args.slot slots.count c.requires.within in
+    let at = c.slot_start-start.result + c.args.at in
+    let gate_at = c.slot_start-start.result + c.args.gate_at in
+    let fits : at + length c.args.body.now ≤ file_size slots.header.version slots.count = omega (arith, c.requires.fits) in
+    let stays = λ (old new : List ℕ) (file : IsFile slots.header slots.count old) (leaves : Gated at c.args.body.now gate_at old new).
+    gated_stays slots.header slots.count at c.args.body.now gate_at c.args.gate old file (omega arith) fits (omega arith) (omega (arith, c.requires.gate_fits)) new leaves in
+    let call = c.write_gated-done.ensures in
+    record {
+      whole = λ told. let was_told = sym call.stays.told ∙ told in stays _ _ (slots.whole was_told) (call.file was_told);
+      has_room = λ told. let was_told = sym call.stays.told ∙ told in omega (arith, slots.has_room was_told, call.stays.room);
+      images_whole = λ told honest image leaves.
+          let was_told = sym call.stays.told ∙ told in
+          let was_honest = sym call.stays.honest ∙ honest in
+          let from = call.images was_told was_honest image leaves in
+          stays from.0 image (slots.images_whole was_told was_honest from.0 from.1) from.2;
+    }

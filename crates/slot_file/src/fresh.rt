@@ -1,0 +1,73 @@
+//! The steps by which a file is made. Its header's gate is closed until all else is stable.
+
+ghost use Rattle.std.specs.Prelude.{◌≡◌, ◌⊎◌, ◌≤◌, ◌+◌, ℕ, List, [], ◌∷◌, ◌++◌, length, IsTrue, IsOk, OnOk, OnErr};
+ghost use Rattle.disk_trait.specs.Faults.{Rose};
+ghost use Rattle.disk_trait.specs.Images.{Only, Torn, written};
+ghost use Rattle.slot_file.specs.Disks.{SameDisk};
+ghost use Rattle.slot_file.specs.Fresh.{IsShut, IsUnready, AllBut};
+
+use crate::header::OPEN;
+use disk_trait::{Disk, DiskFault};
+
+/// Writes a closed gate onto an empty disk and syncs, and writes the rest of a header's block.
+pub(crate) fn write_shut<D: Disk>(disk: &mut D, block: &[u8; 128]) -> Result<(), DiskFault>
+    requires empty { IsTrue (D.told disk.old) → D.reads disk.old ≡ [] }
+    requires shut { IsShut block.now }
+    ensures bytes { IsTrue (D.told disk.old) → OnOk result (D.reads disk.new ≡ block.now) }
+    ensures file { IsTrue (D.told disk.old) → IsUnready (D.reads disk.new) }
+    ensures images { IsTrue (D.told disk.old) → IsTrue (D.honest disk.old)
+        → (image : List ℕ) → D.may_leave disk.new image → IsUnready image }
+    ensures shut { IsTrue (D.told disk.old) → IsTrue (D.honest disk.old)
+        → OnOk result ((image : List ℕ) → D.may_leave disk.new image → IsShut image) }
+
+    ensures succeeds { IsTrue (D.steady disk.old) → IsTrue (D.told disk.old)
+        → 128 ≤ D.room disk.old → IsOk result }
+    ensures cause { OnErr result (Rose (D.count disk.old) (D.count disk.new)) }
+    ensures stays { SameDisk D.Pages.own D.Faults disk.old disk.new }
+{
+    disk.write_at(0, &[0])?;
+    disk.sync()?;
+    append(disk, 1, &block[1..])
+}
+
+/// Writes behind the end of a file whose gate is closed.
+pub(crate) fn append<D: Disk>(disk: &mut D, at: u64, bytes: &[u8]) -> Result<(), DiskFault>
+    requires end { IsTrue (D.told disk.old) → length (D.reads disk.old) ≡ at }
+    requires behind { 1 ≤ at }
+    ensures bytes { IsTrue (D.told disk.old)
+        → OnOk result (D.reads disk.new ≡ D.reads disk.old ++ bytes.now) }
+    ensures shut { IsTrue (D.told disk.old) → IsShut (D.reads disk.old) → IsShut (D.reads disk.new) }
+    ensures images { IsTrue (D.honest disk.old)
+        → ((image : List ℕ) → D.may_leave disk.old image → IsShut image)
+        → (image : List ℕ) → D.may_leave disk.new image → IsShut image }
+
+    ensures succeeds { IsTrue (D.steady disk.old) → IsTrue (D.told disk.old)
+        → at + length bytes.now ≤ D.room disk.old → IsOk result }
+    ensures cause { OnErr result (Rose (D.count disk.old) (D.count disk.new)) }
+    ensures stays { SameDisk D.Pages.own D.Faults disk.old disk.new }
+{
+    disk.write_at(at, bytes)
+}
+
+/// Syncs, opens the header's gate, and syncs.
+pub(crate) fn open_gate<D: Disk>(disk: &mut D) -> Result<(), DiskFault>
+    ensures bytes { IsTrue (D.told disk.old)
+        → OnOk result (D.reads disk.new ≡ written (D.reads disk.old) 0 (0xA7 ∷ [])) }
+    ensures stable { IsTrue (D.told disk.old) → IsTrue (D.honest disk.old)
+        → OnOk result (Only (D.reads disk.new) (D.may_leave disk.new)) }
+    ensures images { IsTrue (D.told disk.old) → IsTrue (D.honest disk.old)
+        → (image : List ℕ) → D.may_leave disk.new image
+        → D.may_leave disk.old image ⊎ Torn 0 1 (D.reads disk.old) image }
+    // a read shows another gate only where all else is stable
+    ensures shows { IsTrue (D.told disk.old) → IsTrue (D.honest disk.old)
+        → (D.reads disk.new ≡ D.reads disk.old) ⊎ AllBut (D.reads disk.old) (D.may_leave disk.new) }
+
+    ensures succeeds { IsTrue (D.steady disk.old) → IsTrue (D.told disk.old)
+        → 1 ≤ D.room disk.old → IsOk result }
+    ensures cause { OnErr result (Rose (D.count disk.old) (D.count disk.new)) }
+    ensures stays { SameDisk D.Pages.own D.Faults disk.old disk.new }
+{
+    disk.sync()?;
+    disk.write_at(0, &[OPEN])?;
+    disk.sync()
+}

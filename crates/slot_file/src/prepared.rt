@@ -1,0 +1,129 @@
+//! Making an empty file of slots.
+
+ghost use Rattle.std.specs.Prelude.{◌≡◌, ◌≢◌, ◌⊎◌, ◌≤◌, ◌<◌, ◌+◌, ◌↔◌, ◌*◌, ◌++◌, replicate, ℕ, List, [], length, drop, None, Err, IsTrue, IsOk, OnOk, OnErr};
+ghost use Rattle.disk_trait.specs.Faults.{Rose};
+ghost use Rattle.disk_trait.specs.Images.{Only};
+ghost use Rattle.slot_file.specs.Disks.{SameDisk};
+ghost use Rattle.slot_file.specs.Fresh.{IsBlank, IsShut, IsUnready};
+ghost use Rattle.slot_file.specs.Layout.{blank_file, file_size, slot_size};
+
+use crate::Header;
+use crate::fresh::{append, open_gate, write_shut};
+use crate::slot::{slot_len, slot_start};
+use disk_trait::{Disk, DiskFault};
+
+/// Why a file could not be made.
+#[derive(Clone, Copy, Debug, PartialEq, Eq)]
+pub enum PrepareFault {
+    /// The disk holds bytes.
+    NotEmpty {
+        /// How many.
+        length: u64,
+    },
+    /// The disk failed.
+    Device,
+}
+
+impl From<DiskFault> for PrepareFault {
+    ghost use Rattle.slot_file.specs.declared.prepared.PrepareFault.TheVariants.{Device};
+
+    ghost from_gives = { λ _ fault. fault ≡ Device };
+
+    fn from(_: DiskFault) -> Self {
+        PrepareFault::Device
+    }
+}
+
+/// Makes an empty file of `count` free slots on an empty disk. Its header's gate is opened last, so
+/// no crash leaves a file that opens and is not whole.
+pub fn prepare<D: Disk>(disk: &mut D, header: &Header, count: u32) -> Result<(), PrepareFault>
+    ensures bytes { IsTrue (D.told disk.old)
+        → OnOk result (D.reads disk.new ≡ blank_file header.now count) }
+    ensures stable { IsTrue (D.told disk.old) → IsTrue (D.honest disk.old)
+        → OnOk result (Only (D.reads disk.new) (D.may_leave disk.new)) }
+    ensures blank { IsTrue (D.told disk.old)
+        → OnOk result (IsBlank header.now count (D.reads disk.new)) }
+
+    // A crash within the call leaves what doesn't open, or the whole file.
+    ensures images { IsTrue (D.told disk.old) → IsTrue (D.honest disk.old) → D.reads disk.old ≡ []
+        → (image : List ℕ) → D.may_leave disk.new image
+        → IsUnready image ⊎ IsBlank header.now count image }
+    // A read shows an open gate only where all else is stable.
+    ensures shows { IsTrue (D.told disk.old) → IsTrue (D.honest disk.old) → D.reads disk.old ≡ []
+        → IsUnready (D.reads disk.new)
+        ⊎ ((image : List ℕ) → D.may_leave disk.new image → drop 1 image ≡ drop 1 (blank_file header.now count)) }
+
+    ensures not_empty { IsTrue (D.told disk.old) → (held : ℕ)
+        → result ≡ Err (PrepareFault.NotEmpty held)
+        → (held ≡ length (D.reads disk.old)) × (0 < held) }
+    ensures empty { IsTrue (D.told disk.old) → 0 < length (D.reads disk.old)
+        → (result ≡ Err PrepareFault.Device)
+        ⊎ (result ≡ Err (PrepareFault.NotEmpty (length (D.reads disk.old)))) }
+    ensures unchanged { IsTrue (D.told disk.old) → 0 < length (D.reads disk.old)
+        → D.reads disk.new ≡ D.reads disk.old }
+    ensures same_images { IsTrue (D.told disk.old) → IsTrue (D.honest disk.old)
+        → 0 < length (D.reads disk.old)
+        → (image : List ℕ) → D.may_leave disk.new image ↔ D.may_leave disk.old image }
+
+    ensures succeeds { IsTrue (D.steady disk.old) → IsTrue (D.told disk.old)
+        → file_size header.now.version count ≤ D.room disk.old → result ≢ Err PrepareFault.Device }
+    ensures cause { result ≡ Err PrepareFault.Device → Rose (D.count disk.old) (D.count disk.new) }
+    ensures stays { SameDisk D.Pages.own D.Faults disk.old disk.new }
+{
+    let length = disk.len()?;
+    if length > 0 {
+        return Err(PrepareFault::NotEmpty { length });
+    }
+    make_blank(disk, header, count)?;
+    Ok(())
+}
+
+// Makes the file on an empty disk.
+fn make_blank<D: Disk>(disk: &mut D, header: &Header, count: u32) -> Result<(), DiskFault>
+    requires { IsTrue (D.told disk.old) → D.reads disk.old ≡ [] }
+    ensures bytes { IsTrue (D.told disk.old)
+        → OnOk result (D.reads disk.new ≡ blank_file header.now count) }
+    ensures blank { IsTrue (D.told disk.old)
+        → OnOk result (IsBlank header.now count (D.reads disk.new)) }
+    ensures stable { IsTrue (D.told disk.old) → IsTrue (D.honest disk.old)
+        → OnOk result (Only (D.reads disk.new) (D.may_leave disk.new)) }
+    ensures images { IsTrue (D.told disk.old) → IsTrue (D.honest disk.old)
+        → (image : List ℕ) → D.may_leave disk.new image
+        → IsUnready image ⊎ IsBlank header.now count image }
+    ensures shows { IsTrue (D.told disk.old) → IsTrue (D.honest disk.old)
+        → IsUnready (D.reads disk.new)
+        ⊎ ((image : List ℕ) → D.may_leave disk.new image → drop 1 image ≡ drop 1 (blank_file header.now count)) }
+
+    ensures succeeds { IsTrue (D.steady disk.old) → IsTrue (D.told disk.old)
+        → file_size header.now.version count ≤ D.room disk.old → IsOk result }
+    ensures cause { OnErr result (Rose (D.count disk.old) (D.count disk.new)) }
+    ensures stays { SameDisk D.Pages.own D.Faults disk.old disk.new }
+{
+    let block = header.block(0);
+    write_shut(disk, &block)?;
+    write_free(disk, header.version, count)?;
+    open_gate(disk)
+}
+
+// Writes free slots behind the header's block.
+fn write_free<D: Disk>(disk: &mut D, version: u8, count: u32) -> Result<(), DiskFault>
+    requires { IsTrue (D.told disk.old) → length (D.reads disk.old) ≡ 128 }
+    ensures bytes { IsTrue (D.told disk.old)
+        → OnOk result (D.reads disk.new ≡ D.reads disk.old ++ replicate (slot_size version * count) 0) }
+    ensures shut { IsTrue (D.told disk.old) → IsShut (D.reads disk.old) → IsShut (D.reads disk.new) }
+    ensures images { IsTrue (D.honest disk.old)
+        → ((image : List ℕ) → D.may_leave disk.old image → IsShut image)
+        → (image : List ℕ) → D.may_leave disk.new image → IsShut image }
+
+    ensures succeeds { IsTrue (D.steady disk.old) → IsTrue (D.told disk.old)
+        → file_size version count ≤ D.room disk.old → IsOk result }
+    ensures cause { OnErr result (Rose (D.count disk.old) (D.count disk.new)) }
+    ensures stays { SameDisk D.Pages.own D.Faults disk.old disk.new }
+{
+    let zeros = [0; 160];
+    let size = slot_len(version);
+    for slot in 0..count {
+        append(disk, slot_start(version, slot), &zeros[..size])?;
+    }
+    Ok(())
+}

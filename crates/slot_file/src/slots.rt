@@ -1,0 +1,292 @@
+//! A file of slots that is open.
+
+ghost use Rattle.std.specs.Prelude.{◌≡◌, ◌≢◌, ◌⊎◌, ◌≤◌, ◌<◌, ◌↔◌, ◌+◌, ◌^◌, ℕ, List, length, take, IsTrue, None, Some, IsOk, IfOk, IfErr, OnOk, OnErr, Ok, if◌then◌else◌, is_ok};
+ghost use Rattle.disk_trait.specs.Faults.{Rose};
+ghost use Rattle.disk_trait.specs.Images.{Only, Follows};
+ghost use Rattle.slot_file.specs.Disks.{SameDisk};
+ghost use Rattle.slot_file.specs.Gated.{Gated, gated, second_body};
+ghost use Rattle.slot_file.specs.Layout.{file_size, slot_size, slot_start, load_fault};
+ghost use Rattle.slot_file.specs.Files.{IsFile, IsHalf, IsPut, with_b};
+
+use crate::gated::write_gated;
+use crate::header::BLOCK;
+use crate::slot::{A_OPEN, B_OPEN, file_len, moment_bytes, slot_len, slot_start};
+use crate::{Header, LoadFault, Slot};
+use disk_trait::{Disk, DiskFault};
+
+/// A slot whose put was refused: it may be as before or have what was put.
+#[derive(Clone, Copy, Debug, PartialEq, Eq)]
+pub enum Doubt {
+    /// No slot is in doubt.
+    Nowhere,
+    /// A put on this slot was refused.
+    Refused(u32),
+    /// The disk was settled since, so the slot is what a look shows.
+    Settled(u32),
+}
+
+impl Doubt {
+    // The doubt after a put on a slot.
+    fn after(self, slot: u32, done: Result<(), DiskFault>) -> Doubt
+        ensures { result ≡ (if is_ok done then self else Doubt.Refused slot) }
+    {
+        match done {
+            Ok(()) => self,
+            Err(DiskFault) => Doubt::Refused(slot),
+        }
+    }
+}
+
+/// A file of slots.
+#[derive(Drop)]
+pub struct Slots<D: Disk> {
+    disk: D,
+    header: Header,
+    count: u32,
+    doubt: Doubt,
+    ghost whole: { IsTrue (D.told disk) → IsFile header count (D.reads disk) },
+    ghost has_room: { IsTrue (D.told disk) → file_size header.version count ≤ D.room disk },
+    ghost images_whole: { IsTrue (D.told disk) → IsTrue (D.honest disk)
+        → (image : List ℕ) → D.may_leave disk image → IsFile header count image },
+}
+
+// The bytes of body B and of the moment behind it, and how many they are.
+fn second_block(version: u8, body: &[u8; 64], moment: u64) -> ([u8; 72], usize)
+    ensures bytes { take result.1 result.0 ≡ second_body version body.now moment }
+    ensures len { result.1 ≤ 72 }
+{
+    let mut block = [0; 72];
+    block[..64].copy_from_slice(body);
+    block[64..].copy_from_slice(&moment_bytes(moment));
+    (block, if version == 2 { 72 } else { 64 })
+}
+
+// Syncs a disk, and tests the length and the header of its file.
+fn check_file<D: Disk>(disk: &mut D, header: &Header, count: u32) -> Result<(), LoadFault>
+    ensures opens { IsTrue (D.told disk.old)
+        → OnOk result (load_fault header.now count (D.reads disk.old) ≡ None) }
+    ensures refuses { IsTrue (D.told disk.old)
+        → IfErr result (λ e. (e ≡ LoadFault.Device) ⊎ (load_fault header.now count (D.reads disk.old) ≡ Some e)) }
+
+    ensures stable { IsTrue (D.honest disk.old) → IsTrue (D.told disk.old)
+        → OnOk result (Only (D.reads disk.old) (D.may_leave disk.new)) }
+    ensures same { IsTrue (D.told disk.old) → D.reads disk.new ≡ D.reads disk.old }
+    ensures images { IsTrue (D.honest disk.old)
+        → (image : List ℕ) → D.may_leave disk.new image → D.may_leave disk.old image }
+    ensures has_room { IsTrue (D.told disk.old) → length (D.reads disk.old) ≤ D.room disk.old }
+
+    ensures succeeds { IsTrue (D.steady disk.old) → IsTrue (D.told disk.old)
+        → IfErr result (λ e. e ≢ LoadFault.Device) }
+    ensures cause { IfErr result (λ e. e ≡ LoadFault.Device → Rose (D.count disk.old) (D.count disk.new)) }
+    ensures stays { SameDisk D.Pages.own D.Faults disk.old disk.new }
+{
+    disk.sync()?;
+    let got = disk.len()?;
+    let want = file_len(header.version, count);
+    if got < BLOCK as u64 {
+        return Err(LoadFault::Length { got, want });
+    }
+    let mut block = [0; 32];
+    disk.read_at(0, &mut block)?;
+    if let Err(fault) = header.check(&block) {
+        return Err(fault);
+    }
+    if got != want {
+        return Err(LoadFault::Length { got, want });
+    }
+    Ok(())
+}
+
+impl<D: Disk> Slots<D> {
+    ghost use Rattle.slot_file.specs.Slots.{disk_of, header_of, count_of, doubt_of, faults_of, file_of, slot_now, IsTold, IsHonest, IsSteady, MayLeave, IsStable, IsSettled, Stays, settled, looked};
+
+    /// Opens a file: syncs, and tests its length and its header. A refusal gives the disk back.
+    pub fn load(disk: D, header: &Header, count: u32) -> Result<Slots<D>, (D, LoadFault)>
+        ensures opens { IsTrue (D.told disk)
+            → IfOk result (λ _. load_fault header.now count (D.reads disk) ≡ None) }
+        ensures refuses { IsTrue (D.told disk)
+            → IfErr result (λ e. (e.1 ≡ LoadFault.Device) ⊎ (load_fault header.now count (D.reads disk) ≡ Some e.1)) }
+
+        ensures header { IfOk result (λ slots. header_of slots ≡ header.now) }
+        ensures count { IfOk result (λ slots. count_of slots ≡ count) }
+        ensures doubt { IfOk result (λ slots. doubt_of slots ≡ Doubt.Nowhere) }
+        ensures stable { IfOk result IsStable }
+        ensures same { IsTrue (D.told disk) → IfOk result (λ slots. file_of slots ≡ D.reads disk) }
+        ensures same_refused { IsTrue (D.told disk) → IfErr result (λ e. D.reads e.0 ≡ D.reads disk) }
+        ensures images { IsTrue (D.honest disk)
+            → IfOk result (λ slots. (image : List ℕ) → MayLeave slots image → D.may_leave disk image) }
+        ensures images_refused { IsTrue (D.honest disk)
+            → IfErr result (λ e. (image : List ℕ) → D.may_leave e.0 image → D.may_leave disk image) }
+
+        ensures succeeds { IsTrue (D.steady disk) → IsTrue (D.told disk)
+            → IfErr result (λ e. e.1 ≢ LoadFault.Device) }
+        ensures cause { IfErr result (λ e. e.1 ≡ LoadFault.Device → Rose (D.count disk) (D.count e.0)) }
+        ensures stays { IfOk result (λ slots. SameDisk D.Pages.own D.Faults disk (disk_of slots)) }
+        ensures stays_refused { IfErr result (λ e. SameDisk D.Pages.own D.Faults disk e.0) }
+    {
+        let mut disk = disk;
+        match check_file(&mut disk, header, count) {
+            Ok(()) => Ok(Slots {
+                disk,
+                header: *header,
+                count,
+                doubt: Doubt::Nowhere,
+            }),
+            Err(fault) => Err((disk, fault)),
+        }
+    }
+
+    /// One sync, after which a crash leaves what a read gives.
+    pub fn settle(&mut self) -> Result<(), DiskFault>
+        ensures stable { OnOk result (IsStable self.new) }
+        ensures same { IsTold self.old → file_of self.new ≡ file_of self.old }
+        ensures images { IsHonest self.old
+            → (image : List ℕ) → MayLeave self.new image → MayLeave self.old image }
+        ensures doubt { doubt_of self.new
+            ≡ (if is_ok result then settled (doubt_of self.old) else doubt_of self.old) }
+        ensures succeeds { IsSteady self.old → IsOk result }
+        ensures cause { OnErr result (Rose (faults_of self.old) (faults_of self.new)) }
+        ensures stays { Stays self.old self.new }
+    {
+        self.disk.sync()?;
+        if let Doubt::Refused(slot) = self.doubt {
+            self.doubt = Doubt::Settled(slot);
+        }
+        Ok(())
+    }
+
+    /// A slot as a read gives it.
+    pub fn look(&mut self, slot: u32) -> Result<Slot, DiskFault>
+        requires { slot < count_of self.old }
+        ensures slot { IsTold self.old → IfOk result (λ found. found ≡ slot_now self.old slot) }
+        ensures same { IsTold self.old → file_of self.new ≡ file_of self.old }
+        ensures images { IsHonest self.old
+            → (image : List ℕ) → MayLeave self.new image ↔ MayLeave self.old image }
+        ensures doubt { doubt_of self.new
+            ≡ (if is_ok result then looked slot (doubt_of self.old) else doubt_of self.old) }
+        ensures succeeds { IsSteady self.old → IsTold self.old → IsOk result }
+        ensures cause { OnErr result (Rose (faults_of self.old) (faults_of self.new)) }
+        ensures stays { Stays self.old self.new }
+    {
+        let version = self.header.version;
+        let mut block = [0; 160];
+        let bytes = &mut block[..slot_len(version)];
+        self.disk.read_at(slot_start(version, slot), bytes)?;
+        if self.doubt == Doubt::Settled(slot) {
+            self.doubt = Doubt::Nowhere;
+        }
+        Ok(Slot::of_bytes(version, bytes))
+    }
+
+    /// Puts body A into a free slot, by four calls of the disk. In each image that a crash may
+    /// leave, the slot is as before or has the whole body. After a refusal the slot is in doubt.
+    pub fn put_a(&mut self, slot: u32, body: &[u8; 36]) -> Result<(), DiskFault>
+        requires within { slot < count_of self.old }
+        requires settled { IsSettled self.old slot }
+        requires free { IsTold self.old → slot_now self.old slot ≡ Slot.Free }
+
+        ensures put { IsTold self.old → OnOk result (slot_now self.new slot ≡ Slot.Half body.now) }
+        ensures file { IsTold self.old
+            → IsPut (header_of self.old).version slot (Slot.Half body.now) (file_of self.old) (file_of self.new) }
+        ensures images { IsTold self.old → IsHonest self.old
+            → Follows (IsPut (header_of self.old).version slot (Slot.Half body.now)) (MayLeave self.old) (MayLeave self.new) }
+        ensures stable { OnOk result (IsStable self.new) }
+        ensures doubt { doubt_of self.new ≡ (if is_ok result then doubt_of self.old else Doubt.Refused slot) }
+
+        ensures succeeds { IsSteady self.old → IsTold self.old → IsOk result }
+        ensures cause { OnErr result (Rose (faults_of self.old) (faults_of self.new)) }
+        ensures stays { Stays self.old self.new }
+    {
+        self.put(slot, 4, body, 0, A_OPEN)
+    }
+
+    /// Puts body B and the moment into a half slot, as `put_a` does. In slots of 128 bytes the
+    /// moment is 0.
+    pub fn put_b(&mut self, slot: u32, body: &[u8; 64], moment: u64) -> Result<(), DiskFault>
+        requires within { slot < count_of self.old }
+        requires settled { IsSettled self.old slot }
+        requires half { IsTold self.old → IsHalf (slot_now self.old slot) }
+        requires moment { (header_of self.old).version ≢ 2 → moment ≡ 0 }
+
+        ensures put { IsTold self.old
+            → OnOk result (slot_now self.new slot ≡ with_b (slot_now self.old slot) body.now moment) }
+        ensures file { IsTold self.old
+            → IsPut (header_of self.old).version slot (with_b (slot_now self.old slot) body.now moment)
+            (file_of self.old) (file_of self.new) }
+        ensures images { IsTold self.old → IsHonest self.old
+            → Follows (IsPut (header_of self.old).version slot (with_b (slot_now self.old slot) body.now moment))
+            (MayLeave self.old) (MayLeave self.new) }
+        ensures stable { OnOk result (IsStable self.new) }
+        ensures doubt { doubt_of self.new ≡ (if is_ok result then doubt_of self.old else Doubt.Refused slot) }
+
+        ensures succeeds { IsSteady self.old → IsTold self.old → IsOk result }
+        ensures cause { OnErr result (Rose (faults_of self.old) (faults_of self.new)) }
+        ensures stays { Stays self.old self.new }
+    {
+        let (block, len) = second_block(self.header.version, body, moment);
+        self.put(slot, 44, &block[..len], 40, B_OPEN)
+    }
+
+    // Writes a body and the gate before it into a slot.
+    fn put(
+        &mut self,
+        slot: u32,
+        at: u64,
+        body: &[u8],
+        gate_at: u64,
+        gate: u8,
+    ) -> Result<(), DiskFault>
+        requires within { slot < count_of self.old }
+        requires fits { at + length body.now ≤ slot_size (header_of self.old).version }
+        requires gate_fits { gate_at < slot_size (header_of self.old).version }
+
+        ensures bytes { let start = slot_start (header_of self.old).version slot in
+            IsTold self.old
+            → OnOk result (file_of self.new ≡ gated (start + at) body.now (start + gate_at) gate (file_of self.old)) }
+        ensures file { let start = slot_start (header_of self.old).version slot in
+            IsTold self.old
+            → Gated (start + at) body.now (start + gate_at) (file_of self.old) (file_of self.new) }
+        ensures images { let start = slot_start (header_of self.old).version slot in
+            IsTold self.old → IsHonest self.old
+            → Follows (Gated (start + at) body.now (start + gate_at)) (MayLeave self.old) (MayLeave self.new) }
+        ensures stable { OnOk result (IsStable self.new) }
+        ensures doubt { doubt_of self.new ≡ (if is_ok result then doubt_of self.old else Doubt.Refused slot) }
+
+        ensures succeeds { IsSteady self.old → IsTold self.old → IsOk result }
+        ensures cause { OnErr result (Rose (faults_of self.old) (faults_of self.new)) }
+        ensures stays { Stays self.old self.new }
+    {
+        let start = slot_start(self.header.version, slot);
+        let done = write_gated(&mut self.disk, start + at, body, start + gate_at, gate);
+        self.doubt = self.doubt.after(slot, done);
+        done
+    }
+
+    /// How many calls of the disk have failed.
+    pub fn faults(&self) -> u64
+        ensures { result ≡ faults_of self.now }
+    {
+        self.disk.faults()
+    }
+
+    /// The slot that is in doubt.
+    pub fn doubt(&self) -> Doubt
+        ensures { result ≡ doubt_of self.now }
+    {
+        self.doubt
+    }
+
+    /// The number of slots.
+    pub fn count(&self) -> u32
+        ensures { result ≡ count_of self.now }
+    {
+        self.count
+    }
+
+    /// Gives the disk back.
+    pub fn end(self) -> D
+        ensures { result ≡ disk_of self }
+    {
+        self.disk
+    }
+}
