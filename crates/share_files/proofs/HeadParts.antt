@@ -1,0 +1,70 @@
+-- What lies where in a head.
+use Rattle.std.proofs.Common.{◌≡◌, ℕ, ◌+◌, ◌^◌, ◌<◌, true, List, [], ◌∷◌, ◌++◌, length, take, drop, None, refl, sym, ap, ◌∙◌, arith, length-append, length-drop, take-append-drop}
+use Rattle.std.specs.Prelude.{slice_index}
+use Rattle.std.proofs.lemmas.Bool.{eq-eqb}
+use Rattle.std.proofs.lemmas.Bool.Decides.{nat_tests}
+use Rattle.std.proofs.lemmas.List.{take_at, drop_at, take_all}
+use Rattle.std.proofs.lemmas.Nat.{from_be_bytes-to_be_bytes_4}
+use Rattle.std.proofs.lemmas.Slice.Eq.{bytes_eq-Decides}
+use Rattle.lms_bytes.specs.Bytes.{bytes_at, str_to_u32, u32str}
+use Rattle.lms_bytes.specs.declared.params.Params.{Params}
+use Rattle.share_files.specs.Head.{head_bytes, head_fault, lms_at, ots_at, magic_fault, version_fault, code_fault}
+use Rattle.share_files.specs.Sets.{CanBeDealt, can_be_dealt}
+use Rattle.share_files.proofs.Dealt.{can_be_dealt-codes}
+use Rattle.share_files.proofs.FirstFault.{first_fault-end, first_fault-passed}
+
+-- what lies where in bytes that begin with a head
+pub record HeadLies (magic : List ℕ) (own5 own6 own7 : ℕ) (params : Params) (id rest bytes : List ℕ) : Type 0 where
+  pub size : length bytes ≡ 32 + length rest
+  pub magic_at : bytes_at bytes 0 4 ≡ magic
+  pub version_at : slice_index bytes 4 ≡ 1
+  pub own5_at : slice_index bytes 5 ≡ own5
+  pub own6_at : slice_index bytes 6 ≡ own6
+  pub own7_at : slice_index bytes 7 ≡ own7
+  pub lms_is : lms_at bytes ≡ params.lms
+  pub ots_is : ots_at bytes ≡ params.ots
+  pub id_at : bytes_at bytes 16 16 ≡ id
+  pub rest_at : drop 32 bytes ≡ rest
+
+number_of : (x : ℕ) → x < 2 ^ 32 → str_to_u32 (u32str x) ≡ x
+number_of x fits = from_be_bytes-to_be_bytes_4 x fits
+
+pub head_lies : (m0 m1 m2 m3 own5 own6 own7 : ℕ) (params : Params) (id rest bytes : List ℕ) → length id ≡ 16
+    → bytes ≡ head_bytes (m0 ∷ m1 ∷ m2 ∷ m3 ∷ []) (own5 ∷ own6 ∷ own7 ∷ []) params id ++ rest
+    → HeadLies (m0 ∷ m1 ∷ m2 ∷ m3 ∷ []) own5 own6 own7 params id rest bytes
+head_lies m0 m1 m2 m3 own5 own6 own7 params id rest bytes id_length parts = record {
+  size = ap length parts ∙ simp length-append (omega arith);
+  magic_at = rw parts refl;
+  version_at = rw parts refl;
+  own5_at = rw parts refl;
+  own6_at = rw parts refl;
+  own7_at = rw parts refl;
+  lms_is = rw parts (number_of params.lms (omega (arith, params.lms_small)));
+  ots_is = rw parts (number_of params.ots (omega (arith, params.ots_small)));
+  id_at = rw parts (take_at id rest 16 id_length);
+  rest_at = rw parts (drop_at id rest 16 id_length);
+}
+
+dealt-true : (params : Params) → CanBeDealt params → can_be_dealt params.lms params.ots ≡ true
+dealt-true params dealt =
+    let low = dealt.height in
+    let narrow = dealt.width in
+    rw (can_be_dealt-codes params) (grind (arith, nat_tests))
+
+-- a head passes its tests
+pub head_passes : (magic : List ℕ) (own5 own6 own7 : ℕ) (params : Params) (id rest bytes : List ℕ) → HeadLies magic own5 own6 own7 params id rest bytes → CanBeDealt params
+    → head_fault magic bytes ≡ None
+unfolding head_fault
+head_passes magic own5 own6 own7 params id rest bytes l dealt =
+    let magic_same = (bytes_eq-Decides (bytes_at bytes 0 4) magic).1 l.magic_at in
+    let version_same = eq-eqb (slice_index bytes 4) 1 l.version_at in
+    let codes : can_be_dealt (lms_at bytes) (ots_at bytes) ≡ true = rw (l.lms_is, l.ots_is) (dealt-true params dealt) in
+    first_fault-passed (magic_fault magic bytes) _ (rw magic_same refl)
+    ∙ (first_fault-passed (version_fault bytes) _ (rw version_same refl) ∙ (first_fault-passed (code_fault bytes) _ (rw codes refl) ∙ first_fault-end))
+
+-- bytes are their head and the rest
+pub head_and_rest : (bytes head rest : List ℕ) (size : ℕ) → length bytes ≡ 32 + size → take 32 bytes ≡ head → rest ≡ bytes_at bytes 32 size
+    → bytes ≡ head ++ rest
+head_and_rest bytes head rest size len front back =
+    let all : take size (drop 32 bytes) ≡ drop 32 bytes = take_all size (drop 32 bytes) (omega (arith, length-drop 32 bytes)) in
+    rw (← front, back, all) (sym (take-append-drop 32 bytes))

@@ -1,0 +1,6 @@
+pub mod FaultNumbers
+pub mod Head
+pub mod Reference
+pub mod Share
+pub mod TreeFile
+pub mod Sets

@@ -1,0 +1,43 @@
+//! Why files are refused.
+
+ghost use Rattle.std.specs.Prelude.{◌≡◌};
+
+use lms_bytes::KeyId;
+
+/// Why bytes are no file of a dealing.
+#[derive(Clone, Copy, Debug, PartialEq, Eq)]
+pub enum FileFault {
+    /// The file does not begin with the letters of its kind.
+    Magic,
+    /// Another version than 1.
+    Version { got: u8 },
+    /// The typecodes are no parameter set that can be dealt.
+    Code { lms: u32, ots: u32 },
+    /// The numbers of trustees are no plan.
+    Plan,
+    /// The length in bytes is not that of the file.
+    Length { got: u64, want: u64 },
+    /// No trustee of the plan has this number, or a byte that must be zero is not.
+    Number { got: u8 },
+    /// The file is of another key than a file beside it.
+    OtherKey { got: KeyId },
+}
+
+impl FileFault {
+    ghost use Rattle.share_files.specs.FaultNumbers.{file_fault_number};
+
+    /// The number that users see.
+    pub fn number(&self) -> u8
+        ensures { result ≡ file_fault_number self.now }
+    {
+        match self {
+            FileFault::Magic => 1,
+            FileFault::Version { .. } => 2,
+            FileFault::Code { .. } => 3,
+            FileFault::Plan => 4,
+            FileFault::Length { .. } => 5,
+            FileFault::Number { .. } => 6,
+            FileFault::OtherKey { .. } => 7,
+        }
+    }
+}

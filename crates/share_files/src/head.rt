@@ -1,0 +1,148 @@
+//! The 32 bytes that each file of a dealing begins with.
+
+ghost use Rattle.std.specs.Prelude.{◌≡◌, ◌↔◌, ◌+◌, ◌<◌, ◌≤◌, [], ◌∷◌, ◌++◌, length, slice_index, take, drop, None, Some, OnOk, IfOk, IfErr, IsTrue};
+ghost use Rattle.lms_bytes.specs.Bytes.{bytes_at};
+ghost use Rattle.coalition_map.specs.Coalitions.{IsPlan};
+ghost use Rattle.share_files.specs.Head.{code_fault, head_bytes, head_fault, length_fault, lms_at, ots_at, plan_at, plan_fault, short_fault, zero_fault};
+ghost use Rattle.share_files.specs.Sets.{CanBeDealt, can_be_dealt};
+
+use crate::faults::FileFault;
+use coalition_map::Plan;
+use lms_bytes::bytes::{part, put, u32_at};
+use lms_bytes::{KeyId, Params};
+
+/// The length of a head in bytes.
+pub(crate) const HEAD: usize = 32;
+
+/// What all heads have: the parameter set, and the identifier of the key.
+#[derive(Clone, Copy)]
+pub(crate) struct Head {
+    pub(crate) params: Params,
+    pub(crate) id: KeyId,
+    ghost id_length: { length id ≡ 16 },
+}
+
+/// Whether a file has the bytes of its head.
+pub(crate) fn check_front(bytes: &[u8], want: usize) -> Result<(), FileFault>
+    ensures room { OnOk result (want ≤ length bytes.now) }
+    ensures faultless { OnOk result (short_fault want bytes.now ≡ None) }
+    ensures refused { IfErr result (λ fault. short_fault want bytes.now ≡ Some fault) }
+{
+    if bytes.len() < want {
+        return Err(FileFault::Length {
+            got: bytes.len() as u64,
+            want: want as u64,
+        });
+    }
+    Ok(())
+}
+
+/// Whether a length is the right one.
+pub(crate) fn check_length(got: u64, want: u64) -> Result<(), FileFault>
+    ensures length { OnOk result (got ≡ want) }
+    ensures faultless { OnOk result (length_fault got want ≡ None) }
+    ensures refused { IfErr result (λ fault. length_fault got want ≡ Some fault) }
+{
+    if got != want {
+        return Err(FileFault::Length { got, want });
+    }
+    Ok(())
+}
+
+/// Whether the byte at a place is zero.
+pub(crate) fn check_zero(bytes: &[u8], place: usize) -> Result<(), FileFault>
+    requires { place < length bytes.now }
+    ensures zero { OnOk result (slice_index bytes.now place ≡ 0) }
+    ensures faultless { OnOk result (zero_fault place bytes.now ≡ None) }
+    ensures refused { IfErr result (λ fault. zero_fault place bytes.now ≡ Some fault) }
+{
+    let got = bytes[place];
+    if got != 0 {
+        return Err(FileFault::Number { got });
+    }
+    Ok(())
+}
+
+/// Reads what all heads have, after the magic of the file's kind.
+pub(crate) fn read_head(magic: &[u8; 4], bytes: &[u8]) -> Result<Head, FileFault>
+    requires { 32 ≤ length bytes.now }
+    ensures head { IfOk result (λ head. take 32 bytes.now ≡ head_bytes magic.now
+        (slice_index bytes.now 5 ∷ slice_index bytes.now 6 ∷ slice_index bytes.now 7 ∷ []) head.params head.id) }
+    ensures codes { IfOk result (λ head. (head.params.lms ≡ lms_at bytes.now) × (head.params.ots ≡ ots_at bytes.now)) }
+    ensures id { IfOk result (λ head. head.id ≡ bytes_at bytes.now 16 16) }
+    ensures dealt { IfOk result (λ head. CanBeDealt head.params) }
+    ensures faultless { OnOk result (head_fault magic.now bytes.now ≡ None) }
+    ensures refused { IfErr result (λ fault. head_fault magic.now bytes.now ≡ Some fault) }
+{
+    if part(bytes, 0, 4) != magic.as_slice() {
+        return Err(FileFault::Magic);
+    }
+    if bytes[4] != 1 {
+        return Err(FileFault::Version { got: bytes[4] });
+    }
+    let params = read_params(bytes)?;
+    let mut id = [0; 16];
+    id.copy_from_slice(part(bytes, 16, 16));
+    Ok(Head { params, id })
+}
+
+/// Reads the typecodes of a head.
+fn read_params(bytes: &[u8]) -> Result<Params, FileFault>
+    requires { 32 ≤ length bytes.now }
+    ensures codes { IfOk result (λ params. (params.lms ≡ lms_at bytes.now) × (params.ots ≡ ots_at bytes.now)) }
+    ensures dealt { IfOk result (λ params. CanBeDealt params) }
+    ensures faultless { OnOk result (code_fault bytes.now ≡ None) }
+    ensures refused { IfErr result (λ fault. code_fault bytes.now ≡ Some fault) }
+{
+    let lms = u32_at(bytes, 8);
+    let ots = u32_at(bytes, 12);
+    let Ok(params) = Params::of_codes(lms, ots) else {
+        return Err(FileFault::Code { lms, ots });
+    };
+    if !is_dealt(&params) {
+        return Err(FileFault::Code { lms, ots });
+    }
+    Ok(params)
+}
+
+/// Whether a parameter set can be dealt.
+fn is_dealt(params: &Params) -> bool
+    ensures test { result ≡ can_be_dealt params.now.lms params.now.ots }
+    ensures dealt { IsTrue result ↔ CanBeDealt params.now }
+{
+    params.h < 10 || params.h == 10 && params.w < 8
+}
+
+/// Reads the plan of a head: k, then n.
+pub(crate) fn read_plan(bytes: &[u8], params: &Params) -> Result<Plan, FileFault>
+    requires head { 32 ≤ length bytes.now }
+    requires codes { params.now.lms ≡ lms_at bytes.now }
+    ensures plan { IfOk result (λ plan. plan ≡ record { n = slice_index bytes.now 7; k = slice_index bytes.now 6; h = params.now.h }) }
+    ensures faultless { OnOk result (plan_fault bytes.now ≡ None) }
+    ensures refused { IfErr result (λ fault. plan_fault bytes.now ≡ Some fault) }
+{
+    match Plan::new(bytes[7], bytes[6], params.h) {
+        Ok(plan) => Ok(plan),
+        Err(_) => Err(FileFault::Plan),
+    }
+}
+
+/// Writes a head at the front of `out`, with three bytes of the file's own.
+pub(crate) fn write_head(
+    magic: &[u8; 4],
+    own: &[u8; 3],
+    params: &Params,
+    id: &KeyId,
+    out: &mut [u8],
+)
+    requires { 32 ≤ length out.old }
+    ensures head { take 32 out.new ≡ head_bytes magic.now own.now params.now id.now }
+    ensures rest { drop 32 out.new ≡ drop 32 out.old }
+{
+    put(out, 0, magic);
+    put(out, 4, &[1]);
+    put(out, 5, own);
+    put(out, 8, &params.lms.to_be_bytes());
+    put(out, 12, &params.ots.to_be_bytes());
+    put(out, 16, id);
+}

@@ -1,0 +1,20 @@
+//! The files of a dealing: the share of each trustee, the tree, and the masked reference value.
+#![tactic(auto)]
+
+mod faults;
+mod head;
+mod reference;
+mod reference_layout;
+mod share;
+mod share_layout;
+mod tree_file;
+
+pub use faults::FileFault;
+pub use reference::{RefHeader, RefView};
+pub use reference_layout::{read_ref_header, read_reference, write_ref_head};
+pub use share::Share;
+pub use share_layout::{read_share, write_share};
+pub use tree_file::{TreeView, read_tree, write_tree_head};
+
+#[cfg(test)]
+mod tests;

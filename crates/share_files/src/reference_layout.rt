@@ -1,0 +1,71 @@
+//! How reference files are read and written.
+
+ghost use Rattle.std.specs.Prelude.{◌≡◌, ℕ, List, ◌+◌, ◌*◌, ◌^◌, ◌≤◌, None, Some, OnOk, IfOk, IfErr, IsOkAnd};
+ghost use Rattle.share_files.specs.Reference.{HasReferenceLayout, leaf_length, reference_fault, reference_head, reference_head_fault, reference_length, SameHeader};
+ghost use Rattle.share_files.specs.Sets.{CanBeDealt};
+ghost use Rattle.share_files.specs.declared.reference.RefHeader.{RefHeader};
+
+use crate::faults::FileFault;
+use crate::head::{HEAD, check_front, check_length, check_zero, read_head, read_plan, write_head};
+use crate::reference::{RefHeader, RefView};
+use lms_bytes::Params;
+use lms_bytes::bytes::part;
+
+/// What a reference file begins with.
+const REFERENCE_MAGIC: &[u8; 4] = b"TLRF";
+
+/// Reads the head of a reference file of this length in bytes.
+pub fn read_ref_header(head: &[u8; 32], file_length: u64) -> Result<RefHeader, FileFault>
+    ensures header { IfOk result (λ header. head.now ≡ reference_head header) }
+    ensures size { IfOk result (λ header. file_length ≡ reference_length header) }
+    ensures dealt { IfOk result (λ header. CanBeDealt header.params) }
+    ensures read { (header : RefHeader) → CanBeDealt header.params → head.now ≡ reference_head header
+        → file_length ≡ reference_length header → IsOkAnd result (SameHeader header) }
+    ensures faultless { OnOk result (reference_head_fault head.now file_length ≡ None) }
+    ensures refused { IfErr result (λ fault. reference_head_fault head.now file_length ≡ Some fault) }
+{
+    let found = read_head(REFERENCE_MAGIC, head)?;
+    let plan = read_plan(head, &found.params)?;
+    check_zero(head, 5)?;
+    check_length(file_length, length_of_file(&found.params, plan.k()))?;
+    Ok(RefHeader {
+        params: found.params,
+        plan,
+        id: found.id,
+    })
+}
+
+/// Reads a reference file that is all of `bytes`. The leaves are borrowed from it.
+pub fn read_reference<'a>(bytes: &'a [u8]) -> Result<RefView<'a>, FileFault>
+    ensures layout { IfOk result (λ view. HasReferenceLayout view.header bytes.now view.leaves.now) }
+    ensures read { (header : RefHeader) (leaves : List ℕ) → HasReferenceLayout header bytes.now leaves
+        → IsOkAnd result (λ view. SameHeader header view.header × (view.leaves.now ≡ leaves)) }
+    ensures faultless { OnOk result (reference_fault bytes.now ≡ None) }
+    ensures refused { IfErr result (λ fault. reference_fault bytes.now ≡ Some fault) }
+{
+    check_front(bytes, HEAD)?;
+    let mut head = [0; HEAD];
+    head.copy_from_slice(part(bytes, 0, HEAD));
+    Ok(RefView {
+        header: read_ref_header(&head, bytes.len() as u64)?,
+        leaves: part(bytes, HEAD, bytes.len() - HEAD),
+    })
+}
+
+/// Writes the head of a reference file, which the leaves follow.
+pub fn write_ref_head(header: &RefHeader, out: &mut [u8; 32])
+    ensures { out.new ≡ reference_head header.now }
+{
+    let own = [0, header.plan.k(), header.plan.n()];
+    write_head(REFERENCE_MAGIC, &own, &header.params, &header.id, out);
+}
+
+/// How long the reference file of a parameter set and a threshold is, in bytes.
+fn length_of_file(params: &Params, k: u8) -> u64
+    ensures { result ≡ 32 + 2 ^ params.now.h * leaf_length params.now k }
+{
+    let n = u64::from(params.n);
+    let cells = u64::from(params.p) * (u64::from(params.greatest_digit()) + 1);
+    let leaf = n + 32 * u64::from(k) + cells * n;
+    HEAD as u64 + u64::from(params.leaves()) * leaf
+}
