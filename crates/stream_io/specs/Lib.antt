@@ -1,3 +1,4 @@
 pub mod Calls
 pub mod MemStore
 pub mod Sink
+pub mod Store

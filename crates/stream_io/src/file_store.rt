@@ -2,12 +2,14 @@
 
 ghost use Rattle.std.specs.Prelude.{◌≡◌, ◌+◌, ◌-◌, ◌^◌, ◌<◌, ◌≤◌, ℕ, min, None, IsFalse, false, length, IfOk};
 
-use crate::store::{ReadAllFault, Store};
+use crate::failed::Failed;
+use crate::store::{NewFault, ReadAllFault, Store};
 use disk_trait::Faults;
 use std::alloc::Global;
 use std::fs::{File, OpenFile};
-use std::io::{ErrorKind, Read};
+use std::io::{ErrorKind, Read, Write};
 use std::rt::Files;
+use std::{fs, io};
 
 /// The store of a runtime's files. It tells nothing but its count of faults.
 #[derive(Drop)]
@@ -24,6 +26,15 @@ impl<R: Files + Drop> FileStore<R> {
         ensures count { ⟦<FileStore<R> as Faults>⟧.count result ≡ 0 }
     {
         FileStore { rt, faults: 0 }
+    }
+
+    /// Counts a fault.
+    fn fail(&mut self) -> Failed
+        ensures fault { self.new.faults ≡ min (self.old.faults + 1) (2 ^ 64 - 1) }
+        ensures later { self.old.faults ≤ self.new.faults }
+    {
+        self.faults = self.faults.saturating_add(1);
+        Failed
     }
 }
 
@@ -59,6 +70,34 @@ fn read_file<F: Read + OpenFile + Drop>(
     Ok(bytes)
 }
 
+/// Writes a file that is not there yet. Where that fails, what stands of it is removed as far as that can be done.
+fn write_file<R: Files>(rt: &R, name: &str, bytes: &[u8]) -> Result<(), NewFault> {
+    let file = match File::create_new(rt, name) {
+        Ok(file) => file,
+        Err(error) if error.kind() == ErrorKind::AlreadyExists => return Err(NewFault::Exists),
+        Err(error) => return Err(new_fault(error.kind())),
+    };
+    if let Err(error) = fill(file, bytes) {
+        let _ = fs::remove_file(rt, name);
+        return Err(new_fault(error.kind()));
+    }
+    Ok(())
+}
+
+/// Writes all bytes to a file, and has them on the disk.
+fn fill<F: Write + OpenFile + Drop>(mut file: F, bytes: &[u8]) -> io::Result<()> {
+    file.write_all(bytes)?;
+    file.sync_all()
+}
+
+/// Why a file was not written, after an error of that kind.
+fn new_fault(kind: ErrorKind) -> NewFault {
+    match kind {
+        ErrorKind::OutOfMemory => NewFault::NoMemory,
+        _ => NewFault::Failed,
+    }
+}
+
 impl<R: Files + Drop> Faults for FileStore<R> {
     ghost count = { λ s. s.faults };
 
@@ -80,8 +119,24 @@ impl<R: Files + Drop> Store for FileStore<R> {
             Err(_) => Err(ReadAllFault::Failed),
         };
         if let Err(ReadAllFault::Failed) = read {
-            self.faults = self.faults.saturating_add(1);
+            self.fail();
         }
         read
+    }
+
+    fn has(&mut self, name: &str) -> Result<bool, Failed> {
+        match fs::symlink_metadata(&self.rt, name) {
+            Ok(_) => Ok(true),
+            Err(error) if error.kind() == ErrorKind::NotFound => Ok(false),
+            Err(_) => Err(self.fail()),
+        }
+    }
+
+    fn write_new(&mut self, _alloc: Global, name: &str, bytes: &[u8]) -> Result<(), NewFault> {
+        let written = write_file(&self.rt, name, bytes);
+        if let Err(NewFault::Failed) = written {
+            self.fail();
+        }
+        written
     }
 }

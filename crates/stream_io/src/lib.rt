@@ -22,7 +22,7 @@ pub use mem_store::MemStore;
 pub use net::Net;
 pub use sink::{Sink, write_whole};
 pub use stdout_sink::StdoutSink;
-pub use store::{ReadAllFault, Store};
+pub use store::{NewFault, ReadAllFault, Store};
 pub use tcp_net::TcpNet;
 
 #[cfg(test)]

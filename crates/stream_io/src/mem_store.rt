@@ -5,7 +5,8 @@ ghost use Rattle.stream_io.specs.Calls.{is_empty};
 ghost use Rattle.stream_io.specs.MemStore.{file_of};
 
 use crate::calls::Calls;
-use crate::store::{ReadAllFault, Store};
+use crate::failed::Failed;
+use crate::store::{NewFault, ReadAllFault, Store};
 use disk_trait::Faults;
 use std::alloc::Global;
 
@@ -67,5 +68,24 @@ impl Store for MemStore {
             return Err(ReadAllFault::TooLong { got });
         }
         Ok(Vec::from_slice(alloc, bytes)?)
+    }
+
+    fn has(&mut self, name: &str) -> Result<bool, Failed> {
+        self.calls.make()?;
+        Ok(find(self.files.as_slice(), name).is_some())
+    }
+
+    #[tactic(auto, using(crate::proofs::Added::is_added))]
+    fn write_new(&mut self, alloc: Global, name: &str, bytes: &[u8]) -> Result<(), NewFault> {
+        self.calls.make()?;
+        if find(self.files.as_slice(), name).is_some() {
+            return Err(NewFault::Exists);
+        }
+        let file = (
+            String::from_str(alloc, name)?,
+            Vec::from_slice(alloc, bytes)?,
+        );
+        self.files.push(file)?;
+        Ok(())
     }
 }

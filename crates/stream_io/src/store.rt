@@ -1,12 +1,14 @@
-//! Stores, which files are read from by their names.
+//! Stores, which hold files by their names.
 
-ghost use Rattle.std.specs.Prelude.{◌≡◌, ◌<◌, ◌≤◌, ◌≢◌, ◌⊎◌, ℕ, Bool, List, Option, Some, None, length, option_map, IsTrue, IfOk};
+ghost use Rattle.std.specs.Prelude.{◌≡◌, ◌<◌, ◌≤◌, ◌≢◌, ◌⊎◌, ℕ, Bool, List, Option, Some, None, length, option_map, is_some, IsTrue, IsOk, IfOk, OnOk, OnErr};
 ghost use Rattle.disk_trait.specs.Faults.{Rose};
-ghost use Rattle.stream_io.specs.declared.store.ReadAllFault.TheVariants.{Failed, NoMemory};
+ghost use Rattle.stream_io.specs.Store.{added};
+ghost use Rattle.stream_io.specs.declared.store.NewFault.{NewFault};
+ghost use Rattle.stream_io.specs.declared.store.ReadAllFault.{ReadAllFault};
 
 use crate::failed::Failed;
 use disk_trait::Faults;
-use std::alloc::{AllocError, Global};
+use std::alloc::{AllocError, AllocFailed, Global};
 
 /// Why a file was not read.
 #[derive(Clone, Copy, Debug, PartialEq, Eq)]
@@ -23,7 +25,7 @@ pub enum ReadAllFault {
 }
 
 impl From<Failed> for ReadAllFault {
-    ghost from_gives = { λ _ fault. fault ≡ Failed };
+    ghost from_gives = { λ _ fault. fault ≡ ReadAllFault.Failed };
 
     fn from(_failed: Failed) -> ReadAllFault {
         ReadAllFault::Failed
@@ -31,14 +33,49 @@ impl From<Failed> for ReadAllFault {
 }
 
 impl From<AllocError> for ReadAllFault {
-    ghost from_gives = { λ _ fault. fault ≡ NoMemory };
+    ghost from_gives = { λ _ fault. fault ≡ ReadAllFault.NoMemory };
 
     fn from(_error: AllocError) -> ReadAllFault {
         ReadAllFault::NoMemory
     }
 }
 
-/// What files are read from.
+/// Why a new file was not written.
+#[derive(Clone, Copy, Debug, PartialEq, Eq)]
+pub enum NewFault {
+    /// The name is in the store.
+    Exists,
+    /// A call of the store failed.
+    Failed,
+    /// Want of memory.
+    NoMemory,
+}
+
+impl From<Failed> for NewFault {
+    ghost from_gives = { λ _ fault. fault ≡ NewFault.Failed };
+
+    fn from(_failed: Failed) -> NewFault {
+        NewFault::Failed
+    }
+}
+
+impl From<AllocError> for NewFault {
+    ghost from_gives = { λ _ fault. fault ≡ NewFault.NoMemory };
+
+    fn from(_error: AllocError) -> NewFault {
+        NewFault::NoMemory
+    }
+}
+
+impl<T: Drop> From<AllocFailed<T>> for NewFault {
+    ghost from_gives = { λ _ fault. fault ≡ NewFault.NoMemory };
+
+    fn from(_error: AllocFailed<T>) -> NewFault {
+        NewFault::NoMemory
+    }
+}
+
+/// What files are read from and written to.
 pub trait Store: Faults {
     /// Whether it tells its content.
     ghost told: { Self → Bool };
@@ -57,6 +94,29 @@ pub trait Store: Faults {
         ensures absent { IsTrue (told self.old) → IsTrue (Self.steady self.old) →
             result ≡ Err ReadAllFault.Failed → file self.old name.now ≡ None }
         ensures file { file self.new ≡ file self.old }
+        ensures count { Self.count self.old ≤ Self.count self.new }
+        ensures told { told self.new ≡ told self.old }
+        ensures steady { Self.steady self.new ≡ Self.steady self.old };
+
+    /// Whether the name is in the store.
+    fn has(&mut self, name: &str) -> Result<bool, Failed>
+        ensures found { IsTrue (told self.old) → IfOk result (λ found. found ≡ is_some (file self.old name.now)) }
+        ensures cause { OnErr result (Rose (Self.count self.old) (Self.count self.new)) }
+        ensures answers { IsTrue (Self.steady self.old) → IsOk result }
+        ensures file { file self.new ≡ file self.old }
+        ensures count { Self.count self.old ≤ Self.count self.new }
+        ensures told { told self.new ≡ told self.old }
+        ensures steady { Self.steady self.new ≡ Self.steady self.old };
+
+    /// Writes a file under a name that is not in the store.
+    fn write_new(&mut self, alloc: Global, name: &str, bytes: &[u8]) -> Result<(), NewFault>
+        ensures new { IsTrue (told self.old) → OnOk result (file self.old name.now ≡ None) }
+        ensures written { IsTrue (told self.old)
+            → OnOk result ((other : List ℕ) → file self.new other ≡ added (file self.old) name.now bytes.now other) }
+        ensures exists { IsTrue (told self.old) → result ≡ Err NewFault.Exists → IsTrue (is_some (file self.old name.now)) }
+        ensures unchanged { IsTrue (told self.old) → OnErr result (file self.new ≡ file self.old) }
+        ensures cause { result ≡ Err NewFault.Failed → Rose (Self.count self.old) (Self.count self.new) }
+        ensures answers { IsTrue (Self.steady self.old) → result ≢ Err NewFault.Failed }
         ensures count { Self.count self.old ≤ Self.count self.new }
         ensures told { told self.new ≡ told self.old }
         ensures steady { Self.steady self.new ≡ Self.steady self.old };

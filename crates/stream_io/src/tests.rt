@@ -1,8 +1,8 @@
 //! Tests of what no contract says: that calls succeed, which of them fail, and what the system gives.
 
 use crate::{
-    Failed, FileStore, MemNet, MemSink, MemStore, Net, ReadAllFault, Sink, StdoutSink, Store,
-    TcpNet, write_whole,
+    Failed, FileStore, MemNet, MemSink, MemStore, Net, NewFault, ReadAllFault, Sink, StdoutSink,
+    Store, TcpNet, write_whole,
 };
 use disk_trait::Faults;
 use std::alloc::{AllocError, Global};
@@ -64,6 +64,17 @@ fn gives<S: Store>(
     }
 }
 
+/// Whether a store takes a name as new only while it is not there, reads it back, and has raised no fault by that.
+fn takes_once<S: Store>(store: &mut S, alloc: Global, name: &str) -> bool {
+    let faults = store.faults();
+    store.has(name) == Ok(false)
+        && store.write_new(alloc, name, b"first") == Ok(())
+        && store.has(name) == Ok(true)
+        && store.write_new(alloc, name, b"second") == Err(NewFault::Exists)
+        && gives(store, alloc, name, 9, Ok("first"))
+        && store.faults() == faults
+}
+
 #[test]
 fn a_store_in_memory_reads_its_files(rt: HostRuntime) -> Result<(), AllocError> {
     let alloc = rt.alloc();
@@ -88,6 +99,39 @@ fn a_store_in_memory_reads_its_files(rt: HostRuntime) -> Result<(), AllocError> 
         assert_eq!(rt; store.faults(), faults);
     }
     Ok(())
+}
+
+#[test]
+fn a_store_in_memory_takes_a_new_file_once(rt: HostRuntime) -> Result<(), AllocError> {
+    let alloc = rt.alloc();
+    let mut store = MemStore::new(Vec::new(alloc), Vec::from_slice(alloc, &[0, 1, 8])?);
+    assert_eq!(rt; store.has("a"), Err(Failed));
+    assert_eq!(rt; store.write_new(alloc, "a", b"none"), Err(NewFault::Failed));
+    assert_eq!(rt; store.faults(), 2);
+    assert!(rt; takes_once(&mut store, alloc, "a"));
+    assert!(rt; gives(&mut store, alloc, "b", 9, Err(ReadAllFault::Failed)));
+    assert_eq!(rt; store.write_new(alloc, "b", b"none"), Err(NewFault::Failed));
+    assert_eq!(rt; store.has("b"), Ok(false));
+    assert_eq!(rt; store.faults(), 4);
+    Ok(())
+}
+
+#[test]
+fn a_store_of_files_takes_a_new_file_once(rt: HostRuntime) -> io::Result<()> {
+    let name = "stream_io.new";
+    let mut store = FileStore::new(rt);
+    assert!(rt; takes_once(&mut store, rt.alloc(), name));
+    assert_eq!(rt; store.has("."), Ok(true));
+    assert_eq!(rt;
+        store.write_new(rt.alloc(), ".", b""),
+        Err(NewFault::Exists)
+    );
+    assert_eq!(rt; store.has("stream_io.none/new"), Ok(false));
+    assert_eq!(rt; store.faults(), 0);
+    let refused = store.write_new(rt.alloc(), "stream_io.none/new", b"first");
+    assert_eq!(rt; refused, Err(NewFault::Failed));
+    assert_eq!(rt; store.faults(), 1);
+    fs::remove_file(&rt, name)
 }
 
 #[test]
