@@ -1,0 +1,84 @@
+-- The files of a dealing from what it gives.
+use Rattle.std.proofs.Common.{◌≡◌, ℕ, zero, suc, ◌+◌, ◌-◌, ◌<◌, length, List, [], ◌∷◌, ◌++◌, map, take, All, refl, sym, ap, ◌∙◌, arith}
+use Rattle.std.specs.Prelude.{codes, slice_index_or}
+use Rattle.std.specs.List.{range_with_len}
+use Rattle.std.specs.declared.alloc.Global.{Global}
+use Rattle.std.specs.declared.vec.Vec.{Vec}
+use Rattle.std.proofs.lemmas.Grind.{take_at_read}
+use Rattle.std.proofs.lemmas.List.{map-append}
+use Rattle.coalition_map.specs.Coalitions.{PlanNumbers}
+use Rattle.lms_bytes.specs.PublicKey.{public_bytes}
+use Rattle.reference_value.specs.Dealing.{Dealing, key_of}
+use Rattle.share_files.specs.Head.{head_bytes}
+use Rattle.share_files.specs.Share.{share_bytes}
+use Rattle.share_files.specs.TreeFile.{tree_head}
+use Rattle.share_files.specs.declared.share.Share.{Share}
+use Rattle.dealer.specs.Dealt.{AreShares, IsDealt}
+use Rattle.dealer.specs.Files.{AreFiles, share_file, share_files}
+use Rattle.dealer.specs.declared.dealing.Dealt.{Dealt}
+use Rattle.dealer.specs.declared.files.DealingFiles.{DealingFiles}
+
+-- this share is that of trustee t
+record IsShareOf (d : Dealing) (t : ℕ) (share : Share) : Type 0 where
+  member : share.member ≡ t
+  key : share.key ≡ key_of d t
+  params : share.params ≡ d.params
+  plan : share.plan ≡ d.plan
+  id : share.id ≡ d.id
+
+file_of_share : (d : Dealing) (t : ℕ) (share : Share) → IsShareOf d t share → share_bytes share ≡ share_file d t
+file_of_share d t share is = rw (is.member, is.key, is.params, is.plan, is.id) refl
+
+-- those of the trustees from `first` on
+files_from : (d : Dealing) (shares : List Share) (first n : ℕ) → map (λ share. share.member) shares ≡ range_with_len first n
+    → ((i t : ℕ) → t ≡ first + i → key_of d t ≡ slice_index_or (map (λ share. share.key) shares) i [])
+    → All (λ share. share.params ≡ d.params) shares → All (λ share. share.plan ≡ d.plan) shares → All (λ share. share.id ≡ d.id) shares
+    → map share_bytes shares ≡ map (share_file d) (range_with_len first n)
+files_from d [] first zero members keys params plans ids = refl
+files_from d [] first (suc n) members keys params plans ids = cc
+files_from d (share ∷ shares) first zero members keys params plans ids = cc
+files_from d (share ∷ shares) first (suc n) members keys params plans ids =
+    let here : 0 < length (share ∷ shares) = omega arith in
+    let member : share.member ≡ first = cc in
+    let others : map (λ share. share.member) shares ≡ range_with_len (first + 1) n = cc in
+    let one : share_bytes share ≡ share_file d first = file_of_share d first share (record {
+      member = member;
+      key = sym (keys 0 first (omega arith));
+      params = params 0 share here;
+      plan = plans 0 share here;
+      id = ids 0 share here;
+    }) in
+    let rest : map share_bytes shares ≡ map (share_file d) (range_with_len (first + 1) n) = files_from d shares (first + 1) n others
+    (λ i t is. keys (suc i) t (omega (arith, is)))
+    (λ k x below. params (suc k) x (omega (arith, below)))
+    (λ k x below. plans (suc k) x (omega (arith, below)))
+    (λ k x below. ids (suc k) x (omega (arith, below))) in
+    cc
+
+files_of_shares : (d : Dealing) (shares : List Share) → AreShares d shares → map share_bytes shares ≡ share_files d
+files_of_shares d shares are =
+    files_from d shares 1 d.plan.n are.members (λ i t is. ap (λ keys. slice_index_or keys (t - 1) []) (sym are.keys) ∙ ap (λ k. slice_index_or (map (λ share. share.key) shares) k []) (omega (arith, is))) are.params are.plan are.id
+
+-- one more share has its file
+pub one_more : (shares : List Share) (i : ℕ) (share : Share) (files now : List (Vec ℕ Global)) (file : Vec ℕ Global) → i < length shares
+    → share ≡ slice_index_or shares i share → map (λ file. file.items) files ≡ map share_bytes (take i shares)
+    → file.items ≡ share_bytes share → now ≡ files ++ file ∷ [] → map (λ file. file.items) now ≡ map share_bytes (take (i + 1) shares)
+one_more shares i share files now file below at before is after =
+    let shares_then : take (i + 1) shares ≡ take i shares ++ slice_index_or shares i share ∷ [] = (take_at_read shares i share below).1 in
+    ap (map (λ file. file.items)) after ∙ map-append (λ file. file.items) files (file ∷ [])
+    ∙ ap (λ t. t ++ file.items ∷ []) before ∙ ap (λ t. map share_bytes (take i shares) ++ t ∷ []) (is ∙ ap share_bytes at)
+    ∙ sym (ap (map share_bytes) shares_then ∙ map-append share_bytes (take i shares) (slice_index_or shares i share ∷ []))
+
+-- the files that are written from what a dealing gives
+pub are_files : (d : Dealing) (dealt : Dealt) (plan : PlanNumbers) (files : DealingFiles) → d.plan ≡ plan → IsDealt d dealt
+    → files.public.items ≡ public_bytes dealt.public
+    → files.tree.items ≡ tree_head dealt.public.params dealt.public.id ++ dealt.tree.nodes
+    → files.reference.items ≡ head_bytes (codes "TLRF") (0 ∷ plan.k ∷ plan.n ∷ []) dealt.public.params dealt.public.id ++ dealt.reference.items
+    → map (λ file. file.items) files.shares.items ≡ map share_bytes dealt.shares.items
+    → AreFiles d files
+are_files d dealt plan files same is public tree leaves shares = record {
+  public_is = public ∙ rw (is.params, is.id, is.root_is) refl;
+  tree_is = tree ∙ rw (is.params, is.id, is.tree) refl;
+  reference_is = leaves ∙ rw (is.params, is.id, is.reference_is, ← same) refl;
+  shares_are = shares ∙ files_of_shares d dealt.shares.items is.shares;
+}

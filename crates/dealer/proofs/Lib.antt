@@ -1,0 +1,5 @@
+pub mod Exclusive
+pub mod FilesOf
+pub mod FirstShares
+pub mod Mapped
+pub mod SameTree

@@ -1,0 +1,12 @@
+use Rattle.std.proofs.Common.{map, ap, ◌∙◌}
+use Rattle.share_files.specs.Share.{share_bytes}
+use Rattle.dealer.proofs.FilesOf.{are_files}
+use Rattle.dealer.proofs.dealing.Dealt.into_files.Goals as goal
+
+-- each file is what is written from its part
+pub returns : goal.returns
+returns c = record {
+  files = λ d same _ _ is. are_files d c.args.self c.args.plan.now _ same is
+      c.in_ok-public_file.ensures c.in_ok-tree_file.ensures c.in_ok-reference_file.ensures
+      (c.in_ok-files_of_shares.ensures ∙ ap (map share_bytes) c.deref.ensures.value);
+}

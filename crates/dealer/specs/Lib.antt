@@ -1,0 +1,5 @@
+pub mod Dealt
+pub mod Entropy
+pub mod Faults
+pub mod Files
+pub mod Secrets

@@ -1,0 +1,45 @@
+//! The dealing.
+
+ghost use Rattle.std.specs.Prelude.{◌≡◌, ◌⊎◌, IfOk, OnOk, IfErr};
+ghost use Rattle.dealer.specs.Dealt.{IsDealt};
+ghost use Rattle.dealer.specs.Entropy.{dealing_of};
+ghost use Rattle.dealer.specs.Faults.{HasFault, IsDealable};
+ghost use Rattle.dealer.specs.declared.faults.DealFault.{DealFault};
+ghost use Rattle.dealer.specs.declared.faults.DealFault.TheVariants.{NoMemory};
+
+use crate::building::build;
+use crate::checks::check;
+use crate::faults::DealFault;
+use coalition_map::Plan;
+use lms_bytes::{Params, PublicKey};
+use merkle_path::Tree;
+use share_files::Share;
+use std::alloc::Global;
+
+/// What a dealing gives.
+#[derive(Drop)]
+pub struct Dealt {
+    /// The public key.
+    pub public: PublicKey,
+    /// The tree, with all its nodes.
+    pub tree: Tree,
+    /// The leaves of the masked reference value, one behind the other.
+    pub reference: Vec<u8>,
+    /// The shares, that of trustee 1 first.
+    pub shares: Vec<Share>,
+}
+
+/// Deals the key that the entropy stands for. The entropy is tested before any memory is taken.
+pub fn deal(alloc: Global, params: &Params, plan: &Plan, entropy: &[u8]) -> Result<Dealt, DealFault>
+    requires { plan.now.h ≡ params.now.h }
+    ensures dealt { IfOk result (IsDealt (dealing_of params.now plan.now entropy.now)) }
+    ensures dealable { OnOk result (IsDealable params.now plan.now entropy.now) }
+    ensures refused { (fault : DealFault) → HasFault params.now plan.now entropy.now fault → result ≡ Err fault }
+    ensures cause { IfErr result (λ fault. (fault ≡ NoMemory × IsDealable params.now plan.now entropy.now) ⊎ HasFault params.now plan.now entropy.now fault) }
+{
+    check(params, plan, entropy)?;
+    match build(alloc, params, plan, entropy) {
+        Ok(dealt) => Ok(dealt),
+        Err(_) => Err(DealFault::NoMemory),
+    }
+}

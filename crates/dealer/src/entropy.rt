@@ -1,0 +1,69 @@
+//! What entropy stands for.
+
+ghost use Rattle.std.specs.Prelude.{◌≡◌, ℕ, ◌+◌, ◌≤◌, All, IfOk, length, map};
+ghost use Rattle.std.specs.List.{range_with_len};
+ghost use Rattle.dealer.specs.Entropy.{dealing_of, entropy_length, trustee_key};
+ghost use Rattle.dealer.specs.Secrets.{dealing_with};
+
+use crate::checks::key_at;
+use coalition_map::Plan;
+use disk_trait::NoMemory;
+use lms_bytes::bytes::part;
+use lms_bytes::{KeyId, Params, Val};
+use std::alloc::Global;
+
+/// What a key is dealt from.
+#[derive(Drop)]
+pub(crate) struct Secrets {
+    /// The identifier I of the key.
+    pub(crate) id: KeyId,
+    /// The SEED of the key, of the set's hash length.
+    pub(crate) seed: Val,
+    /// The key of the randomizers.
+    pub(crate) random_key: [u8; 32],
+    /// The keys of the trustees, that of trustee 1 first.
+    pub(crate) keys: Vec<[u8; 32]>,
+}
+
+/// Reads what the entropy stands for.
+pub(crate) fn read_entropy(
+    alloc: Global,
+    params: &Params,
+    plan: &Plan,
+    entropy: &[u8],
+) -> Result<Secrets, NoMemory>
+    requires { length entropy.now ≡ entropy_length plan.now.n }
+    ensures dealing { IfOk result (λ secrets. dealing_with params.now plan.now secrets ≡ dealing_of params.now plan.now entropy.now) }
+    ensures seed { IfOk result (λ secrets. length secrets.seed ≡ params.now.n) }
+    ensures keys { IfOk result (λ secrets. length secrets.keys.items ≡ plan.now.n) }
+    ensures lengths { IfOk result (λ secrets. All (λ key. length key ≡ 32) secrets.keys.items) }
+{
+    let keys = read_keys(alloc, plan.n(), entropy)?;
+    let mut id = [0; 16];
+    id.copy_from_slice(part(entropy, 0, 16));
+    let mut random_key = [0; 32];
+    random_key.copy_from_slice(part(entropy, 48, 32));
+    Ok(Secrets {
+        id,
+        seed: Val::of(part(entropy, 16, params.n as usize)),
+        random_key,
+        keys,
+    })
+}
+
+/// Reads the keys of the trustees.
+fn read_keys(alloc: Global, trustees: u8, entropy: &[u8]) -> Result<Vec<[u8; 32]>, NoMemory>
+    requires small { trustees ≤ 12 }
+    requires size { length entropy.now ≡ entropy_length trustees }
+    ensures keys { IfOk result (λ keys. keys.items ≡ map (trustee_key entropy.now) (range_with_len 1 trustees)) }
+    ensures count { IfOk result (λ keys. length keys.items ≡ trustees) }
+    ensures lengths { IfOk result (λ keys. All (λ key. length key ≡ 32) keys.items) }
+{
+    let mut keys = Vec::with_capacity(alloc, trustees as usize)?;
+    'trustees: for t in 1..trustees + 1 {
+        let mut key = [0; 32];
+        key.copy_from_slice(key_at(entropy, t));
+        keys.push(key)?;
+    }
+    Ok(keys)
+}

@@ -1,0 +1,107 @@
+//! The files of a dealing.
+
+ghost use Rattle.std.specs.Prelude.{◌≡◌, ◌++◌, IfOk, map};
+ghost use Rattle.coalition_map.specs.Coalitions.{IsPlan};
+ghost use Rattle.lms_bytes.specs.PublicKey.{public_bytes};
+ghost use Rattle.reference_value.specs.Dealing.{Dealing};
+ghost use Rattle.share_files.specs.Reference.{reference_head};
+ghost use Rattle.share_files.specs.Share.{share_bytes};
+ghost use Rattle.share_files.specs.TreeFile.{tree_head};
+ghost use Rattle.dealer.specs.Dealt.{IsDealt};
+ghost use Rattle.dealer.specs.Files.{AreFiles};
+
+use crate::dealing::Dealt;
+use coalition_map::Plan;
+use disk_trait::NoMemory;
+use lms_bytes::{PublicKey, write_public};
+use merkle_path::Tree;
+use share_files::{RefHeader, Share, write_ref_head, write_share, write_tree_head};
+use std::alloc::Global;
+
+/// The files of a dealing, each whole.
+#[derive(Drop)]
+pub struct DealingFiles {
+    /// The public key, `24 + n` bytes.
+    pub public: Vec<u8>,
+    /// The tree: a head of 32 bytes, and all nodes.
+    pub tree: Vec<u8>,
+    /// The masked reference value: a head of 32 bytes, and the leaves.
+    pub reference: Vec<u8>,
+    /// The shares, 64 bytes each, that of trustee 1 first.
+    pub shares: Vec<Vec<u8>>,
+}
+
+impl Dealt {
+    /// The files. The reference is not copied, and takes no memory where it has room for the 32 bytes of its head.
+    pub fn into_files(self, alloc: Global, plan: &Plan) -> Result<DealingFiles, NoMemory>
+        requires { plan.now.h ≡ self.public.params.h }
+        ensures files { (d : Dealing) → d.plan ≡ plan.now → IsPlan d.plan → d.plan.h ≡ d.params.h → IsDealt d self → IfOk result (AreFiles d) }
+    {
+        prove_eq!(plan.h(), self.public.params.h);
+        let header = RefHeader {
+            params: self.public.params,
+            plan: *plan,
+            id: self.public.id,
+        };
+        Ok(DealingFiles {
+            public: public_file(alloc, &self.public)?,
+            tree: tree_file(alloc, &self.public, &self.tree)?,
+            reference: reference_file(&header, self.reference)?,
+            shares: files_of_shares(alloc, &self.shares)?,
+        })
+    }
+}
+
+/// The file of a public key, `24 + n` bytes.
+pub fn public_file(alloc: Global, key: &PublicKey) -> Result<Vec<u8>, NoMemory>
+    ensures { IfOk result (λ file. file.items ≡ public_bytes key.now) }
+{
+    let mut file = vec![in alloc; 0; 24 + key.params.n as usize]?;
+    write_public(key, &mut file);
+    Ok(file)
+}
+
+/// The file of the tree of a public key.
+fn tree_file(alloc: Global, key: &PublicKey, tree: &Tree) -> Result<Vec<u8>, NoMemory>
+    ensures { IfOk result (λ file. file.items ≡ tree_head key.now.params key.now.id ++ tree.now.nodes) }
+{
+    let mut head = [0; 32];
+    write_tree_head(&key.params, &key.id, &mut head);
+    let nodes = tree.nodes();
+    let mut file = Vec::with_capacity(alloc, head.len() + nodes.len())?;
+    file.extend_from_slice(&head)?;
+    file.extend_from_slice(nodes)?;
+    Ok(file)
+}
+
+/// The reference file of these leaves.
+fn reference_file(header: &RefHeader, leaves: Vec<u8>) -> Result<Vec<u8>, NoMemory>
+    ensures { IfOk result (λ file. file.items ≡ reference_head header.now ++ leaves.items) }
+{
+    let mut head = [0; 32];
+    write_ref_head(header, &mut head);
+    let mut file = leaves;
+    file.extend_from_slice(&head)?;
+    file.rotate_right(head.len());
+    Ok(file)
+}
+
+/// The files of these shares.
+fn files_of_shares(alloc: Global, shares: &[Share]) -> Result<Vec<Vec<u8>>, NoMemory>
+    ensures { IfOk result (λ files. map (λ file. file.items) files.items ≡ map share_bytes shares.now) }
+{
+    let mut files = Vec::with_capacity(alloc, shares.len())?;
+    'shares: for share in shares {
+        files.push(share_file(alloc, share)?)?;
+    }
+    Ok(files)
+}
+
+/// The file of a share.
+fn share_file(alloc: Global, share: &Share) -> Result<Vec<u8>, NoMemory>
+    ensures { IfOk result (λ file. file.items ≡ share_bytes share.now) }
+{
+    let mut file = [0; 64];
+    write_share(share, &mut file);
+    Ok(Vec::from_slice(alloc, &file)?)
+}

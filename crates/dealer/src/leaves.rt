@@ -1,0 +1,92 @@
+//! What is made of all leaves: the tree and the masked reference value.
+
+ghost use Rattle.std.specs.Prelude.{◌≡◌, ℕ, ◌+◌, ◌^◌, ◌≤◌, All, IfOk, length, map, vec_capacity};
+ghost use Rattle.std.specs.List.{range_with_len};
+ghost use Rattle.merkle_path.specs.Tree.{tree_of};
+ghost use Rattle.ots_chain.specs.LeafKey.{seed_leaf_key};
+ghost use Rattle.reference_value.specs.Dealing.{reference};
+ghost use Rattle.reference_value.specs.Places.{leaves_length};
+ghost use Rattle.dealer.specs.Secrets.{dealing_with};
+
+use crate::entropy::Secrets;
+use coalition_map::Plan;
+use disk_trait::NoMemory;
+use lms_bytes::{KeyId, Params, Val};
+use merkle_path::Tree;
+use ots_chain::leaf_key_of;
+use reference_value::{build_leaf, leaf_bytes};
+use std::alloc::Global;
+
+/// The length of the head of the reference's file, for which there is room behind the leaves.
+const HEAD: usize = 32;
+
+/// The tree over the public values of the leaves.
+pub(crate) fn build_tree(
+    alloc: Global,
+    params: &Params,
+    id: &KeyId,
+    seed: &Val,
+) -> Result<Tree, NoMemory>
+    requires height { params.now.h ≤ 10 }
+    requires seed { length seed.now ≡ params.now.n }
+    ensures { IfOk result (λ tree. tree ≡ tree_of params.now id.now (λ q. seed_leaf_key params.now id.now q seed.now)) }
+{
+    let keys = leaf_keys(alloc, params, id, seed)?;
+    Tree::build(alloc, params, id, &keys)
+}
+
+/// The public values of the leaves.
+fn leaf_keys(alloc: Global, params: &Params, id: &KeyId, seed: &Val) -> Result<Vec<Val>, NoMemory>
+    requires { length seed.now ≡ params.now.n }
+    ensures keys { IfOk result (λ keys. keys.items ≡ map (λ q. seed_leaf_key params.now id.now q seed.now) (range_with_len 0 (2 ^ params.now.h))) }
+    ensures length { IfOk result (λ keys. All (λ key. length key ≡ params.now.n) keys.items) }
+{
+    let mut keys = Vec::with_capacity(alloc, params.leaves() as usize)?;
+    'leaves: for q in 0..params.leaves() {
+        keys.push(leaf_key_of(params, id, q, seed))?;
+    }
+    Ok(keys)
+}
+
+/// The leaves of the masked reference value, with room for the head of their file.
+pub(crate) fn build_reference(
+    alloc: Global,
+    params: &Params,
+    plan: &Plan,
+    secrets: &Secrets,
+) -> Result<Vec<u8>, NoMemory>
+    requires height { plan.now.h ≡ params.now.h }
+    requires seed { length secrets.now.seed ≡ params.now.n }
+    requires keys { length secrets.now.keys.items ≡ plan.now.n }
+    ensures leaves { IfOk result (λ leaves. leaves.items ≡ reference (dealing_with params.now plan.now secrets.now)) }
+    ensures room { IfOk result (λ leaves. length leaves.items + HEAD ≤ vec_capacity leaves) }
+{
+    let length = leaf_bytes(params, plan.k()) * params.leaves() as usize;
+    let mut leaves = Vec::with_capacity(alloc, length + HEAD)?;
+    leaves.resize(length, 0)?;
+    write_leaves(params, plan, secrets, &mut leaves);
+    Ok(leaves)
+}
+
+/// Writes the leaves of the masked reference value.
+#[tactic(auto, unfolding(reference_value::specs::Dealing::reference))]
+fn write_leaves(params: &Params, plan: &Plan, secrets: &Secrets, out: &mut [u8])
+    requires height { plan.now.h ≡ params.now.h }
+    requires seed { length secrets.now.seed ≡ params.now.n }
+    requires keys { length secrets.now.keys.items ≡ plan.now.n }
+    requires room { length out.old ≡ leaves_length params.now plan.now }
+    ensures { out.new ≡ reference (dealing_with params.now plan.now secrets.now) }
+{
+    let Secrets {
+        id,
+        seed,
+        random_key,
+        keys,
+    } = secrets;
+    let size = leaf_bytes(params, plan.k());
+    'leaves: for q in 0..params.leaves() {
+        let place = size * q as usize;
+        let leaf = &mut out[place..place + size];
+        build_leaf(params, id, plan, q, seed, random_key, keys, leaf);
+    }
+}

@@ -1,0 +1,18 @@
+//! The dealing of a key: from entropy to the public key, the tree, the masked reference value and the trustees' shares.
+#![tactic(auto)]
+
+mod building;
+mod checks;
+mod dealing;
+mod entropy;
+mod faults;
+mod files;
+mod leaves;
+mod shares;
+
+pub use dealing::{Dealt, deal};
+pub use faults::DealFault;
+pub use files::{DealingFiles, public_file};
+
+#[cfg(test)]
+mod tests;
