@@ -1,2 +1,8 @@
+pub mod Dealing
+pub mod Naming
+pub mod Numbers
 pub mod Options
-pub mod Reading
+pub mod Plans
+pub mod Rehearsing
+pub mod Runs
+pub mod Writing

@@ -1,21 +1,27 @@
 -- What a call of the tool does: words, status, store and output before and after.
-use Rattle.std.specs.Prelude.{◌≡◌, ◌⊎◌, ◌<◌, ◌≤◌, ℕ, Bool, List, Option, Some, None, ◌++◌, length, IsTrue, ◌==◌, if◌then◌else◌}
+use Rattle.std.specs.Prelude.{◌≡◌, ◌⊎◌, ◌<◌, ℕ, List, [], Option, Some, None, ◌++◌, length, IsTrue, ◌==◌, if◌then◌else◌}
 use Rattle.disk_trait.specs.Faults.{Rose}
 use Rattle.stream_io.specs.Sink.{GrewByPart}
-use Rattle.tool_run.specs.Ending.{Ending, Usage, NoMemory, StoreFailed, status_of, line_of}
+use Rattle.tool_run.specs.Ending.{Ending, Usage, NoMemory, status_of, line_of}
+use Rattle.tool_run.specs.Deal.{DealEnds}
+use Rattle.tool_run.specs.Outputs.{EndsWith, Output}
+use Rattle.tool_run.specs.Rehearse.{RehearseEnds}
 use Rattle.tool_run.specs.Verify.{VerifyEnds}
-use Rattle.tool_run.specs.Words.{Row, Verify, command_of}
+use Rattle.tool_run.specs.Words.{Row, Verify, Rehearse, Deal, command_of}
 use Rattle.tool_run.specs.World.{World, OutputRun, StoreRun}
 
--- the ends that a command may have, by the rules of that command
-abbrev pub MayEnd : Option Row → World → Ending → Type 0
-MayEnd None world ending = ending ≡ Usage
-MayEnd (Some (Verify key message signature)) world ending = VerifyEnds world.store key message signature ending
+-- the ends that a command may have and the files that it wrote then, by the rules of that command
+abbrev pub CommandEnds : Row → StoreRun → Ending → List Output → Type 0
+CommandEnds (Verify key message signature) store end written =
+    ((end ≡ NoMemory) ⊎ VerifyEnds store key message signature end) × (written ≡ [])
+CommandEnds (Rehearse entropy message key_out signature_out) store end written =
+    RehearseEnds store entropy message key_out signature_out end written
+CommandEnds (Deal words) store end written = DealEnds store words end written
 
--- what a command leaves in the store
-abbrev pub Leaves : Option Row → World → Type 0
-Leaves None world = world.store.file_after ≡ world.store.file
-Leaves (Some (Verify key message signature)) world = world.store.file_after ≡ world.store.file
+-- those that words may have: other words than a command's are a faulty command line, and write nothing
+abbrev pub MayEnd : Option Row → StoreRun → Ending → List Output → Type 0
+MayEnd None store end written = (end ≡ Usage) × (written ≡ [])
+MayEnd (Some row) store end written = CommandEnds row store end written
 
 -- the line was printed whole
 pub record IsPrinted (output : OutputRun) (line : List ℕ) : Type 0 where
@@ -43,10 +49,10 @@ pub record EndsSo (output : OutputRun) (end : Ending) (status : ℕ) : Type 0 wh
   pub is : (shown ≡ NoMemory) ⊎ (shown ≡ end)
   pub answered : IsAnswered output shown status
 
--- A call with these words: it came to an end by the rules of its command, or memory was wanting, and its status and
--- its output are that end's.
+-- A call with these words: it came to an end by the rules of its command and had written these files, the store has them
+-- beside what it had, and its status and its output are that end's or, where there was no memory for the line, those of
+-- want of memory.
 pub record ToolRun (words : List (List ℕ)) (world : World) (status : ℕ) : Type 0 where
   pub end : Ending
-  pub cause : (end ≡ NoMemory) ⊎ MayEnd (command_of words) world end
-  pub answered : IsAnswered world.output end status
-  pub left : Leaves (command_of words) world
+  pub ended : EndsWith (MayEnd (command_of words) world.store) world.store end
+  pub answered : EndsSo world.output end status

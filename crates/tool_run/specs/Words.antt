@@ -1,11 +1,23 @@
 -- Which words are a command. A word is the list of its bytes.
-use Rattle.std.specs.Prelude.{ℕ, Bool, false, ◌==◌, List, [], ◌∷◌, Option, Some, None, if◌then◌else◌, codes}
+use Rattle.std.specs.Prelude.{ℕ, Bool, false, ◌==◌, ◌&&◌, ◌^◌, nat_le, nat_lt, List, [], ◌∷◌, length, Option, Some, None, if◌then◌else◌, codes}
 use Rattle.std.specs.List.{list_any}
-use Rattle.std.specs.Str.{bytes_eq}
+use Rattle.std.specs.Str.{all_ascii_digits, bytes_eq}
+use Rattle.std.specs.Str.Parse.{digits_value}
+
+-- the words after `deal`: k of n trustees, and what the names of the outputs begin with
+pub record DealWords : Type 0 where
+  pub entropy : List ℕ
+  pub lms : ℕ
+  pub ots : ℕ
+  pub n : ℕ
+  pub k : ℕ
+  pub prefix : List ℕ
 
 -- a command with its words
 pub data Row : Type 0 where
   Verify : (key message signature : List ℕ) → Row
+  Rehearse : (entropy message key_out signature_out : List ℕ) → Row
+  Deal : (words : DealWords) → Row
 
 -- the byte of `-`
 abbrev pub dash : ℕ
@@ -16,15 +28,51 @@ abbrev pub is_option : List ℕ → Bool
 is_option [] = false
 is_option (byte ∷ word) = byte == dash
 
+-- one to ten decimal digits of a number below 2^32
+abbrev pub is_number : List ℕ → Bool
+is_number word =
+    nat_le 1 (length word) && nat_le (length word) 10 && all_ascii_digits word && nat_lt (digits_value 10 word) (2 ^ 32)
+
+-- the number that the word is, if it is one
+unfoldable pub number_of : List ℕ → Option ℕ
+number_of word = if is_number word then Some (digits_value 10 word) else None
+
 -- the words after `verify`
 abbrev pub verify_of : List (List ℕ) → Option Row
 verify_of (key ∷ message ∷ signature ∷ []) = Some (Verify key message signature)
 verify_of words = None
 
+-- the words after `rehearse`; the outputs have different names
+abbrev pub rehearse_of : List (List ℕ) → Option Row
+rehearse_of (entropy ∷ message ∷ key_out ∷ signature_out ∷ []) =
+    if bytes_eq key_out signature_out then None else Some (Rehearse entropy message key_out signature_out)
+rehearse_of words = None
+
+-- the words after `deal`
+abbrev pub deal_of : List (List ℕ) → Option Row
+deal_of (entropy ∷ lms ∷ ots ∷ n ∷ k ∷ prefix ∷ []) =
+    elim (number_of lms) [
+      | None ↦ None
+      | Some lms ↦ elim (number_of ots) [
+        | None ↦ None
+        | Some ots ↦ elim (number_of n) [
+          | None ↦ None
+          | Some n ↦ elim (number_of k) [
+            | None ↦ None
+            | Some k ↦ Some (Deal (record { entropy = entropy; lms = lms; ots = ots; n = n; k = k; prefix = prefix }))
+          ]
+        ]
+      ]
+    ]
+deal_of words = None
+
 -- the words of a command, its name first
 abbrev pub row_of : List (List ℕ) → Option Row
 row_of [] = None
-row_of (name ∷ words) = if bytes_eq name (codes "verify") then verify_of words else None
+row_of (name ∷ words) =
+    if bytes_eq name (codes "verify") then verify_of words else
+    if bytes_eq name (codes "rehearse") then rehearse_of words else
+    if bytes_eq name (codes "deal") then deal_of words else None
 
 -- the command that the words are, if they are one: none where a word begins with `-`
 unfoldable pub command_of : List (List ℕ) → Option Row

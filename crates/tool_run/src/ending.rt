@@ -5,6 +5,7 @@ ghost use Rattle.tool_run.specs.Ending.{line_of};
 ghost use Rattle.lms_verify.specs.declared.verification.Verdict.TheVariants as verdict;
 ghost use Rattle.tool_run.specs.Ending as spec;
 
+use crate::undealt::Undealt;
 use lms_bytes::Val;
 use lms_verify::Verdict;
 use std::alloc::{AllocError, Global};
@@ -14,16 +15,24 @@ use std::alloc::{AllocError, Global};
 pub(crate) enum Ending {
     /// A signature was verified.
     Verified(Verdict),
+    /// A signature was made in a rehearsal, and written with its key.
+    Rehearsed,
+    /// A key was dealt, and its files were written.
+    Dealt { leaves: u32, coalitions: u32 },
     /// The words are no command.
     Usage,
     /// A call of the store failed, or a name is not in it.
     StoreFailed,
     /// The file of this name is not in its grammar, by the fault of this number.
     Unreadable { name: String, fault: u8 },
+    /// A key is not dealt.
+    NotDealt(Undealt),
     /// A file is longer than its limit.
     TooLong { got: u64 },
     /// Want of memory.
     NoMemory,
+    /// An output of this name is in the store.
+    Exists { name: String },
 }
 
 impl Ending {
@@ -37,11 +46,14 @@ impl Ending {
         match self {
             Ending::Verified(Verdict::Accepted { .. }) => 0,
             Ending::Verified(_) => 1,
+            Ending::Rehearsed | Ending::Dealt { .. } => 0,
             Ending::Usage => 2,
             Ending::StoreFailed => 3,
             Ending::Unreadable { .. } => 4,
+            Ending::NotDealt(_) => 5,
             Ending::TooLong { .. } => 12,
             Ending::NoMemory => 14,
+            Ending::Exists { .. } => 15,
         }
     }
 
@@ -51,11 +63,15 @@ impl Ending {
     {
         match self {
             Ending::Verified(verdict) => verdict_line(alloc, verdict),
+            Ending::Rehearsed => format!(in alloc; "rehearsed leaf 0\n"),
+            Ending::Dealt { leaves, coalitions } => dealt_line(alloc, *leaves, *coalitions),
             Ending::Usage => format!(in alloc; "error 2 usage\n"),
             Ending::StoreFailed => format!(in alloc; "error 3 store\n"),
             Ending::Unreadable { name, fault } => file_line(alloc, name.as_str(), *fault),
+            Ending::NotDealt(why) => why.line(alloc),
             Ending::TooLong { got } => format!(in alloc; "error 12 too long {got}\n"),
             Ending::NoMemory => format!(in alloc; "error 14 memory\n"),
+            Ending::Exists { name } => exists_line(alloc, name.as_str()),
         }
     }
 }
@@ -88,4 +104,18 @@ fn file_line(alloc: Global, name: &str, fault: u8) -> Result<String, AllocError>
     ensures { IfOk result (λ line. string_bytes line ≡ line_of (spec.Unreadable name.now fault)) }
 {
     format!(in alloc; "error 4 file {name} fault {fault}\n")
+}
+
+/// The line of a dealing.
+fn dealt_line(alloc: Global, leaves: u32, coalitions: u32) -> Result<String, AllocError>
+    ensures { IfOk result (λ line. string_bytes line ≡ line_of (spec.Dealt leaves coalitions)) }
+{
+    format!(in alloc; "dealt {leaves} leaves to {coalitions} coalitions\n")
+}
+
+/// The line of an output that is in the store.
+fn exists_line(alloc: Global, name: &str) -> Result<String, AllocError>
+    ensures { IfOk result (λ line. string_bytes line ≡ line_of (spec.Exists name.now)) }
+{
+    format!(in alloc; "error 15 exists {name}\n")
 }

@@ -2,9 +2,14 @@
 #![tactic(auto)]
 
 mod clocks;
+mod deal;
 mod ending;
+mod outputs;
+mod reading;
+mod rehearse;
 mod split;
 mod tool;
+mod undealt;
 mod verify;
 mod words;
 

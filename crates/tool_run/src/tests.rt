@@ -1,12 +1,12 @@
 //! Tests of what no contract says: that `clap` splits the words, what is printed, and what the clocks give.
 
 use crate::split::split;
-use crate::words::Command;
+use crate::words::{Command, DealWords};
 use crate::{Clocks, MemClocks, SystemClocks, run_tool};
 use std::alloc::{AllocError, Global};
 use std::sync::Wait;
 use std::thread::Threads;
-use stream_io::{MemNet, MemSink, MemStore};
+use stream_io::{MemNet, MemSink, MemStore, Store};
 use trustee_core::Clock;
 
 /// A list of words.
@@ -43,32 +43,53 @@ fn clap_splits_the_words(rt: HostRuntime) -> Result<(), AllocError> {
 }
 
 #[test]
+fn clap_splits_the_words_of_a_dealing(rt: HostRuntime) -> Result<(), AllocError> {
+    let words = words_of(
+        rt.alloc(),
+        &["deal", "e", "5", "03", "12", "4294967295", "a"],
+    )?;
+    let command = Command::Deal(DealWords {
+        entropy: "e",
+        lms: 5,
+        ots: 3,
+        n: 12,
+        k: u32::MAX,
+        prefix: "a",
+    });
+    let found = split(rt.alloc(), words.as_slice());
+    assert!(rt; matches!(found, Ok(Some(split)) if split == command));
+    let words = words_of(rt.alloc(), &["rehearse", "e", "m", "k", "s"])?;
+    let command = Command::Rehearse {
+        entropy: "e",
+        message: "m",
+        key_out: "k",
+        signature_out: "s",
+    };
+    let found = split(rt.alloc(), words.as_slice());
+    assert!(rt; matches!(found, Ok(Some(split)) if split == command));
+    Ok(())
+}
+
+#[test]
 fn other_words_are_a_faulty_command_line(rt: HostRuntime) -> Result<(), AllocError> {
     let alloc = rt.alloc();
-    let lists: [&'static [&'static str]; 4] = [
+    let lists: [&'static [&'static str]; 10] = [
         &[],
         &["verify", "a", "b", "c", "d"],
         &["verify", "a", "-x", "c"],
         &["help"],
+        &["rehearse", "e", "m", "a", "a"],
+        &["deal", "e", "5", "3", "3", "", "a"],
+        &["deal", "e", "5", "3", "3", "+2", "a"],
+        &["deal", "e", "5", "3", "3", "4294967296", "a"],
+        &["deal", "e", "5", "3", "3", "00000000002", "a"],
+        &["deal", "e", "5", "3", "3", "2", "a", "b"],
     ];
     for texts in lists {
-        let words = words_of(alloc, texts)?;
         let mut store = MemStore::new(Vec::new(alloc), Vec::new(alloc));
-        let mut net = MemNet::new(Vec::new(alloc));
-        let mut time = MemClocks::new(0);
-        let made = MemSink::new(alloc, 100, 100, Vec::new(alloc));
-        let mut out = made.expect(&rt, "room for a sink");
-        let status = run_tool(
-            &rt,
-            alloc,
-            words.as_slice(),
-            &mut store,
-            &mut net,
-            &mut time,
-            &mut out,
-        );
+        let (status, written) = run(&rt, alloc, texts, &mut store, 100)?;
         assert_eq!(rt; status, 2, "{} words", texts.len());
-        assert_eq!(rt; out.written(), b"error 2 usage\n".as_slice());
+        assert_eq!(rt; written.as_slice(), b"error 2 usage\n".as_slice());
     }
     Ok(())
 }
@@ -134,14 +155,15 @@ fn files_of(
     Ok(files)
 }
 
-/// What `verify k m s` answers and prints over these files. The output has room for this many bytes.
-fn verify_run<R: Threads + Wait + Sync>(
+/// What the tool answers and prints for these words. The output has room for this many bytes.
+fn run<R: Threads + Wait + Sync>(
     rt: &R,
     alloc: Global,
+    texts: &[&str],
     store: &mut MemStore,
     room: usize,
 ) -> Result<(u8, Vec<u8>), AllocError> {
-    let words = words_of(alloc, &["verify", "k", "m", "s"])?;
+    let words = words_of(alloc, texts)?;
     let mut net = MemNet::new(Vec::new(alloc));
     let mut time = MemClocks::new(0);
     let Ok(mut out) = MemSink::new(alloc, room, 1000, Vec::new(alloc)) else {
@@ -157,6 +179,16 @@ fn verify_run<R: Threads + Wait + Sync>(
         &mut out,
     );
     Ok((status, Vec::from_slice(alloc, out.written())?))
+}
+
+/// What `verify k m s` answers and prints.
+fn verify_run<R: Threads + Wait + Sync>(
+    rt: &R,
+    alloc: Global,
+    store: &mut MemStore,
+    room: usize,
+) -> Result<(u8, Vec<u8>), AllocError> {
+    run(rt, alloc, &["verify", "k", "m", "s"], store, room)
 }
 
 #[test]
@@ -244,5 +276,127 @@ fn faults_of_the_outside_have_their_status(rt: HostRuntime) -> Result<(), AllocE
     let mut store = MemStore::new(files, Vec::new(alloc));
     let (status, _) = verify_run(&rt, alloc, &mut store, 10)?;
     assert_eq!(rt; status, 4);
+    Ok(())
+}
+
+/// A store with the file `e` of as many bytes, which count up, and the empty file `m`.
+fn dealing_store(alloc: Global, length: usize, failing: &[u64]) -> Result<MemStore, AllocError> {
+    let mut entropy = Vec::new(alloc);
+    for i in 0..length {
+        entropy.push((i % 256) as u8)?;
+    }
+    let mut files = Vec::new(alloc);
+    files.push((String::from_str(alloc, "e")?, entropy))?;
+    files.push((String::from_str(alloc, "m")?, Vec::new(alloc)))?;
+    Ok(MemStore::new(files, Vec::from_slice(alloc, failing)?))
+}
+
+/// How many of these names are in the store.
+fn count_in<S: Store>(store: &mut S, names: &[&str]) -> usize {
+    let mut count: usize = 0;
+    for name in names {
+        if let Ok(true) = store.has(name) {
+            count = count.saturating_add(1);
+        }
+    }
+    count
+}
+
+#[test]
+fn what_a_rehearsal_writes_is_accepted(rt: HostRuntime) -> Result<(), AllocError> {
+    let alloc = rt.alloc();
+    let mut store = dealing_store(alloc, 144, &[])?;
+    let (status, written) = run(
+        &rt,
+        alloc,
+        &["rehearse", "e", "m", "k", "s"],
+        &mut store,
+        100,
+    )?;
+    assert_eq!(rt; status, 0);
+    assert_eq!(rt; written.as_slice(), b"rehearsed leaf 0\n".as_slice());
+    let (status, written) = verify_run(&rt, alloc, &mut store, 100)?;
+    assert_eq!(rt; status, 0);
+    assert_eq!(rt; written.as_slice(), b"accepted leaf 0\n".as_slice());
+    let (status, written) = run(
+        &rt,
+        alloc,
+        &["rehearse", "e", "m", "x", "s"],
+        &mut store,
+        100,
+    )?;
+    assert_eq!(rt; status, 15);
+    assert_eq!(rt; written.as_slice(), b"error 15 exists s\n".as_slice());
+    assert_eq!(rt; count_in(&mut store, &["x"]), 0);
+    Ok(())
+}
+
+#[test]
+fn each_failed_call_ends_a_rehearsal(rt: HostRuntime) -> Result<(), AllocError> {
+    let alloc = rt.alloc();
+    // Two tests of names, two reads and two writes; the key is written before the signature.
+    for call in 0..6 {
+        let mut store = dealing_store(alloc, 144, &[call])?;
+        let words = ["rehearse", "e", "m", "k", "s"];
+        let (status, written) = run(&rt, alloc, &words, &mut store, 100)?;
+        assert_eq!(rt; status, 3, "call {call}");
+        assert!(rt; written.as_slice() == b"error 3 store\n".as_slice());
+        let want = if call == 5 { 1 } else { 0 };
+        assert_eq!(rt; count_in(&mut store, &["k", "s"]), want, "call {call}");
+    }
+    Ok(())
+}
+
+/// The outputs of a dealing to three trustees.
+const OUTPUTS: [&str; 6] = [
+    "a.pub", "a.tree", "a.ref", "a.share1", "a.share2", "a.share3",
+];
+
+#[test]
+fn each_failed_call_ends_a_dealing(rt: HostRuntime) -> Result<(), AllocError> {
+    let alloc = rt.alloc();
+    let words = ["deal", "e", "10", "5", "3", "2", "a"];
+    // A read, six tests of names and six writes.
+    for call in 0..13 {
+        let mut store = dealing_store(alloc, 176, &[call])?;
+        let (status, written) = run(&rt, alloc, &words, &mut store, 100)?;
+        assert_eq!(rt; status, 3, "call {call}");
+        assert!(rt; written.as_slice() == b"error 3 store\n".as_slice());
+        let want = (call as usize).saturating_sub(7);
+        assert_eq!(rt; count_in(&mut store, &OUTPUTS), want, "call {call}");
+    }
+    // With no fault all are written, also where the line cannot be printed.
+    for (room, status) in [(100, 0), (5, 3)] {
+        let mut store = dealing_store(alloc, 176, &[])?;
+        let (found, written) = run(&rt, alloc, &words, &mut store, room)?;
+        assert_eq!(rt; found, status);
+        assert!(rt; b"dealt 32 leaves to 3 coalitions\n".starts_with(&written));
+        assert_eq!(rt; count_in(&mut store, &OUTPUTS), 6);
+    }
+    Ok(())
+}
+
+#[test]
+fn each_refusal_of_a_dealing_has_its_line(rt: HostRuntime) -> Result<(), AllocError> {
+    let alloc = rt.alloc();
+    // Typecodes, n, k and the length of the entropy.
+    let cases: [([&'static str; 4], usize, &'static str); 8] = [
+        (["5", "9", "5", "3"], 240, "error 5 code\n"),
+        (["5", "3", "5", "1"], 240, "error 5 threshold\n"),
+        (["5", "3", "300", "256"], 240, "error 5 threshold\n"),
+        (["5", "3", "12", "6"], 464, "error 5 coalitions 924\n"),
+        (["7", "3", "5", "3"], 239, "error 5 height 15\n"),
+        (["6", "4", "5", "3"], 239, "error 5 width\n"),
+        (["5", "3", "5", "3"], 239, "error 5 entropy 239 240\n"),
+        (["5", "3", "12", "12"], 464, "error 5 keys 1 9\n"),
+    ];
+    for ([lms, ots, n, k], length, line) in cases {
+        let mut store = dealing_store(alloc, length, &[])?;
+        let words = ["deal", "e", lms, ots, n, k, "a"];
+        let (status, written) = run(&rt, alloc, &words, &mut store, 100)?;
+        assert_eq!(rt; status, 5, "{line}");
+        assert_eq!(rt; written.as_slice(), line.as_bytes());
+        assert_eq!(rt; count_in(&mut store, &OUTPUTS), 0);
+    }
     Ok(())
 }

@@ -3,11 +3,16 @@
 ghost use Rattle.std.specs.Prelude.{◌≡◌, ◌⊎◌, map, string_bytes, ◌==◌, if◌then◌else◌};
 ghost use Rattle.tool_run.specs.Ending as spec;
 ghost use Rattle.tool_run.specs.Endings.{ending};
-ghost use Rattle.tool_run.specs.ToolRun.{ToolRun, IsAnswered, IsPrinted, IsCutShort, EndsSo};
+ghost use Rattle.tool_run.specs.ToolRun.{CommandEnds, MayEnd, ToolRun, IsAnswered, IsPrinted, IsCutShort, EndsSo};
+ghost use Rattle.tool_run.specs.Outputs.{EndsWith};
+ghost use Rattle.tool_run.specs.Rows.{row};
+ghost use Rattle.tool_run.specs.Words.{command_of};
 ghost use Rattle.tool_run.specs.World.{store_run, output_run};
 
 use crate::clocks::Clocks;
+use crate::deal::deal_files;
 use crate::ending::Ending;
+use crate::rehearse::rehearse_files;
 use crate::verify::verify_files;
 use crate::words::{Command, command_of};
 use std::alloc::Global;
@@ -32,17 +37,40 @@ pub fn run_tool<R: Threads + Wait + Sync, S: Store, N: Net, T: Clocks, O: Sink>(
         })
         result }
 {
-    let end = match command_of(alloc, words) {
-        Some(
-            Command::Verify {
-                key,
-                message,
-                signature,
-            },
-        ) => verify_files(alloc, store, key, message, signature),
-        None => Ending::Usage,
-    };
+    let end = run_words(alloc, words, store);
     finish(alloc, &end, out)
+}
+
+/// Does what the words ask for, and answers how it ends.
+fn run_words<S: Store>(alloc: Global, words: &[String], store: &mut S) -> Ending
+    ensures { let run = store_run S.told S.steady S.file S.count store.old store.new in
+        EndsWith (MayEnd (command_of (map string_bytes words.now)) run) run (ending result) }
+{
+    match command_of(alloc, words) {
+        Some(command) => run_command(alloc, store, &command),
+        None => Ending::Usage,
+    }
+}
+
+/// Does what a command asks for, and answers how it ends.
+fn run_command<S: Store>(alloc: Global, store: &mut S, command: &Command) -> Ending
+    ensures { let run = store_run S.told S.steady S.file S.count store.old store.new in
+        EndsWith (CommandEnds (row command.now) run) run (ending result) }
+{
+    match command {
+        Command::Verify {
+            key,
+            message,
+            signature,
+        } => verify_files(alloc, store, key, message, signature),
+        Command::Rehearse {
+            entropy,
+            message,
+            key_out,
+            signature_out,
+        } => rehearse_files(alloc, store, entropy, message, key_out, signature_out),
+        Command::Deal(words) => deal_files(alloc, store, words),
+    }
 }
 
 /// Prints the line of an end, and answers its status.

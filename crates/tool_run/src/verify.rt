@@ -4,16 +4,15 @@ ghost use Rattle.std.specs.Prelude.{◌≡◌, ◌≤◌, ◌⊎◌, List, ℕ, 
 ghost use Rattle.lms_bytes.specs.PublicKey.{public_bytes};
 ghost use Rattle.tool_run.specs.Ending as spec;
 ghost use Rattle.tool_run.specs.Endings.{ending};
-ghost use Rattle.tool_run.specs.Reads.{FailsToRead};
 ghost use Rattle.tool_run.specs.Verify.{VerifyEnds};
 ghost use Rattle.tool_run.specs.World.{Bytes, IsRead, store_run};
 
-use crate::FILE_LIMIT;
 use crate::ending::Ending;
+use crate::reading::{read_file, unreadable};
 use lms_bytes::{PublicKey, read_public};
 use lms_verify::{Verdict, verify};
-use std::alloc::{AllocError, Global};
-use stream_io::{ReadAllFault, Store};
+use std::alloc::Global;
+use stream_io::Store;
 
 /// Verifies a signature of a message under a key, all three by the names of their files.
 pub(crate) fn verify_files<S: Store>(
@@ -69,34 +68,5 @@ fn read_key<S: Store>(alloc: Global, store: &mut S, name: &str) -> Result<Public
     match read_public(&bytes) {
         Ok(key) => Ok(key),
         Err(fault) => Err(unreadable(alloc, name, fault.number())),
-    }
-}
-
-/// The end where the file of this name is not in its grammar.
-fn unreadable(alloc: Global, name: &str, fault: u8) -> Ending
-    ensures { (ending result ≡ spec.NoMemory) ⊎ (ending result ≡ spec.Unreadable name.now fault) }
-{
-    match String::from_str(alloc, name) {
-        Ok(name) => Ending::Unreadable { name, fault },
-        Err(AllocError) => Ending::NoMemory,
-    }
-}
-
-/// Reads a file whole.
-fn read_file<S: Store>(alloc: Global, store: &mut S, name: &str) -> Result<Vec<u8>, Ending>
-    ensures bytes { let run = store_run S.told S.steady S.file S.count store.old store.new in
-        IfOk result (λ bytes. IsRead run name.now (Bytes bytes.items)) }
-    ensures refused { let run = store_run S.told S.steady S.file S.count store.old store.new in
-        IfErr result (λ end. FailsToRead run name.now (ending end)) }
-    ensures file { S.file store.new ≡ S.file store.old }
-    ensures count { S.count store.old ≤ S.count store.new }
-    ensures told { S.told store.new ≡ S.told store.old }
-    ensures steady { S.steady store.new ≡ S.steady store.old }
-{
-    match store.read_all(alloc, name, FILE_LIMIT) {
-        Ok(bytes) => Ok(bytes),
-        Err(ReadAllFault::Failed) => Err(Ending::StoreFailed),
-        Err(ReadAllFault::TooLong { got }) => Err(Ending::TooLong { got }),
-        Err(ReadAllFault::NoMemory) => Err(Ending::NoMemory),
     }
 }

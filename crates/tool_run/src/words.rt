@@ -1,12 +1,30 @@
 //! The words of a command.
 
 ghost use Rattle.std.specs.Prelude.{◌≡◌, map, option_map, string_bytes};
-ghost use Rattle.std.specs.List.{list_any};
-ghost use Rattle.tool_run.specs.Words.{command_of, row_of, verify_of, is_option};
+ghost use Rattle.std.specs.Char.{is_ascii_digit};
+ghost use Rattle.std.specs.List.{list_all, list_any};
+ghost use Rattle.tool_run.specs.Words.{command_of, deal_of, is_option, number_of, rehearse_of, row_of, verify_of};
 ghost use Rattle.tool_run.specs.Rows.{row};
 
 use crate::split::split;
 use std::alloc::Global;
+
+/// The words after `deal`.
+#[derive(Clone, Copy, Debug, PartialEq, Eq)]
+pub(crate) struct DealWords<'a> {
+    /// The name of the entropy's file.
+    pub(crate) entropy: &'a str,
+    /// The LMS typecode.
+    pub(crate) lms: u32,
+    /// The LM-OTS typecode.
+    pub(crate) ots: u32,
+    /// The number of trustees.
+    pub(crate) n: u32,
+    /// How many of them sign together.
+    pub(crate) k: u32,
+    /// What the names of the outputs begin with.
+    pub(crate) prefix: &'a str,
+}
 
 /// A command with its words.
 #[derive(Clone, Copy, Debug, PartialEq, Eq)]
@@ -20,6 +38,19 @@ pub(crate) enum Command<'a> {
         /// The name of the signature's file.
         signature: &'a str,
     },
+    /// Deals a key to two trustees and signs with its first leaf, in memory.
+    Rehearse {
+        /// The name of the entropy's file.
+        entropy: &'a str,
+        /// The name of the message's file.
+        message: &'a str,
+        /// The name that the public key is written under.
+        key_out: &'a str,
+        /// The name that the signature is written under, another one.
+        signature_out: &'a str,
+    },
+    /// Deals a key.
+    Deal(DealWords<'a>),
 }
 
 /// The command that the words are, if they are one. The rule of the words decides, and `clap` splits them: its split
@@ -65,6 +96,8 @@ fn row_of(words: &[String]) -> Option<Command<'_>>
     let (name, rest) = words.split_first()?;
     match name.as_str() {
         "verify" => verify_of(rest),
+        "rehearse" => rehearse_of(rest),
+        "deal" => deal_of(rest),
         _ => None,
     }
 }
@@ -81,4 +114,56 @@ fn verify_of(words: &[String]) -> Option<Command<'_>>
         message: message.as_str(),
         signature: signature.as_str(),
     })
+}
+
+/// The words after `rehearse`.
+fn rehearse_of(words: &[String]) -> Option<Command<'_>>
+    ensures { option_map row result ≡ rehearse_of (map string_bytes words.now) }
+{
+    let [entropy, message, key_out, signature_out] = words else {
+        return None;
+    };
+    if key_out.as_str() == signature_out.as_str() {
+        return None;
+    }
+    Some(Command::Rehearse {
+        entropy: entropy.as_str(),
+        message: message.as_str(),
+        key_out: key_out.as_str(),
+        signature_out: signature_out.as_str(),
+    })
+}
+
+/// The words after `deal`.
+fn deal_of(words: &[String]) -> Option<Command<'_>>
+    ensures { option_map row result ≡ deal_of (map string_bytes words.now) }
+{
+    let [entropy, lms, ots, n, k, prefix] = words else {
+        return None;
+    };
+    Some(Command::Deal(DealWords {
+        entropy: entropy.as_str(),
+        lms: number_of(lms.as_str())?,
+        ots: number_of(ots.as_str())?,
+        n: number_of(n.as_str())?,
+        k: number_of(k.as_str())?,
+        prefix: prefix.as_str(),
+    }))
+}
+
+/// The number that a word is: one to ten decimal digits of a number below 2^32.
+pub(crate) fn number_of(word: &str) -> Option<u32>
+    ensures { result ≡ number_of word.now }
+{
+    if word.len() > 10 || !is_decimal(word) {
+        return None;
+    }
+    word.parse().ok()
+}
+
+/// Whether the word has decimal digits alone.
+fn is_decimal(word: &str) -> bool
+    ensures { result ≡ list_all is_ascii_digit word.now }
+{
+    word.as_bytes().iter().all(|digit| digit.is_ascii_digit())
 }

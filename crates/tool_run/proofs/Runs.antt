@@ -1,5 +1,5 @@
 -- What a reading says of a longer run of the store.
-use Rattle.std.proofs.Common.{◌≡◌, ◌≤◌, ◌⊎◌, ℕ, Bool, List, Option, Some, refl, inl, inr, subst, sym, ◌∙◌, arith}
+use Rattle.std.proofs.Common.{◌≡◌, ◌≤◌, ◌⊎◌, ℕ, Bool, List, Option, Some, refl, inl, inr, ◌∙◌, arith}
 use Rattle.lms_bytes.specs.FaultNumbers.{key_fault_number}
 use Rattle.lms_bytes.specs.PublicKey.{public_bytes, public_fault}
 use Rattle.lms_bytes.specs.declared.faults.KeyFault.{KeyFault}
@@ -65,6 +65,11 @@ pub record Comes {S : Type 0} (told steady : S → Bool) (file : S → List ℕ 
   pub file_stays : file after ≡ file before
   pub count_grows : count before ≤ count after
 
+pub came : {S : Type 0} (told steady : S → Bool) (file : S → List ℕ → Option (List ℕ)) (count : S → ℕ) (before after : S)
+    → told after ≡ told before → steady after ≡ steady before → file after ≡ file before → count before ≤ count after
+    → Comes told steady file count before after
+came told steady file count before after t s f c = record { told_stays = t; steady_stays = s; file_stays = f; count_grows = c }
+
 pub comes_on : {S : Type 0} (told steady : S → Bool) (file : S → List ℕ → Option (List ℕ)) (count : S → ℕ) (a b c : S)
     → Comes told steady file count a b → Comes told steady file count b c → Comes told steady file count a c
 comes_on told steady file count a b c one two = record {
@@ -89,3 +94,23 @@ run_within told steady file count a b c d one two = record {
 pub stays : {S : Type 0} (told steady : S → Bool) (file : S → List ℕ → Option (List ℕ)) (count : S → ℕ) (a : S)
     → Comes told steady file count a a
 stays told steady file count a = record { told_stays = refl; steady_stays = refl; file_stays = refl; count_grows = omega arith }
+
+-- the run from b to c within the run from a to d, where the calls after c may have written
+pub run_before : {S : Type 0} (told steady : S → Bool) (file : S → List ℕ → Option (List ℕ)) (count : S → ℕ) (a b c d : S)
+    → Comes told steady file count a b → count c ≤ count d
+    → LiesWithin (store_run told steady file count b c) (store_run told steady file count a d)
+run_before told steady file count a b c d one later = record {
+  told = one.told_stays;
+  steady = one.steady_stays;
+  file = one.file_stays;
+  begins = one.count_grows;
+  ends = later;
+}
+
+-- the last part of a run
+pub run_behind : {S : Type 0} (told steady : S → Bool) (file : S → List ℕ → Option (List ℕ)) (count : S → ℕ) (a b c : S)
+    → Comes told steady file count a b → LiesWithin (store_run told steady file count b c) (store_run told steady file count a c)
+run_behind told steady file count a b c one = run_before told steady file count a b c c one (omega arith)
+
+pub grows_on : (a b c : ℕ) → a ≤ b → b ≤ c → a ≤ c
+grows_on a b c one two = omega arith

@@ -1,0 +1,78 @@
+-- How `deal` ends: it reads the entropy, tests the typecodes, the threshold, the number of coalitions, the height, the
+-- width, the entropy and its keys, tests that all outputs are new, and writes them.
+use Rattle.std.specs.Prelude.{◌≡◌, ◌<◌, ◌^◌, ◌++◌, ℕ, List, [], ◌∷◌, length, Some, codes, map, All}
+use Rattle.std.specs.Fmt.{decimal}
+use Rattle.std.specs.List.{range_with_len}
+use Rattle.coalition_map.specs.Coalitions.{IsPlan, IsThreshold, PlanNumbers, coalitions, count_of}
+use Rattle.dealer.specs.Entropy.{dealing_of}
+use Rattle.dealer.specs.Faults.{HasFault, IsDealable}
+use Rattle.dealer.specs.Files.{public_file, reference_file, share_file, tree_file}
+use Rattle.dealer.specs.declared.faults.DealFault.{DealFault}
+use Rattle.lms_bytes.specs.Params.{codes_fault}
+use Rattle.lms_bytes.specs.declared.faults.KeyFault.{KeyFault}
+use Rattle.lms_bytes.specs.declared.params.Params.{Params}
+use Rattle.reference_value.specs.Dealing.{Dealing}
+use Rattle.tool_run.specs.Ending as ending
+use Rattle.tool_run.specs.Ending.{Ending}
+use Rattle.tool_run.specs.Outputs.{FirstNotNew, IsNew, Output, StopsAfter}
+use Rattle.tool_run.specs.Undealt.{end_of_fault}
+use Rattle.tool_run.specs.Words.{DealWords}
+use Rattle.tool_run.specs.Reads.{FailsToRead}
+use Rattle.tool_run.specs.World.{StoreRun, Bytes, IsRead}
+use Rattle.tool_run.specs.declared.undealt.Undealt.TheVariants.{Code, Threshold, Coalitions}
+
+-- the parameter set of the words
+pub record IsSet (words : DealWords) (params : Params) : Type 0 where
+  pub lms : params.lms ≡ words.lms
+  pub ots : params.ots ≡ words.ots
+
+-- the plan of the words, over a tree of this set
+abbrev pub plan_of : DealWords → Params → PlanNumbers
+plan_of words params = record { n = words.n; k = words.k; h = params.h }
+
+-- the files of a dealing, in the order in which they are written; `.share1` and on for the trustees
+abbrev pub share_output : List ℕ → Dealing → ℕ → Output
+share_output prefix d t = record { name = prefix ++ (codes ".share" ++ decimal t); bytes = share_file d t }
+
+abbrev pub outputs_of : List ℕ → Dealing → List Output
+outputs_of prefix d =
+    record { name = prefix ++ codes ".pub"; bytes = public_file d }
+    ∷ record { name = prefix ++ codes ".tree"; bytes = tree_file d }
+    ∷ record { name = prefix ++ codes ".ref"; bytes = reference_file d }
+    ∷ map (share_output prefix d) (range_with_len 1 d.plan.n)
+
+-- the entropy is dealt as the words say: these are the outputs, and the end once all are written
+pub record IsDealtTo (words : DealWords) (entropy : List ℕ) (outputs : List Output) (done : Ending) : Type 0 where
+  pub params : Params
+  pub set : IsSet words params
+  pub plan : IsPlan (plan_of words params)
+  pub dealable : IsDealable params (plan_of words params) entropy
+  pub outputs_are : outputs ≡ outputs_of words.prefix (dealing_of params (plan_of words params) entropy)
+  pub done_is : done ≡ ending.Dealt (2 ^ params.h) (count_of (plan_of words params))
+
+-- the end where the entropy is not dealt
+pub data IsNotDealt (words : DealWords) (entropy : List ℕ) : Ending → Type 0 where
+  no_set : (fault : KeyFault) → codes_fault words.lms words.ots ≡ Some fault → IsNotDealt words entropy (ending.NotDealt Code)
+  no_threshold : (params : Params) → IsSet words params → (IsThreshold words.n words.k → ⊥)
+      → IsNotDealt words entropy (ending.NotDealt Threshold)
+  too_many_coalitions : (params : Params) → IsSet words params → IsThreshold words.n words.k
+      → 2 ^ params.h < length (coalitions words.n words.k)
+      → IsNotDealt words entropy (ending.NotDealt (Coalitions (length (coalitions words.n words.k))))
+  faulty : (params : Params) (fault : DealFault) → IsSet words params → IsPlan (plan_of words params)
+      → HasFault params (plan_of words params) entropy fault → IsNotDealt words entropy (end_of_fault fault)
+  no_memory : IsNotDealt words entropy ending.NoMemory
+
+-- the end, and the outputs that were written
+pub data DealEnds (store : StoreRun) (words : DealWords) : Ending → List Output → Type 0 where
+  not_read : (end : Ending) → FailsToRead store words.entropy end → DealEnds store words end []
+  not_dealt : (entropy : List ℕ) (end : Ending) → IsRead store words.entropy (Bytes entropy) → IsNotDealt words entropy end
+      → DealEnds store words end []
+  not_new : (entropy : List ℕ) (outputs : List Output) (done end : Ending) → IsRead store words.entropy (Bytes entropy)
+      → IsDealtTo words entropy outputs done → FirstNotNew store (map (λ output. output.name) outputs) end
+      → DealEnds store words end []
+  stopped : (entropy : List ℕ) (outputs written : List Output) (done end : Ending) → IsRead store words.entropy (Bytes entropy)
+      → IsDealtTo words entropy outputs done → All (IsNew store) (map (λ output. output.name) outputs)
+      → StopsAfter store outputs written end → DealEnds store words end written
+  dealt : (entropy : List ℕ) (outputs : List Output) (done : Ending) → IsRead store words.entropy (Bytes entropy)
+      → IsDealtTo words entropy outputs done → All (IsNew store) (map (λ output. output.name) outputs)
+      → DealEnds store words done outputs

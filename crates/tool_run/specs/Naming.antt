@@ -1,0 +1,19 @@
+-- The files of a dealing with their names.
+use Rattle.std.specs.Prelude.{ℕ, ◌+◌, List, [], ◌∷◌, ◌++◌, codes, map}
+use Rattle.std.specs.Fmt.{decimal}
+use Rattle.dealer.specs.declared.files.DealingFiles.{DealingFiles}
+use Rattle.tool_run.specs.Outputs.{Output}
+
+-- shares from that of trustee t on
+unfoldable pub named_shares : List ℕ → ℕ → List (List ℕ) → List Output
+named_shares prefix t [] = []
+named_shares prefix t (share ∷ shares) =
+    record { name = prefix ++ (codes ".share" ++ decimal t); bytes = share } ∷ named_shares prefix (t + 1) shares
+
+-- all files, in the order in which they are written
+abbrev pub named_files : List ℕ → DealingFiles → List Output
+named_files prefix files =
+    record { name = prefix ++ codes ".pub"; bytes = files.public.items }
+    ∷ record { name = prefix ++ codes ".tree"; bytes = files.tree.items }
+    ∷ record { name = prefix ++ codes ".ref"; bytes = files.reference.items }
+    ∷ named_shares prefix 1 (map (λ share. share.items) files.shares.items)

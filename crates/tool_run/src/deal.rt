@@ -1,0 +1,199 @@
+//! The command `deal`.
+
+ghost use Rattle.std.specs.Prelude.{◌≡◌, ◌⊎◌, ◌≤◌, ◌++◌, List, ℕ, length, map, min, string_bytes, IfOk, IfErr, OnOk};
+ghost use Rattle.coalition_map.specs.Coalitions.{IsPlan};
+ghost use Rattle.dealer.specs.Files.{AreFiles};
+ghost use Rattle.dealer.specs.Entropy.{dealing_of};
+ghost use Rattle.dealer.specs.Faults.{HasFault, IsDealable};
+ghost use Rattle.dealer.specs.declared.faults.DealFault.{DealFault};
+ghost use Rattle.tool_run.specs.Ending as spec;
+ghost use Rattle.tool_run.specs.Naming.{named_files, named_shares};
+ghost use Rattle.tool_run.specs.Deal.{DealEnds, IsDealtTo, IsNotDealt, IsSet, plan_of};
+ghost use Rattle.tool_run.specs.Endings.{ending};
+ghost use Rattle.tool_run.specs.OutputOf.{output_of};
+ghost use Rattle.tool_run.specs.Outputs.{EndsWith};
+ghost use Rattle.tool_run.specs.Rows.{deal_words};
+ghost use Rattle.tool_run.specs.Undealt.{end_of_fault};
+ghost use Rattle.tool_run.specs.World.{store_run};
+
+use crate::ending::Ending;
+use crate::outputs::{Output, test_all_new, write_all};
+use crate::reading::read_file;
+use crate::undealt::Undealt;
+use crate::words::DealWords;
+use coalition_map::{Plan, PlanFault};
+use dealer::{DealFault, DealingFiles, deal};
+use disk_trait::NoMemory;
+use lms_bytes::Params;
+use std::alloc::{AllocError, Global};
+use stream_io::Store;
+
+/// Deals a key, and writes its files.
+pub(crate) fn deal_files<S: Store>(alloc: Global, store: &mut S, words: &DealWords) -> Ending
+    ensures { let run = store_run S.told S.steady S.file S.count store.old store.new in
+        EndsWith (DealEnds run (deal_words words.now)) run (ending result) }
+{
+    match try_deal(alloc, store, words) {
+        Ok(done) => done,
+        Err(end) => end,
+    }
+}
+
+/// Reads the entropy, deals, tests the names of the outputs, and writes them. It answers the end once all are written.
+fn try_deal<S: Store>(alloc: Global, store: &mut S, words: &DealWords) -> Result<Ending, Ending>
+    ensures dealt { let run = store_run S.told S.steady S.file S.count store.old store.new in
+        IfOk result (λ done. EndsWith (DealEnds run (deal_words words.now)) run (ending done)) }
+    ensures refused { let run = store_run S.told S.steady S.file S.count store.old store.new in
+        IfErr result (λ end. EndsWith (DealEnds run (deal_words words.now)) run (ending end)) }
+{
+    let entropy = read_file(alloc, store, words.entropy)?;
+    let (outputs, done) = dealt_outputs(alloc, words, &entropy)?;
+    test_all_new(alloc, store, &outputs)?;
+    write_all(alloc, store, &outputs)?;
+    Ok(done)
+}
+
+/// The files of the dealing that the words ask for, and the end once they are written.
+fn dealt_outputs(
+    alloc: Global,
+    words: &DealWords,
+    entropy: &[u8],
+) -> Result<(Vec<Output>, Ending), Ending>
+    ensures dealt { IfOk result (λ dealt. IsDealtTo (deal_words words.now) entropy.now (map output_of dealt.0.items) (ending dealt.1)) }
+    ensures refused { IfErr result (λ end. IsNotDealt (deal_words words.now) entropy.now (ending end)) }
+{
+    let params = set_of(words)?;
+    let plan = plan_of(words, &params)?;
+    let files = dealt_files(alloc, &params, &plan, entropy)?;
+    let outputs = name_files(alloc, words.prefix, files)?;
+    let done = Ending::Dealt {
+        leaves: params.leaves(),
+        coalitions: plan.count(),
+    };
+    Ok((outputs, done))
+}
+
+/// The files of the dealing of this set, plan and entropy.
+fn dealt_files(
+    alloc: Global,
+    params: &Params,
+    plan: &Plan,
+    entropy: &[u8],
+) -> Result<DealingFiles, Ending>
+    requires height { plan.now.h ≡ params.now.h }
+    requires plan { IsPlan plan.now }
+    ensures files { IfOk result (AreFiles (dealing_of params.now plan.now entropy.now)) }
+    ensures dealable { OnOk result (IsDealable params.now plan.now entropy.now) }
+    ensures refused { IfErr result (λ end. (ending end ≡ spec.NoMemory) ⊎ (fault : DealFault) × HasFault params.now plan.now entropy.now fault × (ending end ≡ end_of_fault fault)) }
+{
+    let dealt = match deal(alloc, params, plan, entropy) {
+        Ok(dealt) => dealt,
+        Err(fault) => return Err(end_of_fault(fault)),
+    };
+    match dealt.into_files(alloc, plan) {
+        Ok(files) => Ok(files),
+        Err(NoMemory) => Err(Ending::NoMemory),
+    }
+}
+
+/// The files with their names.
+fn name_files(alloc: Global, prefix: &str, files: DealingFiles) -> Result<Vec<Output>, Ending>
+    requires { length files.shares.items ≤ 12 }
+    ensures named { IfOk result (λ outputs. map output_of outputs.items ≡ named_files prefix.now files) }
+    ensures refused { IfErr result (λ end. ending end ≡ spec.NoMemory) }
+{
+    match named_outputs(alloc, prefix, files) {
+        Ok(outputs) => Ok(outputs),
+        Err(AllocError) => Err(Ending::NoMemory),
+    }
+}
+
+/// The files with their names.
+fn named_outputs(
+    alloc: Global,
+    prefix: &str,
+    files: DealingFiles,
+) -> Result<Vec<Output>, AllocError>
+    requires { length files.shares.items ≤ 12 }
+    ensures { IfOk result (λ outputs. map output_of outputs.items ≡ named_files prefix.now files) }
+{
+    let mut outputs = Vec::new(alloc);
+    outputs.push(named(format!(in alloc; "{prefix}.pub")?, files.public))?;
+    outputs.push(named(format!(in alloc; "{prefix}.tree")?, files.tree))?;
+    outputs.push(named(format!(in alloc; "{prefix}.ref")?, files.reference))?;
+    push_shares(alloc, prefix, files.shares, &mut outputs)?;
+    Ok(outputs)
+}
+
+/// Adds the shares with their names, that of trustee 1 first.
+fn push_shares(
+    alloc: Global,
+    prefix: &str,
+    shares: Vec<Vec<u8>>,
+    outputs: &mut Vec<Output>,
+) -> Result<(), AllocError>
+    requires { length shares.items ≤ 12 }
+    ensures { OnOk result (map output_of outputs.new.items
+        ≡ map output_of outputs.old.items ++ named_shares prefix.now 1 (map (λ share. share.items) shares.items)) }
+{
+    let mut t: u8 = 1;
+    'shares: for share in shares {
+        outputs.push(named(format!(in alloc; "{prefix}.share{t}")?, share))?;
+        t += 1;
+    }
+    Ok(())
+}
+
+/// A file under a name.
+fn named(name: String, bytes: Vec<u8>) -> Output
+    ensures { output_of result ≡ record { name = string_bytes name; bytes = bytes.items } }
+{
+    Output { name, bytes }
+}
+
+/// The parameter set of the words.
+fn set_of(words: &DealWords) -> Result<Params, Ending>
+    ensures set { IfOk result (IsSet (deal_words words.now)) }
+    ensures refused { IfErr result (λ end. (entropy : List ℕ) → IsNotDealt (deal_words words.now) entropy (ending end)) }
+{
+    match Params::of_codes(words.lms, words.ots) {
+        Ok(params) => Ok(params),
+        Err(_) => Err(Ending::NotDealt(Undealt::Code)),
+    }
+}
+
+/// The plan of the words.
+fn plan_of(words: &DealWords, params: &Params) -> Result<Plan, Ending>
+    requires set { IsSet (deal_words words.now) params.now }
+    ensures plan { IfOk result (λ plan. plan ≡ plan_of (deal_words words.now) params.now) }
+    ensures sound { IfOk result IsPlan }
+    ensures refused { IfErr result (λ end. (entropy : List ℕ) → IsNotDealt (deal_words words.now) entropy (ending end)) }
+{
+    match Plan::new(byte_of(words.n), byte_of(words.k), params.h) {
+        Ok(plan) => Ok(plan),
+        Err(PlanFault::BadThreshold) => Err(Ending::NotDealt(Undealt::Threshold)),
+        Err(PlanFault::TooManyCoalitions { count }) => {
+            Err(Ending::NotDealt(Undealt::Coalitions { count }))
+        }
+    }
+}
+
+/// The number as a byte; a number that is no byte is the greatest one, which no plan has.
+fn byte_of(number: u32) -> u8
+    ensures { result ≡ min number 255 }
+{
+    u8::try_from(number).unwrap_or(u8::MAX)
+}
+
+/// The end for a fault of a dealing.
+pub(crate) fn end_of_fault(fault: DealFault) -> Ending
+    ensures { ending result ≡ end_of_fault fault }
+{
+    match fault {
+        DealFault::TooHigh { h } => Ending::NotDealt(Undealt::Height { h }),
+        DealFault::TooWide => Ending::NotDealt(Undealt::Width),
+        DealFault::BadEntropy { got, want } => Ending::NotDealt(Undealt::Entropy { got, want }),
+        DealFault::SameKeys { t, u } => Ending::NotDealt(Undealt::Keys { t, u }),
+        DealFault::NoMemory => Ending::NoMemory,
+    }
+}

@@ -1,0 +1,103 @@
+//! The command `rehearse`.
+
+ghost use Rattle.std.specs.Prelude.{◌≡◌, [], ◌∷◌, map, IfOk, IfErr, OnOk};
+ghost use Rattle.lms_bytes.specs.PublicKey.{public_bytes};
+ghost use Rattle.tool_run.specs.Ending as spec;
+ghost use Rattle.tool_run.specs.Endings.{ending};
+ghost use Rattle.tool_run.specs.OutputOf.{output_of};
+ghost use Rattle.tool_run.specs.Outputs.{EndsWith};
+ghost use Rattle.tool_run.specs.Rehearse.{IsNotRehearsed, IsRehearsedTo, RehearseEnds};
+ghost use Rattle.tool_run.specs.World.{store_run};
+
+use crate::deal::end_of_fault;
+use crate::ending::Ending;
+use crate::outputs::{Output, test_new, write_all};
+use crate::reading::read_file;
+use dealer::public_file;
+use disk_trait::NoMemory;
+use rehearsal::{Rehearsed, rehearse};
+use std::alloc::Global;
+use stream_io::Store;
+
+/// Deals a key and signs a message with its first leaf in memory, and writes the public key and the signature.
+pub(crate) fn rehearse_files<S: Store>(
+    alloc: Global,
+    store: &mut S,
+    entropy: &str,
+    message: &str,
+    key_out: &str,
+    signature_out: &str,
+) -> Ending
+    ensures { let run = store_run S.told S.steady S.file S.count store.old store.new in
+        EndsWith (RehearseEnds run entropy.now message.now key_out.now signature_out.now) run (ending result) }
+{
+    match try_rehearse(alloc, store, entropy, message, key_out, signature_out) {
+        Ok(()) => Ending::Rehearsed,
+        Err(end) => end,
+    }
+}
+
+/// Tests the names of the outputs, reads, deals and signs in memory, and writes.
+fn try_rehearse<S: Store>(
+    alloc: Global,
+    store: &mut S,
+    entropy: &str,
+    message: &str,
+    key_out: &str,
+    signature_out: &str,
+) -> Result<(), Ending>
+    ensures rehearsed { let run = store_run S.told S.steady S.file S.count store.old store.new in
+        OnOk result (EndsWith (RehearseEnds run entropy.now message.now key_out.now signature_out.now) run spec.Rehearsed) }
+    ensures refused { let run = store_run S.told S.steady S.file S.count store.old store.new in
+        IfErr result (λ end. EndsWith (RehearseEnds run entropy.now message.now key_out.now signature_out.now) run (ending end)) }
+{
+    test_new(alloc, store, key_out)?;
+    test_new(alloc, store, signature_out)?;
+    let seeds = read_file(alloc, store, entropy)?;
+    let text = read_file(alloc, store, message)?;
+    let outputs = rehearsed_outputs(alloc, &seeds, &text, key_out, signature_out)?;
+    write_all(alloc, store, &outputs)
+}
+
+/// The files of a rehearsal: the public key and the signature.
+fn rehearsed_outputs(
+    alloc: Global,
+    entropy: &[u8],
+    message: &[u8],
+    key_out: &str,
+    signature_out: &str,
+) -> Result<[Output; 2], Ending>
+    ensures rehearsed { IfOk result (λ outputs. IsRehearsedTo entropy.now message.now key_out.now signature_out.now (map output_of outputs)) }
+    ensures refused { IfErr result (λ end. IsNotRehearsed entropy.now (ending end)) }
+{
+    let rehearsed = match rehearse(alloc, entropy, message) {
+        Ok(rehearsed) => rehearsed,
+        Err(fault) => return Err(end_of_fault(fault)),
+    };
+    match named_outputs(alloc, rehearsed, key_out, signature_out) {
+        Ok(outputs) => Ok(outputs),
+        Err(NoMemory) => Err(Ending::NoMemory),
+    }
+}
+
+/// A public key and a signature with the names of their files.
+fn named_outputs(
+    alloc: Global,
+    rehearsed: Rehearsed,
+    key_out: &str,
+    signature_out: &str,
+) -> Result<[Output; 2], NoMemory>
+    ensures { IfOk result (λ outputs. map output_of outputs ≡
+        record { name = key_out.now; bytes = public_bytes rehearsed.public }
+        ∷ record { name = signature_out.now; bytes = rehearsed.signature.items } ∷ []) }
+{
+    let key = Output {
+        name: String::from_str(alloc, key_out)?,
+        bytes: public_file(alloc, &rehearsed.public)?,
+    };
+    let signature = Output {
+        name: String::from_str(alloc, signature_out)?,
+        bytes: rehearsed.signature,
+    };
+    Ok([key, signature])
+}
