@@ -267,23 +267,31 @@ fn join_over<V: Pages>(
     (joined, paged.end())
 }
 
+/// The values of the chains of leaf 3, joined in memory.
+fn join_in_memory(rt: &impl Abort, dealing: &Dealing, leaves: &[u8], sums: &[u8], out: &mut [u8]) {
+    let Dealing { params, plan, .. } = dealing;
+    let digest = Val::of(&[0x5a; 24]);
+    assert!(rt; plan.h() == params.h);
+    assert!(rt; 3 < params.leaves());
+    assert!(rt; params.n == 24);
+    assert!(rt; leaves.len() == leaf_bytes(params, plan.k()) * params.leaves() as usize);
+    assert!(rt; sums.len() == params.n as usize * params.p as usize);
+    assert!(rt; out.len() == params.n as usize * params.p as usize);
+    let mut whole = Whole::new(params, plan, leaves);
+    assert!(rt; join_chains(params, &mut whole, 3, &digest, sums, out).is_ok());
+}
+
 #[test]
 fn pages_give_what_memory_gives(rt: HostRuntime) -> Result<(), Fail> {
     let alloc = rt.alloc();
     let dealing = dealing_of(&rt, (10, 5), (2, 2));
-    let Dealing { params, plan, .. } = &dealing;
     let bytes = reference(&rt, alloc, &dealing)?;
     let leaves = behind_header(&rt, &bytes);
-    assert!(rt; plan.h() == params.h);
-    assert!(rt; params.n == 24 && params.p == 200);
-    assert!(rt; 3 < params.leaves());
-    assert!(rt; leaves.len() == leaf_bytes(params, plan.k()) * params.leaves() as usize);
-    let digest = Val::of(&[0x5a; 24]);
+    assert!(rt; dealing.params.n == 24 && dealing.params.p == 200);
     let mut sums = [0; 4800];
-    write_sums(&rt, &dealing, 3, &digest, &mut sums);
+    write_sums(&rt, &dealing, 3, &Val::of(&[0x5a; 24]), &mut sums);
     let mut want = [0; 4800];
-    let mut whole = Whole::new(params, plan, leaves);
-    assert!(rt; join_chains(params, &mut whole, 3, &digest, &sums, &mut want).is_ok());
+    join_in_memory(&rt, &dealing, leaves, &sums, &mut want);
 
     // One read of n bytes for each chain.
     let watched = Watched {

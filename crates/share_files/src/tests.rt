@@ -84,6 +84,35 @@ fn other_bytes_are_no_share(rt: HostRuntime) {
     }
 }
 
+/// A length, a place, what is put there, and the fault of a tree file that is then read.
+const TREE_FAULTS: [(usize, usize, u8, FileFault); 9] = [
+    (31, 0, 0, FileFault::Length { got: 31, want: 32 }),
+    (2048, 2, 0x53, FileFault::Magic),
+    (2048, 4, 0, FileFault::Version { got: 0 }),
+    (2048, 15, 9, FileFault::Code { lms: 5, ots: 9 }),
+    (2047, 5, 8, FileFault::Number { got: 8 }),
+    (2047, 6, 9, FileFault::Number { got: 9 }),
+    (2047, 7, 1, FileFault::Number { got: 1 }),
+    (
+        2047,
+        16,
+        0,
+        FileFault::Length {
+            got: 2047,
+            want: 2048,
+        },
+    ),
+    (
+        2049,
+        16,
+        0,
+        FileFault::Length {
+            got: 2049,
+            want: 2048,
+        },
+    ),
+];
+
 #[test]
 fn a_tree_file_is_read_and_written(rt: HostRuntime) -> Result<(), Fail> {
     let mut bytes = [7; 2049];
@@ -94,34 +123,7 @@ fn a_tree_file_is_read_and_written(rt: HostRuntime) -> Result<(), Fail> {
     let mut head = [0; 32];
     write_tree_head(&view.params, &view.id, &mut head);
     assert!(rt; head == TREE_HEAD);
-    let faults = [
-        (31, 0, 0, FileFault::Length { got: 31, want: 32 }),
-        (2048, 2, 0x53, FileFault::Magic),
-        (2048, 4, 0, FileFault::Version { got: 0 }),
-        (2048, 15, 9, FileFault::Code { lms: 5, ots: 9 }),
-        (2047, 5, 8, FileFault::Number { got: 8 }),
-        (2047, 6, 9, FileFault::Number { got: 9 }),
-        (2047, 7, 1, FileFault::Number { got: 1 }),
-        (
-            2047,
-            16,
-            0,
-            FileFault::Length {
-                got: 2047,
-                want: 2048,
-            },
-        ),
-        (
-            2049,
-            16,
-            0,
-            FileFault::Length {
-                got: 2049,
-                want: 2048,
-            },
-        ),
-    ];
-    for (length, place, byte, fault) in faults {
+    for (length, place, byte, fault) in TREE_FAULTS {
         let mut other = bytes;
         other[place] = byte;
         assert_eq!(rt;
