@@ -1,5 +1,5 @@
 -- What is dealt as the words say.
-use Rattle.std.proofs.Common.{◌≡◌, ◌≤◌, ◌⊎◌, ℕ, List, ◌^◌, length, refl, ap, subst, inl, inr, ◌∙◌, arith}
+use Rattle.std.proofs.Common.{◌≡◌, ◌≤◌, ◌⊎◌, ℕ, List, ◌^◌, length, refl, ap, subst, inl, inr, ◌∙◌, arith, map}
 use Rattle.std.proofs.lemmas.List.{length-map}
 use Rattle.std.proofs.lemmas.List.FromFn.{length-map-range_with_len}
 use Rattle.coalition_map.specs.Coalitions.{IsPlan, PlanNumbers, count_of}
@@ -14,9 +14,10 @@ use Rattle.tool_run.specs.Deal.{IsDealtTo, IsNotDealt, IsSet, faulty, no_memory,
 use Rattle.tool_run.specs.Ending as ending
 use Rattle.tool_run.specs.Ending.{Ending}
 use Rattle.tool_run.specs.Naming.{named_files}
-use Rattle.tool_run.specs.Outputs.{Output}
+use Rattle.tool_run.specs.Outputs.{AreDifferent, Output}
 use Rattle.tool_run.specs.Undealt.{end_of_fault}
 use Rattle.tool_run.specs.Words.{DealWords}
+use Rattle.tool_run.proofs.Names.{deal_differ}
 use Rattle.tool_run.proofs.Naming.{named_all}
 
 pub files_refused : (words : DealWords) (entropy : List ℕ) (params : Params) (plan : PlanNumbers) (end : Ending) → IsSet words params
@@ -50,3 +51,8 @@ dealt_to words entropy params plan files outputs leaves coalitions set same soun
   outputs_are = subst (λ p. outputs ≡ outputs_of words.prefix (dealing_of params p entropy)) same (named ∙ named_dealing words.prefix (dealing_of params plan entropy) files are);
   done_is = subst (λ p. ending.Dealt leaves coalitions ≡ ending.Dealt (2 ^ params.h) (count_of p)) same (rw (all, count) refl);
 }
+
+pub dealt_differ : (words : DealWords) (entropy : List ℕ) (outputs : List Output) (done : Ending) → IsDealtTo words entropy outputs done
+    → AreDifferent (map (λ output. output.name) outputs)
+dealt_differ words entropy outputs done dealt =
+    rw dealt.outputs_are (deal_differ words.prefix (dealing_of dealt.params (plan_of words dealt.params) entropy) dealt.plan.threshold.n_within)

@@ -1,4 +1,6 @@
+pub mod Commands
 pub mod Dealing
+pub mod Names
 pub mod Naming
 pub mod Numbers
 pub mod Options

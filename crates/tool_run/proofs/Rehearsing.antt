@@ -1,12 +1,25 @@
 -- How a rehearsal ends.
-use Rattle.std.proofs.Common.{◌≡◌, ◌⊎◌, List, ℕ, inl, inr}
+use Rattle.std.proofs.Common.{[], ◌∷◌, ◌≢◌, All, map, refl, ◌≡◌, ◌⊎◌, List, ℕ, inl, inr}
 use Rattle.dealer.specs.declared.faults.DealFault.{DealFault}
 use Rattle.dealer.specs.declared.faults.DealFault.TheVariants.{NoMemory}
 use Rattle.rehearsal.specs.Rehearsal.{CanRehearse, RehearsalFault}
-use Rattle.tool_run.specs.Rehearse.{IsNotRehearsed, faulty, no_memory}
+use Rattle.tool_run.specs.Rehearse.{IsNotRehearsed, IsRehearsedTo, faulty, no_memory}
+use Rattle.std.proofs.lemmas.List.Elements.{All-cons, All-nil}
+use Rattle.tool_run.specs.Outputs.{AreDifferent, Output}
 use Rattle.tool_run.specs.Undealt.{end_of_fault}
 
 pub rehearsal_refused : (entropy : List ℕ) (fault : DealFault) → ((fault ≡ NoMemory) × CanRehearse entropy) ⊎ RehearsalFault entropy fault
     → IsNotRehearsed entropy (end_of_fault fault)
 rehearsal_refused entropy fault (inl none) = rw none.0 no_memory
 rehearsal_refused entropy fault (inr has) = faulty fault has
+
+-- the names of both outputs
+pub rehearsed_names : (entropy message key_out signature_out : List ℕ) (outputs : List Output) → IsRehearsedTo entropy message key_out signature_out outputs
+    → map (λ output. output.name) outputs ≡ key_out ∷ signature_out ∷ []
+rehearsed_names entropy message key_out signature_out outputs made = rw made.outputs_are refl
+
+pub two_differ : (a b : List ℕ) → a ≢ b → AreDifferent (a ∷ b ∷ [])
+two_differ a b other = (All-cons (λ name. a ≢ name) b [] other (All-nil (λ name. a ≢ name)), (All-nil (λ name. b ≢ name), tt))
+
+pub two_hold : (P : List ℕ → Type 0) (a b : List ℕ) → P a → P b → All P (a ∷ b ∷ [])
+two_hold P a b one two = All-cons P a (b ∷ []) one (All-cons P b [] two (All-nil P))

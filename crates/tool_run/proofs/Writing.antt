@@ -1,8 +1,10 @@
 -- Names that are tested and files that are written, one after another.
-use Rattle.std.proofs.Common.{◌≡◌, ◌≤◌, ◌<◌, ◌+◌, ◌⊎◌, ℕ, suc, List, [], ◌∷◌, ◌++◌, Option, length, take, drop, map, get_or, All, IsTrue, is_some, refl, sym, ap, ◌∙◌, inl, inr, arith}
+use Rattle.std.proofs.Common.{◌≡◌, ◌≢◌, false, true, ◌≤◌, ◌<◌, ◌+◌, ◌⊎◌, ℕ, suc, List, [], ◌∷◌, ◌++◌, Option, length, take, drop, map, get_or, All, IsTrue, is_some, refl, sym, ap, ◌∙◌, inl, inr, arith, Bool, None}
 use Rattle.std.proofs.Math.Seq.{split_at}
 use Rattle.std.proofs.lemmas.List.{take_more, map-append}
-use Rattle.std.proofs.lemmas.List.Elements.{All-append, All-cons, All-nil, All-weaker}
+use Rattle.std.proofs.lemmas.List.Elements.{All-append, All-cons, All-get_or, All-nil, All-tail, All-weaker}
+use Rattle.std.proofs.lemmas.Slice.Eq.{bytes_eq-Decides}
+use Rattle.std.specs.Str.{bytes_eq}
 use Rattle.stream_io.specs.Store.{added}
 use Rattle.tool_run.specs.Ending as spec
 use Rattle.tool_run.specs.Ending.{Ending}
@@ -28,7 +30,7 @@ not_new_within a b w name _ no_memory_to_name = no_memory_to_name
 pub stops_within : (a b : StoreRun) → LiesWithin a b → (written : List Output) (name : List ℕ) (end : Ending)
     → IsNotWritten a written name end → IsNotWritten b written name end
 stops_within a b w written name _ (write_failed f) = write_failed (failed_within a b w f)
-stops_within a b w written name _ (was_there has) = was_there (λ told. rw (← w.file) (has (rw w.told told)))
+stops_within a b w written name _ (was_there untold) = was_there (λ told. untold (rw w.told told))
 stops_within a b w written name _ no_memory_to_write = no_memory_to_write
 
 pub first_within : (a b : StoreRun) → LiesWithin a b → (names : List (List ℕ)) (end : Ending) → FirstNotNew a names end → FirstNotNew b names end
@@ -61,12 +63,6 @@ pub there_or_no_memory : (run : StoreRun) (name : List ℕ) (end : Ending) → (
     → (IsTrue run.told → IsTrue (is_some (run.file name))) → IsNotNew run name end
 there_or_no_memory run name end (inl e) has = rw e no_memory_to_name
 there_or_no_memory run name end (inr e) has = rw e (is_there has)
-
-pub was_there_or_no_memory : (run : StoreRun) (name : List ℕ) (end : Ending) → (end ≡ spec.NoMemory) ⊎ (end ≡ spec.Exists name)
-    → (IsTrue run.told → IsTrue (is_some (run.file name))) → IsNotWritten run [] name end
-unfolding all_added
-was_there_or_no_memory run name end (inl e) has = rw e no_memory_to_write
-was_there_or_no_memory run name end (inr e) has = rw e (was_there has)
 
 -- ---- names, one after another
 pub All-more : {X Y : Type 0} (P : Y → Type 0) (f : X → Y) (xs : List X) (i : ℕ) (x : X) → i < length xs → x ≡ get_or xs i x
@@ -132,16 +128,33 @@ pub record GoesOn (a b : StoreRun) (written : List Output) : Type 0 where
   pub ends : a.count_after ≤ b.count_after
   pub file : IsTrue b.told → (name : List ℕ) → a.file name ≡ all_added b.file written name
 
-pub stops_behind : (a b : StoreRun) (written : List Output) → GoesOn a b written → (name : List ℕ) (end : Ending)
-    → IsNotWritten a [] name end → IsNotWritten b written name end
+false_when : (b : Bool) → (b ≡ true → ⊥) → b ≡ false
+false_when true not = absurd (not refl)
+false_when false not = refl
+
+-- a name that was not in the store, and is none of those that were written
+pub not_added : (file : List ℕ → Option (List ℕ)) (outputs : List Output) (name : List ℕ) → file name ≡ None
+    → All (λ other. other ≢ name) (map (λ output. output.name) outputs) → all_added file outputs name ≡ None
 unfolding all_added
-stops_behind a b written w name _ (write_failed f) = write_failed (record {
+not_added file [] name absent differ = absent
+not_added file (output ∷ outputs) name absent differ =
+    let other : output.name ≢ name = All-get_or (λ other. other ≢ name) (output.name ∷ map (λ output. output.name) outputs) 0 [] (omega arith) differ in
+    let no : bytes_eq name output.name ≡ false = false_when (bytes_eq name output.name) (λ yes. other (sym ((bytes_eq-Decides name output.name).0 yes))) in
+    let first : added file output.name output.bytes name ≡ None = rw no absent in
+    not_added (added file output.name output.bytes) outputs name first (All-tail (λ other. other ≢ name) output.name (map (λ output. output.name) outputs) differ)
+
+pub stops_behind : (a b : StoreRun) (written : List Output) → GoesOn a b written → (name : List ℕ) (end : Ending)
+    → (IsTrue b.told → all_added b.file written name ≡ None) → IsNotNew a name end → IsNotWritten b written name end
+stops_behind a b written w name _ absent (test_failed f) = write_failed (record {
   rose = let rose = f.rose in let begins = w.begins in let ends = w.ends in omega arith;
   unsteady = λ steady. f.unsteady (rw w.steady steady);
 })
-stops_behind a b written w name _ (was_there has) =
-    was_there (λ told. rw (← w.file told name) (has (rw w.told told)))
-stops_behind a b written w name _ no_memory_to_write = no_memory_to_write
+stops_behind a b written w name _ absent (is_there has) =
+    was_there (λ told.
+    let there = has (rw w.told told) in
+    let none : a.file name ≡ None = w.file told name ∙ absent told in
+    cc)
+stops_behind a b written w name _ absent no_memory_to_name = no_memory_to_write
 
 pub stops_after : {X : Type 0} (run : StoreRun) (f : X → Output) (xs : List X) (i : ℕ) (x : X) (end : Ending) → i < length xs → x ≡ get_or xs i x
     → IsLeft run (map f (take i xs)) → IsNotWritten run (map f (take i xs)) (f x).name end

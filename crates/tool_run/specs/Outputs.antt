@@ -1,5 +1,5 @@
 -- The files that a command writes, each under a new name.
-use Rattle.std.specs.Prelude.{◌≡◌, ℕ, List, [], ◌∷◌, ◌++◌, None, Option, is_some, IsTrue, All}
+use Rattle.std.specs.Prelude.{◌≡◌, ◌≢◌, ⊤, ℕ, List, [], ◌∷◌, ◌++◌, None, Option, is_some, IsTrue, All}
 use Rattle.disk_trait.specs.Faults.{Rose}
 use Rattle.stream_io.specs.Store.{added}
 use Rattle.tool_run.specs.Ending as ending
@@ -44,10 +44,16 @@ pub record FirstNotNew (store : StoreRun) (names : List (List ℕ)) (end : Endin
   pub new : All (IsNew store) before
   pub cause : IsNotNew store name end
 
--- the end where a file could not be written under this name behind those that were written
+-- no two of these names are the same
+abbrev pub AreDifferent : List (List ℕ) → Type 0
+AreDifferent [] = ⊤
+AreDifferent (name ∷ names) = All (λ other. name ≢ other) names × AreDifferent names
+
+-- The end where a file could not be written under this name behind those that were written. A name that was new when it
+-- was tested is there now only in a store that does not tell its content.
 pub data IsNotWritten (store : StoreRun) (written : List Output) (name : List ℕ) : Ending → Type 0 where
   write_failed : CallFailed store → IsNotWritten store written name ending.StoreFailed
-  was_there : (IsTrue store.told → IsTrue (is_some (all_added store.file written name))) → IsNotWritten store written name (ending.Exists name)
+  was_there : (IsTrue store.told → ⊥) → IsNotWritten store written name (ending.Exists name)
   no_memory_to_write : IsNotWritten store written name ending.NoMemory
 
 -- the end where these of the files were written, and the next one was not

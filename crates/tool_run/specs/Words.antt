@@ -1,5 +1,5 @@
 -- Which words are a command. A word is the list of its bytes.
-use Rattle.std.specs.Prelude.{ℕ, Bool, false, ◌==◌, ◌&&◌, ◌^◌, nat_le, nat_lt, List, [], ◌∷◌, length, Option, Some, None, if◌then◌else◌, codes}
+use Rattle.std.specs.Prelude.{◌≢◌, ⊤, ℕ, Bool, false, ◌==◌, ◌&&◌, ◌^◌, nat_le, nat_lt, List, [], ◌∷◌, length, Option, Some, None, if◌then◌else◌, codes}
 use Rattle.std.specs.List.{list_any}
 use Rattle.std.specs.Str.{all_ascii_digits, bytes_eq}
 use Rattle.std.specs.Str.Parse.{digits_value}
@@ -77,3 +77,9 @@ row_of (name ∷ words) =
 -- the command that the words are, if they are one: none where a word begins with `-`
 unfoldable pub command_of : List (List ℕ) → Option Row
 command_of words = if list_any is_option words then None else row_of words
+
+-- the outputs that a command names have different names
+abbrev pub OutputsDiffer : Row → Type 0
+OutputsDiffer (Verify key message signature) = ⊤
+OutputsDiffer (Rehearse entropy message key_out signature_out) = key_out ≢ signature_out
+OutputsDiffer (Deal words) = ⊤

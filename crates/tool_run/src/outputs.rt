@@ -1,10 +1,10 @@
 //! Files that a command writes under new names.
 
-ghost use Rattle.std.specs.Prelude.{◌≡◌, ◌≤◌, ◌⊎◌, ℕ, List, [], ◌∷◌, All, map, string_bytes, IsTrue, IfErr, OnOk, OnErr};
+ghost use Rattle.std.specs.Prelude.{◌≡◌, ◌≤◌, ◌⊎◌, ℕ, List, [], ◌∷◌, All, map, string_bytes, None, IsTrue, IfErr, OnOk, OnErr};
 ghost use Rattle.tool_run.specs.Ending as spec;
 ghost use Rattle.tool_run.specs.Endings.{ending};
 ghost use Rattle.tool_run.specs.OutputOf.{output_of};
-ghost use Rattle.tool_run.specs.Outputs.{EndsWith, FirstNotNew, IsLeft, IsNew, IsNotNew, IsNotWritten, StopsAfter, all_added};
+ghost use Rattle.tool_run.specs.Outputs.{AreDifferent, EndsWith, FirstNotNew, IsLeft, IsNew, IsNotNew, StopsAfter, all_added};
 ghost use Rattle.tool_run.specs.World.{store_run};
 
 use crate::ending::Ending;
@@ -66,12 +66,12 @@ pub(crate) fn test_all_new<S: Store>(
     Ok(())
 }
 
-/// Writes a file under a new name, behind those that were written.
+/// Writes a file under a new name.
 fn write_output<S: Store>(alloc: Global, store: &mut S, output: &Output) -> Result<(), Ending>
     ensures written { IsTrue (S.told store.old) → OnOk result ((name : List ℕ) →
         S.file store.new name ≡ all_added (S.file store.old) (output_of output.now ∷ []) name) }
     ensures refused { let run = store_run S.told S.steady S.file S.count store.old store.new in
-        IfErr result (λ end. IsNotWritten run [] (string_bytes output.now.name) (ending end)) }
+        IfErr result (λ end. IsNotNew run (string_bytes output.now.name) (ending end)) }
     ensures unchanged { IsTrue (S.told store.old) → OnErr result (S.file store.new ≡ S.file store.old) }
     ensures count { S.count store.old ≤ S.count store.new }
     ensures told { S.told store.new ≡ S.told store.old }
@@ -86,12 +86,15 @@ fn write_output<S: Store>(alloc: Global, store: &mut S, output: &Output) -> Resu
     }
 }
 
-/// Writes files under new names, in their order.
+/// Writes files under names that differ and were found new, in their order.
 pub(crate) fn write_all<S: Store>(
     alloc: Global,
     store: &mut S,
     outputs: &[Output],
 ) -> Result<(), Ending>
+    requires differ { AreDifferent (map (λ output. string_bytes output.name) outputs.now) }
+    requires new { IsTrue (S.told store.old)
+        → All (λ name. S.file store.old name ≡ None) (map (λ output. string_bytes output.name) outputs.now) }
     ensures written { let run = store_run S.told S.steady S.file S.count store.old store.new in
         OnOk result (IsLeft run (map output_of outputs.now)) }
     ensures refused { let run = store_run S.told S.steady S.file S.count store.old store.new in

@@ -1,6 +1,6 @@
 //! The command `rehearse`.
 
-ghost use Rattle.std.specs.Prelude.{◌≡◌, [], ◌∷◌, map, IfOk, IfErr, OnOk};
+ghost use Rattle.std.specs.Prelude.{◌≡◌, ◌≢◌, [], ◌∷◌, map, IfOk, IfErr, OnOk};
 ghost use Rattle.lms_bytes.specs.PublicKey.{public_bytes};
 ghost use Rattle.tool_run.specs.Ending as spec;
 ghost use Rattle.tool_run.specs.Endings.{ending};
@@ -28,6 +28,7 @@ pub(crate) fn rehearse_files<S: Store>(
     key_out: &str,
     signature_out: &str,
 ) -> Ending
+    requires { key_out.now ≢ signature_out.now }
     ensures { let run = store_run S.told S.steady S.file S.count store.old store.new in
         EndsWith (RehearseEnds run entropy.now message.now key_out.now signature_out.now) run (ending result) }
 {
@@ -46,6 +47,7 @@ fn try_rehearse<S: Store>(
     key_out: &str,
     signature_out: &str,
 ) -> Result<(), Ending>
+    requires { key_out.now ≢ signature_out.now }
     ensures rehearsed { let run = store_run S.told S.steady S.file S.count store.old store.new in
         OnOk result (EndsWith (RehearseEnds run entropy.now message.now key_out.now signature_out.now) run spec.Rehearsed) }
     ensures refused { let run = store_run S.told S.steady S.file S.count store.old store.new in

@@ -6,7 +6,7 @@ ghost use Rattle.tool_run.specs.Endings.{ending};
 ghost use Rattle.tool_run.specs.ToolRun.{CommandEnds, MayEnd, ToolRun, IsAnswered, IsPrinted, IsCutShort, EndsSo};
 ghost use Rattle.tool_run.specs.Outputs.{EndsWith};
 ghost use Rattle.tool_run.specs.Rows.{row};
-ghost use Rattle.tool_run.specs.Words.{command_of};
+ghost use Rattle.tool_run.specs.Words.{OutputsDiffer, command_of};
 ghost use Rattle.tool_run.specs.World.{store_run, output_run};
 
 use crate::clocks::Clocks;
@@ -54,6 +54,7 @@ fn run_words<S: Store>(alloc: Global, words: &[String], store: &mut S) -> Ending
 
 /// Does what a command asks for, and answers how it ends.
 fn run_command<S: Store>(alloc: Global, store: &mut S, command: &Command) -> Ending
+    requires { OutputsDiffer (row command.now) }
     ensures { let run = store_run S.told S.steady S.file S.count store.old store.new in
         EndsWith (CommandEnds (row command.now) run) run (ending result) }
 {

@@ -6,6 +6,7 @@ use Rattle.tool_run.specs.OutputOf.{output_of}
 use Rattle.tool_run.specs.Outputs.{IsNew}
 use Rattle.tool_run.specs.Rows.{deal_words}
 use Rattle.tool_run.specs.World.{store_run, Bytes}
+use Rattle.tool_run.proofs.Dealing.{dealt_differ}
 use Rattle.tool_run.proofs.Runs.{Comes, comes_on, grows_on, read_within, run_before, run_behind, run_within, stays}
 use Rattle.tool_run.proofs.Writing.{all_new_within, ends_stopped, ends_untouched, first_within, left_within, names_of}
 use Rattle.tool_run.proofs.deal.try_deal.Goals as goal
@@ -98,3 +99,8 @@ returns-clause-dealt g c =
       cause = dealt entropy (map output_of outputs) (ending c.in_ok-outputs.done) read made new;
       left = left_within _ run (run_behind told steady file count _ _ _ (comes_on told steady file count _ _ _ first second)) refl _ (rw c.deref-3.ensures.value at three.written);
     }
+
+pub write_all-requires-clause-differ : goal.write_all-requires-clause-differ
+write_all-requires-clause-differ g c =
+    let outputs = c.in_ok-outputs.outputs.items in
+    rw (c.deref-3.ensures.value, ← names_of output_of outputs) (dealt_differ _ _ _ _ c.in_ok-outputs.ensures.dealt)

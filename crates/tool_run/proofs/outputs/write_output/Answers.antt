@@ -1,5 +1,5 @@
-use Rattle.tool_run.specs.Outputs.{all_added, write_failed, no_memory_to_write}
-use Rattle.tool_run.proofs.Writing.{was_there_or_no_memory}
+use Rattle.tool_run.specs.Outputs.{all_added, test_failed, no_memory_to_name}
+use Rattle.tool_run.proofs.Writing.{there_or_no_memory}
 use Rattle.tool_run.proofs.outputs.write_output.Goals as goal
 
 pub returns-in-Ok-clause-written : goal.returns-in-Ok-clause-written
@@ -8,12 +8,11 @@ returns-in-Ok-clause-written g c = λ told name. rw (← c.as_str-name.ensures.v
 
 pub returns-in-Err-Exists-clause-refused : goal.returns-in-Err-Exists-clause-refused
 returns-in-Err-Exists-clause-refused g c =
-    rw (← c.as_str-name.ensures.value)
-    (was_there_or_no_memory _ _ _ c.exists.ensures (λ told. c.in-Err-Exists.ensures.exists told (cc)))
+    rw (← c.as_str-name.ensures.value) (there_or_no_memory _ _ _ c.exists.ensures (λ told. c.in-Err-Exists.ensures.exists told (cc)))
 
 pub returns-in-Err-Failed-clause-refused : goal.returns-in-Err-Failed-clause-refused
 returns-in-Err-Failed-clause-refused g c =
-    write_failed (record { rose = c.in-Err-Failed.ensures.cause (cc); unsteady = λ steady. c.in-Err-Failed.ensures.answers steady (cc) })
+    test_failed (record { rose = c.in-Err-Failed.ensures.cause (cc); unsteady = λ steady. c.in-Err-Failed.ensures.answers steady (cc) })
 
 pub returns-in-Err-NoMemory-clause-refused : goal.returns-in-Err-NoMemory-clause-refused
-returns-in-Err-NoMemory-clause-refused g c = no_memory_to_write
+returns-in-Err-NoMemory-clause-refused g c = no_memory_to_name

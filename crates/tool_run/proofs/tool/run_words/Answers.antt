@@ -1,6 +1,9 @@
-use Rattle.std.proofs.Common.{None, refl}
+use Rattle.tool_run.specs.Rows.{row}
+use Rattle.tool_run.specs.Words.{command_of}
+use Rattle.std.proofs.Common.{◌≡◌, Some, map, string_bytes, None, refl}
 use Rattle.tool_run.specs.ToolRun.{MayEnd}
 use Rattle.tool_run.specs.World.{store_run}
+use Rattle.tool_run.proofs.Commands.{outputs_differ}
 use Rattle.tool_run.proofs.Writing.{ends_untouched}
 use Rattle.tool_run.proofs.tool.run_words.Goals as goal
 
@@ -8,3 +11,8 @@ pub returns-in-None : goal.returns-in-None
 returns-in-None g c =
     let run = store_run g.S.Store.told g.S.Faults.steady g.S.Store.file g.S.Faults.count c.args.store.now c.args.store.now in
     rw (← c.command_of.ensures, c.in-None.is) (ends_untouched run (MayEnd None run) _ refl (refl, refl))
+
+pub run_command-requires : goal.run_command-requires
+run_command-requires g c =
+    let is : command_of (map string_bytes c.args.words.now) ≡ Some (row c.in-Some.command) = rw (← c.command_of.ensures, c.in-Some.is) refl in
+    outputs_differ _ _ is
