@@ -25,6 +25,12 @@ const REHEARSALS: &[(&str, &str)] = &[
     ),
     ("verify empty.key empty empty.signature", ""),
     ("verify abc.key abc abc.signature", ""),
+    ("verify empty.key one empty.signature", ""),
+    ("verify empty.key empty cut.2347", ""),
+    ("verify empty.key empty cut.2187", ""),
+    ("verify empty.key empty cut.7", ""),
+    ("verify empty.key empty long.2349", ""),
+    ("verify empty.key empty leaf.32", ""),
     (
         "rehearse 144 empty again.key again.signature",
         "again.key again.signature",
