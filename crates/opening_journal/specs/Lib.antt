@@ -1,0 +1,9 @@
+pub mod Book
+pub mod BookFields
+pub mod Entries
+pub mod Held
+pub mod Journal
+pub mod Kept
+pub mod Loading
+pub mod Opening
+pub mod Reading

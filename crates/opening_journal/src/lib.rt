@@ -1,0 +1,18 @@
+//! The journal of a trustee: which leaf is bound to which message, and which was opened with which randomizer and digest.
+#![tactic(auto)]
+
+mod answers;
+mod bodies;
+mod book;
+mod entry;
+mod faults;
+mod journal;
+mod reading;
+mod steps;
+
+pub use entry::Entry;
+pub use faults::{Entered, JournalFault, JournalLoad};
+pub use journal::Journal;
+
+#[cfg(test)]
+mod tests;
