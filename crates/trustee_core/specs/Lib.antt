@@ -1,0 +1,5 @@
+pub mod Codes
+pub mod Decisions
+pub mod Grants
+pub mod Lives
+pub mod Trustee

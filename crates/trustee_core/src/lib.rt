@@ -2,5 +2,18 @@
 #![tactic(auto)]
 
 mod clock;
+mod grant;
+pub mod laws;
+mod refusal;
+mod trustee;
 
 pub use clock::Clock;
+pub use grant::{Grant, mask_count, release};
+pub use refusal::Refusal;
+pub use trustee::Trustee;
+
+/// The longest message that a trustee answers for, in bytes.
+pub const MESSAGE_LIMIT: u32 = lms_bytes::LIMIT;
+
+#[cfg(test)]
+mod tests;

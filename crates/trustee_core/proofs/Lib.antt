@@ -1,0 +1,4 @@
+pub mod Adding
+pub mod Living
+mod Refusals
+pub mod Stepping

@@ -1,0 +1,40 @@
+-- Which refusals come from what.
+use Rattle.std.proofs.Common.{◌≡◌, ◌≢◌, ℕ, arith}
+use Rattle.lms_bytes.specs.declared.ask.Ask.{Ask}
+use Rattle.opening_journal.specs.declared.faults.JournalFault.{JournalFault}
+use Rattle.opening_journal.specs.declared.faults.JournalFault.TheVariants as journal
+use Rattle.share_files.specs.declared.share.Share.{Share}
+use Rattle.trustee_core.specs.Decisions.{FailsTest, foreign_key, no_such_leaf, not_member, too_long, bad_check, refusal_of}
+use Rattle.trustee_core.specs.declared.refusal.Refusal.{Refusal}
+use Rattle.trustee_core.specs.declared.refusal.Refusal.TheVariants.{Device, Damaged}
+
+-- a test refuses for no fault of the disk
+module _ (share : Share) (ask : Ask) where
+  pub tests-device : (why : Refusal) → FailsTest share ask why → why ≢ Device
+  tests-device why (foreign_key _) = grind arith
+  tests-device why (no_such_leaf _ _) = grind arith
+  tests-device why (not_member _ _ _) = grind arith
+  tests-device why (too_long _ _ _ _) = grind arith
+  tests-device why (bad_check _ _ _ _) = grind arith
+
+  pub tests-damaged : (why : Refusal) → FailsTest share ask why → (torn a b : ℕ) → why ≢ Damaged torn a b
+  tests-damaged why (foreign_key _) torn a b = grind arith
+  tests-damaged why (no_such_leaf _ _) torn a b = grind arith
+  tests-damaged why (not_member _ _ _) torn a b = grind arith
+  tests-damaged why (too_long _ _ _ _) torn a b = grind arith
+  tests-damaged why (bad_check _ _ _ _) torn a b = grind arith
+
+-- the journal's fault is that of the refusal
+pub fault-device : (fault : JournalFault) → refusal_of fault ≡ Device → fault ≡ journal.Device
+fault-device journal.Device is = λ i. journal.Device
+fault-device (journal.Damaged torn a b) is = grind arith
+fault-device journal.NotBound is = grind arith
+fault-device (journal.Spent kept) is = grind arith
+fault-device (journal.OtherDigest c digest) is = grind arith
+
+pub fault-damaged : (fault : JournalFault) (torn a b : ℕ) → refusal_of fault ≡ Damaged torn a b → fault ≡ journal.Damaged torn a b
+fault-damaged journal.Device torn a b is = grind arith
+fault-damaged (journal.Damaged leaf x y) torn a b is = grind arith
+fault-damaged journal.NotBound torn a b is = grind arith
+fault-damaged (journal.Spent kept) torn a b is = grind arith
+fault-damaged (journal.OtherDigest c digest) torn a b is = grind arith

@@ -1,0 +1,156 @@
+//! The trustee.
+
+ghost use Rattle.std.specs.Prelude.{◌≡◌, ◌≢◌, ℕ, length, IfOk, IfErr, IfSome, OnOk, Some};
+ghost use Rattle.disk_trait.specs.Faults.{Rose};
+ghost use Rattle.opening_journal.specs.Journal.{ImagesStand, IsHonest, IsSteady, IsTold, ReadsStand, Stays, disk_of, faults_of, header_of, params_of, state_of};
+ghost use Rattle.slot_file.specs.Disks.{SameDisk};
+ghost use Rattle.trustee_core.specs.Decisions.{Decides, FailsTest, Granted, HasTag, IsForLeaf, Refused, answer_of, refusal_of};
+ghost use Rattle.trustee_core.specs.Grants.{ask_of};
+
+use crate::grant::Grant;
+use crate::refusal::Refusal;
+use disk_trait::Disk;
+use lms_bytes::{Ask, LIMIT, Second};
+use mask_prf::check_tag;
+use opening_journal::{Entered, Journal, JournalFault};
+use share_files::Share;
+
+/// A trustee: its share, and its journal on a disk.
+#[derive(Drop)]
+pub struct Trustee<D: Disk> {
+    share: Share,
+    journal: Journal<D>,
+    ghost params: { params_of journal ≡ share.params },
+    ghost header: { header_of journal ≡ record { version = 2; number = share.member; lms = share.params.lms; ots = share.params.ots; id = share.id } },
+}
+
+impl<D: Disk> Trustee<D> {
+    ghost use Rattle.trustee_core.specs.Trustee.{journal_header, journal_of, share_of};
+
+    /// The trustee of this share, whose journal this is.
+    pub fn new(share: Share, journal: Journal<D>) -> Trustee<D>
+        requires header { header_of journal ≡ journal_header share }
+        requires params { params_of journal ≡ share.params }
+        ensures share { share_of result ≡ share }
+        ensures journal { journal_of result ≡ journal }
+    {
+        Trustee { share, journal }
+    }
+
+    /// Decides on an ask at a moment, in seconds since the start of 1970. The randomizer and the digest of a round-two ask have
+    /// `n` bytes. A grant comes only after the sync that makes its entry stable.
+    pub fn decide(&mut self, ask: &Ask, moment: u64) -> Result<Grant, Refusal>
+        requires c { IfSome ask.now.second (λ second. length second.c ≡ (share_of self.old).params.n) }
+        requires digest { IfSome ask.now.second (λ second. length second.digest ≡ (share_of self.old).params.n) }
+        ensures granted { IfOk result (λ _. Decides (share_of self.old) (state_of (journal_of self.old)) ask.now moment Granted (state_of (journal_of self.new))) }
+        ensures ask { IfOk result (λ grant. ask_of grant ≡ ask.now) }
+        ensures refused { IfErr result (λ why. Decides (share_of self.old) (state_of (journal_of self.old)) ask.now moment (Refused why) (state_of (journal_of self.new))) }
+        ensures reads_stand { ReadsStand (journal_of self.new) }
+        ensures images_stand { ImagesStand (journal_of self.new) }
+        ensures honest { IsHonest (journal_of self.old) → IsTold (journal_of self.old) → IfErr result (λ why. (torn a b : ℕ) → why ≢ Refusal.Damaged torn a b) }
+        ensures succeeds { IsSteady (journal_of self.old) → IsTold (journal_of self.old) → IfErr result (λ why. why ≢ Refusal.Device) }
+        ensures cause { IfErr result (λ why. why ≡ Refusal.Device → Rose (faults_of (journal_of self.old)) (faults_of (journal_of self.new))) }
+        ensures share { share_of self.new ≡ share_of self.old }
+        ensures stays { SameDisk D.Pages.own D.Faults (disk_of (journal_of self.old)) (disk_of (journal_of self.new)) }
+    {
+        test(&self.share, ask)?;
+        match self.enter(ask, moment) {
+            Ok(_) => Ok(Grant { ask: *ask }),
+            Err(fault) => Err(refusal_of(&fault)),
+        }
+    }
+
+    // Enters an ask that passes the tests into the journal: round one binds its leaf, and round two opens it.
+    fn enter(&mut self, ask: &Ask, moment: u64) -> Result<Entered, JournalFault>
+        requires own { IsForLeaf (share_of self.old) ask.now }
+        requires tag { IfSome ask.now.second (HasTag (share_of self.old) ask.now) }
+        requires c { IfSome ask.now.second (λ second. length second.c ≡ (share_of self.old).params.n) }
+        requires digest { IfSome ask.now.second (λ second. length second.digest ≡ (share_of self.old).params.n) }
+        ensures event { Decides (share_of self.old) (state_of (journal_of self.old)) ask.now moment (answer_of result) (state_of (journal_of self.new)) }
+        ensures reads_stand { ReadsStand (journal_of self.new) }
+        ensures images_stand { ImagesStand (journal_of self.new) }
+        ensures honest { IsHonest (journal_of self.old) → IsTold (journal_of self.old) → IfErr result (λ fault. (torn a b : ℕ) → fault ≢ JournalFault.Damaged torn a b) }
+        ensures succeeds { IsSteady (journal_of self.old) → IsTold (journal_of self.old) → IfErr result (λ fault. fault ≢ JournalFault.Device) }
+        ensures cause { IfErr result (λ fault. fault ≡ JournalFault.Device → Rose (faults_of (journal_of self.old)) (faults_of (journal_of self.new))) }
+        ensures share { share_of self.new ≡ share_of self.old }
+        ensures stays { Stays (journal_of self.old) (journal_of self.new) }
+    {
+        let (leaf, message) = (ask.leaf, &ask.message);
+        match &ask.second {
+            None => self.journal.bind(leaf, message),
+            Some(second) => {
+                self.journal
+                    .open_leaf(leaf, message, &second.c, &second.digest, moment)
+            }
+        }
+    }
+
+    /// Gives the disk back.
+    pub fn end(self) -> D
+        ensures disk { result ≡ disk_of (journal_of self) }
+        ensures reads_stand { ReadsStand (journal_of self) }
+        ensures images_stand { ImagesStand (journal_of self) }
+    {
+        self.journal.end()
+    }
+}
+
+/// The tests that need no journal, in their order.
+fn test(share: &Share, ask: &Ask) -> Result<(), Refusal>
+    ensures own { OnOk result (IsForLeaf share.now ask.now) }
+    ensures tag { OnOk result (IfSome ask.now.second (HasTag share.now ask.now)) }
+    ensures refused { IfErr result (FailsTest share.now ask.now) }
+{
+    test_leaf(share, ask)?;
+    match &ask.second {
+        None => Ok(()),
+        Some(second) => test_tag(share, ask, second),
+    }
+}
+
+/// Whether the ask is for a leaf of the trustee's own, of a message within the limit.
+fn test_leaf(share: &Share, ask: &Ask) -> Result<(), Refusal>
+    ensures own { OnOk result (IsForLeaf share.now ask.now) }
+    ensures refused { IfErr result (FailsTest share.now ask.now) }
+{
+    if ask.key != share.id {
+        return Err(Refusal::ForeignKey);
+    }
+    if ask.leaf >= share.params.leaves() {
+        return Err(Refusal::NoSuchLeaf);
+    }
+    if !share.plan.is_member(ask.leaf, share.member) {
+        return Err(Refusal::NotMember);
+    }
+    let got = ask.message.length;
+    if got > LIMIT {
+        return Err(Refusal::TooLong { got });
+    }
+    Ok(())
+}
+
+/// Whether the check tag is the trustee's own for the randomizer.
+fn test_tag(share: &Share, ask: &Ask, second: &Second) -> Result<(), Refusal>
+    requires own { IsForLeaf share.now ask.now }
+    requires second { ask.now.second ≡ Some second.now }
+    ensures tag { OnOk result (HasTag share.now ask.now second.now) }
+    ensures refused { IfErr result (FailsTest share.now ask.now) }
+{
+    if second.tag != check_tag(&share.key, &share.id, ask.leaf, &second.c) {
+        return Err(Refusal::BadCheck);
+    }
+    Ok(())
+}
+
+/// A journal's fault as a refusal.
+fn refusal_of(fault: &JournalFault) -> Refusal
+    ensures { result ≡ refusal_of fault.now }
+{
+    match *fault {
+        JournalFault::Device => Refusal::Device,
+        JournalFault::Damaged { leaf, a, b } => Refusal::Damaged { leaf, a, b },
+        JournalFault::NotBound => Refusal::NotBound,
+        JournalFault::Spent { kept } => Refusal::Spent { kept },
+        JournalFault::OtherDigest { c, digest } => Refusal::OtherDigest { c, digest },
+    }
+}
