@@ -6,6 +6,7 @@ use crate::{
 };
 use disk_trait::Faults;
 use std::alloc::{AllocError, Global};
+use std::os::unix::fs::symlink;
 use std::{fs, io};
 
 /// Whether a net has counted no fault.
@@ -131,6 +132,19 @@ fn a_store_of_files_takes_a_new_file_once(rt: HostRuntime) -> io::Result<()> {
     let refused = store.write_new(rt.alloc(), "stream_io.none/new", b"first");
     assert_eq!(rt; refused, Err(NewFault::Failed));
     assert_eq!(rt; store.faults(), 1);
+    fs::remove_file(&rt, name)
+}
+
+#[test]
+fn a_link_to_nothing_is_a_name(rt: HostRuntime) -> io::Result<()> {
+    let name = "stream_io.link";
+    symlink(&rt, "stream_io.none", name)?;
+    let mut store = FileStore::new(rt);
+    assert_eq!(rt; store.has(name), Ok(true));
+    assert_eq!(rt;
+        store.write_new(rt.alloc(), name, b"first"),
+        Err(NewFault::Exists)
+    );
     fs::remove_file(&rt, name)
 }
 

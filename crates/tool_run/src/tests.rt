@@ -1,4 +1,5 @@
-//! Tests of what no contract says: that `clap` splits the words, what is printed, and what the clocks give.
+//! Tests of what no contract says: that `clap` splits the words, what is printed, what stands after a fault, and what the
+//! clocks give.
 
 use crate::split::split;
 use crate::words::{Command, DealWords};
