@@ -9,7 +9,7 @@ use crate::entropy::read_entropy;
 use crate::leaves::{build_reference, build_tree};
 use crate::shares::build_shares;
 use coalition_map::Plan;
-use disk_trait::NoMemory;
+use memory::NoMemory;
 use lms_bytes::{Params, PublicKey};
 use std::alloc::Global;
 

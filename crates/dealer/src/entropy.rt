@@ -7,7 +7,7 @@ ghost use Rattle.dealer.specs.Secrets.{dealing_with};
 
 use crate::checks::key_at;
 use coalition_map::Plan;
-use disk_trait::NoMemory;
+use memory::NoMemory;
 use lms_bytes::bytes::part;
 use lms_bytes::{KeyId, Params, Val};
 use std::alloc::Global;

@@ -12,7 +12,7 @@ ghost use Rattle.dealer.specs.Files.{AreFiles};
 
 use crate::dealing::Dealt;
 use coalition_map::Plan;
-use disk_trait::NoMemory;
+use memory::NoMemory;
 use lms_bytes::{PublicKey, write_public};
 use merkle_path::Tree;
 use share_files::{RefHeader, Share, write_ref_head, write_share, write_tree_head};

@@ -10,7 +10,7 @@ ghost use Rattle.dealer.specs.Secrets.{dealing_with};
 
 use crate::entropy::Secrets;
 use coalition_map::Plan;
-use disk_trait::NoMemory;
+use memory::NoMemory;
 use lms_bytes::{KeyId, Params, Val};
 use merkle_path::Tree;
 use ots_chain::leaf_key_of;

@@ -6,7 +6,7 @@ ghost use Rattle.dealer.specs.Secrets.{dealing_with};
 
 use crate::entropy::Secrets;
 use coalition_map::Plan;
-use disk_trait::NoMemory;
+use memory::NoMemory;
 use lms_bytes::Params;
 use share_files::Share;
 use std::alloc::Global;

@@ -6,14 +6,12 @@ mod faults;
 mod file_disk;
 mod generator;
 mod mem_disk;
-mod no_memory;
 
 pub use disk::{Disk, DiskFault, Pages};
 pub use faults::Faults;
 pub use file_disk::FileDisk;
 pub use generator::Generator;
 pub use mem_disk::MemDisk;
-pub use no_memory::NoMemory;
 
 #[cfg(test)]
 mod tests;

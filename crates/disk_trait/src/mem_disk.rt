@@ -5,7 +5,8 @@ ghost use Rattle.disk_trait.specs.Images.{written, Torn, Follows};
 ghost use Rattle.disk_trait.specs.MemDiskLaws.{leaves_bytes};
 ghost use Rattle.disk_trait.specs.MemDisk.{stable_disk, is_steady, is_listed, sync_fails, read_fails, has_room, write_fails, called, changed, with_written, with_named, with_stable, named, MayLeave, filled, crash_image};
 
-use crate::{Disk, DiskFault, Faults, Generator, NoMemory, Pages};
+use crate::{Disk, DiskFault, Faults, Generator, Pages};
+use memory::NoMemory;
 use std::alloc::Global;
 use std::marker::Model;
 

@@ -1,4 +1,5 @@
 use super::*;
+use memory::NoMemory;
 use std::fs::{OpenOptions, remove_file};
 use std::process::Abort;
 use std::test::Fail;

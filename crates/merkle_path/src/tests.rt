@@ -4,9 +4,9 @@ ghost use Rattle.std.specs.Prelude.{◌≡◌, All, length};
 ghost use Rattle.lms_bytes.specs.HashLength.{IsHashLength};
 
 use crate::{Tree, root_from};
-use disk_trait::NoMemory;
 use lms_bytes::bytes::put;
 use lms_bytes::{KeyId, Params, Val};
+use memory::NoMemory;
 use std::process::Abort;
 
 const ID: KeyId = [0, 1, 2, 3, 4, 5, 6, 7, 8, 9, 10, 11, 12, 13, 14, 15];

@@ -7,9 +7,9 @@ ghost use Rattle.merkle_path.specs.Nodes.{leaf_node, inner_node, root};
 ghost use Rattle.merkle_path.specs.Tree.{IsWhole, TreeNodes, node_at, path_node_at, tree_of};
 
 use crate::nodes::{hash_inner, hash_leaf};
-use disk_trait::NoMemory;
 use lms_bytes::bytes::{part, put};
 use lms_bytes::{KeyId, Params, Val};
+use memory::NoMemory;
 use std::alloc::Global;
 use std::marker::Model;
 

@@ -5,7 +5,7 @@ ghost use Rattle.opening_journal.specs.Entries.{map_of};
 ghost use Rattle.opening_journal.specs.Kept.{Adds, kept_by, leaf_of, state_of_kept};
 
 use crate::entry::Entry;
-use disk_trait::NoMemory;
+use memory::NoMemory;
 use lms_bytes::{MessageId, Val};
 use std::alloc::Global;
 use std::marker::Model;

@@ -2,7 +2,8 @@ ghost use Rattle.std.specs.Prelude.{◌≡◌, length};
 ghost use Rattle.opening_journal.specs.Journal.{params_of};
 
 use super::*;
-use disk_trait::{Disk, MemDisk, NoMemory};
+use disk_trait::{Disk, MemDisk};
+use memory::NoMemory;
 use lms_bytes::{MessageId, Params, Val};
 use slot_file::{Header, LoadFault, prepare};
 use std::alloc::Global;

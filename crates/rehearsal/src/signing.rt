@@ -8,7 +8,7 @@ ghost use Rattle.rehearsal.specs.Signing.{FitsPlan, signed_chains, signed_leaf, 
 use crate::masks::Keys;
 use coalition_map::Plan;
 use dealer::Dealt;
-use disk_trait::NoMemory;
+use memory::NoMemory;
 use lms_bytes::bytes::put;
 use lms_bytes::{KeyId, Params, PublicKey, Val, write_layout};
 use merkle_path::Tree;

@@ -2,7 +2,8 @@ ghost use Rattle.std.specs.Prelude.{◌≡◌, ◌≢◌, ◌<◌, IfOk, OnOk};
 ghost use Rattle.slot_file.specs.Slots.{doubt_of, count_of, header_of, IsStable, Stays};
 
 use super::*;
-use disk_trait::{Disk, DiskFault, Faults, MemDisk, NoMemory, Pages};
+use disk_trait::{Disk, DiskFault, Faults, MemDisk, Pages};
+use memory::NoMemory;
 use std::alloc::Global;
 use std::process::Abort;
 use std::test::Fail;

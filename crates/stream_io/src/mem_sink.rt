@@ -6,7 +6,8 @@ ghost use Rattle.stream_io.specs.Calls.{is_empty};
 use crate::calls::Calls;
 use crate::failed::Failed;
 use crate::sink::Sink;
-use disk_trait::{Faults, NoMemory};
+use disk_trait::Faults;
+use memory::NoMemory;
 use std::alloc::Global;
 
 /// A sink that keeps what is written to it, in memory that is taken when it is made.

@@ -1,7 +1,7 @@
 //! The program: the tool over files, sockets, the machine's clock and standard output.
 #![tactic(auto)]
 
-use disk_trait::NoMemory;
+use memory::NoMemory;
 use std::env;
 use std::io::ErrorKind;
 use std::process::ExitCode;

@@ -2,7 +2,7 @@
 
 ghost use Rattle.std.specs.Prelude.{◌≡◌, ◌+◌, ◌-◌, ◌^◌, ℕ, Bool, All, min, length, IsTrue, IsFalse, IfOk, true, false};
 
-use disk_trait::NoMemory;
+use memory::NoMemory;
 use std::alloc::Global;
 use std::rt::Clock as MachineClock;
 use std::time::{SystemTime, UNIX_EPOCH};

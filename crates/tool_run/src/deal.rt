@@ -23,7 +23,7 @@ use crate::undealt::Undealt;
 use crate::words::DealWords;
 use coalition_map::{Plan, PlanFault};
 use dealer::{DealFault, DealingFiles, deal};
-use disk_trait::NoMemory;
+use memory::NoMemory;
 use lms_bytes::Params;
 use std::alloc::{AllocError, Global};
 use stream_io::Store;

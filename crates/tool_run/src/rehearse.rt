@@ -14,7 +14,7 @@ use crate::ending::Ending;
 use crate::outputs::{Output, test_new, write_all};
 use crate::reading::read_file;
 use dealer::public_file;
-use disk_trait::NoMemory;
+use memory::NoMemory;
 use rehearsal::{Rehearsed, rehearse};
 use std::alloc::Global;
 use stream_io::Store;

@@ -5,7 +5,8 @@ ghost use Rattle.trustee_core.specs.Grants.{ask_of};
 ghost use Rattle.trustee_core.specs.Trustee.{share_of};
 
 use crate::{Grant, Refusal, Trustee, mask_count, release};
-use disk_trait::{MemDisk, NoMemory};
+use disk_trait::MemDisk;
+use memory::NoMemory;
 use lms_bytes::{Ask, LIMIT, MessageId, Second, Val};
 use mask_prf::{chain_mask, check_tag, random_mask};
 use opening_journal::Journal;

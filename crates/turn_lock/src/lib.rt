@@ -10,4 +10,4 @@ mod tests;
 mod view;
 
 pub use kept::Kept;
-pub use lock::{NoMemory, Pass, TurnLock, Worn};
+pub use lock::{Pass, TurnLock, Worn};

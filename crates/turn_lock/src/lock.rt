@@ -10,6 +10,7 @@ use crate::kept::Kept;
 use crate::steps;
 use crate::steps::{Home, Place, Words};
 use crate::view::Start;
+use memory::NoMemory;
 use std::alloc::Global;
 use std::marker::Model;
 use std::snapshot::Snapshot;
@@ -17,10 +18,6 @@ use std::sync::Wait;
 
 /// The first ticket that is worn.
 const WORN_FROM: u64 = 1 << 62;
-
-/// Want of memory.
-#[derive(Clone, Copy, Debug, PartialEq, Eq)]
-pub struct NoMemory;
 
 /// The pass has drawn a ticket of 2^62 or more, and has no more turns.
 #[derive(Clone, Copy, Debug, PartialEq, Eq)]

@@ -1,9 +1,12 @@
-//! Want of memory.
+//! Want of memory, as an answer of its own: it is merged with no other.
+#![tactic(auto)]
 
 use std::alloc::{AllocError, AllocFailed};
+use thiserror::Error;
 
 /// Memory was wanted, and there was none.
-#[derive(Clone, Copy, Debug, PartialEq, Eq)]
+#[derive(Clone, Copy, Debug, PartialEq, Eq, Error)]
+#[error("out of memory")]
 pub struct NoMemory;
 
 impl From<AllocError> for NoMemory {
