@@ -2,7 +2,7 @@
 use Rattle.std.proofs.Common.{◌≡◌, ℕ, ◌≤◌, Bool, true, false, List, length, Result, Ok, Err, OnOk, OnErr, if◌then◌else◌, refl, arith, sym, subst}
 use Rattle.std.proofs.lemmas.Bool.Decides.{nat_tests}
 use Rattle.std.proofs.lemmas.List.{ext_get_or, get_or-replicate}
-use Rattle.disk_trait.specs.Faults.{Rose}
+use Rattle.disk_trait.specs.Faults.{HasCause, Rose}
 use Rattle.disk_trait.specs.Images.{written, Torn, Only}
 use Rattle.disk_trait.specs.MemDisk.{MemState, MayLeave, counted, changed, with_named, with_written, with_stable, is_steady}
 use Rattle.disk_trait.specs.MemDiskLaws.{leaves_bytes}
@@ -37,13 +37,9 @@ module _ (disk : MemState) (at : ℕ) (bytes : List ℕ) where
   write-torn true = torn_same at (length bytes) disk.bytes
   write-torn false = tt
 
-  pub write-cause : (fails : Bool) → OnErr (outcome fails) (Rose disk.faults (after_write fails).faults)
-  write-cause true = counted_rises disk.faults
-  write-cause false = tt
-
-  pub write-count : (fails : Bool) → disk.faults ≤ (after_write fails).faults
-  write-count true = counted_later disk.faults
-  write-count false = omega arith
+  pub write-cause : (fails : Bool) → HasCause disk.faults (after_write fails).faults (outcome fails)
+  write-cause true = record { later = counted_later disk.faults; succeeded = tt; failed = counted_rises disk.faults }
+  write-cause false = record { later = omega arith; succeeded = refl; failed = tt }
 
   pub write-steady : (fails : Bool) → is_steady (after_write fails) ≡ is_steady disk
   write-steady true = refl
@@ -66,13 +62,9 @@ module _ (disk : MemState) where
   sync-images true image is = is
   sync-images false image is = subst (MayLeave disk) (sym (only_bytes image is)) (leaves_bytes disk refl refl)
 
-  pub sync-cause : (fails : Bool) → OnErr (outcome fails) (Rose disk.faults (after_sync fails).faults)
-  sync-cause true = counted_rises disk.faults
-  sync-cause false = tt
-
-  pub sync-count : (fails : Bool) → disk.faults ≤ (after_sync fails).faults
-  sync-count true = counted_later disk.faults
-  sync-count false = omega arith
+  pub sync-cause : (fails : Bool) → HasCause disk.faults (after_sync fails).faults (outcome fails)
+  sync-cause true = record { later = counted_later disk.faults; succeeded = tt; failed = counted_rises disk.faults }
+  sync-cause false = record { later = omega arith; succeeded = refl; failed = tt }
 
   pub sync-bytes : (fails : Bool) → (after_sync fails).bytes ≡ disk.bytes
   sync-bytes true = refl

@@ -1,6 +1,12 @@
--- Counts of faults: a call that refuses because the outside failed has raised one.
-use Rattle.std.specs.Prelude.{ℕ, ◌+◌, ◌-◌, ◌^◌, ◌≤◌, min}
+-- Counts of faults: a call that refuses because the outside failed has raised one, and no other call has.
+use Rattle.std.specs.Prelude.{◌≡◌, ℕ, ◌+◌, ◌-◌, ◌^◌, ◌≤◌, min, Result, OnOk, OnErr}
 
 -- a count of u64 rose, or stands at its end
 abbrev pub Rose : ℕ → ℕ → Type 0
 Rose before now = min (before + 1) (2 ^ 64 - 1) ≤ now
+
+-- what a call makes of a count, by its result: it never falls, and rises where the call fails and nowhere else
+pub record HasCause {T E : Type 0} (before now : ℕ) (result : Result T E) : Type 0 where
+  pub later : before ≤ now
+  pub succeeded : OnOk result (now ≡ before)
+  pub failed : OnErr result (Rose before now)

@@ -1,13 +1,15 @@
 //! Pages and disks: what their calls give, when they fail, and what a crash may leave.
 
 ghost use Rattle.std.specs.Prelude.{◌≡◌, ◌↔◌, ◌+◌, ◌≤◌, ℕ, Bool, false, List, length, take, drop, IsTrue, IsOk, IfOk, OnOk, OnErr};
-ghost use Rattle.disk_trait.specs.Faults.{Rose};
+ghost use Rattle.disk_trait.specs.Faults.{HasCause};
 ghost use Rattle.disk_trait.specs.Images.{written, Torn, Follows, Only};
 
 use crate::Faults;
+use thiserror::Error;
 
 /// A call of pages or of a disk failed.
-#[derive(Clone, Copy, Debug, PartialEq, Eq)]
+#[derive(Clone, Copy, Debug, PartialEq, Eq, Error)]
+#[error("a call of the disk failed")]
 pub struct DiskFault;
 
 /// Pages that are read. What is said of room and crashes is for disks, which are pages too.
@@ -31,8 +33,7 @@ pub trait Pages: Faults {
     fn len(&mut self) -> Result<u64, DiskFault>
         ensures length { IsTrue (told self.old) → IfOk result (λ n. n ≡ length (reads self.old)) }
         ensures succeeds { IsTrue (Self.steady self.old) → IsOk result }
-        ensures cause { OnErr result (Rose (Self.count self.old) (Self.count self.new)) }
-        ensures count { Self.count self.old ≤ Self.count self.new }
+        ensures cause { HasCause (Self.count self.old) (Self.count self.new) result }
 
         ensures same { IsTrue (told self.old) → reads self.new ≡ reads self.old }
         ensures images { IsTrue (honest self.old)
@@ -51,8 +52,7 @@ pub trait Pages: Faults {
             → OnOk result (at + length out.old ≤ length (reads self.old)) }
         ensures succeeds { IsTrue (Self.steady self.old) → IsTrue (told self.old)
             → at + length out.old ≤ length (reads self.old) → IsOk result }
-        ensures cause { OnErr result (Rose (Self.count self.old) (Self.count self.new)) }
-        ensures count { Self.count self.old ≤ Self.count self.new }
+        ensures cause { HasCause (Self.count self.old) (Self.count self.new) result }
 
         ensures same { IsTrue (told self.old) → reads self.new ≡ reads self.old }
         ensures images { IsTrue (honest self.old)
@@ -86,8 +86,7 @@ pub trait Disk: Pages {
         ensures succeeds { IsTrue (Self.steady self.old) → IsTrue (Self.told self.old)
             → at ≤ length (Self.reads self.old) → at + length bytes.now ≤ Self.room self.old
             → IsOk result }
-        ensures cause { OnErr result (Rose (Self.count self.old) (Self.count self.new)) }
-        ensures count { Self.count self.old ≤ Self.count self.new }
+        ensures cause { HasCause (Self.count self.old) (Self.count self.new) result }
 
         ensures stays_told { Self.told self.new ≡ Self.told self.old }
         ensures stays_honest { Self.honest self.new ≡ Self.honest self.old }
@@ -105,8 +104,7 @@ pub trait Disk: Pages {
             → length (Self.reads self.old) ≤ Self.room self.old }
 
         ensures succeeds { IsTrue (Self.steady self.old) → IsOk result }
-        ensures cause { OnErr result (Rose (Self.count self.old) (Self.count self.new)) }
-        ensures count { Self.count self.old ≤ Self.count self.new }
+        ensures cause { HasCause (Self.count self.old) (Self.count self.new) result }
 
         ensures stays_told { Self.told self.new ≡ Self.told self.old }
         ensures stays_honest { Self.honest self.new ≡ Self.honest self.old }

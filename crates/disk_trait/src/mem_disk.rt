@@ -131,13 +131,6 @@ impl MemDisk {
         self.stops = Some(call);
     }
 
-    /// Begins the count of faults anew, as for a disk that is handed on.
-    pub fn clear_faults(&mut self)
-        ensures { self.new ≡ record self.old { faults = 0 } }
-    {
-        self.faults = 0;
-    }
-
     /// What a read gives.
     pub fn bytes(&self) -> &[u8]
         ensures { result.now ≡ self.now.bytes }

@@ -1,6 +1,6 @@
 use Rattle.std.proofs.Common.{length, refl, rules}
 use Rattle.disk_trait.specs.MemDisk.{write_fails, sync_fails}
-use Rattle.disk_trait.proofs.Calls.{write-bytes, write-torn, write-cause, write-count, write-steady, write-room, sync-stable, sync-images, sync-cause, sync-count, sync-bytes, sync-steady, sync-room}
+use Rattle.disk_trait.proofs.Calls.{write-bytes, write-torn, write-cause, write-steady, write-room, sync-stable, sync-images, sync-cause, sync-bytes, sync-steady, sync-room}
 use Rattle.disk_trait.proofs.mem_disk.MemDiskDisk.TheImpl.Goals as goal
 
 pub write_at-tells : goal.write_at-tells
@@ -16,7 +16,6 @@ write_at-tells c =
       fits = search rules;
       succeeds = search rules;
       cause = rw (c.ensures.outcome, c.ensures.after) (write-cause disk c.args.at bytes fails);
-      count = rw c.ensures.after (write-count disk c.args.at bytes fails);
       stays_told = refl;
       stays_honest = refl;
       stays_steady = rw c.ensures.after (write-steady disk c.args.at bytes fails);
@@ -34,7 +33,6 @@ sync-tells c =
       has_room = λ told. c.ensures.has_room;
       succeeds = search rules;
       cause = rw (c.ensures.outcome, c.ensures.after) (sync-cause disk fails);
-      count = rw c.ensures.after (sync-count disk fails);
       stays_told = refl;
       stays_honest = refl;
       stays_steady = rw c.ensures.after (sync-steady disk fails);
