@@ -15,12 +15,14 @@ use std::alloc::Global;
 use std::marker::Model;
 use std::snapshot::Snapshot;
 use std::sync::Wait;
+use thiserror::Error;
 
 /// The first ticket that is worn.
 const WORN_FROM: u64 = 1 << 62;
 
 /// The pass has drawn a ticket of 2^62 or more, and has no more turns.
-#[derive(Clone, Copy, Debug, PartialEq, Eq)]
+#[derive(Clone, Copy, Debug, PartialEq, Eq, Error)]
+#[error("the pass has no more turns: it has drawn a ticket of 2^62 or more")]
 pub struct Worn;
 
 /// A lock round a value. Contracts see it as a `Lock` of `specs/Lock.antt`: which lock it is, the value that it was made with, its first ticket and how many passes it has.
