@@ -8,7 +8,7 @@ use Rattle.std.proofs.Math.Seq.{take-add, take-append_seam, drop-append_seam}
 use Rattle.std.proofs.lemmas.List.{take-take}
 use Rattle.coalition_map.specs.Coalitions.{IsSubset}
 use Rattle.coalition_map.specs.Members.{below, IsAscendingIn}
-use Rattle.coalition_map.specs.MemberLaws.{below-more_in}
+use Rattle.coalition_map.proofs.MemberLaws.{below-more_in}
 use Rattle.lms_bytes.specs.Bytes.{bytes_at, joined, xor}
 use Rattle.lms_bytes.specs.declared.params.Params.{Params}
 use Rattle.mask_prf.specs.Masks.{chain_mask_of, check_tag_of, random_mask_of}

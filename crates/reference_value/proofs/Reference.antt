@@ -6,9 +6,9 @@ use Rattle.std.proofs.lemmas.List.Elements.{All-contains}
 use Rattle.std.proofs.Math.Nat.{mod-lt}
 use Rattle.std.proofs.Math.Seq.{drop-append-add}
 use Rattle.coalition_map.specs.Coalitions.{IsPlan, count_of}
-use Rattle.coalition_map.specs.CoalitionLaws.{IsSubset-coalition, count_of-pos}
+use Rattle.coalition_map.proofs.CoalitionLaws.{IsSubset-coalition, count_of-pos}
 use Rattle.coalition_map.specs.Members.{below, IsAscendingIn}
-use Rattle.coalition_map.specs.MemberLaws.{All-from_IsAscendingIn, Contains-cases, Contains-nil, below-none}
+use Rattle.coalition_map.proofs.MemberLaws.{All-from_IsAscendingIn, Contains-cases, Contains-nil, below-none}
 use Rattle.lms_bytes.specs.Bytes.{bytes_at, joined}
 use Rattle.mask_prf.proofs.Lengths.{length-check_tag_of}
 use Rattle.reference_value.specs.Dealing.{Dealing, cell, cells, check_tag, key_of, leaf_part, leaf_randomizer, masked_randomizer, members_of, reference, tags}
