@@ -10,7 +10,8 @@ use Rattle.merkle_path.specs.Tree.{path_at}
 use Rattle.ots_chain.specs.MessageHash.{message_digest}
 use Rattle.reference_value.specs.Dealing.{sum_of_masks}
 use Rattle.reference_value.specs.Joins.{joined_chains}
-use Rattle.reference_value.specs.Places.{leaves_length, randomizer_in}
+use Rattle.reference_value.specs.Places.{randomizer_in}
+use Rattle.share_files.specs.Reference.{leaves_length}
 use Rattle.dealer.specs.declared.dealing.Dealt.{Dealt}
 use Rattle.rehearsal.specs.declared.masks.Keys.{Keys}
 
