@@ -35,13 +35,15 @@ pub record FitsPlan (plan : PlanNumbers) (dealt : Dealt) : Type 0 where
 abbrev pub signed_randomizer : PlanNumbers → Dealt → Keys → ℕ → List ℕ
 signed_randomizer plan dealt keys q =
     let params = dealt.public.params in
-    xor (randomizer_in params plan dealt.reference.items q) (mask_sum params.n keys (λ key. random_mask_of params key dealt.public.id q))
+    let masks = mask_sum params.n keys (λ key. random_mask_of params key dealt.public.id q) in
+    xor (randomizer_in params plan dealt.reference.items q) masks
 
 -- the values of the chains of leaf q at the digest's digits, as both trustees lay them open
 abbrev pub signed_chains : PlanNumbers → Dealt → Keys → ℕ → List ℕ → List ℕ
 signed_chains plan dealt keys q digest =
     let params = dealt.public.params in
-    joined_chains params plan dealt.reference.items q digest (joined (digit_sum params dealt.public.id keys q digest) params.p)
+    let sums = joined (digit_sum params dealt.public.id keys q digest) params.p in
+    joined_chains params plan dealt.reference.items q digest sums
 
 -- the signature of the message with leaf q
 abbrev pub signed_leaf : PlanNumbers → Dealt → Keys → ℕ → List ℕ → List ℕ

@@ -65,7 +65,8 @@ fn unmask_chains(
     requires leaf { q < 2 ^ dealt.now.public.params.h }
     requires digest { length digest.now ≡ dealt.now.public.params.n }
     ensures chains { IfOk result (λ chains. chains.items ≡ signed_chains plan.now dealt.now keys.now q digest.now) }
-    ensures length { IfOk result (λ chains. length chains.items ≡ dealt.now.public.params.n * dealt.now.public.params.p) }
+    ensures length { IfOk result (λ chains. length chains.items
+        ≡ dealt.now.public.params.n * dealt.now.public.params.p) }
 {
     let PublicKey { params, id, .. } = &dealt.public;
     let length = params.n as usize * params.p as usize;
