@@ -9,8 +9,8 @@ use crate::entropy::read_entropy;
 use crate::leaves::{build_reference, build_tree};
 use crate::shares::build_shares;
 use coalition_map::Plan;
-use memory::NoMemory;
 use lms_bytes::{Params, PublicKey};
+use memory::NoMemory;
 use std::alloc::Global;
 
 /// Deals the key that the entropy stands for, which has been tested.

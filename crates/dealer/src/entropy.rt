@@ -7,9 +7,9 @@ ghost use Rattle.dealer.specs.Secrets.{dealing_with};
 
 use crate::checks::key_at;
 use coalition_map::Plan;
-use memory::NoMemory;
 use lms_bytes::bytes::part;
 use lms_bytes::{KeyId, Params, Val};
+use memory::NoMemory;
 use std::alloc::Global;
 
 /// What a key is dealt from.

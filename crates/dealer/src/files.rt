@@ -10,8 +10,8 @@ ghost use Rattle.dealer.specs.Dealt.{IsDealt};
 ghost use Rattle.dealer.specs.Files.{AreFiles};
 
 use crate::dealing::Dealt;
-use memory::NoMemory;
 use lms_bytes::{PublicKey, write_public};
+use memory::NoMemory;
 use merkle_path::Tree;
 use share_files::{HEAD, RefHeader, Share, write_ref_head, write_share, write_tree_head};
 use std::alloc::Global;

@@ -10,8 +10,8 @@ ghost use Rattle.dealer.specs.Secrets.{dealing_with};
 
 use crate::entropy::Secrets;
 use coalition_map::Plan;
-use memory::NoMemory;
 use lms_bytes::{KeyId, Params, Val};
+use memory::NoMemory;
 use merkle_path::Tree;
 use ots_chain::leaf_key_of;
 use reference_value::{build_leaf, leaf_bytes};

@@ -6,8 +6,8 @@ ghost use Rattle.dealer.specs.Secrets.{dealing_with};
 
 use crate::entropy::Secrets;
 use coalition_map::Plan;
-use memory::NoMemory;
 use lms_bytes::Params;
+use memory::NoMemory;
 use share_files::Share;
 use std::alloc::Global;
 

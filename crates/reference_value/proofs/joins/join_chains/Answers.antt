@@ -4,7 +4,7 @@ use Rattle.lms_bytes.specs.Digits.{digit_of}
 use Rattle.lms_bytes.specs.declared.params.Params.{Params}
 use Rattle.reference_value.specs.Joins.{joined_chain, joined_chains}
 use Rattle.reference_value.specs.Places.{cell_in}
-use Rattle.reference_value.proofs.Joined.{joined-none, front-more, front-all, row-fits}
+use Rattle.lms_bytes.proofs.Joined.{joined-none, front-more, front-all, row-fits}
 use Rattle.reference_value.proofs.Xor.{length-xor}
 use Rattle.reference_value.proofs.joins.join_chains.Goals as goal
 
