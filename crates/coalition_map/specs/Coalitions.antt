@@ -3,7 +3,8 @@ use Rattle.std.specs.Prelude.{◌≡◌, ℕ, zero, suc, ◌+◌, ◌%◌, ◌^�
 use Rattle.std.specs.List.{range_with_len}
 use Rattle.coalition_map.specs.Members.{IsAscendingIn}
 
--- this project's profile: the subsets of size k of the trustees a .. a + left - 1, each ascending, in lexicographic order
+-- this project's profile: the subsets of size k of the trustees a .. a + left - 1, each ascending, in
+-- lexicographic order
 unfoldable pub subsets : ℕ → ℕ → ℕ → List (List ℕ)
 subsets a left zero = [] ∷ []
 subsets a zero (suc k) = []

@@ -51,7 +51,8 @@ pub fn leaves_of_coalition()
 /// A walk over the numbers from 1 to `n` meets the members of a set in their order.
 pub fn members_in_a_walk()
     ensures start { (e : ℕ) (l : List ℕ) → IsAscendingIn 1 e l → below 1 l ≡ [] }
-    ensures member { (a e t : ℕ) (l : List ℕ) → IsAscendingIn a e l → Contains l t → below (t + 1) l ≡ below t l ++ t ∷ [] }
+    ensures member { (a e t : ℕ) (l : List ℕ) → IsAscendingIn a e l → Contains l t
+        → below (t + 1) l ≡ below t l ++ t ∷ [] }
     ensures other { (t : ℕ) (l : List ℕ) → ¬ Contains l t → below (t + 1) l ≡ below t l }
     ensures end { (a e : ℕ) (l : List ℕ) → IsAscendingIn a e l → below e l ≡ l }
 {}

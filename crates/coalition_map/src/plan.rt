@@ -6,16 +6,19 @@ ghost use Rattle.coalition_map.specs.Members.{member_numbers};
 
 use crate::members::Members;
 use std::marker::Model;
+use thiserror::Error;
 
 /// The most trustees that a plan can have.
 const MOST_TRUSTEES: u8 = 12;
 
 /// Why there is no plan of these numbers.
-#[derive(Clone, Copy, Debug, PartialEq, Eq)]
+#[derive(Clone, Copy, Debug, PartialEq, Eq, Error)]
 pub enum PlanFault {
     /// Not `2 <= k <= n <= 12`.
+    #[error("the threshold k and the number n of trustees are not 2 <= k <= n <= 12")]
     BadThreshold,
     /// More coalitions than leaves.
+    #[error("{count} coalitions, where no more than leaves of the tree are wanted")]
     TooManyCoalitions { count: u32 },
 }
 

@@ -36,7 +36,8 @@ abbrev pub ots_at : List ℕ → ℕ
 ots_at bytes = str_to_u32 (bytes_at bytes 12 4)
 
 abbrev pub code_fault : List ℕ → Option FileFault
-code_fault bytes = if can_be_dealt (lms_at bytes) (ots_at bytes) then None else Some (Code (lms_at bytes) (ots_at bytes))
+code_fault bytes =
+    if can_be_dealt (lms_at bytes) (ots_at bytes) then None else Some (Code (lms_at bytes) (ots_at bytes))
 
 -- this project's profile: the thresholds that can be dealt, with no more coalitions than leaves
 unfoldable pub is_plan : PlanNumbers → Bool

@@ -11,9 +11,6 @@ use coalition_map::Plan;
 use lms_bytes::bytes::{part, put, u32_at};
 use lms_bytes::{KeyId, Params};
 
-/// The length of a head in bytes.
-pub(crate) const HEAD: usize = 32;
-
 /// What all heads have: the parameter set, and the identifier of the key.
 #[derive(Clone, Copy)]
 pub(crate) struct Head {
@@ -117,7 +114,8 @@ fn is_dealt(params: &Params) -> bool
 pub(crate) fn read_plan(bytes: &[u8], params: &Params) -> Result<Plan, FileFault>
     requires head { 32 ≤ length bytes.now }
     requires codes { params.now.lms ≡ lms_at bytes.now }
-    ensures plan { IfOk result (λ plan. plan ≡ record { n = slice_index bytes.now 7; k = slice_index bytes.now 6; h = params.now.h }) }
+    ensures plan { IfOk result (λ plan. plan
+        ≡ record { n = slice_index bytes.now 7; k = slice_index bytes.now 6; h = params.now.h }) }
     ensures faultless { OnOk result (plan_fault bytes.now ≡ None) }
     ensures refused { IfErr result (λ fault. plan_fault bytes.now ≡ Some fault) }
 {
