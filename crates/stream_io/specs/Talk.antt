@@ -2,8 +2,8 @@
 use Rattle.std.specs.Prelude.{◌≡◌, ◌<◌, ◌≤◌, ◌++◌, ℕ, Bool, List, Option, length, take, drop}
 
 -- A stream in one state: whether it tells its bytes, the place that was dialled or none, the bytes that were read of it
--- and those that a peer has given and nobody has read, the bytes that were written to it, the oldest byte first each, and
--- its count of faults. The bytes mean something only where they are told.
+-- and those that a peer has given and nobody has read, the bytes that were written to it, the oldest byte first each,
+-- and its count of faults. The bytes mean something only where they are told.
 pub record Talk : Type 0 where
   pub told : Bool
   pub place : Option (List ℕ)

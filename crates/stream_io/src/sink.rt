@@ -24,7 +24,8 @@ pub trait Sink: Stream {
         ensures only { OnlyWrote (Self.talk self.old) (Self.talk self.new) }
         ensures cause { HasCause (Self.talk self.old).count (Self.talk self.new).count result }
         ensures succeeds { IsTrue (Self.steady self.old) → length bytes.now ≤ room self.old → IsOk result }
-        ensures room { MatchResult result (λ n. room self.old ≤ room self.new + n) (λ _. room self.old ≤ room self.new) }
+        ensures room { MatchResult result (λ n. room self.old ≤ room self.new + n) (λ _. room self.old
+            ≤ room self.new) }
         ensures steady { Self.steady self.new ≡ Self.steady self.old };
 }
 

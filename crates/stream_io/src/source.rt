@@ -1,6 +1,7 @@
 //! Sources, which bytes are read from.
 
-ghost use Rattle.std.specs.Prelude.{◌≡◌, ◌+◌, ◌<◌, ◌≤◌, ◌++◌, [], length, take, min, IsTrue, IsOk, IfOk, OnErr, MatchResult};
+ghost use Rattle.std.specs.Prelude.{◌≡◌, ◌+◌, ◌<◌, ◌≤◌, ◌++◌, [], length, take, min, IsTrue, IsOk, IfOk, OnErr};
+ghost use Rattle.std.specs.Prelude.{MatchResult};
 ghost use Rattle.disk_trait.specs.Faults.{HasCause};
 ghost use Rattle.stream_io.specs.Talk.{OnlyRead, Took, TookPart};
 
@@ -17,7 +18,8 @@ pub trait Source: Stream {
         ensures bytes { IsTrue (Self.talk self.old).told
             → IfOk result (λ n. take n out.new ≡ take n (Self.talk self.old).left) }
         ensures took { IsTrue (Self.talk self.old).told → MatchResult result
-            (λ n. Took (Self.talk self.old) (Self.talk self.new) n) (λ _. Took (Self.talk self.old) (Self.talk self.new) 0) }
+            (λ n. Took (Self.talk self.old) (Self.talk self.new) n)
+            (λ _. Took (Self.talk self.old) (Self.talk self.new) 0) }
         ensures end { IsTrue (Self.talk self.old).told
             → IfOk result (λ n. n ≡ 0 → 0 < length out.old → (Self.talk self.old).left ≡ []) }
         ensures only { OnlyRead (Self.talk self.old) (Self.talk self.new) }

@@ -1,6 +1,7 @@
 //! Stores, which hold files by their names.
 
-ghost use Rattle.std.specs.Prelude.{◌≡◌, ◌<◌, ◌≤◌, ◌≢◌, ◌⊎◌, ℕ, Bool, List, Option, Some, None, length, option_map, is_some, IsTrue, IsOk, IfOk, OnOk, OnErr};
+ghost use Rattle.std.specs.Prelude.{◌≡◌, ◌<◌, ◌≤◌, ◌≢◌, ◌⊎◌, ℕ, Bool, List, Option, Some, None, length};
+ghost use Rattle.std.specs.Prelude.{option_map, is_some, IsTrue, IsOk, IfOk, OnOk, OnErr};
 ghost use Rattle.disk_trait.specs.Faults.{HasCause};
 ghost use Rattle.stream_io.specs.Store.{added, RisesWhere};
 ghost use Rattle.stream_io.specs.declared.store.NewFault.{NewFault};

@@ -1,5 +1,6 @@
 -- What a call of the tool does: words, status, store and output before and after.
-use Rattle.std.specs.Prelude.{◌≡◌, ◌⊎◌, ◌<◌, ℕ, List, [], Option, Some, None, ◌++◌, length, IsTrue, ◌==◌, if◌then◌else◌}
+use Rattle.std.specs.Prelude.{◌≡◌, ◌⊎◌, ◌<◌, ℕ, List, [], Option, Some, None, ◌++◌, length, IsTrue, ◌==◌}
+use Rattle.std.specs.Prelude.{if◌then◌else◌}
 use Rattle.disk_trait.specs.Faults.{Rose}
 use Rattle.stream_io.specs.Talk.{WrotePart}
 use Rattle.tool_run.specs.Ending.{Ending, Usage, NoMemory, status_of, line_of}
@@ -49,9 +50,9 @@ pub record EndsSo (output : OutputRun) (end : Ending) (status : ℕ) : Type 0 wh
   pub is : (shown ≡ NoMemory) ⊎ (shown ≡ end)
   pub answered : IsAnswered output shown status
 
--- A call with these words: it came to an end by the rules of its command and had written these files, the store has them
--- beside what it had, and its status and its output are that end's or, where there was no memory for the line, those of
--- want of memory.
+-- A call with these words: it came to an end by the rules of its command and had written these files, the store has
+-- them beside what it had, and its status and its output are that end's or, where there was no memory for the line,
+-- those of want of memory.
 pub record ToolRun (words : List (List ℕ)) (world : World) (status : ℕ) : Type 0 where
   pub end : Ending
   pub ended : EndsWith (MayEnd (command_of words) world.store) world.store end

@@ -13,7 +13,8 @@ pub record StoreRun : Type 0 where
   pub count_after : ℕ
 
 -- a store from one state to another
-abbrev pub store_run : {S : Type 0} → (S → Bool) → (S → Bool) → (S → List ℕ → Option (List ℕ)) → (S → ℕ) → S → S → StoreRun
+abbrev pub store_run : {S : Type 0} → (S → Bool) → (S → Bool) → (S → List ℕ → Option (List ℕ)) → (S → ℕ) → S → S
+    → StoreRun
 store_run told steady file count before after = record {
   told = told before;
   steady = steady before;
@@ -58,5 +59,6 @@ pub data Reading : Type 0 where
 abbrev pub IsRead : StoreRun → List ℕ → Reading → Type 0
 IsRead store name Failed =
     Rose store.count store.count_after × (IsTrue store.told → IsTrue store.steady → store.file name ≡ None)
-IsRead store name (TooLong got) = (file_limit < got) × (IsTrue store.told → option_map length (store.file name) ≡ Some got)
+IsRead store name (TooLong got) =
+    (file_limit < got) × (IsTrue store.told → option_map length (store.file name) ≡ Some got)
 IsRead store name (Bytes bytes) = (length bytes ≤ file_limit) × (IsTrue store.told → store.file name ≡ Some bytes)
