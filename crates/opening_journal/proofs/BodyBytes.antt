@@ -6,7 +6,7 @@ use Rattle.std.proofs.lemmas.List.{take_at, length-replicate, get_or_past, place
 use Rattle.std.proofs.lemmas.Nat.{be_bytes_4}
 use borrow.Rule.Slice.PartMut.{put_mid}
 use Rattle.lms_bytes.specs.MessageId.{message_id_bytes}
-use Rattle.opening_journal.specs.Kept.{filled}
+use Rattle.opening_journal.specs.EntrySlots.{filled}
 use Rattle.opening_journal.specs.Loading.{message_of}
 
 two-parts : (m n : ℕ) (body : List ℕ) → length body ≡ m + n → take m body ++ take n (drop m body) ≡ body
