@@ -1,8 +1,7 @@
 -- The entries of a journal's file, and why it is not loaded.
 use Rattle.std.specs.Prelude.{◌≡◌, ◌<◌, ℕ, List, [], ◌∷◌, Some, None, take, drop, false}
 use Rattle.std.specs.List.{flat_map, range_with_len}
-use Rattle.lms_bytes.specs.Bytes.{bytes_at, str_to_u32}
-use Rattle.lms_bytes.specs.declared.message.MessageId.{MessageId}
+use Rattle.lms_bytes.specs.MessageId.{message_id_of}
 use Rattle.opening_journal.specs.declared.entry.Entry.{Entry}
 use Rattle.opening_journal.specs.declared.entry.Entry.TheVariants.{Bound, Opened}
 use Rattle.opening_journal.specs.declared.faults.JournalLoad.{JournalLoad}
@@ -14,16 +13,12 @@ use Rattle.slot_file.specs.declared.header.LoadFault.{LoadFault}
 use Rattle.slot_file.specs.declared.slot.Slot.{Slot}
 use Rattle.slot_file.specs.declared.slot.Slot.TheVariants.{Free, Half, Full, Damaged}
 
--- the message id of 36 bytes
-abbrev pub message_of : List ℕ → MessageId
-message_of body = record { length = str_to_u32 (bytes_at body 0 4); hash = bytes_at body 4 32 }
-
 -- the entries that a slot has: its binding, and then its opening
 abbrev pub entries_of_slot : ℕ → ℕ → Slot → List Entry
 entries_of_slot n leaf Free = []
-entries_of_slot n leaf (Half a) = Bound leaf (message_of a) ∷ []
+entries_of_slot n leaf (Half a) = Bound leaf (message_id_of a) ∷ []
 entries_of_slot n leaf (Full a b moment) =
-    Bound leaf (message_of a) ∷ Opened leaf (message_of a) (take n b) (take n (drop 32 b)) moment ∷ []
+    Bound leaf (message_id_of a) ∷ Opened leaf (message_id_of a) (take n b) (take n (drop 32 b)) moment ∷ []
 entries_of_slot n leaf (Damaged a b) = []
 
 -- those of so many slots, leaf by leaf

@@ -6,7 +6,7 @@ ghost use Rattle.opening_journal.specs.Answers.{BindsAs, IsOldOrSpent, IsSamePai
 ghost use Rattle.opening_journal.specs.Entries.{state_of_slot};
 ghost use Rattle.slot_file.specs.Copies.{is_damaged};
 
-use crate::bodies::{message_bytes, message_of, value_at};
+use crate::bodies::value_at;
 use crate::faults::{Entered, JournalFault};
 use lms_bytes::{MessageId, Val};
 use slot_file::Slot;
@@ -27,11 +27,11 @@ pub(crate) fn binding(slot: &Slot, n: u8, message: &MessageId) -> Result<Entered
 fn old_if_same(kept: &[u8; 36], message: &MessageId) -> Result<Entered, JournalFault>
     ensures { IsOldOrSpent kept.now message.now result }
 {
-    if *kept == message_bytes(message) {
+    if *kept == message.to_bytes() {
         Ok(Entered::Old)
     } else {
         Err(JournalFault::Spent {
-            kept: message_of(kept),
+            kept: MessageId::of_bytes(kept),
         })
     }
 }

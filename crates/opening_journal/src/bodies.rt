@@ -2,36 +2,9 @@
 
 ghost use Rattle.std.specs.Prelude.{◌≡◌, ◌≤◌, ◌++◌, length, take, drop};
 ghost use Rattle.lms_bytes.specs.HashLength.{IsHashLength};
-ghost use Rattle.lms_bytes.specs.MessageId.{message_id_bytes};
 ghost use Rattle.opening_journal.specs.EntrySlots.{filled};
-ghost use Rattle.opening_journal.specs.Loading.{message_of};
 
-use lms_bytes::{MessageId, Val};
-
-/// Body A: a message id.
-pub(crate) fn message_bytes(message: &MessageId) -> [u8; 36]
-    ensures { result ≡ message_id_bytes message.now }
-{
-    let mut body = [0; 36];
-    body[..4].copy_from_slice(&message.length.to_be_bytes());
-    body[4..].copy_from_slice(&message.hash);
-    body
-}
-
-/// The message id of a body A.
-pub(crate) fn message_of(body: &[u8; 36]) -> MessageId
-    ensures fields { result ≡ message_of body.now }
-    ensures bytes { message_id_bytes result ≡ body.now }
-{
-    let mut length = [0; 4];
-    length.copy_from_slice(&body[..4]);
-    let mut hash = [0; 32];
-    hash.copy_from_slice(&body[4..]);
-    MessageId {
-        length: u32::from_be_bytes(length),
-        hash,
-    }
-}
+use lms_bytes::Val;
 
 // A value with zeros up to 32 bytes.
 fn filled(value: &Val) -> [u8; 32]

@@ -10,9 +10,10 @@ ghost use Rattle.slot_cache.specs.Cache.{count_of, state_of as cache_state};
 ghost use Rattle.slot_cache.specs.State.{IsWhole, slot_in};
 ghost use Rattle.slot_file.specs.Copies.{is_damaged};
 
-use crate::bodies::{message_of, value_at};
+use crate::bodies::value_at;
 use crate::entry::Entry;
 use disk_trait::Disk;
+use lms_bytes::MessageId;
 use memory::NoMemory;
 use slot_cache::CachedSlots;
 use slot_file::Slot;
@@ -43,11 +44,11 @@ fn add_slot(entries: &mut Vec<Entry>, leaf: u32, slot: &Slot, n: u8)
     match slot {
         Slot::Free | Slot::Damaged { .. } => {}
         Slot::Half(a) => {
-            let message = message_of(a);
+            let message = MessageId::of_bytes(a);
             add(entries, &Entry::Bound { leaf, message });
         }
         Slot::Full(a, b, moment) => {
-            let message = message_of(a);
+            let message = MessageId::of_bytes(a);
             add(entries, &Entry::Bound { leaf, message });
             let opened = Entry::Opened {
                 leaf,

@@ -8,7 +8,7 @@ ghost use Rattle.slot_cache.specs.Cache.{IsSteady, IsTold, Stays, count_of, faul
 ghost use Rattle.slot_cache.specs.Calls.{Puts};
 ghost use Rattle.slot_cache.specs.State.{slot_in};
 
-use crate::bodies::{message_bytes, pair_bytes};
+use crate::bodies::pair_bytes;
 use crate::entry::Entry;
 use disk_trait::{Disk, DiskFault};
 use slot_cache::CachedSlots;
@@ -25,7 +25,7 @@ pub(crate) fn put_entry<D: Disk>(slots: &mut CachedSlots<D>, entry: &Entry) -> R
     ensures stays { Stays slots.old slots.new }
 {
     match entry {
-        Entry::Bound { leaf, message } => slots.put_a(*leaf, &message_bytes(message)),
+        Entry::Bound { leaf, message } => slots.put_a(*leaf, &message.to_bytes()),
         Entry::Opened {
             leaf,
             c,

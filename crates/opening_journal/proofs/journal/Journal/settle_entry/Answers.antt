@@ -38,7 +38,7 @@ invariant_of-self g c =
     let version = (header_of self.slots).version in
     let event = subst (λ (s : Settled). Settles version cache (Ok s) new) c.in-Ok-Made.field-0-is c.in-Ok-Made.ensures.event in
     let same = put-is n cache items self.doubt entry event.0 self.held c.requires event.1 in
-    let is = event.2 ∙ ap (λ (d : Doubted). settled_with (with_made cache.slots d)) same in
+    let is : new ≡ settled_with (with_made cache.slots (put_of entry)) = event.2 ∙ ap (λ (d : Doubted). settled_with (with_made cache.slots d)) same in
     let held = held-made n cache.slots items entry within self.held.slots adds after new None self.held.legal is refl in
     let room = room-made n cache.slots items entry within self.held.slots adds in
     record {
