@@ -1,4 +1,4 @@
-ghost use Rattle.std.specs.Prelude.{◌≡◌, length};
+ghost use Rattle.std.specs.Prelude.{◌≡◌, length, IfOk};
 ghost use Rattle.opening_journal.specs.Journal.{params_of};
 
 use super::*;
@@ -72,7 +72,7 @@ fn loaded(rt: &impl Abort, alloc: Global, disk: MemDisk) -> Journal<MemDisk>
     let params = params(rt);
     match Journal::load(alloc, disk, &header(&params, 3), &params) {
         Ok(journal) => journal,
-        Err((_, fault)) => panic!(rt; "load: {fault:?}"),
+        Err((_, fault)) => panic!(rt; "load: {fault}"),
     }
 }
 
@@ -134,16 +134,35 @@ fn a_leaf_is_opened_once(rt: HostRuntime) -> Result<(), Fail> {
     assert_eq!(rt; old, Ok(Entered::Old));
     let other = journal.open_leaf(1, &ONE, &digest, &c, 9);
     assert_eq!(rt; other, Err(JournalFault::OtherDigest { c, digest }));
-    let opened = Entry::Opened {
+    let journal = crashed(&rt, alloc, journal, 1);
+    assert_eq!(rt; journal.entries(), [bound(1, ONE), opened()].as_slice());
+    Ok(())
+}
+
+// The entry that opens leaf 1.
+fn opened() -> Entry {
+    Entry::Opened {
         leaf: 1,
         message: ONE,
-        c,
-        digest,
+        c: value(0xCC),
+        digest: value(0xDD),
         moment: 7,
-    };
-    let journal = crashed(&rt, alloc, journal, 1);
-    assert_eq!(rt; journal.entries(), [bound(1, ONE), opened].as_slice());
-    Ok(())
+    }
+}
+
+// Opens leaf 1 for a message, with C and Q of these bytes.
+fn open_one(
+    journal: &mut Journal<MemDisk>,
+    message: &MessageId,
+    c: u8,
+    digest: u8,
+) -> Result<Entered, JournalFault>
+    requires h { (params_of journal.old).h ≡ 5 }
+    requires n { (params_of journal.old).n ≡ 32 }
+    ensures h { (params_of journal.new).h ≡ 5 }
+    ensures n { (params_of journal.new).n ≡ 32 }
+{
+    journal.open_leaf(1, message, &value(c), &value(digest), 7)
 }
 
 // Binds leaf 1, stopped at a call, and loads what a crash leaves.
@@ -152,17 +171,18 @@ fn bind_stopped(
     alloc: Global,
     call: u8,
     pick: u64,
-) -> Result<Journal<MemDisk>, NoMemory> {
+) -> Result<Journal<MemDisk>, NoMemory>
+    ensures h { IfOk result (λ journal. (params_of journal).h ≡ 5) }
+{
     let mut disk = prepared(rt, alloc)?;
     disk.stop_at(LOAD_CALLS + u64::from(call));
     let mut journal = loaded(rt, alloc, disk);
-    let done = journal.bind(1, &ONE);
     let want = if call < 4 {
         Err(JournalFault::Device)
     } else {
         Ok(Entered::New)
     };
-    assert_eq!(rt; done, want, "call {call}");
+    assert_eq!(rt; journal.bind(1, &ONE), want, "call {call}");
     Ok(crashed(rt, alloc, journal, pick))
 }
 
@@ -170,11 +190,56 @@ fn bind_stopped(
 fn a_bind_is_before_or_after(rt: HostRuntime) -> Result<(), Fail> {
     let alloc = rt.alloc();
     for call in 0..5 {
-        for pick in [0, 1] {
-            let journal = bind_stopped(&rt, alloc, call, pick)?;
+        for pick in [0, 1, 5] {
+            let mut journal = bind_stopped(&rt, alloc, call, pick)?;
             let is_made = call == 4 || call == 3 && pick == 1;
             let want = [bound(1, ONE)];
             let want = if is_made { want.as_slice() } else { &[] };
+            assert_eq!(rt; journal.entries(), want, "call {call} pick {pick}");
+            let later = if is_made {
+                Err(JournalFault::Spent { kept: ONE })
+            } else {
+                Ok(Entered::New)
+            };
+            assert_eq!(rt; journal.bind(1, &TWO), later, "call {call} pick {pick}");
+        }
+    }
+    Ok(())
+}
+
+// Binds leaf 1 and opens it, stopped at a call of the opening, and loads what a crash leaves.
+fn open_stopped(
+    rt: &impl Abort,
+    alloc: Global,
+    call: u8,
+    pick: u64,
+) -> Result<Journal<MemDisk>, NoMemory> {
+    let mut disk = prepared(rt, alloc)?;
+    disk.stop_at(LOAD_CALLS + 4 + u64::from(call));
+    let mut journal = loaded(rt, alloc, disk);
+    assert_eq!(rt; journal.bind(1, &ONE), Ok(Entered::New));
+    let want = if call < 4 {
+        Err(JournalFault::Device)
+    } else {
+        Ok(Entered::New)
+    };
+    assert_eq!(rt;
+        open_one(&mut journal, &ONE, 0xCC, 0xDD),
+        want,
+        "call {call}"
+    );
+    Ok(crashed(rt, alloc, journal, pick))
+}
+
+#[test]
+fn an_opening_is_before_or_after(rt: HostRuntime) -> Result<(), Fail> {
+    let alloc = rt.alloc();
+    let want = [bound(1, ONE), opened()];
+    for call in 0..5 {
+        for pick in [0, 1, 5] {
+            let journal = open_stopped(&rt, alloc, call, pick)?;
+            let is_made = call == 4 || call == 3 && pick == 1;
+            let want = if is_made { &want[..] } else { &want[..1] };
             assert_eq!(rt; journal.entries(), want, "call {call} pick {pick}");
         }
     }
@@ -197,7 +262,7 @@ fn bind_again(rt: &impl Abort, alloc: Global, call: u8) -> Result<Journal<MemDis
 }
 
 #[test]
-fn a_doubt_is_settled(rt: HostRuntime) -> Result<(), Fail> {
+fn a_doubtful_bind_is_settled(rt: HostRuntime) -> Result<(), Fail> {
     let alloc = rt.alloc();
     for (call, message) in [(0, TWO), (1, TWO), (2, TWO), (3, ONE)] {
         let journal = bind_again(&rt, alloc, call)?;
@@ -206,6 +271,38 @@ fn a_doubt_is_settled(rt: HostRuntime) -> Result<(), Fail> {
             [bound(1, message)].as_slice(),
             "call {call}"
         );
+    }
+    Ok(())
+}
+
+// Opens leaf 1 with one pair, which fails at a call, and then with another.
+fn open_again(rt: &impl Abort, alloc: Global, call: u8) -> Result<(), NoMemory> {
+    let mut disk = prepared(rt, alloc)?;
+    disk.fail_once(LOAD_CALLS + 4 + u64::from(call));
+    let mut journal = loaded(rt, alloc, disk);
+    assert_eq!(rt; journal.bind(1, &ONE), Ok(Entered::New));
+    let device = Err(JournalFault::Device);
+    assert_eq!(rt; open_one(&mut journal, &ONE, 0xCC, 0xDD), device);
+    let want = if call == 3 {
+        Err(JournalFault::OtherDigest {
+            c: value(0xCC),
+            digest: value(0xDD),
+        })
+    } else {
+        Ok(Entered::New)
+    };
+    assert_eq!(rt;
+        open_one(&mut journal, &ONE, 0xCE, 0xDE),
+        want,
+        "call {call}"
+    );
+    Ok(())
+}
+
+#[test]
+fn a_doubtful_opening_is_settled(rt: HostRuntime) -> Result<(), Fail> {
+    for call in 0..4 {
+        open_again(&rt, rt.alloc(), call)?;
     }
     Ok(())
 }

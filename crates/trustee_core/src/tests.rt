@@ -2,7 +2,7 @@
 
 ghost use Rattle.std.specs.Prelude.{◌≡◌, length, IfOk, IfSome, None};
 ghost use Rattle.trustee_core.specs.Grants.{ask_of};
-ghost use Rattle.trustee_core.specs.Trustee.{share_of};
+ghost use Rattle.trustee_core.specs.Trustee.{journal_header, share_of};
 
 use crate::{Grant, Refusal, Trustee, mask_count, release};
 use disk_trait::MemDisk;
@@ -23,6 +23,9 @@ const SHARE: [u8; 64] = [
     99, 100, 101, 102, 103, 104, 105, 106, 107, 108, 109, 110, 111,
 ];
 
+/// How many calls of the disk a load of 32 slots makes.
+const LOAD_CALLS: u64 = 35;
+
 /// The bytes of a journal of 32 slots.
 const ROOM: usize = 5248;
 
@@ -38,23 +41,43 @@ fn share(rt: &impl Abort) -> Share
     share
 }
 
-fn new_trustee(rt: &impl Abort, alloc: Global) -> Result<Trustee<MemDisk>, NoMemory>
-    ensures { IfOk result (λ trustee. (share_of trustee).params.n ≡ 32) }
+// A disk that holds the empty journal of the share's trustee.
+fn prepared(rt: &impl Abort, alloc: Global, share: &Share) -> Result<MemDisk, NoMemory> {
+    let mut disk = MemDisk::new(alloc, ROOM, usize::MAX)?;
+    assert_eq!(rt; prepare(&mut disk, &header(share), 32), Ok(()));
+    let bytes = disk.bytes();
+    assert!(rt; bytes.len() <= ROOM);
+    MemDisk::of_bytes(alloc, bytes, ROOM, usize::MAX)
+}
+
+// The header of the journal of the share's trustee.
+fn header(share: &Share) -> Header
+    ensures { result ≡ journal_header share.now }
 {
-    let share = share(rt);
-    let header = Header {
+    Header {
         version: 2,
         number: share.member,
         lms: share.params.lms,
         ots: share.params.ots,
         id: share.id,
-    };
-    let mut disk = MemDisk::new(alloc, ROOM, usize::MAX)?;
-    assert_eq!(rt; prepare(&mut disk, &header, 32), Ok(()));
-    match Journal::load(alloc, disk, &header, &share.params) {
-        Ok(journal) => Ok(Trustee::new(share, journal)),
-        Err((_, fault)) => panic!(rt; "load: {fault:?}"),
     }
+}
+
+fn trustee_on(rt: &impl Abort, alloc: Global, disk: MemDisk) -> Trustee<MemDisk>
+    ensures { (share_of result).params.n ≡ 32 }
+{
+    let share = share(rt);
+    match Journal::load(alloc, disk, &header(&share), &share.params) {
+        Ok(journal) => Trustee::new(share, journal),
+        Err((_, fault)) => panic!(rt; "load: {fault}"),
+    }
+}
+
+fn new_trustee(rt: &impl Abort, alloc: Global) -> Result<Trustee<MemDisk>, NoMemory>
+    ensures { IfOk result (λ trustee. (share_of trustee).params.n ≡ 32) }
+{
+    let disk = prepared(rt, alloc, &share(rt))?;
+    Ok(trustee_on(rt, alloc, disk))
 }
 
 // An ask of round one for a leaf of this dealing.
@@ -110,7 +133,7 @@ fn granted(rt: &impl Abort, trustee: &mut Trustee<MemDisk>, ask: &Ask) -> Grant
 {
     match trustee.decide(ask, 7) {
         Ok(grant) => grant,
-        Err(why) => panic!(rt; "refused: {why:?}"),
+        Err(why) => panic!(rt; "refused: {why}"),
     }
 }
 
@@ -181,7 +204,10 @@ fn a_grant_gives_the_masks_of_its_round(rt: HostRuntime) -> Result<(), Fail> {
     let abc = MessageId::of(b"abc");
     let grant = granted(&rt, &mut trustee, &first(&rt, 0, abc));
     assert_eq!(rt; mask_count(params, &grant), 1);
-    assert_eq!(rt; release(&share, &grant, 0), random_mask(key, params, id, 0));
+    let mask = release(&share, &grant, 0);
+    assert_eq!(rt; mask, random_mask(key, params, id, 0));
+    let again = granted(&rt, &mut trustee, &first(&rt, 0, abc));
+    assert_eq!(rt; release(&share, &again, 0), mask);
     let grant = granted(&rt, &mut trustee, &second(&rt, 0, abc, 0xCC, 0xCC));
     assert_eq!(rt; mask_count(params, &grant), 67);
     // 64 digits 13 fall short of 15 by 128, which is the checksum 0x0800 once it is shifted.
@@ -191,5 +217,46 @@ fn a_grant_gives_the_masks_of_its_round(rt: HostRuntime) -> Result<(), Fail> {
             assert_eq!(rt; mask, chain_mask(key, params, id, 0, i, digit));
         }
     }
+    Ok(())
+}
+
+// Asks for leaf 0 in round one over a disk that fails at a call, and then for another message.
+fn decide_failing(rt: &impl Abort, alloc: Global, call: u8) -> Result<(), NoMemory> {
+    let mut disk = prepared(rt, alloc, &share(rt))?;
+    disk.fail_once(LOAD_CALLS + u64::from(call));
+    let mut trustee = trustee_on(rt, alloc, disk);
+    let abc = first(rt, 0, MessageId::of(b"abc"));
+    refuses(rt, &mut trustee, &abc, Refusal::Device, 6);
+    let empty = first(rt, 0, MessageId::of(b""));
+    let want = if call == 3 {
+        Some(Refusal::Spent { kept: abc.message })
+    } else {
+        None
+    };
+    assert_eq!(rt; refusal(&mut trustee, &empty), want, "call {call}");
+    Ok(())
+}
+
+#[test]
+fn a_disk_that_fails_is_asked_again(rt: HostRuntime) -> Result<(), Fail> {
+    for call in 0..4 {
+        decide_failing(&rt, rt.alloc(), call)?;
+    }
+    Ok(())
+}
+
+// A trustee that is loaded from what an earlier life left goes on with that life.
+#[test]
+fn a_life_goes_on(rt: HostRuntime) -> Result<(), Fail> {
+    let mut trustee = new_trustee(&rt, rt.alloc())?;
+    let abc = first(&rt, 0, MessageId::of(b"abc"));
+    assert_eq!(rt; refusal(&mut trustee, &abc), None);
+    let mut again = trustee_on(&rt, rt.alloc(), trustee.end());
+    assert_eq!(rt; refusal(&mut again, &abc), None);
+    let empty = first(&rt, 0, MessageId::of(b""));
+    let spent = Refusal::Spent { kept: abc.message };
+    refuses(&rt, &mut again, &empty, spent, 9);
+    let text = "the leaf is bound to another message, of 3 bytes";
+    assert_eq!(rt; spent.to_string(rt.alloc())?.as_str(), text);
     Ok(())
 }
