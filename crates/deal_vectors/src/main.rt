@@ -163,5 +163,5 @@ fn main(rt: HostRuntime) -> io::Result<()> {
         }
     }
     print_readings(rt, &mut store)?;
-    memory::print_runs(rt)
+    memory::print_runs(&rt, rt)
 }

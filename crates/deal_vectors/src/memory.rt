@@ -2,6 +2,8 @@
 
 use std::alloc::AllocError;
 use std::io::{self, ErrorKind};
+use std::sync::Wait;
+use std::thread::Threads;
 use stream_io::{MemNet, MemSink, MemStore, StdoutSink, Store, write_whole};
 use tool_run::{MemClocks, run_tool};
 
@@ -35,13 +37,19 @@ fn dealing_store(rt: HostRuntime, length: usize, failing: &[u64]) -> Result<MemS
 }
 
 /// Runs the words over a store. It prints what was printed, the status, and the outputs that are in the store.
-fn print_run(rt: HostRuntime, text: &str, mut store: MemStore, room: usize) -> io::Result<()> {
+fn print_run<R: Threads + Wait + Sync>(
+    threads: &R,
+    rt: HostRuntime,
+    text: &str,
+    mut store: MemStore,
+    room: usize,
+) -> io::Result<()> {
     let words = crate::words_of(rt.alloc(), text)?;
     let Ok(mut out) = MemSink::new(rt.alloc(), room, 7, Vec::new(rt.alloc())) else {
         return Err(io::Error::from(ErrorKind::OutOfMemory));
     };
     let status = run_tool(
-        &rt,
+        threads,
         rt.alloc(),
         words.as_slice(),
         &mut store,
@@ -60,10 +68,11 @@ fn print_run(rt: HostRuntime, text: &str, mut store: MemStore, room: usize) -> i
 }
 
 /// Runs `rehearse` and `deal` with each failing call, with none, and with little room, and then what is refused.
-pub(crate) fn print_runs(rt: HostRuntime) -> io::Result<()> {
+pub(crate) fn print_runs<R: Threads + Wait + Sync>(threads: &R, rt: HostRuntime) -> io::Result<()> {
     // Two tests of names, two reads and two writes; the key is written before the signature.
     for call in 0..6 {
         print_run(
+            threads,
             rt,
             "rehearse e m k s",
             dealing_store(rt, 144, &[call])?,
@@ -73,13 +82,13 @@ pub(crate) fn print_runs(rt: HostRuntime) -> io::Result<()> {
     // A read, six tests of names and six writes.
     let deal = "deal e 10 5 3 2 a";
     for call in 0..13 {
-        print_run(rt, deal, dealing_store(rt, 176, &[call])?, 100)?;
+        print_run(threads, rt, deal, dealing_store(rt, 176, &[call])?, 100)?;
     }
     for room in [100, 5] {
-        print_run(rt, deal, dealing_store(rt, 176, &[])?, room)?;
+        print_run(threads, rt, deal, dealing_store(rt, 176, &[])?, room)?;
     }
     for (text, length) in REFUSED {
-        print_run(rt, text, dealing_store(rt, *length, &[])?, 100)?;
+        print_run(threads, rt, text, dealing_store(rt, *length, &[])?, 100)?;
     }
     Ok(())
 }

@@ -91,5 +91,5 @@ fn main(rt: HostRuntime) -> io::Result<()> {
         );
         println!(rt; "status {status}")?;
     }
-    memory::print_runs(rt)
+    memory::print_runs(&rt, rt)
 }

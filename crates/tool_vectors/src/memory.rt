@@ -3,6 +3,8 @@
 
 use std::alloc::AllocError;
 use std::io::{self, ErrorKind};
+use std::sync::Wait;
+use std::thread::Threads;
 use stream_io::{FileStore, MemNet, MemSink, MemStore, StdoutSink, Store, write_whole};
 use tool_run::{MemClocks, run_tool};
 
@@ -58,7 +60,13 @@ fn change(files: &mut Files, change: (usize, usize, u8, usize)) -> Result<(), Al
 
 /// Runs `verify k m s` over these files. The listed calls of the store fail, and the output has this much room. It
 /// prints what was printed, and the status.
-fn print_run(rt: HostRuntime, files: Files, failing: &[u64], room: usize) -> io::Result<()> {
+fn print_run<R: Threads + Wait + Sync>(
+    threads: &R,
+    rt: HostRuntime,
+    files: Files,
+    failing: &[u64],
+    room: usize,
+) -> io::Result<()> {
     let mut words = Vec::new(rt.alloc());
     for word in ["verify", "k", "m", "s"] {
         words.push(String::from_str(rt.alloc(), word)?)?;
@@ -68,7 +76,7 @@ fn print_run(rt: HostRuntime, files: Files, failing: &[u64], room: usize) -> io:
         return Err(io::Error::from(ErrorKind::OutOfMemory));
     };
     let status = run_tool(
-        &rt,
+        threads,
         rt.alloc(),
         words.as_slice(),
         &mut store,
@@ -81,23 +89,23 @@ fn print_run(rt: HostRuntime, files: Files, failing: &[u64], room: usize) -> io:
 }
 
 /// Runs `verify` over each change of the files, with each failing call, with files missing, and with little room.
-pub(crate) fn print_runs(rt: HostRuntime) -> io::Result<()> {
+pub(crate) fn print_runs<R: Threads + Wait + Sync>(threads: &R, rt: HostRuntime) -> io::Result<()> {
     for row in CHANGES {
         let mut files = vector(rt)?;
         change(&mut files, *row)?;
-        print_run(rt, files, &[], 100)?;
+        print_run(threads, rt, files, &[], 100)?;
     }
     for call in 0..3 {
-        print_run(rt, vector(rt)?, &[call], 100)?;
+        print_run(threads, rt, vector(rt)?, &[call], 100)?;
     }
     for count in 0..3 {
         let mut files = vector(rt)?;
         files.truncate(count);
-        print_run(rt, files, &[], 100)?;
+        print_run(threads, rt, files, &[], 100)?;
     }
     // With no room for the line the status is 3 in the place of 0, and any other as it is.
-    print_run(rt, vector(rt)?, &[], 10)?;
+    print_run(threads, rt, vector(rt)?, &[], 10)?;
     let mut files = vector(rt)?;
     change(&mut files, (0, 0, 0, 7))?;
-    print_run(rt, files, &[], 10)
+    print_run(threads, rt, files, &[], 10)
 }
