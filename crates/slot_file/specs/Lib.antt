@@ -1,5 +1,6 @@
 pub mod Copies
 pub mod Disks
+pub mod Doubts
 pub mod Files
 pub mod Fresh
 pub mod Gated

@@ -21,4 +21,8 @@ invariant_of-result g c =
           let was_told = sym call.stays.told ∙ told in
           let was_honest = sym call.stays.honest ∙ honest in
           subst (IsFile header count) (sym (c.in-Ok.ensures.stable was_honest was_told image leaves)) (file was_told);
+      stable = λ sure told honest image leaves.
+          let was_told = sym call.stays.told ∙ told in
+          let was_honest = sym call.stays.honest ∙ honest in
+          c.in-Ok.ensures.stable was_honest was_told image leaves ∙ sym (call.same was_told);
     }

@@ -1,0 +1,2 @@
+mod Files
+pub mod Held
