@@ -1,5 +1,7 @@
 -- What a disk in memory stands for, its calls, and what a crash leaves of it.
-use Rattle.std.specs.Prelude.{◌≡◌, ◌==◌, ◌&&◌, ◌||◌, ℕ, ◌+◌, ◌-◌, ◌^◌, ◌%◌, ◌≤◌, ◌<◌, min, Bool, true, false, not, if◌then◌else◌, nat_lt, nat_le, List, [], ◌∷◌, ◌++◌, length, take, drop, replicate, slice_index, slice_index_or, Option, None, Some, is_none}
+use Rattle.std.specs.Prelude.{◌≡◌, ◌==◌, ◌&&◌, ◌||◌, ℕ, ◌+◌, ◌-◌, ◌^◌, ◌%◌, ◌≤◌, ◌<◌, min, Bool, true, false, not}
+use Rattle.std.specs.Prelude.{if◌then◌else◌, nat_lt, nat_le, List, [], ◌∷◌, ◌++◌, length, take, drop, replicate}
+use Rattle.std.specs.Prelude.{slice_index, slice_index_or, Option, None, Some, is_none}
 use Rattle.disk_trait.specs.Images.{written}
 use Rattle.disk_trait.specs.Generator.{state_after, draw_of}
 
@@ -80,7 +82,10 @@ write_fails disk at n = sync_fails disk || not (has_room disk at n)
 
 -- after a call, of which it is said whether it failed
 abbrev pub called : Bool → MemState → MemState
-called failed disk = record disk { calls = counted disk.calls; faults = if failed then counted disk.faults else disk.faults }
+called failed disk = record disk {
+  calls = counted disk.calls;
+  faults = if failed then counted disk.faults else disk.faults;
+}
 
 -- after a write or a sync
 abbrev pub changed : Bool → MemState → MemState
@@ -109,7 +114,8 @@ with_stable disk = record (changed false disk) { stable = disk.bytes; pending = 
 pub record IsImage (bytes stable : List ℕ) (pending : List Bool) (image : List ℕ) : Type 0 where
   pub no_shorter : min (length stable) (length bytes) ≤ length image
   pub no_longer : length image ≤ length bytes
-  pub others : (k : ℕ) → k < length image → slice_index_or pending k true ≡ false → slice_index image k ≡ slice_index bytes k
+  pub others : (k : ℕ) → k < length image → slice_index_or pending k true ≡ false
+      → slice_index image k ≡ slice_index bytes k
 
 abbrev pub MayLeave : MemState → List ℕ → Type 0
 MayLeave disk image = IsImage disk.bytes disk.stable disk.pending image

@@ -4,4 +4,5 @@ use Rattle.std.proofs.Common.{arith}
 use Rattle.disk_trait.specs.MemDisk.{MemState, MayLeave}
 
 pub leaves_bytes : (disk : MemState) → IsTrue true → IsTrue true → MayLeave disk disk.bytes
-leaves_bytes disk honest told = record { no_shorter = omega arith; no_longer = omega arith; others = λ k within same. refl }
+leaves_bytes disk honest told =
+    record { no_shorter = omega arith; no_longer = omega arith; others = λ k within same. refl }

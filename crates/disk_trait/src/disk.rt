@@ -1,6 +1,7 @@
 //! Pages and disks: what their calls give, when they fail, and what a crash may leave.
 
-ghost use Rattle.std.specs.Prelude.{◌≡◌, ◌↔◌, ◌+◌, ◌≤◌, ℕ, Bool, false, List, length, take, drop, IsTrue, IsOk, IfOk, OnOk, OnErr};
+ghost use Rattle.std.specs.Prelude.{◌≡◌, ◌↔◌, ◌+◌, ◌≤◌, ℕ, Bool, false, List, length, take, drop, IsTrue, IsOk, IfOk};
+ghost use Rattle.std.specs.Prelude.{OnOk, OnErr};
 ghost use Rattle.disk_trait.specs.Faults.{HasCause};
 ghost use Rattle.disk_trait.specs.Images.{written, Torn, Follows, Only};
 

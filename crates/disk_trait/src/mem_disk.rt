@@ -1,9 +1,12 @@
 //! A disk in memory, which tells its content and keeps the model of crashes.
 
-ghost use Rattle.std.specs.Prelude.{◌≡◌, ◌≤◌, ◌+◌, ◌-◌, ◌^◌, ◌&&◌, true, false, nat_le, [], length, vec_len, take, drop, replicate, IfOk, IfErr, OnOk, Some, Err, Ok, if◌then◌else◌};
+ghost use Rattle.std.specs.Prelude.{◌≡◌, ◌≤◌, ◌+◌, ◌-◌, ◌^◌, ◌&&◌, true, false, nat_le, [], length, vec_len, take};
+ghost use Rattle.std.specs.Prelude.{drop, replicate, IfOk, IfErr, OnOk, Some, Err, Ok, if◌then◌else◌};
 ghost use Rattle.disk_trait.specs.Images.{written, Torn, Follows};
 ghost use Rattle.disk_trait.specs.MemDiskLaws.{leaves_bytes};
-ghost use Rattle.disk_trait.specs.MemDisk.{stable_disk, is_steady, is_listed, sync_fails, read_fails, has_room, write_fails, called, changed, with_written, with_named, with_stable, named, MayLeave, filled, crash_image};
+ghost use Rattle.disk_trait.specs.MemDisk.{stable_disk, is_steady, is_listed, sync_fails, read_fails, has_room};
+ghost use Rattle.disk_trait.specs.MemDisk.{write_fails, called, changed, with_written, with_named, with_stable, named};
+ghost use Rattle.disk_trait.specs.MemDisk.{MayLeave, filled, crash_image};
 
 use crate::{Disk, DiskFault, Faults, Generator, Pages};
 use memory::NoMemory;

@@ -1,6 +1,7 @@
 pub mod Bytes
 pub mod Digits
 pub mod FaultNumbers
+pub mod Hash
 pub mod HashLength
 pub mod IdHash
 pub mod MessageId

@@ -1,5 +1,6 @@
 -- The tables of parameter sets: RFC 8554, and SP 800-208 for the hash length of 24 bytes.
-use Rattle.std.specs.Prelude.{ℕ, Option, Some, None, ◌==◌, if◌then◌else◌}
+use Rattle.std.specs.Prelude.{ℕ, ◌+◌, ◌-◌, ◌*◌, ◌/◌, ◌^◌, ◌<◌, ◌≤◌, Option, Some, None, ◌==◌, if◌then◌else◌}
+use Rattle.lms_bytes.specs.HashLength.{IsHashLength, IsDigitWidth}
 use Rattle.lms_bytes.specs.declared.params.LmotsRow.{LmotsRow}
 use Rattle.lms_bytes.specs.declared.params.LmsRow.{LmsRow}
 
@@ -30,3 +31,15 @@ lms_row code =
     if code == 13 then Some (record { m = 24; h = 20 }) else
     if code == 14 then Some (record { m = 24; h = 25 }) else
     None
+
+-- the bounds that hold of every row of an LM-OTS typecode
+pub record LmotsBounds (code : ℕ) (row : LmotsRow) : Type 0 where
+  pub hash_length : IsHashLength row.n
+  pub digit_width : IsDigitWidth row.w
+  pub small : code ≤ 8
+  pub checksum_shift : row.ls ≤ 8
+  pub digest_digits : 8 * row.n / row.w ≤ row.p
+  pub checksum_digits : row.p * row.w ≤ 8 * row.n + 16
+  pub checksum_fits : 8 * row.n / row.w * (2 ^ row.w - 1) * 2 ^ row.ls < 2 ^ 16
+  pub chains_length : row.p * row.n ≤ 8480
+  pub digit_count : 2 ^ row.w ≤ 256

@@ -1,5 +1,6 @@
 -- How an LMS signature lies in bytes.
-use Rattle.std.specs.Prelude.{ℕ, ◌+◌, ◌*◌, ◌^◌, ◌<◌, ◌≡◌, List, ◌++◌, length, Option, Some, None, ◌==◌, nat_lt, if◌then◌else◌}
+use Rattle.std.specs.Prelude.{ℕ, ◌+◌, ◌*◌, ◌^◌, ◌<◌, ◌≡◌, ◌==◌, nat_lt, if◌then◌else◌}
+use Rattle.std.specs.Prelude.{List, ◌++◌, length, Option, Some, None}
 use Rattle.lms_bytes.specs.Bytes.{u32str, str_to_u32, bytes_at}
 use Rattle.lms_bytes.specs.declared.params.Params.{Params}
 use Rattle.lms_bytes.specs.declared.faults.SigFault.{SigFault}

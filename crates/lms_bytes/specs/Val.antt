@@ -15,5 +15,6 @@ IsFilled v = (length v.bytes ≡ 32) × IsHashLength v.length × (drop v.length 
 pub filled-view : (v : Inside) → IsFilled v → filled (take v.length v.bytes) ≡ v
 filled-view v kept =
     let len : length (take v.length v.bytes) ≡ v.length = grind (arith, length-take) in
-    let bytes : take v.length v.bytes ++ replicate (32 - v.length) 0 ≡ v.bytes = rw (← kept.2) (take-append-drop v.length v.bytes) in
+    let bytes : take v.length v.bytes ++ replicate (32 - v.length) 0 ≡ v.bytes =
+    rw (← kept.2) (take-append-drop v.length v.bytes) in
     rw (len, bytes) refl

@@ -2,7 +2,7 @@
 
 ghost use Rattle.std.specs.Prelude.{◌≡◌, ℕ, ◌+◌, ◌-◌, ◌*◌, ◌/◌, ◌^◌, ◌<◌, ◌≤◌, Some, None, IfSome, IfOk, IfErr};
 ghost use Rattle.lms_bytes.specs.HashLength.{IsHashLength, IsHashLength-prop, IsDigitWidth, IsDigitWidth-prop};
-ghost use Rattle.lms_bytes.specs.ParameterSets.{lmots_row, lms_row};
+ghost use Rattle.lms_bytes.specs.ParameterSets.{LmotsBounds, lmots_row, lms_row};
 
 use crate::faults::KeyFault;
 
@@ -66,15 +66,7 @@ pub struct Params {
 #[tactic(auto, unfolding(crate::specs::ParameterSets::lmots_row))]
 fn find_lmots_row(code: u32) -> Option<LmotsRow>
     ensures row { result ≡ lmots_row code }
-    ensures hash_length { IfSome result (λ r. IsHashLength r.n) }
-    ensures digit_width { IfSome result (λ r. IsDigitWidth r.w) }
-    ensures small { IfSome result (λ _. code ≤ 8) }
-    ensures checksum_shift { IfSome result (λ r. r.ls ≤ 8) }
-    ensures digest_digits { IfSome result (λ r. 8 * r.n / r.w ≤ r.p) }
-    ensures checksum_digits { IfSome result (λ r. r.p * r.w ≤ 8 * r.n + 16) }
-    ensures checksum_fits { IfSome result (λ r. 8 * r.n / r.w * (2 ^ r.w - 1) * 2 ^ r.ls < 2 ^ 16) }
-    ensures chains_length { IfSome result (λ r. r.p * r.n ≤ 8480) }
-    ensures digit_count { IfSome result (λ r. 2 ^ r.w ≤ 256) }
+    ensures bounds { IfSome result (LmotsBounds code) }
 {
     let (n, w, p, ls) = match code {
         1 => (32, 1, 265, 7),

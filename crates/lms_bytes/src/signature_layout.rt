@@ -1,6 +1,7 @@
 //! How LMS signatures are read and written.
 
-ghost use Rattle.std.specs.Prelude.{◌≡◌, ◌+◌, ◌*◌, ◌^◌, ◌<◌, ◌≤◌, ℕ, List, length, take, drop, None, IfNone, IfOk, OnOk, IfErr, IsOkAnd};
+ghost use Rattle.std.specs.Prelude.{◌≡◌, ◌+◌, ◌*◌, ◌^◌, ◌<◌, ◌≤◌, ℕ, List, length, take, drop};
+ghost use Rattle.std.specs.Prelude.{None, IfNone, IfOk, OnOk, IfErr, IsOkAnd};
 ghost use Rattle.lms_bytes.specs.Bytes.{u32str, str_to_u32, bytes_at};
 ghost use Rattle.lms_bytes.specs.Signature.{HasLayout, signature_bytes, signature_fault, signature_length, tree_place};
 

@@ -82,7 +82,7 @@ fn a_public_key_is_read_as_it_is_written(rt: HostRuntime) {
     let key = PublicKey {
         params,
         id: [0x11; 16],
-        root: Val::of(&[0x22; 32][..params.n as usize]),
+        root: Val::cut(&[0x22; 32], params.n),
     };
     let mut bytes = [0x33; 56];
     assert_eq!(rt; write_public(&key, &mut bytes), 48);

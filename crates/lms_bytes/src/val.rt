@@ -64,6 +64,15 @@ impl Val {
         }
     }
 
+    /// The first `n` bytes of a digest.
+    pub fn cut(digest: &[u8; 32], n: u8) -> Val
+        requires { IsHashLength n }
+        ensures bytes { result ≡ take n digest.now }
+        ensures length { length result ≡ n }
+    {
+        Val::of(&digest[..n as usize])
+    }
+
     /// Its bytes.
     pub fn bytes(&self) -> &[u8]
         ensures bytes { result.now ≡ self.now }
@@ -87,6 +96,7 @@ impl Val {
     }
 }
 
+/// Writes each byte of `left` XOR the byte of `right` at its place.
 fn write_xor(left: &[u8], right: &[u8], out: &mut [u8])
     requires others { length left.now ≡ length right.now }
     requires room { length left.now ≡ length out.old }

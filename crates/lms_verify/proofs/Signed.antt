@@ -1,25 +1,25 @@
 -- The signature of an undivided key leads to its root.
-use Rattle.std.proofs.Common.{◌≡◌, ℕ, zero, suc, ◌+◌, ◌-◌, ◌*◌, ◌^◌, ◌<◌, ◌≤◌, List, ◌++◌, length, refl, sym, ap, ◌∙◌, arith}
+use Rattle.std.proofs.Common.{◌≡◌, ℕ, zero, suc, ◌+◌, ◌-◌, ◌*◌, ◌^◌, ◌<◌, ◌≤◌, List, ◌++◌, length, refl, ap, ◌∙◌, arith}
 use Rattle.std.proofs.lemmas.Nat.{pow_pos}
 use Rattle.lms_bytes.specs.Bytes.{bytes_at, joined, u16str, u32str}
 use Rattle.lms_bytes.specs.Digits.{digit_of}
 use Rattle.lms_bytes.specs.declared.params.Params.{Params}
 use Rattle.ots_chain.specs.Chains.{steps}
-use Rattle.ots_chain.specs.Hash.{hash}
+use Rattle.lms_bytes.specs.Hash.{hash}
 use Rattle.ots_chain.specs.LeafKey.{candidate_leaf_key}
-use Rattle.ots_chain.specs.declared.TheConstants.{D_PBLC}
 use Rattle.ots_chain.specs.MessageHash.{message_digest}
 use Rattle.merkle_path.specs.Nodes.{candidate_root, path, sibling}
 use Rattle.merkle_path.proofs.Climb.{candidate_root-path}
-use Rattle.merkle_path.proofs.Joined.{joined_at, joined_same, length-joined}
-use Rattle.merkle_path.proofs.Lengths.{length-cut, length-node}
+use Rattle.lms_bytes.proofs.Joined.{joined-at, joined-same, length-joined}
+use Rattle.lms_bytes.proofs.Lengths.{length-hash}
+use Rattle.merkle_path.proofs.Lengths.{length-node}
 use Rattle.lms_verify.specs.Accepts.{AcceptsAt}
 use Rattle.lms_verify.specs.UndividedKey.{UndividedKey, chain_values, leaf_key, public_key_of, rfc_signature, secret}
 
 length-steps : (params : Params) (id : List ℕ) (q i from count : ℕ) (x : List ℕ) → length x ≡ params.n → length (steps params id q i from count x) ≡ params.n
 unfolding steps
 length-steps params id q i from zero x size = size
-length-steps params id q i from (suc count) x size = length-cut params.n _ params.hash_length
+length-steps params id q i from (suc count) x size = length-hash params _
 
 -- a chain goes on where it stopped
 steps-steps : (params : Params) (id : List ℕ) (q i done more : ℕ) (x : List ℕ)
@@ -42,10 +42,10 @@ ends_from : (params : Params) (id : List ℕ) (q most count : ℕ) (digit : ℕ 
 ends_from params id q most count digit x small size =
     let value : ℕ → List ℕ = λ k. steps params id q k 0 (digit k) (x k) in
     let value_size : (k : ℕ) → length (value k) ≡ params.n = λ k. length-steps params id q k 0 (digit k) (x k) (size k) in
-    joined_same (λ i. steps params id q i (digit i) (most - digit i) (bytes_at (joined value count) (params.n * i) params.n)) (λ i. steps params id q i 0 most (x i)) count
+    joined-same (λ i. steps params id q i (digit i) (most - digit i) (bytes_at (joined value count) (params.n * i) params.n)) (λ i. steps params id q i 0 most (x i)) count
     (λ i below.
     let found : bytes_at (joined value count) (params.n * i) params.n ≡ value i =
-    joined_at value count i (params.n * i) params.n below (sym (length-joined value params.n i (λ k _. value_size k))) (sym (value_size i)) in
+    joined-at value params.n count i (λ k _. value_size k) below in
     let all : digit i + (most - digit i) ≡ most = omega (arith, small i) in
     rw found (rw all at (steps-steps params id q i (digit i) (most - digit i) (x i))))
 
@@ -54,12 +54,12 @@ candidate_leaf_key-chain_values : (key : UndividedKey) (q : ℕ) (digest : List 
     → candidate_leaf_key key.params key.id q digest (chain_values key q digest) ≡ leaf_key key q
 candidate_leaf_key-chain_values key q digest =
     let params = key.params in
-    let ends = ends_from params key.id q (2 ^ params.w - 1) params.p (digit_of params digest) (secret key q) (digit-le params digest) (λ i. length-cut params.n _ params.hash_length) in
-    ap (λ (t : List ℕ). hash params.n (key.id ++ u32str q ++ u16str D_PBLC ++ t)) ends
+    let ends = ends_from params key.id q (2 ^ params.w - 1) params.p (digit_of params digest) (secret key q) (digit-le params digest) (λ i. length-hash params _) in
+    ap (λ (t : List ℕ). hash params.n (key.id ++ u32str q ++ u16str 0x8080 ++ t)) ends
 
 length-chain_values : (key : UndividedKey) (q : ℕ) (digest : List ℕ) → length (chain_values key q digest) ≡ key.params.n * key.params.p
 length-chain_values key q digest =
-    length-joined _ key.params.n key.params.p (λ i _. length-steps key.params key.id q i 0 (digit_of key.params digest i) (secret key q i) (length-cut key.params.n _ key.params.hash_length))
+    length-joined _ key.params.n key.params.p (λ i _. length-steps key.params key.id q i 0 (digit_of key.params digest i) (secret key q i) (length-hash key.params _))
 
 length-path : (params : Params) (id : List ℕ) (key : ℕ → List ℕ) (q : ℕ) → length (path params id key q) ≡ params.n * params.h
 length-path params id key q = length-joined _ params.n params.h (λ level _. length-node params id key level (sibling params.h q level))

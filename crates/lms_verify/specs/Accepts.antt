@@ -24,7 +24,3 @@ pub record LeadsTo (key : PublicKey) (message signature : List ℕ) (q : ℕ) (r
 -- the signature is accepted for the message under the key, and leaf q signed (RFC 8554 section 5.4.2, Algorithm 6)
 abbrev pub AcceptsAt : PublicKey → List ℕ → List ℕ → ℕ → Type 0
 AcceptsAt key message signature q = LeadsTo key message signature q key.root
-
--- the signature is accepted for the message under the key
-abbrev pub Accepts : PublicKey → List ℕ → List ℕ → Type 0
-Accepts key message signature = (q : ℕ) × AcceptsAt key message signature q

@@ -106,25 +106,12 @@ fn put_chains(rt: &impl Abort, key: &PublicKey, seed: &Val, c: &Val, out: &mut [
     requires seed { length seed.now ≡ key.now.params.n }
     requires c { length c.now ≡ key.now.params.n }
 {
-    let mut hash = MessageHash::new(&key.params, &key.id, 14, c);
-    hash.update(&MESSAGE);
-    let digest = hash.finish();
-    assert_eq!(rt; digest.bytes().len(), 24);
+    let digest = MessageHash::of(&key.params, &key.id, 14, c, &MESSAGE);
     for i in 0..key.params.p {
         let start = secret(&key.params, &key.id, 14, i, seed);
         let to = digit(&key.params, &digest, i) as u16;
         let value = chain(&key.params, &key.id, 14, i, 0, to, &start);
         put(out, 24 * i as usize, value.bytes());
-    }
-}
-
-/// Writes the path of leaf 14.
-fn put_path(tree: &Tree, out: &mut [u8; 120])
-    requires n { tree.now.n ≡ 24 }
-    requires h { tree.now.h ≡ 5 }
-{
-    for level in 0..5 {
-        put(out, 24 * level as usize, tree.path(14, level).bytes());
     }
 }
 
@@ -138,7 +125,7 @@ fn a_whole_key_makes_the_signature(rt: HostRuntime) -> Result<(), Fail> {
     let mut chains = [0; 624];
     put_chains(&rt, &key, &seed, &c, &mut chains);
     let mut path = [0; 120];
-    put_path(&tree, &mut path);
+    tree.write_path(14, &mut path);
     let mut bytes = [0; 780];
     write_layout(&key.params, 14, &c, &chains, &path, &mut bytes);
     assert!(rt; bytes == SIGNATURE);

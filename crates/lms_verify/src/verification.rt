@@ -4,12 +4,12 @@ ghost use Rattle.std.specs.Prelude.{◌≡◌, ◌*◌, ◌^◌, ◌<◌, ℕ, S
 ghost use Rattle.lms_bytes.specs.Signature.{signature_fault};
 ghost use Rattle.lms_bytes.specs.declared.faults.SigFault.{SigFault};
 ghost use Rattle.lms_verify.specs.Accepts.{AcceptsAt, root_of_parts};
-ghost use Rattle.ots_chain.specs.MessageHash.{message_digest};
 ghost use Rattle.lms_verify.specs.Verdict.{IsVerdict};
 
 use lms_bytes::{PublicKey, SigFault, SigView, Val, read_signature};
 use merkle_path::root_from;
 use ots_chain::{MessageHash, leaf_key_from};
+use std::fmt::{self, Display, Formatter, Write};
 
 /// What verification says of a message and a signature.
 #[derive(Clone, Copy, Debug, PartialEq, Eq)]
@@ -22,11 +22,25 @@ pub enum Verdict {
     OtherRoot { got: Val, want: Val },
 }
 
+impl Display for Verdict {
+    fn fmt<W: Write>(&self, f: &mut Formatter<W>) -> fmt::Result {
+        match self {
+            Verdict::Accepted { leaf } => write!(f, "accepted: leaf {leaf} signed"),
+            Verdict::Malformed(fault) => write!(f, "no signature of the key's set: {fault}"),
+            Verdict::OtherRoot { .. } => write!(
+                f,
+                "the signature leads to another root than the key's"
+            ),
+        }
+    }
+}
+
 /// Verifies a signature that is all of `sig` (RFC 8554 section 5.4.2, Algorithm 6). It takes no memory.
 pub fn verify(key: &PublicKey, message: &[u8], sig: &[u8]) -> Verdict
     ensures verdict { IsVerdict key.now message.now sig.now result }
     ensures accepted { (q : ℕ) → AcceptsAt key.now message.now sig.now q → result ≡ Verdict.Accepted q }
-    ensures malformed { (fault : SigFault) → signature_fault key.now.params sig.now ≡ Some fault → result ≡ Verdict.Malformed fault }
+    ensures malformed { (fault : SigFault)
+        → signature_fault key.now.params sig.now ≡ Some fault → result ≡ Verdict.Malformed fault }
 {
     let view = match read_signature(&key.params, sig) {
         Ok(view) => view,
@@ -49,21 +63,11 @@ fn candidate_root_of(key: &PublicKey, message: &[u8], view: &SigView) -> Val
     requires c { length view.now.c.now ≡ key.now.params.n }
     requires chains { length view.now.chains.now ≡ key.now.params.n * key.now.params.p }
     requires path { length view.now.path.now ≡ key.now.params.n * key.now.params.h }
-    ensures { result ≡ root_of_parts key.now message.now view.now.leaf view.now.c.now view.now.chains.now view.now.path.now }
-{
-    let digest = digest_of(key, message, view);
-    let leaf_key = leaf_key_from(&key.params, &key.id, view.leaf, &digest, view.chains);
-    root_from(&key.params, &key.id, view.leaf, &leaf_key, view.path)
-}
-
-/// The digest of the message under the signature's randomizer.
-fn digest_of(key: &PublicKey, message: &[u8], view: &SigView) -> Val
-    requires { length view.now.c.now ≡ key.now.params.n }
-    ensures digest { result ≡ message_digest key.now.params key.now.id view.now.leaf view.now.c.now message.now }
-    ensures length { length result ≡ key.now.params.n }
+    ensures { result ≡ root_of_parts key.now message.now
+        view.now.leaf view.now.c.now view.now.chains.now view.now.path.now }
 {
     let c = Val::of(view.c);
-    let mut hash = MessageHash::new(&key.params, &key.id, view.leaf, &c);
-    hash.update(message);
-    hash.finish()
+    let digest = MessageHash::of(&key.params, &key.id, view.leaf, &c, message);
+    let leaf_key = leaf_key_from(&key.params, &key.id, view.leaf, &digest, view.chains);
+    root_from(&key.params, &key.id, view.leaf, &leaf_key, view.path)
 }

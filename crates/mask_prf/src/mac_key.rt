@@ -69,7 +69,7 @@ impl MacKey {
     {
         let [high, low] = i.to_be_bytes();
         let mac = self.hmac(&text_of_leaf(CHAIN_MASK, id, q), &[high, low, j]);
-        cut(&mac, params)
+        Val::cut(&mac, params.n)
     }
 
     /// The mask of the randomizer of leaf `q`, `n` bytes.
@@ -79,7 +79,7 @@ impl MacKey {
         ensures length { length result ≡ params.now.n }
     {
         let mac = self.hmac(&text_of_leaf(RANDOM_MASK, id, q), &[]);
-        cut(&mac, params)
+        Val::cut(&mac, params.n)
     }
 
     /// The check tag of the randomizer `c` of leaf `q`.
@@ -97,7 +97,7 @@ impl MacKey {
         ensures length { length result ≡ params.now.n }
     {
         let mac = self.hmac(&text_of_leaf(RANDOMIZER, id, q), &[]);
-        cut(&mac, params)
+        Val::cut(&mac, params.n)
     }
 }
 
@@ -110,12 +110,4 @@ fn text_of_leaf(kind: u8, id: &KeyId, q: u32) -> [u8; 21]
     put(&mut text, 1, id);
     put(&mut text, 17, &q.to_be_bytes());
     text
-}
-
-/// The first `n` bytes of a MAC.
-fn cut(mac: &[u8; 32], params: &Params) -> Val
-    ensures bytes { result ≡ take params.now.n mac.now }
-    ensures length { length result ≡ params.now.n }
-{
-    Val::of(&mac[..params.n as usize])
 }

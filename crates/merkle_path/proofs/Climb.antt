@@ -1,5 +1,5 @@
 -- From a leaf along its path to the root.
-use Rattle.std.proofs.Common.{◌≡◌, ℕ, zero, suc, ◌+◌, ◌-◌, ◌*◌, ◌/◌, ◌%◌, ◌^◌, ◌<◌, ◌≤◌, ◌==◌, true, false, List, refl, sym, ap, ◌∙◌, inl, inr, add-one, arith}
+use Rattle.std.proofs.Common.{◌≡◌, ℕ, zero, suc, ◌+◌, ◌-◌, ◌*◌, ◌/◌, ◌%◌, ◌^◌, ◌<◌, ◌≤◌, ◌==◌, true, false, List, refl, ap, ◌∙◌, inl, inr, add-one, arith}
 use Rattle.std.specs.Int.Bits.{bit_xor}
 use Rattle.std.proofs.lemmas.Bool.{cases_lt}
 use Rattle.std.proofs.lemmas.Bool.Decides.{nat_tests}
@@ -8,7 +8,7 @@ use Rattle.lms_bytes.specs.Bytes.{bytes_at}
 use Rattle.lms_bytes.specs.declared.params.Params.{Params}
 use Rattle.merkle_path.specs.Nodes.{node, parent_node, path, root, sibling, candidate_node, candidate_root}
 use Rattle.merkle_path.proofs.Levels.{halved, candidate_leaf, candidate_above}
-use Rattle.merkle_path.proofs.Joined.{joined_at, length-joined}
+use Rattle.lms_bytes.proofs.Joined.{joined-at}
 use Rattle.merkle_path.proofs.Lengths.{length-node}
 use Rattle.merkle_path.proofs.Siblings.{sibling_is}
 
@@ -34,9 +34,8 @@ parent_node-node params id key level r =
 path_part : (params : Params) (id : List ℕ) (key : ℕ → List ℕ) (q level : ℕ) → level < params.h
     → bytes_at (path params id key q) (params.n * level) params.n ≡ node params id key level (sibling params.h q level)
 path_part params id key q level below =
-    joined_at (λ k. node params id key k (sibling params.h q k)) params.h level (params.n * level) params.n below
-    (sym (length-joined (λ k. node params id key k (sibling params.h q k)) params.n level (λ k _. length-node params id key k (sibling params.h q k))))
-    (sym (length-node params id key level (sibling params.h q level)))
+    joined-at (λ k. node params id key k (sibling params.h q k)) params.n params.h level
+    (λ k _. length-node params id key k (sibling params.h q k)) below
 
 at_leaf : (params : Params) (id : List ℕ) (key : ℕ → List ℕ) (q : ℕ)
     → candidate_node params id q (key q) (path params id key q) 0 ≡ node params id key 0 ((2 ^ params.h + q) / 2 ^ 0)

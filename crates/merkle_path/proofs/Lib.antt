@@ -1,5 +1,4 @@
 pub mod Climb
-pub mod Joined
 pub mod Lengths
 pub mod Levels
 pub mod Rows

@@ -3,14 +3,14 @@ use Rattle.std.proofs.Common.{◌≡◌, ℕ, zero, suc, ◌+◌, ◌-◌, ◌*�
 use Rattle.std.proofs.lemmas.Bool.{cases_lt}
 use Rattle.std.proofs.lemmas.List.{take_all}
 use Rattle.std.proofs.lemmas.Nat.{pow_pos}
-use Rattle.std.proofs.Math.Nat.{mul-add, pow-suc, pow-le-pow_right, mul-le-mul_left}
+use Rattle.std.proofs.Math.Nat.{mul-add, mul-suc, pow-suc, pow-le-pow_right, mul-le-mul_left}
 use Rattle.std.proofs.Math.Seq.{take-add}
 use Rattle.lms_bytes.specs.Bytes.{bytes_at, joined}
 use Rattle.lms_bytes.specs.declared.params.Params.{Params}
 use Rattle.lms_bytes.proofs.Parts.{deeper}
 use Rattle.merkle_path.specs.Nodes.{node, leaf_node, inner_node}
 use Rattle.merkle_path.specs.Tree.{row, tree_of}
-use Rattle.merkle_path.proofs.Joined.{next_place, joined_parts, joined-none, joined-more}
+use Rattle.lms_bytes.proofs.Joined.{joined-parts, joined-none, joined-more}
 
 -- the nodes from node r on are in place
 pub record HasNodes (params : Params) (id : List ℕ) (key : ℕ → List ℕ) (nodes : List ℕ) (r : ℕ) : Type 0 where
@@ -24,7 +24,7 @@ pub grown : (a b : ℕ) → a ≤ b → 2 ^ a ≤ 2 ^ b
 grown a b h = pow-le-pow_right (omega arith) h
 
 place_next : (n r : ℕ) → 1 ≤ r → n * (r - 1) + n ≡ n * r
-place_next n r h = let k : suc (r - 1) ≡ r = omega arith in rw (← next_place n (r - 1), k) refl
+place_next n r h = let k : suc (r - 1) ≡ r = omega arith in rw (← mul-suc n (r - 1), k) refl
 
 place_below : (n r s : ℕ) → 1 ≤ r → r < s → n * (r - 1) + n ≤ n * (s - 1)
 place_below n r s h less =
@@ -91,7 +91,7 @@ whole_row params id key nodes all depth h =
     let level : params.h - (params.h - depth) ≡ depth = omega arith in
     let some = pow_pos depth in
     let next = double depth in
-    joined_parts _ params.n (params.n * (2 ^ depth - 1)) (2 ^ depth) nodes (λ i inside.
+    joined-parts _ params.n (params.n * (2 ^ depth - 1)) (2 ^ depth) nodes (λ i inside.
     rw (place_in params.n (2 ^ depth) i some) (all.node_is (params.h - depth) (2 ^ depth + i) (omega arith) (rw level (omega arith)) (rw level (omega arith)) (omega arith)))
 
 rows_to : (params : Params) (id : List ℕ) (key : ℕ → List ℕ) (nodes : List ℕ) → HasNodes params id key nodes 1 → (depth : ℕ) → depth ≤ params.h + 1

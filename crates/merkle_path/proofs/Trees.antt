@@ -2,12 +2,11 @@
 use Rattle.std.proofs.Common.{◌≡◌, ℕ, zero, suc, ◌+◌, ◌-◌, ◌*◌, ◌^◌, ◌<◌, ◌≤◌, List, length, take, drop, refl, sym, ◌∙◌, arith, length-append, add-one}
 use Rattle.std.proofs.lemmas.List.{drop-drop, drop-take, take-take}
 use Rattle.std.proofs.lemmas.Nat.{pow_pos}
-use Rattle.std.proofs.Math.Nat.{mul-le-mul_left}
 use Rattle.lms_bytes.specs.Bytes.{bytes_at, joined}
 use Rattle.lms_bytes.specs.declared.params.Params.{Params}
 use Rattle.merkle_path.specs.Nodes.{node, path, sibling}
 use Rattle.merkle_path.specs.Tree.{row, tree_of, node_at, path_at, path_node_at}
-use Rattle.merkle_path.proofs.Joined.{joined_at, joined_same, joined-none, joined-more, length-joined, next_place}
+use Rattle.lms_bytes.proofs.Joined.{joined-at, joined-lies, joined-same, joined-none, joined-more, length-joined, row-fits}
 use Rattle.merkle_path.proofs.Lengths.{length-node}
 use Rattle.merkle_path.proofs.Rows.{double, place_in, place_row}
 use Rattle.merkle_path.proofs.Siblings.{sibling_in_row}
@@ -40,13 +39,11 @@ node_in_row : (params : Params) (id : List ℕ) (key : ℕ → List ℕ) (depth 
 node_in_row params id key depth i h inside =
     let rows = joined (row params id key) (params.h + 1) in
     let level = params.h - depth in
-    let this_row = joined_at (row params id key) (params.h + 1) depth (params.n * (2 ^ depth - 1)) (params.n * 2 ^ depth) (omega arith)
+    let this_row = joined-lies (row params id key) (params.h + 1) depth (params.n * (2 ^ depth - 1)) (params.n * 2 ^ depth) (omega arith)
     (sym (length-rows params id key depth)) (sym (length-row params id key depth)) in
-    let this_node = joined_at (λ k. node params id key level (2 ^ depth + k)) (2 ^ depth) i (params.n * i) params.n inside
-    (sym (length-joined (λ k. node params id key level (2 ^ depth + k)) params.n i (λ k _. length-node params id key level (2 ^ depth + k))))
-    (sym (length-node params id key level (2 ^ depth + i))) in
-    let most : params.n * suc i ≤ params.n * 2 ^ depth = mul-le-mul_left params.n inside in
-    let fits : params.n * i + params.n ≤ params.n * 2 ^ depth = rw (← next_place params.n i) most in
+    let this_node = joined-at (λ k. node params id key level (2 ^ depth + k)) params.n (2 ^ depth) i
+    (λ k _. length-node params id key level (2 ^ depth + k)) inside in
+    let fits = row-fits params.n i (2 ^ depth) inside in
     let found = part_of_part rows (params.n * (2 ^ depth - 1)) (params.n * i) (params.n * 2 ^ depth) params.n fits in
     rw (← place_in params.n (2 ^ depth) i (pow_pos depth)) (sym found ∙ rw this_row this_node)
 
@@ -68,5 +65,5 @@ path_node_at-tree_of params id key q level leaf below =
 pub path_at-tree_of : (params : Params) (id : List ℕ) (key : ℕ → List ℕ) (q : ℕ) → q < 2 ^ params.h
     → path_at (tree_of params id key) q ≡ path params id key q
 path_at-tree_of params id key q leaf =
-    joined_same (path_node_at (tree_of params id key) q) (λ level. node params id key level (sibling params.h q level)) params.h
+    joined-same (path_node_at (tree_of params id key) q) (λ level. node params id key level (sibling params.h q level)) params.h
     (λ level below. path_node_at-tree_of params id key q level leaf below)

@@ -1,22 +1,22 @@
 -- The nodes of an LMS tree. Node 1 is the root, nodes 2r and 2r + 1 are below node r, and node 2^h + q is leaf q.
-use Rattle.std.specs.Prelude.{ℕ, zero, suc, ◌+◌, ◌-◌, ◌*◌, ◌/◌, ◌%◌, ◌^◌, ◌==◌, List, ◌++◌, take, bit_xor, if◌then◌else◌}
+use Rattle.std.specs.Prelude.{ℕ, zero, suc, ◌+◌, ◌-◌, ◌*◌, ◌/◌, ◌%◌, ◌^◌, ◌==◌, List, ◌++◌, bit_xor, if◌then◌else◌}
 use Rattle.lms_bytes.specs.Bytes.{u16str, u32str, bytes_at, joined}
 use Rattle.lms_bytes.specs.declared.params.Params.{Params}
-use Rattle.merkle_path.specs.declared.TheConstants.{D_LEAF, D_INTR}
-use Rattle.sha2.specs.Sha256.{sha256}
+use Rattle.lms_bytes.specs.Hash.{hash}
 
--- T[r] of a leaf with the public value K (RFC 8554 section 5.3)
+-- T[r] of a leaf with the public value K, behind D_LEAF (RFC 8554 sections 5.3 and 7.1)
 abbrev pub leaf_node : Params → List ℕ → ℕ → List ℕ → List ℕ
-leaf_node params id r key = take params.n (sha256 (id ++ u32str r ++ u16str D_LEAF ++ key))
+leaf_node params id r key = hash params.n (id ++ u32str r ++ u16str 0x8282 ++ key)
 
--- T[r] from the two nodes below it (RFC 8554 section 5.3)
+-- T[r] from the two nodes below it, behind D_INTR (RFC 8554 sections 5.3 and 7.1)
 abbrev pub inner_node : Params → List ℕ → ℕ → List ℕ → List ℕ → List ℕ
-inner_node params id r left right = take params.n (sha256 (id ++ u32str r ++ u16str D_INTR ++ left ++ right))
+inner_node params id r left right = hash params.n (id ++ u32str r ++ u16str 0x8383 ++ left ++ right)
 
 -- T[r], this many levels above the leaves, whose public values are key 0 to key (2^h - 1) (RFC 8554 section 5.3)
 unfoldable pub node : Params → List ℕ → (ℕ → List ℕ) → ℕ → ℕ → List ℕ
 node params id key zero r = leaf_node params id r (key (r - 2 ^ params.h))
-node params id key (suc level) r = inner_node params id r (node params id key level (2 * r)) (node params id key level (2 * r + 1))
+node params id key (suc level) r =
+    inner_node params id r (node params id key level (2 * r)) (node params id key level (2 * r + 1))
 
 -- T[1], from the public values of the leaves (RFC 8554 section 5.3)
 abbrev pub root : Params → List ℕ → (ℕ → List ℕ) → List ℕ
@@ -40,7 +40,8 @@ parent_node params id r value sibling =
 unfoldable pub candidate_node : Params → List ℕ → ℕ → List ℕ → List ℕ → ℕ → List ℕ
 candidate_node params id q key path zero = leaf_node params id (2 ^ params.h + q) key
 candidate_node params id q key path (suc level) =
-    parent_node params id ((2 ^ params.h + q) / 2 ^ level) (candidate_node params id q key path level) (bytes_at path (params.n * level) params.n)
+    let below = candidate_node params id q key path level in
+    parent_node params id ((2 ^ params.h + q) / 2 ^ level) below (bytes_at path (params.n * level) params.n)
 
 -- the candidate Tc for the root
 abbrev pub candidate_root : Params → List ℕ → ℕ → List ℕ → List ℕ → List ℕ

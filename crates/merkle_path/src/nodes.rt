@@ -18,8 +18,7 @@ pub(crate) fn hash_leaf(params: &Params, id: &KeyId, r: u32, key: &Val) -> Val
     hasher.update(r.to_be_bytes().as_slice());
     hasher.update(D_LEAF.to_be_bytes().as_slice());
     hasher.update(key.bytes());
-    let digest: [u8; 32] = hasher.finalize();
-    Val::of(&digest[..params.n as usize])
+    Val::cut(&hasher.finalize(), params.n)
 }
 
 /// Node `r` from the nodes below it.
@@ -33,8 +32,7 @@ pub(crate) fn hash_inner(params: &Params, id: &KeyId, r: u32, left: &Val, right:
     hasher.update(D_INTR.to_be_bytes().as_slice());
     hasher.update(left.bytes());
     hasher.update(right.bytes());
-    let digest: [u8; 32] = hasher.finalize();
-    Val::of(&digest[..params.n as usize])
+    Val::cut(&hasher.finalize(), params.n)
 }
 
 /// The node above node `r` and its sibling.

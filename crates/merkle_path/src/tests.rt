@@ -4,7 +4,6 @@ ghost use Rattle.std.specs.Prelude.{◌≡◌, All, length};
 ghost use Rattle.lms_bytes.specs.HashLength.{IsHashLength};
 
 use crate::{Tree, root_from};
-use lms_bytes::bytes::put;
 use lms_bytes::{KeyId, Params, Val};
 use memory::NoMemory;
 use std::process::Abort;
@@ -55,10 +54,9 @@ fn check_path(rt: &impl Abort, params: &Params, tree: &Tree)
     let n = params.n as usize;
     let mut path = [0; 160];
     for (level, r) in [(0, 42), (1, 20), (2, 11), (3, 4), (4, 3)] {
-        let node = tree.path(11, level);
-        assert_eq!(rt; node, tree.node(r), "level {level}");
-        put(&mut path, n * level as usize, node.bytes());
+        assert_eq!(rt; tree.path(11, level), tree.node(r), "level {level}");
     }
+    tree.write_path(11, &mut path[..5 * n]);
     let root = root_from(params, &ID, 11, &leaf_key(11, params.n), &path[..5 * n]);
     assert_eq!(rt; root, tree.root());
 }

@@ -4,7 +4,7 @@ ghost use Rattle.std.specs.Prelude.{◌≡◌, ℕ, ◌+◌, ◌-◌, ◌*◌, �
 ghost use Rattle.lms_bytes.specs.Bytes.{bytes_at};
 ghost use Rattle.lms_bytes.specs.HashLength.{IsHashLength};
 ghost use Rattle.merkle_path.specs.Nodes.{leaf_node, inner_node, root};
-ghost use Rattle.merkle_path.specs.Tree.{IsWhole, TreeNodes, node_at, path_node_at, tree_of};
+ghost use Rattle.merkle_path.specs.Tree.{IsWhole, TreeNodes, node_at, path_at, path_node_at, tree_of};
 
 use crate::nodes::{hash_inner, hash_leaf};
 use lms_bytes::bytes::{part, put};
@@ -99,6 +99,19 @@ impl Tree {
         self.node(above ^ 1)
     }
 
+    /// Writes path[0] to path[h - 1] of leaf `q` into `out`, `h` nodes of `n` bytes (RFC 8554 section 5.4).
+    pub fn write_path(&self, q: u32, out: &mut [u8])
+        requires leaf { q < 2 ^ self.now.h }
+        requires room { length out.old ≡ self.now.n * self.now.h }
+        ensures { out.new ≡ path_at self.now q }
+    {
+        let n = self.n as usize;
+        'levels: for level in 0..self.h {
+            let node = self.path(q, level);
+            put(out, n * level as usize, node.bytes());
+        }
+    }
+
     /// The number of leaves.
     fn leaves(&self) -> u32
         ensures number { result ≡ 2 ^ self.now.h }
@@ -131,9 +144,11 @@ fn node_from(params: &Params, id: &KeyId, keys: &[Val], nodes: &[u8], r: u32) ->
     requires room { length nodes.now ≡ params.now.n * (2 ^ (params.now.h + 1) - 1) }
     requires first { 1 ≤ r }
     requires last { r < 2 ^ (params.now.h + 1) }
-    ensures leaf { 2 ^ params.now.h ≤ r → result ≡ leaf_node params.now id.now r (slice_index_or keys.now (r - 2 ^ params.now.h) []) }
+    ensures leaf { 2 ^ params.now.h ≤ r
+        → result ≡ leaf_node params.now id.now r (slice_index_or keys.now (r - 2 ^ params.now.h) []) }
     ensures inner { r < 2 ^ params.now.h → result ≡ inner_node params.now id.now r
-        (bytes_at nodes.now (params.now.n * (2 * r - 1)) params.now.n) (bytes_at nodes.now (params.now.n * (2 * r)) params.now.n) }
+        (bytes_at nodes.now (params.now.n * (2 * r - 1)) params.now.n)
+        (bytes_at nodes.now (params.now.n * (2 * r)) params.now.n) }
     ensures length { length result ≡ params.now.n }
 {
     let leaves = params.leaves();

@@ -1,5 +1,5 @@
 -- How a chain goes on.
-use Rattle.std.proofs.Common.{◌≡◌, ℕ, zero, suc, ◌+◌, ◌-◌, ◌≤◌, List, refl, arith}
+use Rattle.std.proofs.Common.{◌≡◌, ℕ, suc, ◌+◌, ◌-◌, ◌≤◌, List, refl, arith}
 use Rattle.lms_bytes.specs.declared.params.Params.{Params}
 use Rattle.ots_chain.specs.Chains.{steps, step}
 

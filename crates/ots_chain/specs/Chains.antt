@@ -2,7 +2,7 @@
 use Rattle.std.specs.Prelude.{ℕ, zero, suc, ◌+◌, List, ◌++◌}
 use Rattle.lms_bytes.specs.Bytes.{u8str, u16str, u32str}
 use Rattle.lms_bytes.specs.declared.params.Params.{Params}
-use Rattle.ots_chain.specs.Hash.{hash}
+use Rattle.lms_bytes.specs.Hash.{hash}
 
 -- step j of chain i of leaf q (RFC 8554 section 4.3, Algorithm 1, step 4)
 abbrev pub step : Params → List ℕ → ℕ → ℕ → ℕ → List ℕ → List ℕ

@@ -3,13 +3,12 @@ use Rattle.std.specs.Prelude.{ℕ, ◌-◌, ◌*◌, ◌^◌, List, ◌++◌}
 use Rattle.lms_bytes.specs.Bytes.{u16str, u32str, bytes_at, joined}
 use Rattle.lms_bytes.specs.Digits.{digit_of}
 use Rattle.lms_bytes.specs.declared.params.Params.{Params}
-use Rattle.ots_chain.specs.Hash.{hash}
+use Rattle.lms_bytes.specs.Hash.{hash}
 use Rattle.ots_chain.specs.Chains.{steps, secret_of}
-use Rattle.ots_chain.specs.declared.TheConstants.{D_PBLC}
 
--- K from the ends of the p chains (RFC 8554 section 4.3, Algorithm 1, step 5)
+-- K from the ends of the p chains, behind D_PBLC (RFC 8554 section 4.3, Algorithm 1, step 5, and section 7.1)
 abbrev pub leaf_key_of_ends : Params → List ℕ → ℕ → (ℕ → List ℕ) → List ℕ
-leaf_key_of_ends params id q end = hash params.n (id ++ u32str q ++ u16str D_PBLC ++ joined end params.p)
+leaf_key_of_ends params id q end = hash params.n (id ++ u32str q ++ u16str 0x8080 ++ joined end params.p)
 
 -- K of a leaf whose secrets come from the seed (RFC 8554 section 4.3, Algorithm 1, and appendix A)
 abbrev pub seed_leaf_key : Params → List ℕ → ℕ → List ℕ → List ℕ

@@ -1,10 +1,9 @@
 //! The public values of leaves.
 
-ghost use Rattle.std.specs.Prelude.{◌≡◌, ℕ, ◌+◌, ◌-◌, ◌*◌, ◌<◌, ◌≤◌, ◌^◌, ◌++◌, length, take};
+ghost use Rattle.std.specs.Prelude.{◌≡◌, ℕ, ◌+◌, ◌-◌, ◌*◌, ◌<◌, ◌≤◌, ◌^◌, ◌++◌, length};
 ghost use Rattle.lms_bytes.specs.Bytes.{bytes_at, u16str, u32str};
 ghost use Rattle.lms_bytes.specs.HashLength.{IsHashLength};
 ghost use Rattle.ots_chain.specs.LeafKey.{seed_leaf_key, candidate_leaf_key};
-ghost use Rattle.ots_chain.specs.Hash.{hash};
 ghost use Rattle.sha2.specs.Hashers.{Holds256};
 
 use crate::D_PBLC;
@@ -25,7 +24,7 @@ pub fn leaf_key_of(params: &Params, id: &KeyId, q: u32, seed: &Val) -> Val
         let end = chain(params, id, q, i, 0, greatest, &start);
         hasher.update(end.bytes());
     }
-    cut(hasher.finalize(), params.n)
+    Val::cut(&hasher.finalize(), params.n)
 }
 
 /// The candidate K of leaf `q`, from a digest and the chain values of a signature, `p` values of `n` bytes
@@ -44,12 +43,12 @@ pub fn leaf_key_from(params: &Params, id: &KeyId, q: u32, digest: &Val, chains: 
         let end = chain(params, id, q, i, from, greatest, &start);
         hasher.update(end.bytes());
     }
-    cut(hasher.finalize(), params.n)
+    Val::cut(&hasher.finalize(), params.n)
 }
 
 /// A hasher that holds what stands before the ends of the chains.
 fn begin_leaf_key(id: &KeyId, q: u32) -> Sha256
-    ensures { Holds256 result (id.now ++ u32str q ++ u16str D_PBLC) }
+    ensures { Holds256 result (id.now ++ u32str q ++ u16str 0x8080) }
 {
     let mut hasher = Sha256::new();
     hasher.update(id.as_slice());
@@ -67,13 +66,4 @@ fn value_at(values: &[u8], n: u8, i: u16) -> Val
     let n = n as usize;
     let place = n * i as usize;
     Val::of(&values[place..place + n])
-}
-
-/// The first `n` bytes of a digest.
-fn cut(digest: [u8; 32], n: u8) -> Val
-    requires { IsHashLength n }
-    ensures bytes { result ≡ take n digest }
-    ensures length { length result ≡ n }
-{
-    Val::of(&digest[..n as usize])
 }

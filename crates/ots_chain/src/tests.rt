@@ -32,20 +32,26 @@ fn values_of(params: &Params) -> [u64; 5] {
     let seed = ramp(0x20, params.n);
     let last = params.p - 1;
     let greatest = params.greatest_digit();
-    let mut hash = MessageHash::new(params, &ID, 5, &ramp(0x40, params.n));
-    for piece in [b"one".as_slice(), b"", b" and", b" two"] {
-        hash.update(piece);
-    }
+    let c = ramp(0x40, params.n);
     let digest = ramp(0x60, params.n);
     let chains = [0x5a; 8480];
     let chains_length = params.n as usize * params.p as usize;
     [
         front(&secret(params, &ID, 5, last, &seed)),
         front(&chain(params, &ID, 5, last, greatest / 2, greatest, &seed)),
-        front(&hash.finish()),
+        front(&MessageHash::of(params, &ID, 5, &c, b"one and two")),
         front(&leaf_key_of(params, &ID, 5, &seed)),
         front(&leaf_key_from(params, &ID, 5, &digest, &chains[..chains_length])),
     ]
+}
+
+/// The digest of the message of `values_of`, taken in pieces.
+fn digest_in_pieces(params: &Params) -> u64 {
+    let mut hash = MessageHash::new(params, &ID, 5, &ramp(0x40, params.n));
+    for piece in [b"one".as_slice(), b"", b" and", b" two"] {
+        hash.update(piece);
+    }
+    front(&hash.finish())
 }
 
 /// The typecodes of a set, and what `values_of` gives of it, by another implementation.
@@ -145,5 +151,6 @@ fn values_are_those_of_another_implementation(rt: HostRuntime) {
     for (lms, ots, want) in SETS {
         let params = Params::of_codes(lms, ots).expect(&rt, "typecodes");
         assert_eq!(rt; values_of(&params), want, "{lms} {ots}");
+        assert_eq!(rt; digest_in_pieces(&params), want[2], "{lms} {ots}");
     }
 }

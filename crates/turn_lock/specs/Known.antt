@@ -1,5 +1,6 @@
 -- What a seat at a lock's table knows, and what each step makes of it.
-use Rattle.std.specs.Prelude.{◌≡◌, ℕ, ◌+◌, ◌-◌, ◌^◌, ◌<◌, max, Bool, true, false, List, [], ◌∷◌, ◌++◌, length, drop, Option, Some, None, nat_lt, nat_le, if◌then◌else◌}
+use Rattle.std.specs.Prelude.{◌≡◌, ℕ, ◌+◌, ◌-◌, ◌^◌, ◌<◌, max, Bool, true, false, List, [], ◌∷◌, ◌++◌, length, drop}
+use Rattle.std.specs.Prelude.{Option, Some, None, nat_lt, nat_le, if◌then◌else◌}
 use Rattle.atomic_table.specs.Seated.{TableId}
 use Rattle.atomic_table.specs.Table.{Me}
 use Rattle.turn_lock.specs.Lock.{Lock}
@@ -11,7 +12,8 @@ use Rattle.turn_lock.specs.declared.view.Stage.TheVariants.{Idle, Waiting, Holdi
 
 -- what a lock is made with, by what its value means
 abbrev pub opening_of : {T E N : Type 0} → (T → List E) → (T → ℕ) → (T → N) → T → ℕ → ℕ → Opening E N
-opening_of entries number name value first passes = record { entries = entries value; number = number value; name = Some (name value); first = first; passes = passes }
+opening_of entries number name value first passes =
+    record { entries = entries value; number = number value; name = Some (name value); first = first; passes = passes }
 
 -- the shorter of two logs
 abbrev pub shorter_of : {E : Type 0} → List E → List E → List E
@@ -84,7 +86,11 @@ module _ {E N : Type 0} where
 
   -- the seat that drew this ticket
   abbrev pub drawn_by : Known E N → ℕ → Known E N
-  drawn_by d t = record d { draws = d.draws + 1; greatest = max d.greatest t; stage = if nat_lt t (2 ^ 62) then Waiting t else Idle }
+  drawn_by d t = record d {
+    draws = d.draws + 1;
+    greatest = max d.greatest t;
+    stage = if nat_lt t (2 ^ 62) then Waiting t else Idle;
+  }
 
   -- the seat with the turn of this ticket, over a value with these entries and this number
   abbrev pub holding : Known E N → ℕ → List E → ℕ → Known E N

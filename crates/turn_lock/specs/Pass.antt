@@ -2,7 +2,8 @@
 use Rattle.std.specs.Prelude.{◌≡◌, ℕ, ◌+◌, ◌<◌, Bool, false, List, [], length, count_by, Option, nat_lt, if◌then◌else◌}
 use Rattle.turn_lock.specs.Lock.{Lock}
 
--- A pass: its lock, the seven parts of what it has seen, how many passes are joined in it, and whether it holds the turn.
+-- A pass: its lock, the seven parts of what it has seen, how many passes are joined in it, and whether it holds the
+-- turn.
 -- log: the longest list of entries that it saw; floor: the greatest number that it saw
 -- rises: by how much the number rose in its turns; draws: how many tickets it drew
 -- own: the entries that its turns added; greatest: the greatest ticket that it drew, and 0 before the first
@@ -52,4 +53,5 @@ module _ {E N : Type 0} where
     -- the number rose in turns alone
     pub rises : pass.floor ≡ pass.lock.opening_number + pass.rises
     -- each entry stands in the log as often as in the first list and the own entries together
-    pub entries : (test : E → Bool) → count_by test pass.log ≡ count_by test pass.lock.opening_log + count_by test pass.own
+    pub entries : (test : E → Bool)
+        → count_by test pass.log ≡ count_by test pass.lock.opening_log + count_by test pass.own

@@ -13,15 +13,18 @@ pub record KnowsAll {E N : Type 0} (d : Known E N) : Type 0 where
   pub rises : d.floor ≡ d.opening.number + d.rises
   pub entries : (test : E → Bool) → count_by test d.log ≡ count_by test d.opening.entries + count_by test d.own
 
--- the ticket is above those that the seat drew before, and where all passes are joined in it, it is the first one and those that were drawn
-pub record Drew {T E N : Type 0} (st : Step (Option T)) (m : Me (Option T) (Known E N)) (found : ℕ) (m' : Me (Option T) (Known E N)) : Type 0 where
+-- the ticket is above those that the seat drew before, and where all passes are joined in it, it is the first one and
+-- those that were drawn
+pub record Drew {T E N : Type 0} (st : Step (Option T)) (m : Me (Option T) (Known E N))
+    (found : ℕ) (m' : Me (Option T) (Known E N)) : Type 0 where
   pub slots : m'.1 ≡ m.1
   pub view : m'.0 ≡ drawn_by m.0 found
   pub above : m.0.greatest ≤ found
   pub next : m.0.parts ≡ m.0.opening.passes → found ≡ m.0.opening.first + m.0.draws
 
 -- after a meeting, of the two logs one begins the other
-pub record Compared {T E N : Type 0} (st : Step (Option T)) (m : Me (Option T) (Known E N)) (found : ℕ) (m' : Me (Option T) (Known E N)) : Type 0 where
+pub record Compared {T E N : Type 0} (st : Step (Option T)) (m : Me (Option T) (Known E N))
+    (found : ℕ) (m' : Me (Option T) (Known E N)) : Type 0 where
   pub slots : m'.1 ≡ m.1
   pub view : m'.0 ≡ compared m.0
   pub begins : IsPrefix m.0.beside m.0.log
@@ -29,11 +32,15 @@ pub record Compared {T E N : Type 0} (st : Step (Option T)) (m : Me (Option T) (
   pub all : m.0.parts ≡ m.0.opening.passes → KnowsAll m.0
 
 -- where the ticket is served, the seat has the value, which goes on from what it knew
-abbrev pub Looked : {T E N : Type 0} → (T → List E) → (T → ℕ) → (T → N) → Step (Option T) → Me (Option T) (Known E N) → ℕ → Me (Option T) (Known E N) → Type 0
+abbrev pub Looked : {T E N : Type 0} → (T → List E) → (T → ℕ) → (T → N) → Step (Option T) → Me (Option T) (Known E N)
+    → ℕ → Me (Option T) (Known E N) → Type 0
 Looked {T} entries number name st m found m' = (t : ℕ) → m.0.stage ≡ Waiting t →
-    (found ≡ t → (v : T) × (m'.1 ≡ (0, Some v) ∷ m.1) × (m'.0 ≡ holding m.0 t (entries v) (number v)) × IsPrefix m.0.log (entries v) × (m.0.floor ≤ number v) × (Some (name v) ≡ m.0.opening.name))
+    (found ≡ t → (v : T) × (m'.1 ≡ (0, Some v) ∷ m.1) × (m'.0 ≡ holding m.0 t (entries v) (number v))
+    × IsPrefix m.0.log (entries v) × (m.0.floor ≤ number v) × (Some (name v) ≡ m.0.opening.name))
     × (found ≢ t → m' ≡ m)
 
 -- the value that the seat gave back is the log's
-abbrev pub PassedOn : {T E N : Type 0} → (T → List E) → (T → ℕ) → Step (Option T) → Me (Option T) (Known E N) → ℕ → Me (Option T) (Known E N) → Type 0
-PassedOn {T} entries number st m found m' = (v : T) → m.1 ≡ (0, Some v) ∷ [] → (m'.1 ≡ []) × (m'.0 ≡ given m.0 (entries v) (number v))
+abbrev pub PassedOn : {T E N : Type 0} → (T → List E) → (T → ℕ) → Step (Option T) → Me (Option T) (Known E N) → ℕ
+    → Me (Option T) (Known E N) → Type 0
+PassedOn {T} entries number st m found m' =
+    (v : T) → m.1 ≡ (0, Some v) ∷ [] → (m'.1 ≡ []) × (m'.0 ≡ given m.0 (entries v) (number v))

@@ -1,4 +1,5 @@
--- The rule of a lock's table. Word 0 is the next ticket, word 1 the ticket that is served, and slot 0 has the value where no seat holds the turn.
+-- The rule of a lock's table. Word 0 is the next ticket, word 1 the ticket that is served, and slot 0 has the value
+-- where no seat holds the turn.
 use Rattle.std.specs.Prelude.{◌≡◌, ℕ, ◌+◌, ◌^◌, ◌<◌, ◌≤◌, ◌⊎◌, Bool, List, [], ◌∷◌, length, count_by, Option, Some}
 use mathlib.Core.Option.{none, some}
 use mathlib.Core.List.{IsPrefix}
@@ -48,7 +49,8 @@ module _ {E N : Type 0} where
     pub blank : d.parts ≡ 0 → IsBlank d
 
 -- the rule, for the next ticket, the one that is served, the log of all turns, and the number of the last one
-pub record Turned {T E N : Type 0} (entries : T → List E) (number : T → ℕ) (name : T → N) (o : Opening E N) (s : State (Option T) (Known E N)) : Type 0 where
+pub record Turned {T E N : Type 0} (entries : T → List E) (number : T → ℕ) (name : T → N)
+    (o : Opening E N) (s : State (Option T) (Known E N)) : Type 0 where
   pub next : ℕ
   pub serving : ℕ
   pub all : List E
@@ -56,10 +58,14 @@ pub record Turned {T E N : Type 0} (entries : T → List E) (number : T → ℕ)
   pub words : s.words ≡ next ∷ serving ∷ []
   pub order : serving ≤ next
   -- the value is at home, and stands for the log; or a seat holds the turn
-  pub home : ((v : T) × (s.homes ≡ some (Some v) ∷ []) × (entries v ≡ all) × (number v ≡ most) × (Some (name v) ≡ o.name)) ⊎ ((s.homes ≡ none ∷ []) × ((j : ℕ) × (d : Known E N) × (get_elem? s.views j ≡ some d) × (d.stage ≡ Holding serving)))
+  pub home : ((v : T) × (s.homes ≡ some (Some v) ∷ []) × (entries v ≡ all) × (number v ≡ most)
+      × (Some (name v) ≡ o.name))
+      ⊎ ((s.homes ≡ none ∷ [])
+      × ((j : ℕ) × (d : Known E N) × (get_elem? s.views j ≡ some d) × (d.stage ≡ Holding serving)))
   -- what each seat knows is so, and no two have one ticket
   pub each_seat : (j : ℕ) (d : Known E N) → get_elem? s.views j ≡ some d → Knows o next serving all most d
-  pub apart : (i j : ℕ) (d e : Known E N) (t : ℕ) → get_elem? s.views i ≡ some d → get_elem? s.views j ≡ some e → HasTicket d.stage t → HasTicket e.stage t → i ≡ j
+  pub apart : (i j : ℕ) (d e : Known E N) (t : ℕ) → get_elem? s.views i ≡ some d → get_elem? s.views j ≡ some e
+      → HasTicket d.stage t → HasTicket e.stage t → i ≡ j
   -- the passes, tickets, rises and entries add up
   pub whole : total (λ d. d.parts) s.views ≡ o.passes
   pub small : o.passes ≤ 4096
@@ -68,4 +74,5 @@ pub record Turned {T E N : Type 0} (entries : T → List E) (number : T → ℕ)
   pub risen : most ≡ o.number + total (λ d. d.rises) s.views
   pub added : (test : E → Bool) → count_by test all ≡ count_by test o.entries + total (λ d. count_by test d.own) s.views
   -- some pass knows all
-  pub knower : (j : ℕ) × (d : Known E N) × (get_elem? s.views j ≡ some d) × (d.log ≡ all) × (d.floor ≡ most) × (0 < d.parts)
+  pub knower : (j : ℕ) × (d : Known E N) × (get_elem? s.views j ≡ some d) × (d.log ≡ all) × (d.floor ≡ most)
+      × (0 < d.parts)

@@ -5,7 +5,8 @@ ghost use Rattle.std.specs.Prelude.{ℕ, List};
 
 /// A value that stands for a list of entries.
 ///
-/// What a turn does to the value may only add entries at the list's end and raise the number, and never changes the name: `TurnLock::give` asks for it.
+/// What a turn does to the value may only add entries at the list's end and raise the number, and never changes the
+/// name: `TurnLock::give` asks for it.
 pub trait Kept {
     /// An entry.
     type Entry;

@@ -1,4 +1,5 @@
-//! A lock round one value, whose turns are drawn by number. Its passes keep what they have seen of the value, and passes that have met have one log.
+//! A lock round one value, whose turns are drawn by number. Its passes keep what they have seen of the value, and
+//! passes that have met have one log.
 #![tactic(auto)]
 
 mod kept;

@@ -1,7 +1,8 @@
 //! The lock and its passes.
 #![tactic(auto)]
 
-ghost use Rattle.std.specs.Prelude.{◌≡◌, ◌+◌, ◌-◌, ◌^◌, ◌<◌, ◌≤◌, ◌⊎◌, max, true, false, Bool, [], ◌++◌, length, drop, count_by, IfOk, IfErr, MatchResult, is_ok, All, vec_len, vec_capacity};
+ghost use Rattle.std.specs.Prelude.{◌≡◌, ◌+◌, ◌-◌, ◌^◌, ◌<◌, ◌≤◌, ◌⊎◌, max, true, false, Bool, [], ◌++◌, length, drop};
+ghost use Rattle.std.specs.Prelude.{count_by, IfOk, IfErr, MatchResult, is_ok, All, vec_len, vec_capacity};
 ghost use mathlib.Core.List.{IsPrefix};
 ghost use Rattle.turn_lock.specs.Known.{opening_of, starting, one_of, lock_of};
 ghost use Rattle.turn_lock.specs.Pass.{first_pass, longer_of, SamePass, IsWhole};
@@ -15,15 +16,18 @@ use std::alloc::Global;
 use std::marker::Model;
 use std::snapshot::Snapshot;
 use std::sync::Wait;
+use thiserror::Error;
 
 /// The first ticket that is worn.
 const WORN_FROM: u64 = 1 << 62;
 
 /// The pass has drawn a ticket of 2^62 or more, and has no more turns.
-#[derive(Clone, Copy, Debug, PartialEq, Eq)]
+#[derive(Clone, Copy, Debug, PartialEq, Eq, Error)]
+#[error("the pass has no more turns: it has drawn a ticket of 2^62 or more")]
 pub struct Worn;
 
-/// A lock round a value. Contracts see it as a `Lock` of `specs/Lock.antt`: which lock it is, the value that it was made with, its first ticket and how many passes it has.
+/// A lock round a value. Contracts see it as a `Lock` of `specs/Lock.antt`: which lock it is, the value that it was
+/// made with, its first ticket and how many passes it has.
 #[derive(Drop)]
 pub struct TurnLock<T: Kept> {
     table: Home<T>,
@@ -36,12 +40,16 @@ impl<T: Kept> Model for TurnLock<T> {
 
     ghost Value = { Lock T.Entry T.Name };
 
-    ghost view = { λ l. lock_of l.table.shared.table_id (opening_of T.entries T.number T.name l.table.shared.key.value.value l.table.shared.key.first l.table.shared.key.passes) };
+    ghost view = { λ l.
+        let key = l.table.shared.key in
+        lock_of l.table.shared.table_id
+        (opening_of T.entries T.number T.name key.value.value key.first key.passes) };
 
     ghost invariant = { λ l. (l.table.shared.table_id.words ≡ 2) × (l.table.shared.table_id.slots ≡ 1) };
 }
 
-/// What takes turns of a lock. Contracts see it as a `Seen` of `specs/Pass.antt`: its lock, what it has seen of the value, how many passes are joined in it, and whether it holds the turn.
+/// What takes turns of a lock. Contracts see it as a `Seen` of `specs/Pass.antt`: its lock, what it has seen of the
+/// value, how many passes are joined in it, and whether it holds the turn.
 #[derive(Drop)]
 pub struct Pass<T: Kept> {
     seat: Place<T>,
@@ -71,7 +79,8 @@ impl<T: Kept> TurnLock<T> {
     ) -> Result<(TurnLock<T>, Vec<Pass<T>>), (T, NoMemory)>
         requires passes { (1 ≤ passes) × (passes ≤ 4096) }
         requires first { first ≤ 2 ^ 62 }
-        ensures opening { IfOk result (λ r. (r.0.opening_log ≡ T.entries value) × (r.0.opening_number ≡ T.number value) × (r.0.name ≡ Some (T.name value))) }
+        ensures opening { IfOk result (λ r. (r.0.opening_log ≡ T.entries value) × (r.0.opening_number ≡ T.number value)
+            × (r.0.name ≡ Some (T.name value))) }
         ensures numbers { IfOk result (λ r. (r.0.first_ticket ≡ first) × (r.0.passes ≡ passes)) }
         ensures count { IfOk result (λ r. vec_len r.1 ≡ passes) }
         ensures passes { IfOk result (λ r. All (λ p. p ≡ first_pass r.0) r.1.items) }
@@ -110,12 +119,14 @@ impl<T: Kept> TurnLock<T> {
         ensures floor { MatchResult result (λ v. pass.new.floor ≡ T.number v) (λ _. pass.new.floor ≡ pass.old.floor) }
         ensures turn { pass.new.in_turn ≡ is_ok result }
 
-        // A ticket that is drawn is then the greatest. Where all passes are joined in this one, it is the first ticket and as many more as were drawn.
+        // A ticket that is drawn is then the greatest. Where all passes are joined in this one, it is the first ticket
+        // and as many more as were drawn.
         ensures worn { MatchResult result (λ _. pass.new.greatest < 2 ^ 62) (λ _. 2 ^ 62 ≤ pass.new.greatest) }
         ensures draws { pass.old.greatest < 2 ^ 62 → pass.new.draws ≡ pass.old.draws + 1 }
         ensures still_worn { 2 ^ 62 ≤ pass.old.greatest → pass.new ≡ pass.old }
         ensures greatest { pass.old.greatest ≤ pass.new.greatest }
-        ensures next { pass.old.greatest < 2 ^ 62 → pass.old.joined ≡ self.now.passes → pass.new.greatest ≡ self.now.first_ticket + pass.old.draws }
+        ensures next { pass.old.greatest < 2 ^ 62 → pass.old.joined ≡ self.now.passes
+            → pass.new.greatest ≡ self.now.first_ticket + pass.old.draws }
 
         ensures rises { pass.new.rises ≡ pass.old.rises }
         ensures own { pass.new.own ≡ pass.old.own }
@@ -197,11 +208,13 @@ impl<T: Kept> TurnLock<T> {
         ensures number { T.number result ≡ pass.floor }
         ensures named { Some (T.name result) ≡ pass.name }
 
-        // Each ticket that was drawn is below the next one. The number rose in turns alone, and in turns alone entries were added.
+        // Each ticket that was drawn is below the next one. The number rose in turns alone, and in turns alone entries
+        // were added.
         ensures tickets { 0 < pass.draws → pass.greatest < self.first_ticket + pass.draws }
         ensures no_ticket { pass.draws ≡ 0 → pass.greatest ≡ 0 }
         ensures rises { pass.floor ≡ self.opening_number + pass.rises }
-        ensures entries { (test : T.Entry → Bool) → count_by test pass.log ≡ count_by test self.opening_log + count_by test pass.own }
+        ensures entries { (test : T.Entry → Bool)
+            → count_by test pass.log ≡ count_by test self.opening_log + count_by test pass.own }
     {
         let TurnLock { table } = self;
         let Pass {

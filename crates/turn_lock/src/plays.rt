@@ -15,7 +15,8 @@ impl<T: Kept> TableRule<Option<T>, Known<T::Entry, T::Name>, Start<T>> for Turns
     ghost use Rattle.turn_lock.specs.Known.{opening_of, starting};
     ghost use Rattle.turn_lock.specs.Turned.{Turned};
 
-    ghost holds = { λ k. Turned T.entries T.number T.name (opening_of T.entries T.number T.name k.value.value k.first k.passes) };
+    ghost holds = { λ k. Turned T.entries T.number T.name
+        (opening_of T.entries T.number T.name k.value.value k.first k.passes) };
 
     ghost first = { λ k. starting (opening_of T.entries T.number T.name k.value.value k.first k.passes) };
 }

@@ -3,7 +3,8 @@
 
 ghost use Rattle.std.specs.Prelude.{◌≡◌, ◌≢◌, ℕ, ◌+◌, ◌^◌, ◌<◌, ◌≤◌, [], ◌∷◌, None, Some, IfOk, IfErr};
 ghost use mathlib.Core.List.{IsPrefix};
-ghost use Rattle.turn_lock.specs.Known.{opening_of, starting, holding, given, rest_of, one_of, both_of, compared, drawn_by};
+ghost use Rattle.turn_lock.specs.Known.{opening_of, starting, holding, given, rest_of, one_of, both_of, compared};
+ghost use Rattle.turn_lock.specs.Known.{drawn_by};
 ghost use Rattle.turn_lock.specs.Plays.{KnowsAll};
 ghost use Rattle.turn_lock.specs.declared.view.Stage.TheVariants.{Idle, Waiting, Holding};
 
@@ -48,8 +49,10 @@ pub fn open<T: Kept>(alloc: Global, value: T, start: &Start<T>) -> Result<(Home<
     requires value { start.now.value.value ≡ value }
     requires passes { (0 < start.now.passes) × (start.now.passes ≤ 4096) }
     requires first { start.now.first ≤ 2 ^ 62 }
-    ensures table { IfOk result (λ r. (r.0.shared.table_id.words ≡ 2) × (r.0.shared.table_id.slots ≡ 1) × (r.0.shared.key ≡ start.now) × (r.1.table_id ≡ r.0.shared.table_id)) }
-    ensures seat { IfOk result (λ r. r.1.me ≡ (starting (opening_of T.entries T.number T.name value start.now.first start.now.passes), [])) }
+    ensures table { IfOk result (λ r. (r.0.shared.table_id.words ≡ 2) × (r.0.shared.table_id.slots ≡ 1)
+        × (r.0.shared.key ≡ start.now) × (r.1.table_id ≡ r.0.shared.table_id)) }
+    ensures seat { IfOk result (λ r. r.1.me
+        ≡ (starting (opening_of T.entries T.number T.name value start.now.first start.now.passes), [])) }
     ensures value { IfErr result (λ v. v ≡ value) }
 {
     let mut slots = Vec::new(alloc);
@@ -80,7 +83,8 @@ pub fn draw<T: Kept>(words: &Words<T>, seat: &mut Place<T>) -> u64
     ensures slots { seat.new.me.1 ≡ seat.old.me.1 }
     ensures view { seat.new.me.0 ≡ drawn_by seat.old.me.0 result }
     ensures above { seat.old.me.0.greatest ≤ result }
-    ensures next { seat.old.me.0.parts ≡ seat.old.me.0.opening.passes → result ≡ seat.old.me.0.opening.first + seat.old.me.0.draws }
+    ensures next { seat.old.me.0.parts ≡ seat.old.me.0.opening.passes
+        → result ≡ seat.old.me.0.opening.first + seat.old.me.0.draws }
 {
     words.fetch_add::<Draw>(seat, TICKET, 1)
 }
@@ -113,7 +117,11 @@ fn look<T: Kept>(words: &Words<T>, seat: &mut Place<T>, ticket: u64) -> u64
     requires table { (seat.old.table_id ≡ words.now.table_id) × (words.now.table_id.words ≡ 2) }
     requires waits { (seat.old.me.0.stage ≡ Waiting ticket) × (seat.old.me.1 ≡ []) }
     ensures table { seat.new.table_id ≡ seat.old.table_id }
-    ensures served { result ≡ ticket → (v : T) × (seat.new.me.1 ≡ (0, Some v) ∷ []) × (seat.new.me.0 ≡ holding seat.old.me.0 ticket (T.entries v) (T.number v)) × IsPrefix seat.old.me.0.log (T.entries v) × (seat.old.me.0.floor ≤ T.number v) × (Some (T.name v) ≡ seat.old.me.0.opening.name) }
+    ensures served { result ≡ ticket
+        → (v : T) × (seat.new.me.1 ≡ (0, Some v) ∷ [])
+        × (seat.new.me.0 ≡ holding seat.old.me.0 ticket (T.entries v) (T.number v))
+        × IsPrefix seat.old.me.0.log (T.entries v) × (seat.old.me.0.floor ≤ T.number v)
+        × (Some (T.name v) ≡ seat.old.me.0.opening.name) }
     ensures not_yet { result ≢ ticket → seat.new.me ≡ seat.old.me }
 {
     words.load::<Look<T>>(seat, SERVING)
@@ -122,7 +130,8 @@ fn look<T: Kept>(words: &Words<T>, seat: &mut Place<T>, ticket: u64) -> u64
 /// Puts the value back, and passes the turn on.
 pub fn pass_on<T: Kept>(words: &Words<T>, seat: &mut Place<T>, value: T)
     requires table { (seat.old.table_id ≡ words.now.table_id) × (words.now.table_id.words ≡ 2) }
-    requires holds { ((t : ℕ) × (seat.old.me.0.stage ≡ Holding t)) × (seat.old.me.1 ≡ (0, None) ∷ []) × (0 < seat.old.me.0.parts) }
+    requires holds { ((t : ℕ) × (seat.old.me.0.stage ≡ Holding t)) × (seat.old.me.1 ≡ (0, None) ∷ [])
+        × (0 < seat.old.me.0.parts) }
     requires begins { IsPrefix seat.old.me.0.log (T.entries value) }
     requires reached { seat.old.me.0.floor ≤ T.number value }
     requires named { Some (T.name value) ≡ seat.old.me.0.opening.name }
@@ -148,14 +157,16 @@ pub fn split<T: Kept>(words: &Words<T>, seat: &mut Place<T>) -> Place<T>
 
 /// Joins another pass, and compares the two logs.
 pub fn join<T: Kept>(words: &Words<T>, seat: &mut Place<T>, other: Place<T>)
-    requires table { (seat.old.table_id ≡ words.now.table_id) × (other.table_id ≡ words.now.table_id) × (words.now.table_id.words ≡ 2) }
+    requires table { (seat.old.table_id ≡ words.now.table_id) × (other.table_id ≡ words.now.table_id)
+        × (words.now.table_id.words ≡ 2) }
     requires idle { (seat.old.me.0.stage ≡ Idle) × (seat.old.me.1 ≡ []) × (0 < seat.old.me.0.parts) }
     requires idle_too { (other.me.0.stage ≡ Idle) × (other.me.1 ≡ []) }
     ensures table { seat.new.table_id ≡ seat.old.table_id }
     ensures seat { seat.new.me ≡ (compared (both_of seat.old.me.0 other.me.0), []) }
     ensures begins { IsPrefix (both_of seat.old.me.0 other.me.0).beside (both_of seat.old.me.0 other.me.0).log }
     ensures few { seat.old.me.0.parts + other.me.0.parts ≤ 4096 }
-    ensures all { seat.old.me.0.parts + other.me.0.parts ≡ seat.old.me.0.opening.passes → KnowsAll (both_of seat.old.me.0 other.me.0) }
+    ensures all { seat.old.me.0.parts + other.me.0.parts ≡ seat.old.me.0.opening.passes
+        → KnowsAll (both_of seat.old.me.0 other.me.0) }
 {
     words.join_seat::<TakeIn>(seat, other);
     words.load::<Compare>(seat, TICKET);
@@ -163,7 +174,8 @@ pub fn join<T: Kept>(words: &Words<T>, seat: &mut Place<T>, other: Place<T>)
 
 /// Takes the value out of the table for good.
 pub fn close<T: Kept>(table: Home<T>, seat: Place<T>) -> T
-    requires table { (seat.table_id ≡ table.shared.table_id) × (table.shared.table_id.words ≡ 2) × (table.shared.table_id.slots ≡ 1) }
+    requires table { (seat.table_id ≡ table.shared.table_id) × (table.shared.table_id.words ≡ 2)
+        × (table.shared.table_id.slots ≡ 1) }
     requires all { (seat.me.0.parts ≡ table.shared.key.passes) × (0 < seat.me.0.parts) }
     requires idle { seat.me.0.stage ≡ Idle }
     ensures log { T.entries result ≡ seat.me.0.log }

@@ -1,4 +1,4 @@
-use Rattle.std.proofs.Common.{◌≡◌, ◌∙◌, sym, arith}
+use Rattle.std.proofs.Common.{◌∙◌, arith}
 use Rattle.ots_chain.proofs.Steps.{steps_none, steps_more}
 use Rattle.ots_chain.proofs.chains.chain.Goals as goal
 

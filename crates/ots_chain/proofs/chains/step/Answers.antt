@@ -1,5 +1,4 @@
-use Rattle.std.proofs.Common.{◌≡◌, ◌∙◌, List, ℕ, ap, take}
-use Rattle.lms_bytes.specs.Bytes.{bytes_at}
+use Rattle.std.proofs.Common.{◌∙◌, List, ℕ, ap, take}
 use Rattle.sha2.specs.Sha256.{sha256}
 use Rattle.ots_chain.proofs.Blocks.{block_text}
 use Rattle.ots_chain.proofs.chains.step.Goals as goal
