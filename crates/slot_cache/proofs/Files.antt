@@ -4,7 +4,7 @@ use Rattle.std.proofs.lemmas.Bool.{cases_eq}
 use Rattle.std.proofs.lemmas.Bool.Decides.{nat_tests}
 use Rattle.std.proofs.lemmas.List.{get_or-set_same, get_or-set_other, length-set}
 use Rattle.slot_cache.specs.Inside.{IsDoubt, Shows}
-use Rattle.slot_cache.specs.State.{HasSlots, StandsFor, slot_in, with_made}
+use Rattle.slot_cache.specs.State.{HasSlots, IsWhole, StandsFor, slot_in, with_made}
 use Rattle.slot_cache.specs.declared.doubted.Doubted.{Doubted}
 use Rattle.slot_file.specs.Copies.{is_damaged}
 use Rattle.slot_file.specs.Doubts.{looked, settled}
@@ -136,17 +136,18 @@ stands header slots (Some put) file within shows = elim (either header slots (So
 ]
 
 pub doubt-none : (count : ℕ) (doubt : Doubt) → doubt ≡ Nowhere → IsDoubt count doubt None
-doubt-none count doubt nowhere = record { nowhere = λ none. nowhere; within = λ put is. absurd (cc); settles = λ put is. absurd (cc) }
+doubt-none count doubt nowhere = record { nowhere = λ none. nowhere; within = λ put is. absurd (cc); whole = λ put is. absurd (cc); settles = λ put is. absurd (cc) }
 
 refused-settles : (slot : ℕ) → looked slot (settled (Refused slot)) ≡ Nowhere
 refused-settles slot = grind (arith, nat_tests)
 
-pub doubt-put : (count : ℕ) (doubt : Doubt) (put : Doubted) → doubt ≡ Refused put.slot → put.slot < count → IsDoubt count doubt (Some put)
-doubt-put count doubt put refused within =
+pub doubt-put : (count : ℕ) (doubt : Doubt) (put : Doubted) → doubt ≡ Refused put.slot → put.slot < count → is_damaged put.after ≡ false → IsDoubt count doubt (Some put)
+doubt-put count doubt put refused within whole =
     let same : (other : Doubted) → Some put ≡ Some other → put ≡ other = λ other is. cc in
     record {
       nowhere = λ none. absurd (cc);
       within = λ other is. subst (λ (d : Doubted). d.slot < count) (same other is) within;
+      whole = λ other is. subst (λ (d : Doubted). is_damaged d.after ≡ false) (same other is) whole;
       settles = λ other is.
           subst (λ (d : Doubted). looked d.slot (settled doubt) ≡ Nowhere) (same other is)
           (ap (λ (d : Doubt). looked put.slot (settled d)) refused ∙ refused-settles put.slot);
@@ -157,3 +158,14 @@ with_b-whole Free body moment half = absurd half
 with_b-whole (Half a) body moment half = refl
 with_b-whole (Full a b then) body moment half = absurd half
 with_b-whole (Damaged a b) body moment half = absurd half
+
+-- a list of sound slots with one that is put
+pub whole-set : (slots : List Slot) (place : ℕ) (after : Slot) → IsWhole slots → is_damaged after ≡ false → IsWhole (set slots place after)
+whole-set slots place after whole sound k below =
+    let there : k < length slots = omega (arith, below, length-set slots place after) in
+    elim (cases_eq k place) [
+      | inl same ↦
+          ap (λ (j : ℕ). is_damaged (slot_in (set slots place after) j)) same
+          ∙ ap is_damaged (get_or-set_same slots place after Free (subst (λ (j : ℕ). j < length slots) same there)) ∙ sound
+      | inr differs ↦ ap is_damaged (get_or-set_other slots place k after Free differs) ∙ whole k there
+    ]

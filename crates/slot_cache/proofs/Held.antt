@@ -10,6 +10,7 @@ module _ {D : Type 0} {p : pages.Ghosts D} {f : faults.Ghosts D} (cache : Cached
   holds = record {
     reads = λ told. stands _ _ _ _ cache.in_doubt.within (cache.reads told);
     images = λ told honest image leaves. stands _ _ _ _ cache.in_doubt.within (cache.images told honest image leaves);
+    whole = cache.whole;
     within = cache.in_doubt.within;
     cause = cache.faulted;
   }

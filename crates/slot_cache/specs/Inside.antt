@@ -14,6 +14,7 @@ use Rattle.slot_file.specs.declared.slots.Doubt.TheVariants.{Nowhere}
 pub record IsDoubt (count : ℕ) (doubt : Doubt) (doubted : Option Doubted) : Type 0 where
   pub nowhere : doubted ≡ None → doubt ≡ Nowhere
   pub within : (put : Doubted) → doubted ≡ Some put → put.slot < count
+  pub whole : (put : Doubted) → doubted ≡ Some put → is_damaged put.after ≡ false
   pub settles : (put : Doubted) → doubted ≡ Some put → looked put.slot (settled doubt) ≡ Nowhere
 
 -- The file opens, no slot is damaged, and each slot is as it is kept, but that of a put in doubt may be as the put makes it.

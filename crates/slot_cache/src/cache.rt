@@ -3,7 +3,7 @@
 ghost use Rattle.std.specs.Prelude.{◌≡◌, ◌≢◌, ◌<◌, ℕ, List, length, IsTrue, IsOk, IfOk, IfErr, None, Some, Ok, Err};
 ghost use Rattle.disk_trait.specs.Faults.{HasCause};
 ghost use Rattle.slot_cache.specs.Calls.{Puts, Settles};
-ghost use Rattle.slot_cache.specs.State.{slot_in};
+ghost use Rattle.slot_cache.specs.State.{IsWhole, slot_in};
 ghost use Rattle.slot_cache.specs.Inside.{IsDoubt, Shows};
 ghost use Rattle.slot_file.specs.Disks.{RisesAt, Unwritten};
 ghost use Rattle.slot_file.specs.Files.{IsHalf, with_b};
@@ -24,6 +24,7 @@ pub struct CachedSlots<D: Disk> {
     cached: Vec<Slot>,
     doubt: Option<Doubted>,
     ghost count: { slots_count slots ≡ length cached.items },
+    ghost whole: { IsWhole cached.items },
     ghost in_doubt: { IsDoubt (length cached.items) (doubt_of slots) doubt },
     ghost faulted: { slots_faults slots ≡ 0 → doubt ≡ None },
     ghost reads: { AreSlotsTold slots

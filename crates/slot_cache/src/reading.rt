@@ -3,7 +3,7 @@
 ghost use Rattle.std.specs.Prelude.{◌≡◌, ◌≢◌, ◌<◌, ℕ, length, replicate, false, slice_index_or, Err, IsOk, IfOk, IfErr, OnOk};
 ghost use Rattle.disk_trait.specs.Faults.{HasCause};
 ghost use Rattle.slot_cache.specs.Reading.{IsReadRefused, IsSlotRefused, refused_by};
-ghost use Rattle.slot_cache.specs.State.{slot_in};
+ghost use Rattle.slot_cache.specs.State.{IsWhole, slot_in};
 ghost use Rattle.slot_file.specs.Copies.{is_damaged};
 ghost use Rattle.slot_file.specs.Disks.{RisesAt, Unwritten};
 ghost use Rattle.slot_file.specs.Doubts.{looked, settled};
@@ -63,8 +63,7 @@ pub(crate) fn read_slots<D: Disk>(
     requires { count_of slots.old ≡ length out.old.items }
     ensures shows { IsTold slots.old
         → OnOk result ((slot : ℕ) → slot < length out.old.items → slot_now slots.old slot ≡ slot_in out.new.items slot) }
-    ensures sound { IsTold slots.old
-        → OnOk result ((slot : ℕ) → slot < length out.old.items → is_damaged (slot_now slots.old slot) ≡ false) }
+    ensures whole { OnOk result (IsWhole out.new.items) }
     ensures refused { IsTold slots.old
         → IfErr result (IsReadRefused (header_of slots.old).version (length out.old.items) (file_of slots.old)) }
     ensures size { length out.new.items ≡ length out.old.items }

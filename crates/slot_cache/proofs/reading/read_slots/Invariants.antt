@@ -9,7 +9,7 @@ use Rattle.slot_cache.proofs.reading.read_slots.Given as goal
 abbrev pub invariant-loop-slot : goal.invariant-loop-slot
 invariant-loop-slot g l = record {
   shows : IsTold l.initial.slots → (slot : ℕ) → slot < l.slot → slot_now l.initial.slots slot ≡ slot_in l.out.items slot;
-  sound : IsTold l.initial.slots → (slot : ℕ) → slot < l.slot → is_damaged (slot_now l.initial.slots slot) ≡ false;
+  whole : (slot : ℕ) → slot < l.slot → is_damaged (slot_in l.out.items slot) ≡ false;
   size : length l.out.items ≡ length l.initial.out.items;
   unwritten : Unwritten g.D.Pages g.D.Faults (disk_of l.initial.slots) (disk_of l.slots);
   doubt : doubt_of l.initial.slots ≡ Nowhere → doubt_of l.slots ≡ Nowhere;

@@ -32,7 +32,7 @@ invariant_of-result g c =
     let free = ap length c.in-Ok-free_slots.ensures ∙ length-replicate c.args.count Free in
     let size : length list ≡ c.args.count = call.size ∙ free in
     let shows : IsTold start → (k : ℕ) → k < c.args.count → slot_now start k ≡ slot_in list k = λ told k below. call.shows told k (omega (arith, below, free)) in
-    let sound : IsTold start → (k : ℕ) → k < c.args.count → is_damaged (slot_now start k) ≡ false = λ told k below. call.sound told k (omega (arith, below, free)) in
+    let sound : IsTold start → (k : ℕ) → k < c.args.count → is_damaged (slot_now start k) ≡ false = λ told k below. ap is_damaged (shows told k below) ∙ call.whole k (omega (arith, below, size)) in
     let names : header_of new ≡ header = call.stays.header ∙ opened.named in
     let nowhere : doubt_of new ≡ Nowhere = call.doubt opened.doubt in
     let has : IsTold new → HasSlots header list (file_of new) = λ told_new.
@@ -44,6 +44,7 @@ invariant_of-result g c =
     (ap (load_fault header c.args.count) is ∙ opened.opens told) (shows told_start) (sound told_start) in
     record {
       count = call.stays.count ∙ opened.size ∙ sym size;
+      whole = call.whole;
       in_doubt = doubt-none _ (doubt_of new) nowhere;
       faulted = λ none. refl;
       reads = reads-sure new header names list None refl has;
@@ -61,7 +62,7 @@ returns-in-Ok-read_slots-clause-loaded g c =
     let free = ap length c.in-Ok-free_slots.ensures ∙ length-replicate c.args.count Free in
     let size : length list ≡ c.args.count = call.size ∙ free in
     let shows : IsTold start → (k : ℕ) → k < c.args.count → slot_now start k ≡ slot_in list k = λ told k below. call.shows told k (omega (arith, below, free)) in
-    let sound : IsTold start → (k : ℕ) → k < c.args.count → is_damaged (slot_now start k) ≡ false = λ told k below. call.sound told k (omega (arith, below, free)) in
+    let sound : IsTold start → (k : ℕ) → k < c.args.count → is_damaged (slot_now start k) ≡ false = λ told k below. ap is_damaged (shows told k below) ∙ call.whole k (omega (arith, below, size)) in
     let file = g.D.Pages.reads c.args.disk in
     let has : IsTrue (g.D.Pages.told c.args.disk) → HasSlots header list file = λ told.
     let told_start = opened.unwritten.stays.told ∙ told in

@@ -9,7 +9,7 @@ use Rattle.slot_file.specs.Slots.{IsTold, doubt_of, file_of, header_of}
 use Rattle.slot_file.specs.declared.header.Header.{Header}
 use Rattle.slot_file.specs.declared.slot.Slot.{Slot}
 use Rattle.slot_file.specs.declared.slots.Doubt.TheVariants.{Nowhere}
-use Rattle.slot_cache.proofs.Files.{doubt-put, has-sure, put-made, put-shown, renamed, with_b-whole}
+use Rattle.slot_cache.proofs.Files.{doubt-put, has-sure, put-made, put-shown, renamed, whole-set, with_b-whole}
 use Rattle.slot_cache.proofs.Sure.{doubt-sure, images-sure, reads-sure}
 use Rattle.slot_cache.proofs.cache.CachedSlots.put_b.Goals as goal
 
@@ -37,6 +37,7 @@ invariant_of-self g c =
     put-made header items (file_of self.slots) has place after (file_of new) (subst (λ (s : Slot). IsPut header.version place s (file_of self.slots) (file_of new)) (same told) (call.file told)) c.requires.within whole (here ∙ same told) in
     record {
       count = call.stays.count ∙ self.count ∙ sym (length-set items place after);
+      whole = whole-set items place after self.whole whole;
       in_doubt = doubt-sure _ (doubt_of new) self.doubt c.requires.settled nowhere;
       faulted = λ none. c.requires.settled;
       reads = reads-sure new header call.stays.header list self.doubt c.requires.settled made;
@@ -61,7 +62,8 @@ invariant_of-self-in-Err g c =
     let put : Doubted = record { slot = place; after = after } in
     record {
       count = call.stays.count ∙ self.count;
-      in_doubt = doubt-put _ (doubt_of new) put c.in-Err.ensures.doubt c.requires.within;
+      whole = self.whole;
+      in_doubt = doubt-put _ (doubt_of new) put c.in-Err.ensures.doubt c.requires.within whole;
       faulted = λ none. absurd (omega (arith, c.in-Err.ensures.cause.failed, none));
       reads = λ told_new.
           let told = sym call.stays.disk.told ∙ told_new in

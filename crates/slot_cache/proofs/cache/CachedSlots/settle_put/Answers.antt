@@ -1,11 +1,12 @@
 use Rattle.std.proofs.Common.{◌≡◌, ℕ, List, None, set, refl, sym, ◌∙◌, ap, subst}
 use Rattle.std.proofs.lemmas.List.{get_or_read, length-set}
 use Rattle.slot_cache.specs.State.{HasSlots, slot_in, with_made}
+use Rattle.slot_file.specs.Copies.{is_damaged}
 use Rattle.slot_file.specs.Slots.{IsTold, doubt_of, file_of, header_of}
 use Rattle.slot_file.specs.declared.slot.Slot.{Slot}
 use Rattle.slot_file.specs.declared.slot.Slot.TheVariants.{Free}
 use Rattle.slot_file.specs.declared.slots.Doubt.TheVariants.{Nowhere}
-use Rattle.slot_cache.proofs.Files.{doubt-none, has-dropped, has-made}
+use Rattle.slot_cache.proofs.Files.{doubt-none, has-dropped, has-made, whole-set}
 use Rattle.slot_cache.proofs.Sure.{images-sure, reads-sure}
 use Rattle.slot_cache.proofs.cache.CachedSlots.settle_put.Goals as goal
 
@@ -29,6 +30,7 @@ invariant_of-self-then-is_same g c =
     (subst (λ (s : Slot). HasSlots header (set items put.slot s) old) (sym same) has) in
     record {
       count = call.stays.count ∙ self.count ∙ sym (length-set items put.slot c.in_ok-found.found);
+      whole = whole-set items put.slot c.in_ok-found.found self.whole (ap is_damaged same ∙ self.in_doubt.whole put c.requires);
       in_doubt = doubt-none _ (doubt_of new) nowhere;
       faulted = λ none. refl;
       reads = reads-sure new header call.stays.header list None refl made;
@@ -53,6 +55,7 @@ invariant_of-self-then-is_same-2 g c =
     subst (λ (l : List ℕ). HasSlots header items l) (sym (call.unwritten.same told)) has in
     record {
       count = call.stays.count ∙ self.count;
+      whole = self.whole;
       in_doubt = doubt-none _ (doubt_of new) nowhere;
       faulted = λ none. refl;
       reads = reads-sure new header call.stays.header items None refl made;
