@@ -1,18 +1,19 @@
 -- What puts and settling make of the files that stand for a cache.
-use Rattle.std.proofs.Common.{◌≡◌, ◌≢◌, ◌⊎◌, ◌<◌, ℕ, List, length, get_or, set, None, Some, false, inl, inr, refl, sym, ◌∙◌, ap, subst, arith}
+use Rattle.std.proofs.Common.{◌≡◌, ◌≢◌, ◌⊎◌, ◌<◌, ℕ, List, Option, length, get_or, set, None, Some, false, inl, inr, refl, sym, ◌∙◌, ap, subst, arith}
 use Rattle.std.proofs.lemmas.Bool.{cases_eq}
 use Rattle.std.proofs.lemmas.Bool.Decides.{nat_tests}
 use Rattle.std.proofs.lemmas.List.{get_or-set_same, get_or-set_other, length-set}
-use Rattle.slot_cache.specs.Inside.{IsDoubt}
-use Rattle.slot_cache.specs.State.{CacheState, HasSlots, StandsFor, settled_with, slot_in, with_made}
+use Rattle.slot_cache.specs.Inside.{IsDoubt, Shows}
+use Rattle.slot_cache.specs.State.{HasSlots, IsWhole, StandsFor, slot_in, with_made}
 use Rattle.slot_cache.specs.declared.doubted.Doubted.{Doubted}
 use Rattle.slot_file.specs.Copies.{is_damaged}
 use Rattle.slot_file.specs.Doubts.{looked, settled}
-use Rattle.slot_file.specs.Files.{IsPut}
+use Rattle.slot_file.specs.Files.{IsHalf, IsPut, with_b}
 use Rattle.slot_file.specs.Layout.{load_fault, slot_at}
 use Rattle.slot_file.specs.declared.header.Header.{Header}
 use Rattle.slot_file.specs.declared.slot.Slot.{Slot}
-use Rattle.slot_file.specs.declared.slot.Slot.TheVariants.{Free}
+use Rattle.slot_file.specs.declared.slot.Slot.TheVariants.{Damaged, Free, Full, Half}
+use Rattle.slot_cache.proofs.Same.{slot_cases}
 use Rattle.slot_file.specs.declared.slots.Doubt.{Doubt}
 use Rattle.slot_file.specs.declared.slots.Doubt.TheVariants.{Nowhere, Refused}
 
@@ -47,76 +48,124 @@ module _ (header : Header) (slots : List Slot) (old : List ℕ) (has : HasSlots 
         let is = get_or-set_same slots place after Free within in
         shows-list (set slots place after) (replaced slots place after) (here ∙ sym is) (ap is_damaged is ∙ whole)
 
-    put-unmade : slot_at header.version place new ≡ slot_at header.version place old → HasSlots header slots new
-    put-unmade here =
-        let is = has.shows place within in
-        shows-list slots (record { size = refl; others = λ other differs. refl }) (here ∙ is) (ap is_damaged (sym is) ∙ has.sound place within)
+    pub put-shown : (doubted : Doubted) → doubted.slot ≡ place → doubted.after ≡ after → Shows header slots (Some doubted) new
+    put-shown doubted at is = record {
+      opens = put.opens header (length slots) ∙ has.opens;
+      sound = λ k below. elim (cases_eq k place) [
+        | inl same ↦ elim put.this [
+          | inl before ↦ ap (λ (j : ℕ). is_damaged (slot_at header.version j new)) same ∙ ap is_damaged before ∙ has.sound place within
+          | inr made ↦ ap (λ (j : ℕ). is_damaged (slot_at header.version j new)) same ∙ ap is_damaged made ∙ whole
+        ]
+        | inr differs ↦ ap is_damaged (put.others k differs) ∙ has.sound k below
+      ];
+      sure = λ k below no. put.others k (λ same. no doubted refl (same ∙ sym at)) ∙ has.shows k below;
+      unsure = λ other is_other differs.
+          let same : doubted ≡ other = cc in
+          let here : slot_at header.version place new ≡ after = elim put.this [
+            | inl before ↦
+                let no : slot_at header.version doubted.slot new ≢ slot_in slots doubted.slot =
+                subst (λ (d : Doubted). slot_at header.version d.slot new ≢ slot_in slots d.slot) (sym same) differs in
+                let here : slot_at header.version place new ≢ slot_in slots place =
+                subst (λ (j : ℕ). slot_at header.version j new ≢ slot_in slots j) at no in
+                absurd (here (before ∙ has.shows place within))
+            | inr made ↦ made
+          ] in
+          let there : slot_at header.version doubted.slot new ≡ doubted.after = ap (λ (j : ℕ). slot_at header.version j new) at ∙ here ∙ sym is in
+          subst (λ (d : Doubted). slot_at header.version d.slot new ≡ d.after) same there;
+    }
 
-    pub put-stands : StandsFor header (record { slots = slots; doubt = Some (record { slot = place; after = after }) }) new
-    put-stands = elim put.this [
-      | inl before ↦ inl (put-unmade before)
-      | inr made ↦ inr (record { slot = place; after = after }, refl, put-made made)
+-- a file with these slots, where no put is in doubt
+pub all-shown : (header : Header) (slots : List Slot) (file : List ℕ) → HasSlots header slots file → Shows header slots None file
+all-shown header slots file has = record {
+  opens = has.opens;
+  sound = has.sound;
+  sure = λ k below no. has.shows k below;
+  unsure = λ put is. absurd (cc);
+}
+
+-- the same under another name of the header
+pub renamed : (header was : Header) (slots : List Slot) (doubt : Option Doubted) (file : List ℕ) → header ≡ was → Shows was slots doubt file → Shows header slots doubt file
+renamed header was slots doubt file names shows = subst (λ (h : Header). Shows h slots doubt file) (sym names) shows
+
+module _ (header : Header) (slots : List Slot) (doubt : Option Doubted) (file : List ℕ) (shows : Shows header slots doubt file) where
+  pub has-sure : doubt ≡ None → HasSlots header slots file
+  has-sure none = record { opens = shows.opens; shows = λ k below. shows.sure k below (λ put is. absurd (cc)); sound = shows.sound }
+
+  module _ (put : Doubted) (is : doubt ≡ Some put) where
+    others : (k : ℕ) → k < length slots → k ≢ put.slot → slot_at header.version k file ≡ slot_in slots k
+    others k below differs = shows.sure k below (λ other is_other at. let same : other ≡ put = cc in differs (at ∙ ap (λ (d : Doubted). d.slot) same))
+
+    pub has-dropped : slot_at header.version put.slot file ≡ slot_in slots put.slot → HasSlots header slots file
+    has-dropped here = record {
+      opens = shows.opens;
+      shows = λ k below. elim (cases_eq k put.slot) [
+        | inl same ↦ ap (λ (j : ℕ). slot_at header.version j file) same ∙ here ∙ ap (slot_in slots) (sym same)
+        | inr differs ↦ others k below differs
+      ];
+      sound = shows.sound;
+    }
+
+    pub has-made : put.slot < length slots → slot_at header.version put.slot file ≡ put.after → HasSlots header (with_made slots put) file
+    has-made within here =
+        let by = replaced slots put.slot put.after in
+        record {
+          opens = ap (λ (n : ℕ). load_fault header n file) by.size ∙ shows.opens;
+          shows = λ k below. elim (cases_eq k put.slot) [
+            | inl same ↦
+                ap (λ (j : ℕ). slot_at header.version j file) same ∙ here ∙ sym (get_or-set_same slots put.slot put.after Free within)
+                ∙ ap (slot_in (with_made slots put)) (sym same)
+            | inr differs ↦ others k (omega (arith, below, by.size)) differs ∙ sym (by.others k differs)
+          ];
+          sound = λ k below. shows.sound k (omega (arith, below, by.size));
+        }
+
+    pub either : (slot_at header.version put.slot file ≡ slot_in slots put.slot) ⊎ (slot_at header.version put.slot file ≡ put.after)
+    either = elim (slot_cases (slot_at header.version put.slot file) (slot_in slots put.slot)) [
+      | inl same ↦ inl same
+      | inr differs ↦ inr (shows.unsure put is differs)
     ]
 
-no-put : (version place : ℕ) (after : Slot) (file : List ℕ) → IsPut version place after file file
-no-put version place after file = record { opens = λ header count. refl; others = λ other differs. refl; this = inl refl }
-
-module _ (header : Header) (state : CacheState) (file : List ℕ) (stands : StandsFor header state file) where
-  pub has-sure : state.doubt ≡ None → HasSlots header state.slots file
-  has-sure none = elim stands [ inl has ↦ has | inr made ↦ absurd (cc) ]
-
-  module _ (put : Doubted) (is : state.doubt ≡ Some put) (within : put.slot < length state.slots) where
-    made-put : (made : Doubted) → state.doubt ≡ Some made → HasSlots header (with_made state.slots made) file → HasSlots header (with_made state.slots put) file
-    made-put made made_is has = let same : made ≡ put = cc in subst (λ (d : Doubted). HasSlots header (with_made state.slots d) file) same has
-
-    pub has-made : slot_at header.version put.slot file ≡ put.after → HasSlots header (with_made state.slots put) file
-    has-made here = elim stands [
-      | inl has ↦
-          put-made header state.slots file has put.slot put.after file (no-put header.version put.slot put.after file)
-          within (ap is_damaged (sym here) ∙ has.sound put.slot within) here
-      | inr made ↦ made-put made.0 made.1 made.2
-    ]
-
-    within-made : put.slot < length (with_made state.slots put)
-    within-made = omega (arith, length-set state.slots put.slot put.after)
-
-    pub has-dropped : slot_at header.version put.slot file ≡ slot_in state.slots put.slot → HasSlots header state.slots file
-    has-dropped here = elim stands [
-      | inl has ↦ has
-      | inr made ↦
-          let has = made-put made.0 made.1 made.2 in
-          let by = replaced state.slots put.slot put.after in
-          shows-list header (with_made state.slots put) file has put.slot put.after file (no-put header.version put.slot put.after file)
-          state.slots (record { size = sym by.size; others = λ other differs. sym (by.others other differs) })
-          here (ap is_damaged (sym here) ∙ has.sound put.slot within-made)
-    ]
-
-    pub shows-either : (slot_at header.version put.slot file ≡ slot_in state.slots put.slot) ⊎ (slot_at header.version put.slot file ≡ put.after)
-    shows-either = elim stands [
-      | inl has ↦ inl (has.shows put.slot within)
-      | inr made ↦
-          let has = made-put made.0 made.1 made.2 in
-          inr (has.shows put.slot within-made ∙ get_or-set_same state.slots put.slot put.after Free within)
-    ]
-
--- a file with these slots stands for them under another name
-pub stands-sure : (header was : Header) (slots : List Slot) (file old : List ℕ) → header ≡ was → file ≡ old → HasSlots was slots old → StandsFor header (settled_with slots) file
-stands-sure header was slots file old names same has =
-    inl (subst (λ (l : List ℕ). HasSlots header slots l) (sym same) (subst (λ (h : Header). HasSlots h slots old) (sym names) has))
+-- a file that shows the slots stands for them
+pub stands : (header : Header) (slots : List Slot) (doubt : Option Doubted) (file : List ℕ)
+    → ((put : Doubted) → doubt ≡ Some put → put.slot < length slots) → Shows header slots doubt file
+    → StandsFor header (record { slots = slots; doubt = doubt }) file
+stands header slots None file within shows = inl (has-sure header slots None file shows refl)
+stands header slots (Some put) file within shows = elim (either header slots (Some put) file shows put refl) [
+  | inl before ↦ inl (has-dropped header slots (Some put) file shows put refl before)
+  | inr made ↦ inr (put, refl, has-made header slots (Some put) file shows put refl (within put refl) made)
+]
 
 pub doubt-none : (count : ℕ) (doubt : Doubt) → doubt ≡ Nowhere → IsDoubt count doubt None
-doubt-none count doubt nowhere = record { nowhere = λ none. nowhere; within = λ put is. absurd (cc); settles = λ put is. absurd (cc) }
+doubt-none count doubt nowhere = record { nowhere = λ none. nowhere; within = λ put is. absurd (cc); whole = λ put is. absurd (cc); settles = λ put is. absurd (cc) }
 
 refused-settles : (slot : ℕ) → looked slot (settled (Refused slot)) ≡ Nowhere
 refused-settles slot = grind (arith, nat_tests)
 
-pub doubt-put : (count : ℕ) (doubt : Doubt) (put : Doubted) → doubt ≡ Refused put.slot → put.slot < count → IsDoubt count doubt (Some put)
-doubt-put count doubt put refused within =
+pub doubt-put : (count : ℕ) (doubt : Doubt) (put : Doubted) → doubt ≡ Refused put.slot → put.slot < count → is_damaged put.after ≡ false → IsDoubt count doubt (Some put)
+doubt-put count doubt put refused within whole =
     let same : (other : Doubted) → Some put ≡ Some other → put ≡ other = λ other is. cc in
     record {
       nowhere = λ none. absurd (cc);
       within = λ other is. subst (λ (d : Doubted). d.slot < count) (same other is) within;
+      whole = λ other is. subst (λ (d : Doubted). is_damaged d.after ≡ false) (same other is) whole;
       settles = λ other is.
           subst (λ (d : Doubted). looked d.slot (settled doubt) ≡ Nowhere) (same other is)
           (ap (λ (d : Doubt). looked put.slot (settled d)) refused ∙ refused-settles put.slot);
     }
+
+pub with_b-whole : (slot : Slot) (body : List ℕ) (moment : ℕ) → IsHalf slot → is_damaged (with_b slot body moment) ≡ false
+with_b-whole Free body moment half = absurd half
+with_b-whole (Half a) body moment half = refl
+with_b-whole (Full a b then) body moment half = absurd half
+with_b-whole (Damaged a b) body moment half = absurd half
+
+-- a list of sound slots with one that is put
+pub whole-set : (slots : List Slot) (place : ℕ) (after : Slot) → IsWhole slots → is_damaged after ≡ false → IsWhole (set slots place after)
+whole-set slots place after whole sound k below =
+    let there : k < length slots = omega (arith, below, length-set slots place after) in
+    elim (cases_eq k place) [
+      | inl same ↦
+          ap (λ (j : ℕ). is_damaged (slot_in (set slots place after) j)) same
+          ∙ ap is_damaged (get_or-set_same slots place after Free (subst (λ (j : ℕ). j < length slots) same there)) ∙ sound
+      | inr differs ↦ ap is_damaged (get_or-set_other slots place k after Free differs) ∙ whole k there
+    ]

@@ -2,7 +2,7 @@
 use Rattle.std.specs.Prelude.{◌≡◌, ◌<◌, ℕ, List, length, None, Some, IsTrue}
 use Rattle.disk_trait.specs.declared.disk.Pages as pages
 use Rattle.disk_trait.specs.declared.faults.Faults as faults
-use Rattle.slot_cache.specs.State.{CacheState, StandsFor}
+use Rattle.slot_cache.specs.State.{CacheState, IsWhole, StandsFor}
 use Rattle.slot_cache.specs.declared.cache.CachedSlots.{CachedSlots}
 use Rattle.slot_cache.specs.declared.doubted.Doubted.{Doubted}
 use Rattle.slot_file.specs.Disks.{SameDisk}
@@ -41,12 +41,13 @@ module _ {D : Type 0} {p : pages.Ghosts D} {f : faults.Ghosts D} where
   abbrev pub MayLeave : CachedSlots D p f → List ℕ → Type 0
   MayLeave cache image = p.may_leave (disk_of cache) image
 
-  -- What holds of every cache: what a read gives, and each image that a crash may leave, stands for its state, and a put
-  -- is in doubt only where a call of the disk has failed.
+  -- What holds of every cache: what a read gives, and each image that a crash may leave, stands for its state, no slot is
+  -- damaged, and a put is in doubt only where a call of the disk has failed.
   pub record Holds (cache : CachedSlots D p f) : Type 0 where
     pub reads : IsTold cache → StandsFor (header_of cache) (state_of cache) (file_of cache)
     pub images : IsTold cache → IsHonest cache → (image : List ℕ) → MayLeave cache image
         → StandsFor (header_of cache) (state_of cache) image
+    pub whole : IsWhole (state_of cache).slots
     pub within : (doubted : Doubted) → (state_of cache).doubt ≡ Some doubted → doubted.slot < count_of cache
     pub cause : faults_of cache ≡ 0 → (state_of cache).doubt ≡ None
 

@@ -18,9 +18,9 @@ pub record IsLoaded {D : Type 0} (p : pages.Ghosts D) (f : faults.Ghosts D) (hea
     (cache : CachedSlots D p f) : Type 0 where
   pub file : IsTrue (p.told disk) → HasSlots header (state_of cache).slots (p.reads disk)
   pub settled : (state_of cache).doubt ≡ None
-  pub header : header_of cache ≡ header
-  pub count : count_of cache ≡ count
-  pub disk : Unwritten p f disk (disk_of cache)
+  pub named : header_of cache ≡ header
+  pub size : count_of cache ≡ count
+  pub unwritten : Unwritten p f disk (disk_of cache)
   pub faults : faults_of cache ≡ f.count disk
 
 -- why a file is not loaded, by the first test that fails

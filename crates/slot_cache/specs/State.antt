@@ -20,6 +20,10 @@ settled_with slots = record { slots = slots; doubt = None }
 abbrev pub slot_in : List Slot → ℕ → Slot
 slot_in slots slot = slice_index_or slots slot Free
 
+-- no slot is damaged
+abbrev pub IsWhole : List Slot → Type 0
+IsWhole slots = (slot : ℕ) → slot < length slots → is_damaged (slot_in slots slot) ≡ false
+
 -- the slots once the put in doubt was made
 abbrev pub with_made : List Slot → Doubted → List Slot
 with_made slots doubted = slice_set slots doubted.slot doubted.after

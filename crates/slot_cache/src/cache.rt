@@ -3,9 +3,8 @@
 ghost use Rattle.std.specs.Prelude.{◌≡◌, ◌≢◌, ◌<◌, ℕ, List, length, IsTrue, IsOk, IfOk, IfErr, None, Some, Ok, Err};
 ghost use Rattle.disk_trait.specs.Faults.{HasCause};
 ghost use Rattle.slot_cache.specs.Calls.{Puts, Settles};
-ghost use Rattle.slot_cache.specs.Loading.{IsLoaded, LoadRefused};
-ghost use Rattle.slot_cache.specs.State.{CacheState, StandsFor, slot_in};
-ghost use Rattle.slot_cache.specs.Inside.{IsDoubt};
+ghost use Rattle.slot_cache.specs.State.{IsWhole, slot_in};
+ghost use Rattle.slot_cache.specs.Inside.{IsDoubt, Shows};
 ghost use Rattle.slot_file.specs.Disks.{RisesAt, Unwritten};
 ghost use Rattle.slot_file.specs.Files.{IsHalf, with_b};
 ghost use Rattle.slot_file.specs.Slots.{count_of as slots_count, doubt_of, faults_of as slots_faults, header_of as slots_header, MayLeave as MaySlotsLeave, IsTold as AreSlotsTold, IsHonest as AreSlotsHonest, file_of as slots_file};
@@ -25,12 +24,13 @@ pub struct CachedSlots<D: Disk> {
     cached: Vec<Slot>,
     doubt: Option<Doubted>,
     ghost count: { slots_count slots ≡ length cached.items },
+    ghost whole: { IsWhole cached.items },
     ghost in_doubt: { IsDoubt (length cached.items) (doubt_of slots) doubt },
     ghost faulted: { slots_faults slots ≡ 0 → doubt ≡ None },
     ghost reads: { AreSlotsTold slots
-        → StandsFor (slots_header slots) (record { slots = cached.items; doubt = doubt }) (slots_file slots) },
+        → Shows (slots_header slots) cached.items doubt (slots_file slots) },
     ghost images: { AreSlotsTold slots → AreSlotsHonest slots → (image : List ℕ) → MaySlotsLeave slots image
-        → StandsFor (slots_header slots) (record { slots = cached.items; doubt = doubt }) image },
+        → Shows (slots_header slots) cached.items doubt image },
 }
 
 impl From<DiskFault> for SettleFault {
@@ -44,6 +44,7 @@ impl From<DiskFault> for SettleFault {
 }
 
 impl<D: Disk> CachedSlots<D> {
+    ghost use Rattle.slot_cache.specs.Loading.{IsLoaded, LoadRefused};
     ghost use Rattle.slot_cache.specs.Cache.{Holds, IsHonest, IsSteady, IsTold, MayLeave, Stays, count_of, disk_of, faults_of, file_of, header_of, state_of};
 
     /// Loads a file of `count` slots: reads each slot, and takes all the memory that is wanted. A refusal gives the disk

@@ -3,7 +3,7 @@
 ghost use Rattle.std.specs.Prelude.{◌≡◌, ◌≢◌, ◌<◌, ℕ, length, replicate, false, slice_index_or, Err, IsOk, IfOk, IfErr, OnOk};
 ghost use Rattle.disk_trait.specs.Faults.{HasCause};
 ghost use Rattle.slot_cache.specs.Reading.{IsReadRefused, IsSlotRefused, refused_by};
-ghost use Rattle.slot_cache.specs.State.{slot_in};
+ghost use Rattle.slot_cache.specs.State.{IsWhole, slot_in};
 ghost use Rattle.slot_file.specs.Copies.{is_damaged};
 ghost use Rattle.slot_file.specs.Disks.{RisesAt, Unwritten};
 ghost use Rattle.slot_file.specs.Doubts.{looked, settled};
@@ -56,14 +56,17 @@ fn read_slot<D: Disk>(slots: &mut Slots<D>, slot: u32) -> Result<Slot, CacheLoad
 }
 
 /// Reads all slots.
-pub(crate) fn read_slots<D: Disk>(slots: &mut Slots<D>, out: &mut [Slot]) -> Result<(), CacheLoad>
-    requires { count_of slots.old ≡ length out.old }
+pub(crate) fn read_slots<D: Disk>(
+    slots: &mut Slots<D>,
+    out: &mut Vec<Slot>,
+) -> Result<(), CacheLoad>
+    requires { count_of slots.old ≡ length out.old.items }
     ensures shows { IsTold slots.old
-        → OnOk result ((slot : ℕ) → slot < length out.old → slot_now slots.old slot ≡ slot_in out.new slot) }
-    ensures sound { IsTold slots.old
-        → OnOk result ((slot : ℕ) → slot < length out.old → is_damaged (slot_now slots.old slot) ≡ false) }
+        → OnOk result ((slot : ℕ) → slot < length out.old.items → slot_now slots.old slot ≡ slot_in out.new.items slot) }
+    ensures whole { OnOk result (IsWhole out.new.items) }
     ensures refused { IsTold slots.old
-        → IfErr result (IsReadRefused (header_of slots.old).version (length out.old) (file_of slots.old)) }
+        → IfErr result (IsReadRefused (header_of slots.old).version (length out.old.items) (file_of slots.old)) }
+    ensures size { length out.new.items ≡ length out.old.items }
     ensures unwritten { Unwritten D.Pages.own D.Faults (disk_of slots.old) (disk_of slots.new) }
     ensures doubt { doubt_of slots.old ≡ Doubt.Nowhere → doubt_of slots.new ≡ Doubt.Nowhere }
     ensures succeeds { IsSteady slots.old → IsTold slots.old → result ≢ Err CacheLoad.Device }

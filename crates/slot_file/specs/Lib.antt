@@ -5,5 +5,6 @@ pub mod Files
 pub mod Fresh
 pub mod Gated
 pub mod Layout
+pub mod Opened
 pub mod Slots
 pub mod SlotsLaws

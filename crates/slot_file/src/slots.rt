@@ -1,10 +1,10 @@
 //! A file of slots that is open.
 
-ghost use Rattle.std.specs.Prelude.{◌≡◌, ◌≢◌, ◌⊎◌, ◌≤◌, ◌<◌, ◌↔◌, ◌+◌, ◌^◌, ℕ, List, length, take, IsTrue, None, Some, IsOk, IfOk, IfErr, OnOk, OnErr, Ok, if◌then◌else◌, is_ok};
-ghost use Rattle.disk_trait.specs.Faults.{HasCause, Rose};
+ghost use Rattle.std.specs.Prelude.{◌≡◌, ◌≢◌, ◌⊎◌, ◌≤◌, ◌<◌, ◌↔◌, ◌+◌, ◌^◌, ℕ, List, length, take, IsTrue, None, Some, IsOk, IfOk, IfErr, OnOk, OnErr, Ok, Err, if◌then◌else◌, is_ok};
+ghost use Rattle.disk_trait.specs.Faults.{HasCause};
 ghost use Rattle.slot_file.specs.Doubts.{IsSure};
 ghost use Rattle.disk_trait.specs.Images.{Only, Follows};
-ghost use Rattle.slot_file.specs.Disks.{SameDisk};
+ghost use Rattle.slot_file.specs.Disks.{RisesAt, Unwritten};
 ghost use Rattle.slot_file.specs.Gated.{Gated, gated, second_body};
 ghost use Rattle.slot_file.specs.Layout.{file_size, slot_size, slot_start, load_fault, IsShown};
 ghost use Rattle.slot_file.specs.Files.{IsFile, IsHalf, IsPut, with_b};
@@ -73,15 +73,12 @@ fn check_file<D: Disk>(disk: &mut D, header: &Header, count: u32) -> Result<(), 
 
     ensures stable { IsTrue (D.honest disk.old) → IsTrue (D.told disk.old)
         → OnOk result (Only (D.reads disk.old) (D.may_leave disk.new)) }
-    ensures same { IsTrue (D.told disk.old) → D.reads disk.new ≡ D.reads disk.old }
-    ensures images { IsTrue (D.honest disk.old)
-        → (image : List ℕ) → D.may_leave disk.new image → D.may_leave disk.old image }
+    ensures unwritten { Unwritten D.Pages.own D.Faults disk.old disk.new }
     ensures has_room { IsTrue (D.told disk.old) → length (D.reads disk.old) ≤ D.room disk.old }
 
     ensures succeeds { IsTrue (D.steady disk.old) → IsTrue (D.told disk.old)
         → IfErr result (λ e. e ≢ LoadFault.Device) }
-    ensures cause { IfErr result (λ e. e ≡ LoadFault.Device → Rose (D.count disk.old) (D.count disk.new)) }
-    ensures stays { SameDisk D.Pages.own D.Faults disk.old disk.new }
+    ensures cause { RisesAt (D.count disk.old) (D.count disk.new) result (Err LoadFault.Device) }
 {
     disk.sync()?;
     let got = disk.len()?;
@@ -101,32 +98,18 @@ fn check_file<D: Disk>(disk: &mut D, header: &Header, count: u32) -> Result<(), 
 }
 
 impl<D: Disk> Slots<D> {
+    ghost use Rattle.slot_file.specs.Opened.{IsOpened};
     ghost use Rattle.slot_file.specs.Slots.{disk_of, header_of, count_of, doubt_of, faults_of, file_of, slot_now, IsTold, IsHonest, IsSteady, MayLeave, IsStable, Stays};
     ghost use Rattle.slot_file.specs.Doubts.{settled, looked};
 
     /// Opens a file: syncs, and tests its length and its header. A refusal gives the disk back.
     pub fn load(disk: D, header: &Header, count: u32) -> Result<Slots<D>, (D, LoadFault)>
-        ensures opens { IsTrue (D.told disk)
-            → IfOk result (λ _. load_fault header.now count (D.reads disk) ≡ None) }
+        ensures opened { IfOk result (IsOpened D.Pages.own D.Faults header.now count disk) }
         ensures refuses { IsTrue (D.told disk)
             → IfErr result (λ e. (e.1 ≡ LoadFault.Device) ⊎ (load_fault header.now count (D.reads disk) ≡ Some e.1)) }
-
-        ensures header { IfOk result (λ slots. header_of slots ≡ header.now) }
-        ensures count { IfOk result (λ slots. count_of slots ≡ count) }
-        ensures doubt { IfOk result (λ slots. doubt_of slots ≡ Doubt.Nowhere) }
-        ensures stable { IfOk result IsStable }
-        ensures same { IsTrue (D.told disk) → IfOk result (λ slots. file_of slots ≡ D.reads disk) }
-        ensures same_refused { IsTrue (D.told disk) → IfErr result (λ e. D.reads e.0 ≡ D.reads disk) }
-        ensures images { IsTrue (D.honest disk)
-            → IfOk result (λ slots. (image : List ℕ) → MayLeave slots image → D.may_leave disk image) }
-        ensures images_refused { IsTrue (D.honest disk)
-            → IfErr result (λ e. (image : List ℕ) → D.may_leave e.0 image → D.may_leave disk image) }
-
-        ensures succeeds { IsTrue (D.steady disk) → IsTrue (D.told disk)
-            → IfErr result (λ e. e.1 ≢ LoadFault.Device) }
-        ensures cause { IfErr result (λ e. e.1 ≡ LoadFault.Device → Rose (D.count disk) (D.count e.0)) }
-        ensures stays { IfOk result (λ slots. SameDisk D.Pages.own D.Faults disk (disk_of slots)) }
-        ensures stays_refused { IfErr result (λ e. SameDisk D.Pages.own D.Faults disk e.0) }
+        ensures unwritten { IfErr result (λ e. Unwritten D.Pages.own D.Faults disk e.0) }
+        ensures succeeds { IsTrue (D.steady disk) → IsTrue (D.told disk) → IfErr result (λ e. e.1 ≢ LoadFault.Device) }
+        ensures cause { IfErr result (λ e. RisesAt (D.count disk) (D.count e.0) e.1 LoadFault.Device) }
     {
         let mut disk = disk;
         match check_file(&mut disk, header, count) {
@@ -143,9 +126,7 @@ impl<D: Disk> Slots<D> {
     /// One sync, after which a crash leaves what a read gives.
     pub fn settle(&mut self) -> Result<(), DiskFault>
         ensures stable { OnOk result (IsStable self.new) }
-        ensures same { IsTold self.old → file_of self.new ≡ file_of self.old }
-        ensures images { IsHonest self.old
-            → (image : List ℕ) → MayLeave self.new image → MayLeave self.old image }
+        ensures unwritten { Unwritten D.Pages.own D.Faults (disk_of self.old) (disk_of self.new) }
         ensures doubt { doubt_of self.new
             ≡ (if is_ok result then settled (doubt_of self.old) else doubt_of self.old) }
         ensures succeeds { IsSteady self.old → IsOk result }
