@@ -1,2 +1,5 @@
+pub mod MemberLaws
+pub mod CoalitionLaws
+pub mod LeafLaws
 pub mod Unranking
 pub mod Ranking

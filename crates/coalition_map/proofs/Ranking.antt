@@ -2,9 +2,10 @@
 use Rattle.std.proofs.Common.{◌≡◌, ◌≢◌, ℕ, suc, ◌+◌, ◌-◌, ◌/◌, ◌%◌, ◌^◌, ◌<◌, ◌≤◌, List, [], ◌∷◌, length, get_or, refl, ◌∙◌, ap, arith}
 use Rattle.std.proofs.lemmas.List.{nil_from_length}
 use Rattle.coalition_map.specs.Members.{trustees_from, member_numbers}
-use Rattle.coalition_map.specs.MemberLaws.{trustees_from-in, trustees_from-out, member_numbers-within, IsAscendingIn-trustees_from}
+use Rattle.coalition_map.specs.MembersInside.{trustees_from-in, trustees_from-out}
+use Rattle.coalition_map.proofs.MemberLaws.{member_numbers-within, IsAscendingIn-trustees_from}
 use Rattle.coalition_map.specs.Coalitions.{subsets, binomial}
-use Rattle.coalition_map.specs.CoalitionLaws.{length-subsets, length-subsets-suc, subsets-with, subsets-without, subsets-zero, length-IsAscendingIn}
+use Rattle.coalition_map.proofs.CoalitionLaws.{length-subsets, length-subsets-suc, subsets-with, subsets-without, subsets-zero, length-IsAscendingIn}
 
 -- `bits` are the `wanted` members among the `left` trustees from `trustee` on; whatever place these have in their own
 -- order, the members have that place after `number` in the order of all

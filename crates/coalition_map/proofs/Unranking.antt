@@ -4,9 +4,9 @@ use Rattle.std.proofs.lemmas.Nat.{or_shifted, or_comm, one_shl}
 use Rattle.std.proofs.lemmas.List.{append-nil}
 use lib.Bits.{bit_or}
 use Rattle.coalition_map.specs.Members.{member_numbers}
-use Rattle.coalition_map.specs.MemberLaws.{member_numbers-push, member_numbers-zero}
+use Rattle.coalition_map.proofs.MemberLaws.{member_numbers-push, member_numbers-zero}
 use Rattle.coalition_map.specs.Coalitions.{subsets, binomial}
-use Rattle.coalition_map.specs.CoalitionLaws.{length-subsets, subsets-with, subsets-later, length-subsets-suc, subsets-zero, subsets-room}
+use Rattle.coalition_map.proofs.CoalitionLaws.{length-subsets, subsets-with, subsets-later, length-subsets-suc, subsets-zero, subsets-room}
 
 -- `bits` are the members below `trustee`; with `wanted` of the `left` trustees from there on, those of place `rest` in
 -- their own order, they are coalition c

@@ -1,9 +1,11 @@
 -- Coalitions: the sets of k of n trustees that may sign together, in order, and the leaves of each.
-use Rattle.std.specs.Prelude.{◌≡◌, ℕ, zero, suc, ◌+◌, ◌%◌, ◌^◌, ◌<◌, ◌≤◌, ◌==◌, List, [], ◌∷◌, ◌++◌, length, map, filter, slice_index_or, Option, IfSome}
+use Rattle.std.specs.Prelude.{◌≡◌, ℕ, zero, suc, ◌+◌, ◌%◌, ◌^◌, ◌<◌, ◌≤◌, ◌==◌, List, [], ◌∷◌, ◌++◌, length, map}
+use Rattle.std.specs.Prelude.{filter, slice_index_or, Option, IfSome}
 use Rattle.std.specs.List.{range_with_len}
 use Rattle.coalition_map.specs.Members.{IsAscendingIn}
 
--- this project's profile: the subsets of size k of the trustees a .. a + left - 1, each ascending, in lexicographic order
+-- this project's profile: the subsets of size k of the trustees a .. a + left - 1, each ascending, in
+-- lexicographic order
 unfoldable pub subsets : ℕ → ℕ → ℕ → List (List ℕ)
 subsets a left zero = [] ∷ []
 subsets a zero (suc k) = []

@@ -1,8 +1,10 @@
 //! What follows from the definitions, for whoever proves something about coalitions. No function here does anything.
 
-ghost use Rattle.std.specs.Prelude.{◌≡◌, ◌⊎◌, ◌↔◌, ℕ, List, [], ◌∷◌, ◌++◌, ◌+◌, ◌/◌, ◌%◌, ◌^◌, ◌<◌, ◌≤◌, All, Contains, length};
+ghost use Rattle.std.specs.Prelude.{◌≡◌, ◌⊎◌, ◌↔◌, ℕ, List, [], ◌∷◌, ◌++◌, ◌+◌, ◌/◌, ◌%◌, ◌^◌, ◌<◌, ◌≤◌, All, Contains};
+ghost use Rattle.std.specs.Prelude.{length};
 ghost use Rattle.std.specs.List.Sorted.{IsStrictlyIncreasing};
-ghost use Rattle.coalition_map.specs.Coalitions.{binomial, coalition, coalitions, count_of, leaf_members, leaves_of, IsSubset, PlanNumbers};
+ghost use Rattle.coalition_map.specs.Coalitions.{binomial, coalition, coalitions, count_of, leaf_members, leaves_of};
+ghost use Rattle.coalition_map.specs.Coalitions.{IsSubset, PlanNumbers};
 ghost use Rattle.coalition_map.specs.Members.{below, bits_of, member_numbers, IsAscendingIn};
 
 /// The bits of a set give the set, and the set its bits.
@@ -51,7 +53,8 @@ pub fn leaves_of_coalition()
 /// A walk over the numbers from 1 to `n` meets the members of a set in their order.
 pub fn members_in_a_walk()
     ensures start { (e : ℕ) (l : List ℕ) → IsAscendingIn 1 e l → below 1 l ≡ [] }
-    ensures member { (a e t : ℕ) (l : List ℕ) → IsAscendingIn a e l → Contains l t → below (t + 1) l ≡ below t l ++ t ∷ [] }
+    ensures member { (a e t : ℕ) (l : List ℕ) → IsAscendingIn a e l → Contains l t
+        → below (t + 1) l ≡ below t l ++ t ∷ [] }
     ensures other { (t : ℕ) (l : List ℕ) → ¬ Contains l t → below (t + 1) l ≡ below t l }
     ensures end { (a e : ℕ) (l : List ℕ) → IsAscendingIn a e l → below e l ≡ l }
 {}

@@ -1,21 +1,26 @@
 //! Plans: which coalition signs with which leaf.
 
-ghost use Rattle.std.specs.Prelude.{◌≡◌, ◌↔◌, ℕ, ◌+◌, ◌*◌, ◌%◌, ◌^◌, ◌<◌, ◌≤◌, Contains, IfOk, IfSome, IsNone, IsOk, IsSome, IsTrue, length};
-ghost use Rattle.coalition_map.specs.Coalitions.{binomial, coalition, coalitions, count_of, leaf_members, IsLeafAfter, IsPlan, IsSubset, IsThreshold};
+ghost use Rattle.std.specs.Prelude.{◌≡◌, ◌↔◌, ℕ, ◌+◌, ◌*◌, ◌%◌, ◌^◌, ◌<◌, ◌≤◌, Contains, IfOk, IfSome, IsNone, IsOk};
+ghost use Rattle.std.specs.Prelude.{IsSome, IsTrue, length};
+ghost use Rattle.coalition_map.specs.Coalitions.{binomial, coalition, coalitions, count_of, leaf_members, IsLeafAfter};
+ghost use Rattle.coalition_map.specs.Coalitions.{IsPlan, IsSubset, IsThreshold};
 ghost use Rattle.coalition_map.specs.Members.{member_numbers};
 
 use crate::members::Members;
 use std::marker::Model;
+use thiserror::Error;
 
 /// The most trustees that a plan can have.
 const MOST_TRUSTEES: u8 = 12;
 
 /// Why there is no plan of these numbers.
-#[derive(Clone, Copy, Debug, PartialEq, Eq)]
+#[derive(Clone, Copy, Debug, PartialEq, Eq, Error)]
 pub enum PlanFault {
     /// Not `2 <= k <= n <= 12`.
+    #[error("the threshold k and the number n of trustees are not 2 <= k <= n <= 12")]
     BadThreshold,
     /// More coalitions than leaves.
+    #[error("{count} coalitions, where no more than leaves of the tree are wanted")]
     TooManyCoalitions { count: u32 },
 }
 

@@ -1,15 +1,14 @@
 -- The files of a dealing from what it gives.
 use Rattle.std.proofs.Common.{◌≡◌, ℕ, zero, suc, ◌+◌, ◌-◌, ◌<◌, length, List, [], ◌∷◌, ◌++◌, map, take, All, refl, sym, ap, ◌∙◌, arith}
-use Rattle.std.specs.Prelude.{codes, slice_index_or}
+use Rattle.std.specs.Prelude.{slice_index_or}
 use Rattle.std.specs.List.{range_with_len}
 use Rattle.std.specs.declared.alloc.Global.{Global}
 use Rattle.std.specs.declared.vec.Vec.{Vec}
 use Rattle.std.proofs.lemmas.Grind.{take_at_read}
 use Rattle.std.proofs.lemmas.List.{map-append}
-use Rattle.coalition_map.specs.Coalitions.{PlanNumbers}
 use Rattle.lms_bytes.specs.PublicKey.{public_bytes}
 use Rattle.reference_value.specs.Dealing.{Dealing, key_of}
-use Rattle.share_files.specs.Head.{head_bytes}
+use Rattle.share_files.specs.Reference.{reference_head_of}
 use Rattle.share_files.specs.Share.{share_bytes}
 use Rattle.share_files.specs.TreeFile.{tree_head}
 use Rattle.share_files.specs.declared.share.Share.{Share}
@@ -17,6 +16,7 @@ use Rattle.dealer.specs.Dealt.{AreShares, IsDealt}
 use Rattle.dealer.specs.Files.{AreFiles, share_file, share_files}
 use Rattle.dealer.specs.declared.dealing.Dealt.{Dealt}
 use Rattle.dealer.specs.declared.files.DealingFiles.{DealingFiles}
+use Rattle.dealer.proofs.Mapped.{at_read}
 
 -- this share is that of trustee t
 record IsShareOf (d : Dealing) (t : ℕ) (share : Share) : Type 0 where
@@ -70,15 +70,20 @@ one_more shares i share files now file below at before is after =
     ∙ sym (ap (map share_bytes) shares_then ∙ map-append share_bytes (take i shares) (slice_index_or shares i share ∷ []))
 
 -- the files that are written from what a dealing gives
-pub are_files : (d : Dealing) (dealt : Dealt) (plan : PlanNumbers) (files : DealingFiles) → d.plan ≡ plan → IsDealt d dealt
+pub are_files : (d : Dealing) (dealt : Dealt) (share : Share) (files : DealingFiles) → IsDealt d dealt
+    → 0 < length dealt.shares.items → share ≡ slice_index_or dealt.shares.items 0 share
     → files.public.items ≡ public_bytes dealt.public
     → files.tree.items ≡ tree_head dealt.public.params dealt.public.id ++ dealt.tree.nodes
-    → files.reference.items ≡ head_bytes (codes "TLRF") (0 ∷ plan.k ∷ plan.n ∷ []) dealt.public.params dealt.public.id ++ dealt.reference.items
+    → files.reference.items ≡ reference_head_of share.params share.plan share.id ++ dealt.reference.items
     → map (λ file. file.items) files.shares.items ≡ map share_bytes dealt.shares.items
     → AreFiles d files
-are_files d dealt plan files same is public tree leaves shares = record {
-  public_is = public ∙ rw (is.params, is.id, is.root_is) refl;
-  tree_is = tree ∙ rw (is.params, is.id, is.tree) refl;
-  reference_is = leaves ∙ rw (is.params, is.id, is.reference_is, ← same) refl;
-  shares_are = shares ∙ files_of_shares d dealt.shares.items is.shares;
-}
+are_files d dealt share files is some first public tree leaves shares =
+    let params : share.params ≡ d.params = at_read (λ share. share.params ≡ d.params) dealt.shares.items 0 share is.shares.params first some in
+    let plan : share.plan ≡ d.plan = at_read (λ share. share.plan ≡ d.plan) dealt.shares.items 0 share is.shares.plan first some in
+    let id : share.id ≡ d.id = at_read (λ share. share.id ≡ d.id) dealt.shares.items 0 share is.shares.id first some in
+    record {
+      public_is = public ∙ rw (is.params, is.id, is.root_is) refl;
+      tree_is = tree ∙ rw (is.params, is.id, is.tree) refl;
+      reference_is = leaves ∙ rw (params, plan, id, is.reference_is) refl;
+      shares_are = shares ∙ files_of_shares d dealt.shares.items is.shares;
+    }

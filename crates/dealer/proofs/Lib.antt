@@ -3,3 +3,4 @@ pub mod FilesOf
 pub mod FirstShares
 pub mod Mapped
 pub mod SameTree
+pub mod Undivided

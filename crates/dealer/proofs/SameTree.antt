@@ -3,7 +3,7 @@ use Rattle.std.proofs.Common.{◌≡◌, ℕ, zero, suc, ◌+◌, ◌-◌, ◌*�
 use Rattle.lms_bytes.specs.declared.params.Params.{Params}
 use Rattle.merkle_path.specs.Nodes.{node, leaf_node}
 use Rattle.merkle_path.specs.Tree.{TreeNodes, row, tree_of}
-use Rattle.merkle_path.proofs.Joined.{joined_same}
+use Rattle.lms_bytes.proofs.Joined.{joined-same}
 use Rattle.merkle_path.proofs.Rows.{double}
 
 -- the leaves have the same public values
@@ -34,10 +34,10 @@ same_row : (params : Params) (id : List ℕ) (key other : ℕ → List ℕ) → 
 same_row params id key other same depth h =
     let level : params.h - (params.h - depth) ≡ depth = omega arith in
     let next = double depth in
-    joined_same (λ i. node params id key (params.h - depth) (2 ^ depth + i)) (λ i. node params id other (params.h - depth) (2 ^ depth + i)) (2 ^ depth)
+    joined-same (λ i. node params id key (params.h - depth) (2 ^ depth + i)) (λ i. node params id other (params.h - depth) (2 ^ depth + i)) (2 ^ depth)
     (λ i inside. same_node params id key other same (params.h - depth) (2 ^ depth + i) (omega arith) (rw level (omega arith)) (rw level (omega arith)))
 
 pub same_tree : (params : Params) (id : List ℕ) (key other : ℕ → List ℕ) → SameLeaves params key other → tree_of params id key ≡ tree_of params id other
 same_tree params id key other same =
     let tree : List ℕ → TreeNodes = λ nodes. record { n = params.n; h = params.h; nodes = nodes } in
-    ap tree (joined_same (row params id key) (row params id other) (params.h + 1) (λ depth below. same_row params id key other same depth (omega arith)))
+    ap tree (joined-same (row params id key) (row params id other) (params.h + 1) (λ depth below. same_row params id key other same depth (omega arith)))

@@ -1,24 +1,26 @@
 -- What a dealing gives.
 use Rattle.std.specs.Prelude.{◌≡◌, ℕ, List, map, All}
 use Rattle.std.specs.List.{range_with_len}
-use Rattle.merkle_path.specs.Nodes.{root}
+use Rattle.lms_verify.specs.UndividedKey.{UndividedKey, seed_root}
 use Rattle.merkle_path.specs.Tree.{TreeNodes, tree_of}
 use Rattle.ots_chain.specs.LeafKey.{seed_leaf_key}
 use Rattle.reference_value.specs.Dealing.{Dealing, reference}
 use Rattle.share_files.specs.declared.share.Share.{Share}
 use Rattle.dealer.specs.declared.dealing.Dealt.{Dealt}
 
--- K of leaf q (RFC 8554 section 4.3, Algorithm 1, and appendix A)
-abbrev pub dealt_leaf_key : Dealing → ℕ → List ℕ
-dealt_leaf_key d q = seed_leaf_key d.params d.id q d.seed
+-- the undivided key of a dealing: its parameter set, I and SEED (RFC 8554 appendix A)
+pub record IsKeyOf (d : Dealing) (key : UndividedKey) : Type 0 where
+  pub params : key.params ≡ d.params
+  pub id : key.id ≡ d.id
+  pub seed : key.seed ≡ d.seed
 
 -- T[1] (RFC 8554 section 5.3)
 abbrev pub dealt_root : Dealing → List ℕ
-dealt_root d = root d.params d.id (dealt_leaf_key d)
+dealt_root d = seed_root d.params d.id d.seed
 
--- the tree (RFC 8554 section 5.3)
+-- the tree over K of each leaf (RFC 8554 sections 4.3 and 5.3)
 abbrev pub dealt_tree : Dealing → TreeNodes
-dealt_tree d = tree_of d.params d.id (dealt_leaf_key d)
+dealt_tree d = tree_of d.params d.id (λ q. seed_leaf_key d.params d.id q d.seed)
 
 -- the shares are one for each trustee, in ascending order, each with the trustee's own key
 pub record AreShares (d : Dealing) (shares : List Share) : Type 0 where

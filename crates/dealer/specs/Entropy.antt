@@ -10,17 +10,27 @@ use Rattle.reference_value.specs.Dealing.{Dealing}
 abbrev pub entropy_length : ℕ → ℕ
 entropy_length trustees = 80 + 32 * trustees
 
+abbrev pub id_in : List ℕ → List ℕ
+id_in entropy = bytes_at entropy 0 16
+
+-- SEED is the first bytes of its place, as many as the hash length
+abbrev pub seed_in : ℕ → List ℕ → List ℕ
+seed_in n entropy = bytes_at entropy 16 n
+
+abbrev pub random_key_in : List ℕ → List ℕ
+random_key_in entropy = bytes_at entropy 48 32
+
 -- the key of trustee t
 abbrev pub trustee_key : List ℕ → ℕ → List ℕ
 trustee_key entropy t = bytes_at entropy (80 + 32 * (t - 1)) 32
 
--- what is dealt; SEED is the first bytes of its place, as many as the hash length
+-- what is dealt
 abbrev pub dealing_of : Params → PlanNumbers → List ℕ → Dealing
 dealing_of params plan entropy = record {
   params = params;
   plan = plan;
-  id = bytes_at entropy 0 16;
-  seed = bytes_at entropy 16 params.n;
-  random_key = bytes_at entropy 48 32;
+  id = id_in entropy;
+  seed = seed_in params.n entropy;
+  random_key = random_key_in entropy;
   keys = map (trustee_key entropy) (range_with_len 1 plan.n);
 }

@@ -21,8 +21,8 @@ AllDiffer trustees entropy = (t u : ℕ) → AreTwo trustees t u → trustee_key
 pub record AreFirstAlike (trustees : ℕ) (entropy : List ℕ) (t u : ℕ) : Type 0 where
   pub two : AreTwo trustees t u
   pub alike : trustee_key entropy t ≡ trustee_key entropy u
-  pub first : (other another : ℕ) → AreTwo trustees other another → trustee_key entropy other ≡ trustee_key entropy another
-      → (t < other) ⊎ ((t ≡ other) × (u ≤ another))
+  pub first : (other another : ℕ) → AreTwo trustees other another
+      → trustee_key entropy other ≡ trustee_key entropy another → (t < other) ⊎ ((t ≡ other) × (u ≤ another))
 
 -- the dealing that this entropy stands for is dealt
 pub record IsDealable (params : Params) (plan : PlanNumbers) (entropy : List ℕ) : Type 0 where

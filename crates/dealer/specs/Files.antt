@@ -1,10 +1,11 @@
 -- The files of a dealing, byte for byte. None holds SEED, the key of the randomizers, or a value of a chain that is not
 -- masked.
-use Rattle.std.specs.Prelude.{◌≡◌, ℕ, List, [], ◌∷◌, ◌++◌, codes, map}
+use Rattle.std.specs.Prelude.{◌≡◌, ℕ, List, ◌++◌, map}
 use Rattle.std.specs.List.{range_with_len}
 use Rattle.lms_bytes.specs.Bytes.{u32str}
 use Rattle.reference_value.specs.Dealing.{Dealing, key_of, reference}
-use Rattle.share_files.specs.Head.{head_bytes}
+use Rattle.share_files.specs.Reference.{reference_head_of}
+use Rattle.share_files.specs.Share.{share_file_of}
 use Rattle.share_files.specs.TreeFile.{tree_head}
 use Rattle.dealer.specs.Dealt.{dealt_root, dealt_tree}
 use Rattle.dealer.specs.declared.files.DealingFiles.{DealingFiles}
@@ -17,13 +18,13 @@ public_file d = u32str d.params.lms ++ u32str d.params.ots ++ d.id ++ dealt_root
 abbrev pub tree_file : Dealing → List ℕ
 tree_file d = tree_head d.params d.id ++ (dealt_tree d).nodes
 
--- this project's profile: the head with a zero, k and n, and the masked leaves
+-- this project's profile: the head, and the masked leaves
 abbrev pub reference_file : Dealing → List ℕ
-reference_file d = head_bytes (codes "TLRF") (0 ∷ d.plan.k ∷ d.plan.n ∷ []) d.params d.id ++ reference d
+reference_file d = reference_head_of d.params d.plan d.id ++ reference d
 
--- this project's profile: the head with t, k and n, and the key of trustee t
+-- this project's profile: the head, and the key of trustee t
 abbrev pub share_file : Dealing → ℕ → List ℕ
-share_file d t = head_bytes (codes "TLSH") (t ∷ d.plan.k ∷ d.plan.n ∷ []) d.params d.id ++ key_of d t
+share_file d t = share_file_of d.params d.plan d.id t (key_of d t)
 
 -- those of all trustees, in ascending order
 abbrev pub share_files : Dealing → List (List ℕ)

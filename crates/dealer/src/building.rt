@@ -1,6 +1,6 @@
 //! What a dealing is made of.
 
-ghost use Rattle.std.specs.Prelude.{◌≡◌, ◌≤◌, IfOk, length};
+ghost use Rattle.std.specs.Prelude.{◌≡◌, ◌<◌, ◌≤◌, IfOk, length};
 ghost use Rattle.dealer.specs.Dealt.{IsDealt};
 ghost use Rattle.dealer.specs.Entropy.{dealing_of, entropy_length};
 
@@ -9,8 +9,8 @@ use crate::entropy::read_entropy;
 use crate::leaves::{build_reference, build_tree};
 use crate::shares::build_shares;
 use coalition_map::Plan;
-use memory::NoMemory;
 use lms_bytes::{Params, PublicKey};
+use memory::NoMemory;
 use std::alloc::Global;
 
 /// Deals the key that the entropy stands for, which has been tested.
@@ -23,7 +23,8 @@ pub(crate) fn build(
     requires height { plan.now.h ≡ params.now.h }
     requires low { params.now.h ≤ 10 }
     requires size { length entropy.now ≡ entropy_length plan.now.n }
-    ensures { IfOk result (IsDealt (dealing_of params.now plan.now entropy.now)) }
+    ensures dealt { IfOk result (IsDealt (dealing_of params.now plan.now entropy.now)) }
+    ensures shares { IfOk result (λ dealt. 0 < length dealt.shares.items) }
 {
     let secrets = read_entropy(alloc, params, plan, entropy)?;
     let tree = build_tree(alloc, params, &secrets.id, &secrets.seed)?;

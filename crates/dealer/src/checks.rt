@@ -43,7 +43,8 @@ pub(crate) fn check(params: &Params, plan: &Plan, entropy: &[u8]) -> Result<(), 
 /// Why no key of this parameter set is dealt, whatever the plan and the entropy.
 fn set_fault(params: &Params) -> Option<DealFault>
     ensures dealt { IfNone result (CanBeDealt params.now) }
-    ensures cause { IfSome result (λ fault. (plan : PlanNumbers) (entropy : List ℕ) → HasFault params.now plan entropy fault) }
+    ensures cause { IfSome result (λ fault. (plan : PlanNumbers) (entropy : List ℕ)
+        → HasFault params.now plan entropy fault) }
 {
     if params.h > 10 {
         Some(DealFault::TooHigh { h: params.h })
@@ -77,8 +78,10 @@ fn next_alike(trustees: u8, entropy: &[u8], t: u8) -> Option<u8>
     requires last { t ≤ trustees }
     ensures two { IfSome result (λ u. AreTwo trustees t u) }
     ensures alike { IfSome result (λ u. trustee_key entropy.now t ≡ trustee_key entropy.now u) }
-    ensures least { IfSome result (λ u. (other : ℕ) → t < other → other < u → trustee_key entropy.now t ≢ trustee_key entropy.now other) }
-    ensures differ { IfNone result ((other : ℕ) → t < other → other ≤ trustees → trustee_key entropy.now t ≢ trustee_key entropy.now other) }
+    ensures least { IfSome result (λ u. (other : ℕ) → t < other → other < u
+        → trustee_key entropy.now t ≢ trustee_key entropy.now other) }
+    ensures differ { IfNone result ((other : ℕ) → t < other → other ≤ trustees
+        → trustee_key entropy.now t ≢ trustee_key entropy.now other) }
 {
     'others: for u in t + 1..trustees + 1 {
         if are_alike(entropy, t, u) {

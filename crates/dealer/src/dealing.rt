@@ -1,6 +1,6 @@
 //! The dealing.
 
-ghost use Rattle.std.specs.Prelude.{◌≡◌, ◌⊎◌, IfOk, OnOk, IfErr};
+ghost use Rattle.std.specs.Prelude.{◌≡◌, ◌⊎◌, ◌<◌, IfOk, OnOk, IfErr, length};
 ghost use Rattle.dealer.specs.Dealt.{IsDealt};
 ghost use Rattle.dealer.specs.Entropy.{dealing_of};
 ghost use Rattle.dealer.specs.Faults.{HasFault, IsDealable};
@@ -35,7 +35,9 @@ pub fn deal(alloc: Global, params: &Params, plan: &Plan, entropy: &[u8]) -> Resu
     ensures dealt { IfOk result (IsDealt (dealing_of params.now plan.now entropy.now)) }
     ensures dealable { OnOk result (IsDealable params.now plan.now entropy.now) }
     ensures refused { (fault : DealFault) → HasFault params.now plan.now entropy.now fault → result ≡ Err fault }
-    ensures cause { IfErr result (λ fault. (fault ≡ NoMemory × IsDealable params.now plan.now entropy.now) ⊎ HasFault params.now plan.now entropy.now fault) }
+    ensures cause { IfErr result (λ fault. (fault ≡ NoMemory × IsDealable params.now plan.now entropy.now)
+        ⊎ HasFault params.now plan.now entropy.now fault) }
+    ensures shares { IfOk result (λ dealt. 0 < length dealt.shares.items) }
 {
     check(params, plan, entropy)?;
     match build(alloc, params, plan, entropy) {

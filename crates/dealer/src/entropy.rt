@@ -7,9 +7,9 @@ ghost use Rattle.dealer.specs.Secrets.{dealing_with};
 
 use crate::checks::key_at;
 use coalition_map::Plan;
-use memory::NoMemory;
 use lms_bytes::bytes::part;
 use lms_bytes::{KeyId, Params, Val};
+use memory::NoMemory;
 use std::alloc::Global;
 
 /// What a key is dealt from.
@@ -33,7 +33,8 @@ pub(crate) fn read_entropy(
     entropy: &[u8],
 ) -> Result<Secrets, NoMemory>
     requires { length entropy.now ≡ entropy_length plan.now.n }
-    ensures dealing { IfOk result (λ secrets. dealing_with params.now plan.now secrets ≡ dealing_of params.now plan.now entropy.now) }
+    ensures dealing { IfOk result (λ secrets. dealing_with params.now plan.now secrets
+        ≡ dealing_of params.now plan.now entropy.now) }
     ensures seed { IfOk result (λ secrets. length secrets.seed ≡ params.now.n) }
     ensures keys { IfOk result (λ secrets. length secrets.keys.items ≡ plan.now.n) }
     ensures lengths { IfOk result (λ secrets. All (λ key. length key ≡ 32) secrets.keys.items) }

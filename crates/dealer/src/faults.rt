@@ -1,16 +1,23 @@
 //! Why a key is not dealt.
 
+use thiserror::Error;
+
 /// Why there is no dealing.
-#[derive(Clone, Copy, Debug, PartialEq, Eq)]
+#[derive(Clone, Copy, Debug, PartialEq, Eq, Error)]
 pub enum DealFault {
     /// The tree is higher than 10.
+    #[error("a tree of height {h}, where at most 10 is wanted")]
     TooHigh { h: u8 },
     /// Digits of 8 bits with a tree of height 10.
+    #[error("digits of 8 bits with a tree of height 10, where narrower ones are wanted")]
     TooWide,
     /// The entropy has another length than `80 + 32n` bytes for `n` trustees.
+    #[error("{got} bytes of entropy, where {want} are wanted")]
     BadEntropy { got: usize, want: usize },
     /// Two trustees have the same key. This is the first such pair, `t` first.
+    #[error("trustees {t} and {u} have the same key, where all are to differ")]
     SameKeys { t: u8, u: u8 },
     /// Want of memory.
+    #[error("out of memory")]
     NoMemory,
 }

@@ -1,7 +1,6 @@
 //! The files of a dealing.
 
-ghost use Rattle.std.specs.Prelude.{◌≡◌, ◌++◌, IfOk, map};
-ghost use Rattle.coalition_map.specs.Coalitions.{IsPlan};
+ghost use Rattle.std.specs.Prelude.{◌≡◌, ◌++◌, ◌<◌, IfOk, length, map};
 ghost use Rattle.lms_bytes.specs.PublicKey.{public_bytes};
 ghost use Rattle.reference_value.specs.Dealing.{Dealing};
 ghost use Rattle.share_files.specs.Reference.{reference_head};
@@ -11,11 +10,10 @@ ghost use Rattle.dealer.specs.Dealt.{IsDealt};
 ghost use Rattle.dealer.specs.Files.{AreFiles};
 
 use crate::dealing::Dealt;
-use coalition_map::Plan;
-use memory::NoMemory;
 use lms_bytes::{PublicKey, write_public};
+use memory::NoMemory;
 use merkle_path::Tree;
-use share_files::{RefHeader, Share, write_ref_head, write_share, write_tree_head};
+use share_files::{HEAD, RefHeader, Share, write_ref_head, write_share, write_tree_head};
 use std::alloc::Global;
 
 /// The files of a dealing, each whole.
@@ -32,16 +30,17 @@ pub struct DealingFiles {
 }
 
 impl Dealt {
-    /// The files. The reference is not copied, and takes no memory where it has room for the 32 bytes of its head.
-    pub fn into_files(self, alloc: Global, plan: &Plan) -> Result<DealingFiles, NoMemory>
-        requires { plan.now.h ≡ self.public.params.h }
-        ensures files { (d : Dealing) → d.plan ≡ plan.now → IsPlan d.plan → d.plan.h ≡ d.params.h → IsDealt d self → IfOk result (AreFiles d) }
+    /// The files. The head of the reference is that of the shares. The leaves are not copied, and take no memory where
+    /// they have room for the 32 bytes of this head.
+    pub fn into_files(self, alloc: Global) -> Result<DealingFiles, NoMemory>
+        requires { 0 < length self.shares.items }
+        ensures files { (d : Dealing) → IsDealt d self → IfOk result (AreFiles d) }
     {
-        prove_eq!(plan.h(), self.public.params.h);
+        let share = self.shares[0];
         let header = RefHeader {
-            params: self.public.params,
-            plan: *plan,
-            id: self.public.id,
+            params: share.params,
+            plan: share.plan,
+            id: share.id,
         };
         Ok(DealingFiles {
             public: public_file(alloc, &self.public)?,
@@ -65,7 +64,7 @@ pub fn public_file(alloc: Global, key: &PublicKey) -> Result<Vec<u8>, NoMemory>
 fn tree_file(alloc: Global, key: &PublicKey, tree: &Tree) -> Result<Vec<u8>, NoMemory>
     ensures { IfOk result (λ file. file.items ≡ tree_head key.now.params key.now.id ++ tree.now.nodes) }
 {
-    let mut head = [0; 32];
+    let mut head = [0; HEAD];
     write_tree_head(&key.params, &key.id, &mut head);
     let nodes = tree.nodes();
     let mut file = Vec::with_capacity(alloc, head.len() + nodes.len())?;
@@ -78,7 +77,7 @@ fn tree_file(alloc: Global, key: &PublicKey, tree: &Tree) -> Result<Vec<u8>, NoM
 fn reference_file(header: &RefHeader, leaves: Vec<u8>) -> Result<Vec<u8>, NoMemory>
     ensures { IfOk result (λ file. file.items ≡ reference_head header.now ++ leaves.items) }
 {
-    let mut head = [0; 32];
+    let mut head = [0; HEAD];
     write_ref_head(header, &mut head);
     let mut file = leaves;
     file.extend_from_slice(&head)?;

@@ -5,20 +5,18 @@ ghost use Rattle.std.specs.List.{range_with_len};
 ghost use Rattle.merkle_path.specs.Tree.{tree_of};
 ghost use Rattle.ots_chain.specs.LeafKey.{seed_leaf_key};
 ghost use Rattle.reference_value.specs.Dealing.{reference};
-ghost use Rattle.reference_value.specs.Places.{leaves_length};
+ghost use Rattle.share_files.specs.Reference.{leaves_length};
 ghost use Rattle.dealer.specs.Secrets.{dealing_with};
 
 use crate::entropy::Secrets;
 use coalition_map::Plan;
-use memory::NoMemory;
 use lms_bytes::{KeyId, Params, Val};
+use memory::NoMemory;
 use merkle_path::Tree;
 use ots_chain::leaf_key_of;
 use reference_value::{build_leaf, leaf_bytes};
+use share_files::HEAD;
 use std::alloc::Global;
-
-/// The length of the head of the reference's file, for which there is room behind the leaves.
-const HEAD: usize = 32;
 
 /// The tree over the public values of the leaves.
 pub(crate) fn build_tree(
@@ -38,7 +36,8 @@ pub(crate) fn build_tree(
 /// The public values of the leaves.
 fn leaf_keys(alloc: Global, params: &Params, id: &KeyId, seed: &Val) -> Result<Vec<Val>, NoMemory>
     requires { length seed.now ≡ params.now.n }
-    ensures keys { IfOk result (λ keys. keys.items ≡ map (λ q. seed_leaf_key params.now id.now q seed.now) (range_with_len 0 (2 ^ params.now.h))) }
+    ensures keys { IfOk result (λ keys. keys.items
+        ≡ map (λ q. seed_leaf_key params.now id.now q seed.now) (range_with_len 0 (2 ^ params.now.h))) }
     ensures length { IfOk result (λ keys. All (λ key. length key ≡ params.now.n) keys.items) }
 {
     let mut keys = Vec::with_capacity(alloc, params.leaves() as usize)?;
@@ -59,7 +58,7 @@ pub(crate) fn build_reference(
     requires seed { length secrets.now.seed ≡ params.now.n }
     requires keys { length secrets.now.keys.items ≡ plan.now.n }
     ensures leaves { IfOk result (λ leaves. leaves.items ≡ reference (dealing_with params.now plan.now secrets.now)) }
-    ensures room { IfOk result (λ leaves. length leaves.items + HEAD ≤ vec_capacity leaves) }
+    ensures room { IfOk result (λ leaves. length leaves.items + 32 ≤ vec_capacity leaves) }
 {
     let length = leaf_bytes(params, plan.k()) * params.leaves() as usize;
     let mut leaves = Vec::with_capacity(alloc, length + HEAD)?;

@@ -7,6 +7,7 @@ mod dealing;
 mod entropy;
 mod faults;
 mod files;
+pub mod laws;
 mod leaves;
 mod shares;
 

@@ -27,12 +27,16 @@ secret key q i = secret_of key.params key.id q i key.seed
 abbrev pub leaf_key : UndividedKey → ℕ → List ℕ
 leaf_key key q = seed_leaf_key key.params key.id q key.seed
 
+-- T[1] of a parameter set, I and SEED (RFC 8554 section 5.3)
+abbrev pub seed_root : Params → List ℕ → List ℕ → List ℕ
+seed_root params id seed = root params id (λ q. seed_leaf_key params id q seed)
+
 -- the public key (RFC 8554 section 5.3)
 abbrev pub public_key_of : UndividedKey → PublicKey
 public_key_of key = record {
   params = key.params;
   id = key.id;
-  root = root key.params key.id (leaf_key key);
+  root = seed_root key.params key.id key.seed;
   id_length = key.id_length;
   root_length = length-node key.params key.id (leaf_key key) key.params.h 1;
 }

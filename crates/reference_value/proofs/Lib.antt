@@ -1,4 +1,4 @@
-pub mod Joined
+pub mod Parts
 pub mod Xor
 pub mod Chains
 pub mod Members

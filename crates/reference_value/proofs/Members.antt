@@ -8,15 +8,16 @@ use Rattle.std.proofs.Math.Seq.{take-add, take-append_seam, drop-append_seam}
 use Rattle.std.proofs.lemmas.List.{take-take}
 use Rattle.coalition_map.specs.Coalitions.{IsSubset}
 use Rattle.coalition_map.specs.Members.{below, IsAscendingIn}
-use Rattle.coalition_map.specs.MemberLaws.{below-more_in}
+use Rattle.coalition_map.proofs.MemberLaws.{below-more_in}
 use Rattle.lms_bytes.specs.Bytes.{bytes_at, joined, xor}
 use Rattle.lms_bytes.specs.declared.params.Params.{Params}
 use Rattle.mask_prf.specs.Masks.{chain_mask_of, check_tag_of, random_mask_of}
-use Rattle.mask_prf.proofs.Lengths.{length-chain_mask_of, length-check_tag_of, length-hash, length-random_mask_of, length-randomizer_of}
+use Rattle.lms_bytes.proofs.Lengths.{length-hash}
+use Rattle.mask_prf.proofs.Lengths.{length-chain_mask_of, length-check_tag_of, length-random_mask_of, length-randomizer_of}
 use Rattle.ots_chain.specs.Chains.{steps}
 use Rattle.reference_value.specs.Dealing.{Dealing, cell, cells, chain_mask, chain_value, check_tag, key_of, leaf_part, leaf_randomizer, masked, masked_randomizer, members_of, random_mask, tags}
 use Rattle.reference_value.specs.Masking.{masked_at, masked_chain}
-use Rattle.reference_value.proofs.Joined.{joined-at, joined-same, length-joined}
+use Rattle.lms_bytes.proofs.Joined.{joined-at, joined-same, length-joined}
 use Rattle.reference_value.proofs.Xor.{length-xor}
 
 length-steps : (params : Params) (id : List ℕ) (q i from count : ℕ) (x : List ℕ) → length x ≡ params.n → length (steps params id q i from count x) ≡ params.n

@@ -6,14 +6,15 @@ use Rattle.std.proofs.lemmas.List.Elements.{All-contains}
 use Rattle.std.proofs.Math.Nat.{mod-lt}
 use Rattle.std.proofs.Math.Seq.{drop-append-add}
 use Rattle.coalition_map.specs.Coalitions.{IsPlan, count_of}
-use Rattle.coalition_map.specs.CoalitionLaws.{IsSubset-coalition, count_of-pos}
+use Rattle.coalition_map.proofs.CoalitionLaws.{IsSubset-coalition, count_of-pos}
 use Rattle.coalition_map.specs.Members.{below, IsAscendingIn}
-use Rattle.coalition_map.specs.MemberLaws.{All-from_IsAscendingIn, Contains-cases, Contains-nil, below-none}
+use Rattle.coalition_map.proofs.MemberLaws.{All-from_IsAscendingIn, Contains-cases, Contains-nil, below-none}
 use Rattle.lms_bytes.specs.Bytes.{bytes_at, joined}
 use Rattle.mask_prf.proofs.Lengths.{length-check_tag_of}
 use Rattle.reference_value.specs.Dealing.{Dealing, cell, cells, check_tag, key_of, leaf_part, leaf_randomizer, masked_randomizer, members_of, reference, tags}
-use Rattle.reference_value.specs.Places.{cell_in, leaf_length, leaf_place, leaves_length, cell_place, randomizer_in, tag_in, tag_place}
-use Rattle.reference_value.proofs.Joined.{AllOfLength, joined-at, length-joined, part-left, row-fits}
+use Rattle.reference_value.specs.Places.{cell_in, leaf_place, cell_place, randomizer_in, tag_in, tag_place}
+use Rattle.share_files.specs.Reference.{leaf_length, leaves_length}
+use Rattle.lms_bytes.proofs.Joined.{AllOfLength, joined-at, length-joined, part-left, row-fits}
 use Rattle.reference_value.proofs.Members.{cell_of, chain_of, length-cell_of, length-chain_of, length-random_of, length-tags_of, random_of, tag-room, tags_of}
 
 -- a part of a part

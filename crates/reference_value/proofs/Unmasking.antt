@@ -10,7 +10,7 @@ use Rattle.lms_bytes.specs.Digits.{digit_of}
 use Rattle.mask_prf.proofs.Lengths.{length-chain_mask_of, length-random_mask_of, length-randomizer_of}
 use Rattle.reference_value.specs.Dealing.{Dealing, cell, chain_mask, chain_sums, chain_value, key_of, leaf_randomizer, masked, masked_randomizer, members_of, random_mask, reference, sum_of_masks}
 use Rattle.reference_value.specs.Joins.{joined_chains}
-use Rattle.reference_value.proofs.Joined.{joined-at, joined-same}
+use Rattle.lms_bytes.proofs.Joined.{joined-at, joined-same}
 use Rattle.reference_value.proofs.Members.{length-chain_value}
 use Rattle.reference_value.proofs.Reference.{cell_in-reference}
 use Rattle.reference_value.proofs.Xor.{length-xor, xor-assoc, xor-comm, xor-twice, xor-zeros}

@@ -91,4 +91,5 @@ reference d = joined (leaf_part d) (2 ^ d.params.h)
 -- for each chain the sum of all members' masks at the digit of a digest
 unfoldable pub chain_sums : Dealing → ℕ → List ℕ → List ℕ
 chain_sums d q digest =
-    joined (λ i. sum_of_masks d.params.n (map (chain_mask d q i (digit_of d.params digest i)) (members_of d q))) d.params.p
+    let mask : ℕ → ℕ → List ℕ = λ i. chain_mask d q i (digit_of d.params digest i) in
+    joined (λ i. sum_of_masks d.params.n (map (mask i) (members_of d q))) d.params.p

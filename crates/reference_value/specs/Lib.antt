@@ -4,3 +4,4 @@ pub mod Joins
 pub mod Masking
 pub mod Paged
 pub mod Pads
+pub mod Stay

@@ -19,7 +19,8 @@ at_chain i values = slice_index_or values i []
 
 -- for each chain the cell, XOR the sum of all members' masks, is the value
 abbrev pub JoinTo : ℕ → ℕ → List (List ℕ) → List (List (List ℕ)) → List (List ℕ) → Type 0
-JoinTo n p cells masks values = (i : ℕ) → i < p → xor (at_chain i cells) (sum_of_masks n (map (at_chain i) masks)) ≡ at_chain i values
+JoinTo n p cells masks values =
+    (i : ℕ) → i < p → xor (at_chain i cells) (sum_of_masks n (map (at_chain i) masks)) ≡ at_chain i values
 
 -- exactly one of such lists meets P
 pub record ExactlyOne (P : List (List ℕ) → Type 0) : Type 0 where

@@ -4,14 +4,7 @@ use Rattle.coalition_map.specs.Coalitions.{PlanNumbers, leaf_members}
 use Rattle.coalition_map.specs.Members.{below}
 use Rattle.lms_bytes.specs.Bytes.{bytes_at}
 use Rattle.lms_bytes.specs.declared.params.Params.{Params}
-
--- the bytes of a leaf: its randomizer, k tags and its cells
-abbrev pub leaf_length : Params → ℕ → ℕ
-leaf_length params k = params.n + 32 * k + params.n * 2 ^ params.w * params.p
-
--- the bytes of all leaves
-abbrev pub leaves_length : Params → PlanNumbers → ℕ
-leaves_length params plan = leaf_length params plan.k * 2 ^ params.h
+use Rattle.share_files.specs.Reference.{leaf_length}
 
 -- where leaf q begins
 abbrev pub leaf_place : Params → PlanNumbers → ℕ → ℕ
@@ -23,7 +16,8 @@ tag_place params plan q t = leaf_place params plan q + params.n + 32 * length (b
 
 -- where the cell of chain i after j steps lies
 abbrev pub cell_place : Params → PlanNumbers → ℕ → ℕ → ℕ → ℕ
-cell_place params plan q i j = leaf_place params plan q + params.n + 32 * plan.k + params.n * 2 ^ params.w * i + params.n * j
+cell_place params plan q i j =
+    leaf_place params plan q + params.n + 32 * plan.k + params.n * 2 ^ params.w * i + params.n * j
 
 -- the masked randomizer of leaf q
 unfoldable pub randomizer_in : Params → PlanNumbers → List ℕ → ℕ → List ℕ

@@ -2,15 +2,18 @@
 
 ghost use Rattle.std.specs.Prelude.{◌≡◌, ℕ, ◌<◌, ◌≤◌, ◌^◌, Bool, List, Contains, length, IsTrue, IsOk, IfOk, OnErr};
 ghost use Rattle.coalition_map.specs.Coalitions.{PlanNumbers, leaf_members};
-ghost use Rattle.disk_trait.specs.Faults.{Rose};
+ghost use Rattle.disk_trait.specs.Faults.{HasCause};
 ghost use Rattle.lms_bytes.specs.declared.params.Params.{Params};
-ghost use Rattle.reference_value.specs.Places.{cell_in, leaves_length, randomizer_in, tag_in};
+ghost use Rattle.reference_value.specs.Places.{cell_in, randomizer_in, tag_in};
+ghost use Rattle.share_files.specs.Reference.{leaves_length};
 
 use disk_trait::Faults;
 use lms_bytes::Val;
+use thiserror::Error;
 
 /// A value of the reference could not be read.
-#[derive(Clone, Copy, Debug, PartialEq, Eq)]
+#[derive(Clone, Copy, Debug, PartialEq, Eq, Error)]
+#[error("a value of the reference could not be read")]
 pub struct RefFault;
 
 /// The masked values of a reference: of leaf `q` the cell of chain `i` after `j` steps, the randomizer, and the check
@@ -38,8 +41,7 @@ pub trait Cells: Faults {
         ensures length { IfOk result (λ v. length v ≡ (set self.old).n) }
         ensures succeeds { IsTrue (Self.steady self.old) → IsTrue (told self.old)
             → length (leaves self.old) ≡ leaves_length (set self.old) (plan self.old) → IsOk result }
-        ensures cause { OnErr result (Rose (Self.count self.old) (Self.count self.new)) }
-        ensures count { Self.count self.old ≤ Self.count self.new }
+        ensures cause { HasCause (Self.count self.old) (Self.count self.new) result }
 
         ensures same { IsTrue (told self.old) → leaves self.new ≡ leaves self.old }
         ensures stays_set { set self.new ≡ set self.old }
@@ -55,8 +57,7 @@ pub trait Cells: Faults {
         ensures length { IfOk result (λ v. length v ≡ (set self.old).n) }
         ensures succeeds { IsTrue (Self.steady self.old) → IsTrue (told self.old)
             → length (leaves self.old) ≡ leaves_length (set self.old) (plan self.old) → IsOk result }
-        ensures cause { OnErr result (Rose (Self.count self.old) (Self.count self.new)) }
-        ensures count { Self.count self.old ≤ Self.count self.new }
+        ensures cause { HasCause (Self.count self.old) (Self.count self.new) result }
 
         ensures same { IsTrue (told self.old) → leaves self.new ≡ leaves self.old }
         ensures stays_set { set self.new ≡ set self.old }
@@ -72,8 +73,7 @@ pub trait Cells: Faults {
             → IfOk result (λ v. v ≡ tag_in (set self.old) (plan self.old) (leaves self.old) q t) }
         ensures succeeds { IsTrue (Self.steady self.old) → IsTrue (told self.old)
             → length (leaves self.old) ≡ leaves_length (set self.old) (plan self.old) → IsOk result }
-        ensures cause { OnErr result (Rose (Self.count self.old) (Self.count self.new)) }
-        ensures count { Self.count self.old ≤ Self.count self.new }
+        ensures cause { HasCause (Self.count self.old) (Self.count self.new) result }
 
         ensures same { IsTrue (told self.old) → leaves self.new ≡ leaves self.old }
         ensures stays_set { set self.new ≡ set self.old }

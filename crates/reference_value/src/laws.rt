@@ -5,14 +5,17 @@ ghost use Rattle.std.specs.Prelude.{◌≡◌, ℕ, List, ◌∷◌, ◌++◌, �
 ghost use Rattle.coalition_map.specs.Coalitions.{IsPlan};
 ghost use Rattle.lms_bytes.specs.Bytes.{joined, xor};
 ghost use Rattle.lms_bytes.specs.Digits.{digit_of};
-ghost use Rattle.reference_value.specs.Dealing.{Dealing, cell, chain_mask, chain_sums, chain_value, check_tag, leaf_part, leaf_randomizer, masked_randomizer, members_of, random_mask, reference, sum_of_masks};
+ghost use Rattle.reference_value.specs.Dealing.{Dealing, cell, chain_mask, chain_sums, chain_value, check_tag};
+ghost use Rattle.reference_value.specs.Dealing.{leaf_part, leaf_randomizer, masked_randomizer, members_of, random_mask};
+ghost use Rattle.reference_value.specs.Dealing.{reference, sum_of_masks};
 ghost use Rattle.reference_value.specs.Joins.{joined_chains};
 ghost use Rattle.reference_value.specs.Pads.{AreValues, ExactlyOne, JoinTo};
-ghost use Rattle.reference_value.specs.Places.{cell_in, leaf_length, leaves_length, randomizer_in, tag_in};
+ghost use Rattle.reference_value.specs.Places.{cell_in, randomizer_in, tag_in};
+ghost use Rattle.share_files.specs.Reference.{leaf_length, leaves_length};
 
-/// Whatever the cells, the masks of the other members and the `p` values of `n` bytes, exactly one list of `p` masks of a
-/// member joins the cells to these values. So without a member's masks the cells fit every list of values. This is a law on
-/// lists, and no claim of secrecy.
+/// Whatever the cells, the masks of the other members and the `p` values of `n` bytes, exactly one list of `p` masks of
+/// a member joins the cells to these values. So without a member's masks the cells fit every list of values. This is a
+/// law on lists, and no claim of secrecy.
 pub fn pads()
     ensures { (n p : ℕ) (cells values : List (List ℕ)) (before after : List (List (List ℕ)))
         → AreValues n p cells → AreValues n p values → All (AreValues n p) before → All (AreValues n p) after
@@ -34,9 +37,11 @@ pub fn values_of_reference()
 /// The sum of all members' masks takes them off again.
 pub fn masks_come_off()
     ensures randomizer { (d : Dealing) (q : ℕ)
-        → xor (masked_randomizer d q) (sum_of_masks d.params.n (map (random_mask d q) (members_of d q))) ≡ leaf_randomizer d q }
+        → xor (masked_randomizer d q) (sum_of_masks d.params.n (map (random_mask d q) (members_of d q)))
+        ≡ leaf_randomizer d q }
     ensures cell { (d : Dealing) (q i j : ℕ)
-        → xor (cell d q i j) (sum_of_masks d.params.n (map (chain_mask d q i j) (members_of d q))) ≡ chain_value d q i j }
+        → xor (cell d q i j) (sum_of_masks d.params.n (map (chain_mask d q i j) (members_of d q)))
+        ≡ chain_value d q i j }
     ensures chains { (d : Dealing) (q : ℕ) (digest : List ℕ) → IsPlan d.plan → q < 2 ^ d.params.h
         → joined_chains d.params d.plan (reference d) q digest (chain_sums d q digest)
         ≡ joined (λ i. chain_value d q i (digit_of d.params digest i)) d.params.p }

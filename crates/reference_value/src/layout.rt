@@ -2,11 +2,12 @@
 
 ghost use Rattle.std.specs.Prelude.{◌≡◌, ℕ, ◌+◌, ◌*◌, ◌<◌, ◌≤◌, ◌^◌, Contains, length};
 ghost use Rattle.coalition_map.specs.Coalitions.{leaf_members};
-ghost use Rattle.reference_value.specs.Places.{cell_place, leaf_length, leaf_place, leaves_length, tag_place};
+ghost use Rattle.reference_value.specs.Places.{cell_place, leaf_place, tag_place};
+ghost use Rattle.share_files.specs.Reference.{leaf_length, leaves_length};
 
-use crate::leaf::{TAG, chain_bytes, leaf_bytes};
 use coalition_map::Plan;
 use lms_bytes::Params;
+use share_files::{TAG, chain_bytes, leaf_bytes};
 
 /// The parameter set and the plan of a reference, which say where its values lie among the leaves.
 #[derive(Clone, Copy, Debug)]
@@ -32,7 +33,8 @@ impl Layout {
     pub(crate) fn leaf(&self, q: u32) -> usize
         requires { q < 2 ^ self.now.params.h }
         ensures place { result ≡ leaf_place self.now.params self.now.plan q }
-        ensures within { result + leaf_length self.now.params self.now.plan.k ≤ leaves_length self.now.params self.now.plan }
+        ensures within { result + leaf_length self.now.params self.now.plan.k
+            ≤ leaves_length self.now.params self.now.plan }
         ensures small { leaves_length self.now.params self.now.plan ≤ 2 ^ 50 }
     {
         leaf_bytes(&self.params, self.plan.k()) * q as usize
@@ -43,7 +45,7 @@ impl Layout {
         requires leaf { q < 2 ^ self.now.params.h }
         requires member { Contains (leaf_members self.now.plan q) t }
         ensures place { result ≡ tag_place self.now.params self.now.plan q t }
-        ensures within { result + TAG ≤ leaves_length self.now.params self.now.plan }
+        ensures within { result + 32 ≤ leaves_length self.now.params self.now.plan }
         ensures small { leaves_length self.now.params self.now.plan ≤ 2 ^ 50 }
     {
         let members = self.plan.members(self.plan.coalition_of(q));

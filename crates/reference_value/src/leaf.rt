@@ -5,31 +5,14 @@ ghost use Rattle.lms_bytes.specs.Bytes.{bytes_at, joined, xor};
 ghost use Rattle.mask_prf.specs.Masks.{chain_mask_of, check_tag_of, random_mask_of};
 ghost use Rattle.reference_value.specs.Dealing.{leaf_part, value_of_seed, values_of_seed};
 ghost use Rattle.reference_value.specs.Masking.{masked_at, masked_chain};
-ghost use Rattle.reference_value.specs.Places.{leaf_length};
+ghost use Rattle.share_files.specs.Reference.{leaf_length};
 
 use coalition_map::{Members, Plan};
 use lms_bytes::bytes::{part, put};
 use lms_bytes::{KeyId, Params, Val};
 use mask_prf::{MacKey, randomizer};
 use ots_chain::{chain, secret};
-
-/// The length of a check tag, in bytes.
-pub(crate) const TAG: usize = 32;
-
-/// The number of bytes of a leaf, where each leaf has `k` members.
-pub fn leaf_bytes(params: &Params, k: u8) -> usize
-    ensures { result ≡ leaf_length params.now k }
-{
-    params.n as usize + TAG * k as usize + chain_bytes(params) * params.p as usize
-}
-
-/// The number of bytes of a chain's cells.
-pub(crate) fn chain_bytes(params: &Params) -> usize
-    ensures length { result ≡ params.now.n * 2 ^ params.now.w }
-    ensures all { result * params.now.p ≤ 2170880 }
-{
-    (params.n as usize) << params.w
-}
+use share_files::{TAG, chain_bytes};
 
 /// Writes the values of a chain, from no step to all.
 fn write_chain(params: &Params, id: &KeyId, q: u32, i: u16, seed: &Val, out: &mut [u8])
@@ -63,7 +46,8 @@ fn write_chains(params: &Params, id: &KeyId, q: u32, seed: &Val, out: &mut [u8])
 /// Puts a mask on the value at a place.
 fn mask_value(out: &mut [u8], place: usize, mask: &Val)
     requires { place + length mask.now ≤ length out.old }
-    ensures front { take (place + length mask.now) out.new ≡ take place out.old ++ xor (bytes_at out.old place (length mask.now)) mask.now }
+    ensures front { take (place + length mask.now) out.new
+        ≡ take place out.old ++ xor (bytes_at out.old place (length mask.now)) mask.now }
     ensures after { drop (place + length mask.now) out.new ≡ drop (place + length mask.now) out.old }
 {
     let value = Val::of(part(out, place, mask.bytes().len())).xor(mask);
@@ -73,7 +57,8 @@ fn mask_value(out: &mut [u8], place: usize, mask: &Val)
 /// Puts a trustee's masks on the values of a chain.
 fn mask_chain(key: &MacKey, params: &Params, id: &KeyId, q: u32, i: u16, out: &mut [u8])
     requires { length out.old ≡ params.now.n * 2 ^ params.now.w }
-    ensures { out.new ≡ joined (masked_at params.now.n out.old (chain_mask_of params.now key.now id.now q i)) (2 ^ params.now.w) }
+    ensures { out.new
+        ≡ joined (masked_at params.now.n out.old (chain_mask_of params.now key.now id.now q i)) (2 ^ params.now.w) }
 {
     let n = params.n as usize;
     'steps: for j in 0..params.greatest_digit() + 1 {
@@ -106,9 +91,10 @@ fn add_member(
     chains: &mut [u8],
 )
     requires behind { params.now.n ≤ place }
-    requires room { place + TAG ≤ length front.old }
+    requires room { place + 32 ≤ length front.old }
     requires chains { length chains.old ≡ params.now.n * 2 ^ params.now.w * params.now.p }
-    ensures front { take (place + TAG) front.new ≡ xor (take params.now.n front.old) (random_mask_of params.now key.now id.now q)
+    ensures front { take (place + 32) front.new
+        ≡ xor (take params.now.n front.old) (random_mask_of params.now key.now id.now q)
         ++ bytes_at front.old params.now.n (place - params.now.n) ++ check_tag_of key.now id.now q c.now }
     ensures chains { chains.new ≡ joined (masked_chain params.now key.now id.now q chains.old) params.now.p }
 {

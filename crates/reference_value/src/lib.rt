@@ -11,8 +11,9 @@ mod whole;
 
 pub use cells::{Cells, RefFault};
 pub use joins::{join_chains, join_randomizer};
-pub use leaf::{build_leaf, leaf_bytes};
+pub use leaf::build_leaf;
 pub use paged::Paged;
+pub use share_files::leaf_bytes;
 pub use whole::Whole;
 
 #[cfg(test)]

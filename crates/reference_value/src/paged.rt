@@ -1,7 +1,7 @@
 //! A reference that is read from pages, value by value.
 
 ghost use Rattle.std.specs.Prelude.{◌≡◌, ◌+◌, ◌<◌, ◌≤◌, ◌^◌, length, drop, IsTrue, IsOk, IfOk, OnOk, OnErr};
-ghost use Rattle.disk_trait.specs.Faults.{Rose};
+ghost use Rattle.disk_trait.specs.Faults.{HasCause};
 ghost use Rattle.lms_bytes.specs.Bytes.{bytes_at};
 ghost use Rattle.lms_bytes.specs.HashLength.{IsHashLength};
 ghost use Rattle.reference_value.specs.Paged.{pages_of};
@@ -11,9 +11,7 @@ use crate::layout::Layout;
 use coalition_map::Plan;
 use disk_trait::{DiskFault, Faults, Pages};
 use lms_bytes::{Params, Val};
-
-/// The length of the header before the leaves, in bytes.
-const HEADER: u64 = 32;
+use share_files::HEAD;
 
 /// The leaves of a reference on pages, behind a header. Each value is one read.
 #[derive(Drop)]
@@ -88,16 +86,16 @@ impl<V: Pages> Cells for Paged<V> {
 fn read_behind_header<V: Pages>(pages: &mut V, place: usize, out: &mut [u8]) -> Result<(), RefFault>
     requires place { place ≤ 2 ^ 50 }
     requires some { 0 < length out.old }
-    ensures bytes { IsTrue (V.told pages.old) → OnOk result (out.new ≡ bytes_at (drop HEADER (V.reads pages.old)) place (length out.old)) }
+    ensures bytes { IsTrue (V.told pages.old)
+        → OnOk result (out.new ≡ bytes_at (drop 32 (V.reads pages.old)) place (length out.old)) }
     ensures succeeds { IsTrue (V.steady pages.old) → IsTrue (V.told pages.old)
-        → place + length out.old ≤ length (drop HEADER (V.reads pages.old)) → IsOk result }
-    ensures cause { OnErr result (Rose (V.count pages.old) (V.count pages.new)) }
-    ensures count { V.count pages.old ≤ V.count pages.new }
+        → place + length out.old ≤ length (drop 32 (V.reads pages.old)) → IsOk result }
+    ensures cause { HasCause (V.count pages.old) (V.count pages.new) result }
     ensures same { IsTrue (V.told pages.old) → V.reads pages.new ≡ V.reads pages.old }
     ensures stays_told { V.told pages.new ≡ V.told pages.old }
     ensures stays_steady { V.steady pages.new ≡ V.steady pages.old }
 {
-    match pages.read_at(HEADER + place as u64, out) {
+    match pages.read_at((HEAD + place) as u64, out) {
         Ok(()) => Ok(()),
         Err(DiskFault) => Err(RefFault),
     }
@@ -107,12 +105,12 @@ fn read_behind_header<V: Pages>(pages: &mut V, place: usize, out: &mut [u8]) -> 
 fn read_value<V: Pages>(pages: &mut V, place: usize, n: u8) -> Result<Val, RefFault>
     requires place { place ≤ 2 ^ 50 }
     requires hash_length { IsHashLength n }
-    ensures value { IsTrue (V.told pages.old) → IfOk result (λ v. v ≡ bytes_at (drop HEADER (V.reads pages.old)) place n) }
+    ensures value { IsTrue (V.told pages.old)
+        → IfOk result (λ v. v ≡ bytes_at (drop 32 (V.reads pages.old)) place n) }
     ensures length { IfOk result (λ v. length v ≡ n) }
     ensures succeeds { IsTrue (V.steady pages.old) → IsTrue (V.told pages.old)
-        → place + n ≤ length (drop HEADER (V.reads pages.old)) → IsOk result }
-    ensures cause { OnErr result (Rose (V.count pages.old) (V.count pages.new)) }
-    ensures count { V.count pages.old ≤ V.count pages.new }
+        → place + n ≤ length (drop 32 (V.reads pages.old)) → IsOk result }
+    ensures cause { HasCause (V.count pages.old) (V.count pages.new) result }
     ensures same { IsTrue (V.told pages.old) → V.reads pages.new ≡ V.reads pages.old }
     ensures stays_told { V.told pages.new ≡ V.told pages.old }
     ensures stays_steady { V.steady pages.new ≡ V.steady pages.old }

@@ -1,5 +1,5 @@
 -- A rehearsal: its plan, what it gives, and its faults.
-use Rattle.std.proofs.Common.{◌≡◌, ℕ, ◌+◌, ◌≤◌, ◌<◌, ◌^◌, List, [], ◌∷◌, length, map, drop, refl, sym, ◌∙◌, ap, inr, arith, length-take, length-drop}
+use Rattle.std.proofs.Common.{◌≡◌, ℕ, ◌+◌, ◌≤◌, ◌<◌, ◌^◌, List, [], ◌∷◌, length, map, refl, sym, ◌∙◌, ap, inr, arith}
 use Rattle.coalition_map.specs.Coalitions.{IsPlan, PlanNumbers, leaf_members, subsets}
 use Rattle.lms_bytes.specs.Bytes.{bytes_at}
 use Rattle.lms_bytes.specs.declared.params.Params.{Params}
@@ -15,7 +15,9 @@ use Rattle.dealer.specs.declared.faults.DealFault.{DealFault}
 use Rattle.rehearsal.specs.Rehearsal.{CanRehearse, IsRehearsed, RehearsalFault, bad_entropy, same_keys}
 use Rattle.rehearsal.specs.Signing.{FitsPlan, signed_leaf}
 use Rattle.rehearsal.specs.declared.masks.Keys.{Keys}
-use Rattle.rehearsal.proofs.Signers.{AreSigners, accepted-is, dealt_key, signature-is}
+use Rattle.dealer.proofs.Undivided.{accepted_is, inside, public_is}
+use Rattle.reference_value.specs.Dealing.{leaf_randomizer}
+use Rattle.rehearsal.proofs.Signers.{AreSigners, dealt_key, signature-is}
 
 -- the plan of two trustees
 abbrev pub two : PlanNumbers
@@ -50,9 +52,6 @@ firsts a b c d e = cc
 seconds : (a b c d : List ℕ) → a ∷ b ∷ [] ≡ c ∷ d ∷ [] → b ≡ d
 seconds a b c d e = cc
 
-inside : (s : List ℕ) (place count : ℕ) → place + count ≤ length s → length (bytes_at s place count) ≡ count
-inside s place count within = omega (arith, length-take count (drop place s), length-drop place s)
-
 gives : (params : Params) (entropy message : List ℕ) (dealt : Dealt) (keys : Keys) → params.lms ≡ 5 → params.ots ≡ 3 → params.n ≡ 32 → params.h ≡ 5
     → length entropy ≡ entropy_length 2 → IsDealt (dealing_of params two entropy) dealt
     → map (λ share. share.key) dealt.shares.items ≡ keys.first ∷ keys.second ∷ []
@@ -72,15 +71,17 @@ gives params entropy message dealt keys lms ots n h size dealt_is shares =
       second = seconds _ _ _ _ pair;
     } in
     let is = signature-is d dealt keys 0 message id_length seed_length signers in
+    let key = dealt_key d id_length seed_length in
+    let size : length (leaf_randomizer d 0) ≡ params.n = length-randomizer_of params d.random_key d.id 0 in
     record {
-      key = dealt_key d id_length seed_length;
+      key = key;
       lms = lms;
       ots = ots;
       id = refl;
       seed = ap (bytes_at entropy 16) n;
-      public_is = rw (dealt_is.params, dealt_is.id, dealt_is.root_is) refl;
+      public_is = public_is d dealt key (record { params = refl; id = refl; seed = refl }) dealt_is;
       signature_is = is;
-      accepted = accepted-is d dealt 0 _ message _ id_length seed_length dealt_is leaf (length-randomizer_of params d.random_key d.id 0) is;
+      accepted = rw is (accepted_is d dealt key 0 (leaf_randomizer d 0) message (record { params = refl; id = refl; seed = refl }) dealt_is leaf size);
     }
 
 pub is-rehearsed : (params : Params) (plan : PlanNumbers) (entropy message : List ℕ) (dealt : Dealt) (keys : Keys) (signature : List ℕ)

@@ -5,18 +5,16 @@ use Rattle.lms_bytes.specs.Bytes.{joined}
 use Rattle.lms_bytes.specs.Signature.{signature_bytes}
 use Rattle.lms_bytes.specs.Digits.{digit_of}
 use Rattle.lms_bytes.specs.declared.params.Params.{Params}
-use Rattle.lms_bytes.specs.declared.public_key.PublicKey.{PublicKey}
-use Rattle.lms_verify.specs.Accepts.{AcceptsAt}
-use Rattle.lms_verify.specs.UndividedKey.{UndividedKey, chain_values, public_key_of, rfc_signature}
-use Rattle.lms_verify.proofs.Signed.{accepted}
+use Rattle.lms_verify.specs.UndividedKey.{UndividedKey, chain_values, rfc_signature}
 use Rattle.merkle_path.specs.Nodes.{path}
 use Rattle.merkle_path.specs.Tree.{path_at}
 use Rattle.merkle_path.proofs.Trees.{path_at-tree_of}
+use Rattle.ots_chain.specs.LeafKey.{seed_leaf_key}
 use Rattle.ots_chain.specs.MessageHash.{message_digest}
 use Rattle.reference_value.specs.Dealing.{Dealing, chain_sums, chain_value, key_of, leaf_randomizer, members_of}
 use Rattle.reference_value.proofs.Reference.{randomizer_in-reference}
 use Rattle.reference_value.proofs.Unmasking.{chains-unmasked, randomizer-unmasked}
-use Rattle.dealer.specs.Dealt.{IsDealt, dealt_leaf_key}
+use Rattle.dealer.specs.Dealt.{IsDealt}
 use Rattle.dealer.specs.declared.dealing.Dealt.{Dealt}
 use Rattle.rehearsal.specs.Signing.{digit_sum, signed_chains, signed_leaf, signed_randomizer}
 use Rattle.rehearsal.specs.declared.masks.Keys.{Keys}
@@ -50,8 +48,12 @@ chains-are d dealt keys q digest s =
     let sums = sums-are d keys q digest s.members s.first s.second in
     rw (s.dealing.params, s.dealing.id, s.dealing.reference_is, sums) (chains-unmasked d q digest s.plan s.leaf)
 
-path-is : (d : Dealing) (dealt : Dealt) (q : ℕ) → IsDealt d dealt → q < 2 ^ d.params.h → path_at dealt.tree q ≡ path d.params d.id (dealt_leaf_key d) q
-path-is d dealt q dealing leaf = rw dealing.tree (path_at-tree_of d.params d.id (dealt_leaf_key d) q leaf)
+-- K of leaf q
+abbrev leaf_key_in : Dealing → ℕ → List ℕ
+leaf_key_in d q = seed_leaf_key d.params d.id q d.seed
+
+path-is : (d : Dealing) (dealt : Dealt) (q : ℕ) → IsDealt d dealt → q < 2 ^ d.params.h → path_at dealt.tree q ≡ path d.params d.id (leaf_key_in d) q
+path-is d dealt q dealing leaf = rw dealing.tree (path_at-tree_of d.params d.id (leaf_key_in d) q leaf)
 
 -- signatures with the same parts
 same-parts : (params params' : Params) (id id' : List ℕ) (q : ℕ) (message c c' path path' : List ℕ) (chains chains' : List ℕ → List ℕ)
@@ -66,25 +68,6 @@ pub signature-is : (d : Dealing) (dealt : Dealt) (keys : Keys) (q : ℕ) (messag
     → signed_leaf d.plan dealt keys q message ≡ rfc_signature (dealt_key d id_length seed_length) q (leaf_randomizer d q) message
 signature-is d dealt keys q message id_length seed_length s =
     same-parts dealt.public.params d.params dealt.public.id d.id q message (signed_randomizer d.plan dealt keys q) (leaf_randomizer d q)
-    (path_at dealt.tree q) (path d.params d.id (dealt_leaf_key d) q)
+    (path_at dealt.tree q) (path d.params d.id (leaf_key_in d) q)
     (signed_chains d.plan dealt keys q) (chain_values (dealt_key d id_length seed_length) q)
     s.dealing.params s.dealing.id (randomizer-is d dealt keys q s) (path-is d dealt q s.dealing s.leaf) (λ digest. chains-are d dealt keys q digest s)
-
--- a signature that is accepted under one key is so under a key with the same set, identifier and root
-carried : (key other : PublicKey) (message signature same : List ℕ) (q : ℕ) → other.params ≡ key.params → other.id ≡ key.id → other.root ≡ key.root → same ≡ signature
-    → AcceptsAt key message signature q → AcceptsAt other message same q
-carried key other message signature same q params id root e a = record {
-  c = a.c;
-  y = a.y;
-  path = a.path;
-  layout = rw (params, e) a.layout;
-  root_is = rw (params, id, root) a.root_is;
-}
-
-pub accepted-is : (d : Dealing) (dealt : Dealt) (q : ℕ) (c message signature : List ℕ) (id_length : length d.id ≡ 16) (seed_length : length d.seed ≡ d.params.n)
-    → IsDealt d dealt → q < 2 ^ d.params.h → length c ≡ d.params.n
-    → signature ≡ rfc_signature (dealt_key d id_length seed_length) q c message → AcceptsAt dealt.public message signature q
-accepted-is d dealt q c message signature id_length seed_length dealing leaf size is =
-    let key = dealt_key d id_length seed_length in
-    carried (public_key_of key) dealt.public message (rfc_signature key q c message) signature q dealing.params dealing.id dealing.root_is is
-    (accepted key q c message leaf size)

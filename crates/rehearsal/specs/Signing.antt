@@ -10,7 +10,8 @@ use Rattle.merkle_path.specs.Tree.{path_at}
 use Rattle.ots_chain.specs.MessageHash.{message_digest}
 use Rattle.reference_value.specs.Dealing.{sum_of_masks}
 use Rattle.reference_value.specs.Joins.{joined_chains}
-use Rattle.reference_value.specs.Places.{leaves_length, randomizer_in}
+use Rattle.reference_value.specs.Places.{randomizer_in}
+use Rattle.share_files.specs.Reference.{leaves_length}
 use Rattle.dealer.specs.declared.dealing.Dealt.{Dealt}
 use Rattle.rehearsal.specs.declared.masks.Keys.{Keys}
 
@@ -34,13 +35,15 @@ pub record FitsPlan (plan : PlanNumbers) (dealt : Dealt) : Type 0 where
 abbrev pub signed_randomizer : PlanNumbers → Dealt → Keys → ℕ → List ℕ
 signed_randomizer plan dealt keys q =
     let params = dealt.public.params in
-    xor (randomizer_in params plan dealt.reference.items q) (mask_sum params.n keys (λ key. random_mask_of params key dealt.public.id q))
+    let masks = mask_sum params.n keys (λ key. random_mask_of params key dealt.public.id q) in
+    xor (randomizer_in params plan dealt.reference.items q) masks
 
 -- the values of the chains of leaf q at the digest's digits, as both trustees lay them open
 abbrev pub signed_chains : PlanNumbers → Dealt → Keys → ℕ → List ℕ → List ℕ
 signed_chains plan dealt keys q digest =
     let params = dealt.public.params in
-    joined_chains params plan dealt.reference.items q digest (joined (digit_sum params dealt.public.id keys q digest) params.p)
+    let sums = joined (digit_sum params dealt.public.id keys q digest) params.p in
+    joined_chains params plan dealt.reference.items q digest sums
 
 -- the signature of the message with leaf q
 abbrev pub signed_leaf : PlanNumbers → Dealt → Keys → ℕ → List ℕ → List ℕ

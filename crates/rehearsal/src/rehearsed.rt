@@ -27,7 +27,8 @@ pub fn rehearse(alloc: Global, entropy: &[u8], message: &[u8]) -> Result<Rehears
     ensures rehearsed { IfOk result (λ r. IsRehearsed entropy.now message.now r.public r.signature.items) }
     ensures tested { OnOk result (CanRehearse entropy.now) }
     ensures refused { (fault : DealFault) → RehearsalFault entropy.now fault → result ≡ Err fault }
-    ensures cause { IfErr result (λ fault. (fault ≡ NoMemory × CanRehearse entropy.now) ⊎ RehearsalFault entropy.now fault) }
+    ensures cause { IfErr result (λ fault. (fault ≡ NoMemory × CanRehearse entropy.now)
+        ⊎ RehearsalFault entropy.now fault) }
 {
     let plan = plan_of_two();
     let dealt = deal(alloc, &params(), &plan, entropy)?;
@@ -37,7 +38,7 @@ pub fn rehearse(alloc: Global, entropy: &[u8], message: &[u8]) -> Result<Rehears
             public: dealt.public,
             signature,
         }),
-        Err(disk_trait::NoMemory) => Err(DealFault::NoMemory),
+        Err(memory::NoMemory) => Err(DealFault::NoMemory),
     }
 }
 

@@ -2,15 +2,13 @@
 
 ghost use Rattle.std.specs.Prelude.{◌≡◌, ◌*◌, ◌<◌, ◌^◌, length, IfOk};
 ghost use Rattle.merkle_path.specs.Tree.{path_at};
-ghost use Rattle.ots_chain.specs.MessageHash.{message_digest};
 ghost use Rattle.rehearsal.specs.Signing.{FitsPlan, signed_chains, signed_leaf, signed_randomizer};
 
 use crate::masks::Keys;
 use coalition_map::Plan;
 use dealer::Dealt;
+use lms_bytes::{Params, PublicKey, Val, write_layout};
 use memory::NoMemory;
-use lms_bytes::bytes::put;
-use lms_bytes::{KeyId, Params, PublicKey, Val, write_layout};
 use merkle_path::Tree;
 use ots_chain::MessageHash;
 use reference_value::{Whole, join_chains, join_randomizer};
@@ -31,7 +29,7 @@ pub(crate) fn sign_leaf(
 {
     let PublicKey { params, id, .. } = &dealt.public;
     let c = unmask_randomizer(plan, dealt, keys, q);
-    let digest = digest_of(params, id, q, &c, message);
+    let digest = MessageHash::of(params, id, q, &c, message);
     let chains = unmask_chains(alloc, plan, dealt, keys, q, &digest)?;
     let path = path_of(alloc, params, &dealt.tree, q)?;
     let length = 12 + c.bytes().len() + chains.len() + path.len();
@@ -65,7 +63,8 @@ fn unmask_chains(
     requires leaf { q < 2 ^ dealt.now.public.params.h }
     requires digest { length digest.now ≡ dealt.now.public.params.n }
     ensures chains { IfOk result (λ chains. chains.items ≡ signed_chains plan.now dealt.now keys.now q digest.now) }
-    ensures length { IfOk result (λ chains. length chains.items ≡ dealt.now.public.params.n * dealt.now.public.params.p) }
+    ensures length { IfOk result (λ chains. length chains.items
+        ≡ dealt.now.public.params.n * dealt.now.public.params.p) }
 {
     let PublicKey { params, id, .. } = &dealt.public;
     let length = params.n as usize * params.p as usize;
@@ -77,17 +76,6 @@ fn unmask_chains(
     Ok(chains)
 }
 
-/// The digest of the message under leaf `q` and its randomizer.
-fn digest_of(params: &Params, id: &KeyId, q: u32, c: &Val, message: &[u8]) -> Val
-    requires { length c.now ≡ params.now.n }
-    ensures digest { result ≡ message_digest params.now id.now q c.now message.now }
-    ensures length { length result ≡ params.now.n }
-{
-    let mut hash = MessageHash::new(params, id, q, c);
-    hash.update(message);
-    hash.finish()
-}
-
 /// The path of leaf `q`, `h` nodes of `n` bytes (RFC 8554 section 5.4).
 fn path_of(alloc: Global, params: &Params, tree: &Tree, q: u32) -> Result<Vec<u8>, NoMemory>
     requires hash_length { tree.now.n ≡ params.now.n }
@@ -97,21 +85,6 @@ fn path_of(alloc: Global, params: &Params, tree: &Tree, q: u32) -> Result<Vec<u8
     ensures length { IfOk result (λ path. length path.items ≡ params.now.n * params.now.h) }
 {
     let mut path = vec![in alloc; 0; params.n as usize * params.h as usize]?;
-    write_path(params, tree, q, &mut path);
+    tree.write_path(q, &mut path);
     Ok(path)
-}
-
-/// Writes the path of leaf `q`, from its sibling on.
-fn write_path(params: &Params, tree: &Tree, q: u32, out: &mut [u8])
-    requires hash_length { tree.now.n ≡ params.now.n }
-    requires height { tree.now.h ≡ params.now.h }
-    requires leaf { q < 2 ^ params.now.h }
-    requires room { length out.old ≡ params.now.n * params.now.h }
-    ensures { out.new ≡ path_at tree.now q }
-{
-    let n = params.n as usize;
-    'levels: for level in 0..params.h {
-        let node = tree.path(q, level);
-        put(out, n * level as usize, node.bytes());
-    }
 }

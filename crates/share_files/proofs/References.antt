@@ -18,12 +18,12 @@ reference_lies header leaves bytes parts = head_lies _ _ _ _ 0 header.plan.k hea
 pub head_alone : (header : RefHeader) (head : List ℕ) → head ≡ reference_head header → head ≡ reference_head header ++ []
 head_alone header head parts = parts ∙ sym (append-nil (reference_head header))
 
-length_of-codes : (params : Params) (k : ℕ) → length_of params.lms params.ots k ≡ 32 + 2 ^ params.h * leaf_length params k
+length_of-codes : (params : Params) (k : ℕ) → length_of params.lms params.ots k ≡ 32 + leaf_length params k * 2 ^ params.h
 length_of-codes params k = rw (node_length-lms params, height_of-lms params, chain_count-ots params, width_of-ots params) refl
 
 -- the length that the reader asks for
 pub want_is : (params : Params) (head : List ℕ) (k want : ℕ) → params.lms ≡ lms_at head → params.ots ≡ ots_at head → k ≡ slice_index head 6
-    → want ≡ 32 + 2 ^ params.h * leaf_length params k → want ≡ length_of (lms_at head) (ots_at head) (slice_index head 6)
+    → want ≡ 32 + leaf_length params k * 2 ^ params.h → want ≡ length_of (lms_at head) (ots_at head) (slice_index head 6)
 want_is params head k want lms ots threshold size = size ∙ (sym (length_of-codes params k) ∙ rw (lms, ots, threshold) refl)
 
 -- the head that the leaves of a reference file follow
@@ -33,7 +33,7 @@ front_is header leaves bytes parts =
     rw parts (take_at (reference_head header) leaves 32 size)
 
 pub reference_length_is : (header : RefHeader) (bytes leaves : List ℕ) → HasReferenceLayout header bytes leaves → length bytes ≡ reference_length header
-reference_length_is header bytes leaves l = (reference_lies header leaves bytes l.parts).size ∙ ap (λ k. 32 + k) l.leaves_length
+reference_length_is header bytes leaves l = (reference_lies header leaves bytes l.parts).size ∙ ap (λ k. 32 + k) l.leaves_are
 
 pub leaves_at : (header : RefHeader) (bytes leaves : List ℕ) → HasReferenceLayout header bytes leaves → bytes_at bytes 32 (length bytes - 32) ≡ leaves
 leaves_at header bytes leaves l =

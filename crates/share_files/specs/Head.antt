@@ -1,5 +1,6 @@
 -- The heads of the files of a dealing, and the tests of their readers.
-use Rattle.std.specs.Prelude.{ℕ, ◌^◌, List, [], ◌∷◌, ◌++◌, length, slice_index, Bool, Option, Some, None, ◌==◌, ◌&&◌, nat_lt, nat_le, if◌then◌else◌}
+use Rattle.std.specs.Prelude.{ℕ, ◌^◌, List, [], ◌∷◌, ◌++◌, length, slice_index, Bool, Option, Some, None, ◌==◌, ◌&&◌}
+use Rattle.std.specs.Prelude.{nat_lt, nat_le, if◌then◌else◌}
 use Rattle.std.specs.Str.{bytes_eq}
 use Rattle.lms_bytes.specs.Bytes.{u32str, str_to_u32, bytes_at}
 use Rattle.lms_bytes.specs.declared.params.Params.{Params}
@@ -36,7 +37,8 @@ abbrev pub ots_at : List ℕ → ℕ
 ots_at bytes = str_to_u32 (bytes_at bytes 12 4)
 
 abbrev pub code_fault : List ℕ → Option FileFault
-code_fault bytes = if can_be_dealt (lms_at bytes) (ots_at bytes) then None else Some (Code (lms_at bytes) (ots_at bytes))
+code_fault bytes =
+    if can_be_dealt (lms_at bytes) (ots_at bytes) then None else Some (Code (lms_at bytes) (ots_at bytes))
 
 -- this project's profile: the thresholds that can be dealt, with no more coalitions than leaves
 unfoldable pub is_plan : PlanNumbers → Bool

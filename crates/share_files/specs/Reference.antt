@@ -1,22 +1,38 @@
 -- The reference file of a dealing.
 use Rattle.std.specs.Prelude.{◌≡◌, ℕ, ◌+◌, ◌*◌, ◌^◌, List, [], ◌∷◌, ◌++◌, length, take, slice_index, Option, codes}
+use Rattle.coalition_map.specs.Coalitions.{PlanNumbers}
 use Rattle.lms_bytes.specs.declared.params.Params.{Params}
-use Rattle.share_files.specs.Head.{head_bytes, first_fault, short_fault, head_fault, plan_fault, zero_fault, length_fault, lms_at, ots_at}
+use Rattle.share_files.specs.Head.{head_bytes, first_fault, short_fault, head_fault, plan_fault, zero_fault}
+use Rattle.share_files.specs.Head.{length_fault, lms_at, ots_at}
 use Rattle.share_files.specs.Sets.{CanBeDealt, chain_count, height_of, node_length, width_of}
 use Rattle.share_files.specs.declared.faults.FileFault.{FileFault}
 use Rattle.share_files.specs.declared.reference.RefHeader.{RefHeader}
 
--- this project's profile: the head with a zero, k and n, 32 bytes
-abbrev pub reference_head : RefHeader → List ℕ
-reference_head header = head_bytes (codes "TLRF") (0 ∷ header.plan.k ∷ header.plan.n ∷ []) header.params header.id
+-- what a reference file begins with
+abbrev pub reference_magic : List ℕ
+reference_magic = codes "TLRF"
 
--- this project's profile: the masked randomizer, a check tag for each of k members, and p * 2^w cells
+-- this project's profile: the head with a zero, k and n, 32 bytes
+abbrev pub reference_head_of : Params → PlanNumbers → List ℕ → List ℕ
+reference_head_of params plan id = head_bytes reference_magic (0 ∷ plan.k ∷ plan.n ∷ []) params id
+
+abbrev pub reference_head : RefHeader → List ℕ
+reference_head header = reference_head_of header.params header.plan header.id
+
+-- this project's profile: the masked randomizer, a check tag for each of k members, and the cells of p chains, 2^w each
+abbrev pub leaf_size : ℕ → ℕ → ℕ → ℕ → ℕ
+leaf_size n k w p = n + 32 * k + n * 2 ^ w * p
+
 abbrev pub leaf_length : Params → ℕ → ℕ
-leaf_length params k = params.n + 32 * k + params.p * 2 ^ params.w * params.n
+leaf_length params k = leaf_size params.n k params.w params.p
+
+-- the bytes of all leaves
+abbrev pub leaves_length : Params → PlanNumbers → ℕ
+leaves_length params plan = leaf_length params plan.k * 2 ^ params.h
 
 -- how long the reference file is
 abbrev pub reference_length : RefHeader → ℕ
-reference_length header = 32 + 2 ^ header.params.h * leaf_length header.params header.plan.k
+reference_length header = 32 + leaves_length header.params header.plan
 
 -- two headers have the same typecodes, plan and identifier: all else of them follows from these
 pub record SameHeader (a b : RefHeader) : Type 0 where
@@ -28,19 +44,17 @@ pub record SameHeader (a b : RefHeader) : Type 0 where
 -- bytes are the reference file with this header and these leaves
 pub record HasReferenceLayout (header : RefHeader) (bytes leaves : List ℕ) : Type 0 where
   pub dealt : CanBeDealt header.params
-  pub leaves_length : length leaves ≡ 2 ^ header.params.h * leaf_length header.params header.plan.k
+  pub leaves_are : length leaves ≡ leaves_length header.params header.plan
   pub parts : bytes ≡ reference_head header ++ leaves
 
 -- how long the reference file of these typecodes and this threshold is
 abbrev pub length_of : ℕ → ℕ → ℕ → ℕ
-length_of lms ots k =
-    let n = node_length lms in
-    32 + 2 ^ height_of lms * (n + 32 * k + chain_count ots * 2 ^ width_of ots * n)
+length_of lms ots k = 32 + leaf_size (node_length lms) k (width_of ots) (chain_count ots) * 2 ^ height_of lms
 
 -- the first test that a head of 32 bytes fails, as the head of a reference file of this length, or none
 unfoldable pub reference_head_fault : List ℕ → ℕ → Option FileFault
 reference_head_fault head size = first_fault (
-    head_fault (codes "TLRF") head ∷ plan_fault head ∷ zero_fault 5 head
+    head_fault reference_magic head ∷ plan_fault head ∷ zero_fault 5 head
     ∷ length_fault size (length_of (lms_at head) (ots_at head) (slice_index head 6)) ∷ [])
 
 -- the first test that bytes fail as a reference file, or none

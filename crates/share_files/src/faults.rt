@@ -3,23 +3,31 @@
 ghost use Rattle.std.specs.Prelude.{◌≡◌};
 
 use lms_bytes::KeyId;
+use thiserror::Error;
 
 /// Why bytes are no file of a dealing.
-#[derive(Clone, Copy, Debug, PartialEq, Eq)]
+#[derive(Clone, Copy, Debug, PartialEq, Eq, Error)]
 pub enum FileFault {
     /// The file does not begin with the letters of its kind.
+    #[error("the letters at the front are not those of this kind of file")]
     Magic,
     /// Another version than 1.
+    #[error("version {got}, where version 1 is wanted")]
     Version { got: u8 },
     /// The typecodes are no parameter set that can be dealt.
+    #[error("typecodes {lms} and {ots} are no parameter set that can be dealt")]
     Code { lms: u32, ots: u32 },
     /// The numbers of trustees are no plan.
+    #[error("the numbers of trustees are no plan: 2 <= k <= n <= 12 and no more coalitions than leaves are wanted")]
     Plan,
     /// The length in bytes is not that of the file.
+    #[error("{got} bytes, where {want} are wanted")]
     Length { got: u64, want: u64 },
     /// No trustee of the plan has this number, or a byte that must be zero is not.
+    #[error("byte {got}, where the number of a trustee or zero is wanted")]
     Number { got: u8 },
     /// The file is of another key than a file beside it.
+    #[error("the file is of another key than the file beside it: its identifier is {got:?}")]
     OtherKey { got: KeyId },
 }
 

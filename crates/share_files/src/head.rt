@@ -1,18 +1,17 @@
 //! The 32 bytes that each file of a dealing begins with.
 
-ghost use Rattle.std.specs.Prelude.{◌≡◌, ◌↔◌, ◌+◌, ◌<◌, ◌≤◌, [], ◌∷◌, ◌++◌, length, slice_index, take, drop, None, Some, OnOk, IfOk, IfErr, IsTrue};
+ghost use Rattle.std.specs.Prelude.{◌≡◌, ◌↔◌, ◌+◌, ◌<◌, ◌≤◌, [], ◌∷◌, ◌++◌, length, slice_index, take, drop, None};
+ghost use Rattle.std.specs.Prelude.{Some, OnOk, IfOk, IfErr, IsTrue};
 ghost use Rattle.lms_bytes.specs.Bytes.{bytes_at};
 ghost use Rattle.coalition_map.specs.Coalitions.{IsPlan};
-ghost use Rattle.share_files.specs.Head.{code_fault, head_bytes, head_fault, length_fault, lms_at, ots_at, plan_at, plan_fault, short_fault, zero_fault};
+ghost use Rattle.share_files.specs.Head.{code_fault, head_bytes, head_fault, length_fault, lms_at, ots_at, plan_at};
+ghost use Rattle.share_files.specs.Head.{plan_fault, short_fault, zero_fault};
 ghost use Rattle.share_files.specs.Sets.{CanBeDealt, can_be_dealt};
 
 use crate::faults::FileFault;
 use coalition_map::Plan;
 use lms_bytes::bytes::{part, put, u32_at};
 use lms_bytes::{KeyId, Params};
-
-/// The length of a head in bytes.
-pub(crate) const HEAD: usize = 32;
 
 /// What all heads have: the parameter set, and the identifier of the key.
 #[derive(Clone, Copy)]
@@ -117,7 +116,8 @@ fn is_dealt(params: &Params) -> bool
 pub(crate) fn read_plan(bytes: &[u8], params: &Params) -> Result<Plan, FileFault>
     requires head { 32 ≤ length bytes.now }
     requires codes { params.now.lms ≡ lms_at bytes.now }
-    ensures plan { IfOk result (λ plan. plan ≡ record { n = slice_index bytes.now 7; k = slice_index bytes.now 6; h = params.now.h }) }
+    ensures plan { IfOk result (λ plan. plan
+        ≡ record { n = slice_index bytes.now 7; k = slice_index bytes.now 6; h = params.now.h }) }
     ensures faultless { OnOk result (plan_fault bytes.now ≡ None) }
     ensures refused { IfErr result (λ fault. plan_fault bytes.now ≡ Some fault) }
 {

@@ -7,6 +7,7 @@ mod reference;
 mod reference_layout;
 mod share;
 mod share_layout;
+mod sizes;
 mod tree_file;
 
 pub use faults::FileFault;
@@ -14,6 +15,7 @@ pub use reference::{RefHeader, RefView};
 pub use reference_layout::{read_ref_header, read_reference, write_ref_head};
 pub use share::Share;
 pub use share_layout::{read_share, write_share};
+pub use sizes::{HEAD, TAG, chain_bytes, leaf_bytes};
 pub use tree_file::{TreeView, read_tree, write_tree_head};
 
 #[cfg(test)]

@@ -1,13 +1,15 @@
 //! How reference files are read and written.
 
 ghost use Rattle.std.specs.Prelude.{◌≡◌, ℕ, List, ◌+◌, ◌*◌, ◌^◌, ◌≤◌, None, Some, OnOk, IfOk, IfErr, IsOkAnd};
-ghost use Rattle.share_files.specs.Reference.{HasReferenceLayout, leaf_length, reference_fault, reference_head, reference_head_fault, reference_length, SameHeader};
+ghost use Rattle.share_files.specs.Reference.{HasReferenceLayout, leaf_length, reference_fault, reference_head};
+ghost use Rattle.share_files.specs.Reference.{reference_head_fault, reference_length, SameHeader};
 ghost use Rattle.share_files.specs.Sets.{CanBeDealt};
 ghost use Rattle.share_files.specs.declared.reference.RefHeader.{RefHeader};
 
 use crate::faults::FileFault;
-use crate::head::{HEAD, check_front, check_length, check_zero, read_head, read_plan, write_head};
+use crate::head::{check_front, check_length, check_zero, read_head, read_plan, write_head};
 use crate::reference::{RefHeader, RefView};
+use crate::sizes::{HEAD, leaf_bytes};
 use lms_bytes::Params;
 use lms_bytes::bytes::part;
 
@@ -62,10 +64,7 @@ pub fn write_ref_head(header: &RefHeader, out: &mut [u8; 32])
 
 /// How long the reference file of a parameter set and a threshold is, in bytes.
 fn length_of_file(params: &Params, k: u8) -> u64
-    ensures { result ≡ 32 + 2 ^ params.now.h * leaf_length params.now k }
+    ensures { result ≡ 32 + leaf_length params.now k * 2 ^ params.now.h }
 {
-    let n = u64::from(params.n);
-    let cells = u64::from(params.p) * (u64::from(params.greatest_digit()) + 1);
-    let leaf = n + 32 * u64::from(k) + cells * n;
-    HEAD as u64 + u64::from(params.leaves()) * leaf
+    HEAD as u64 + leaf_bytes(params, k) as u64 * u64::from(params.leaves())
 }

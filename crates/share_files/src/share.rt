@@ -6,8 +6,8 @@ ghost use Rattle.coalition_map.specs.Coalitions.{IsPlan};
 use coalition_map::Plan;
 use lms_bytes::{KeyId, Params};
 
-/// What a trustee is given.
-#[derive(Clone, Copy, Debug, PartialEq, Eq)]
+/// What a trustee is given. It is not printed: the key is secret.
+#[derive(Clone, Copy, PartialEq, Eq)]
 pub struct Share {
     /// The number of the trustee, from 1 on.
     pub member: u8,

@@ -6,8 +6,9 @@ ghost use Rattle.share_files.specs.Share.{member_fault, share_bytes, share_fault
 ghost use Rattle.share_files.specs.declared.share.Share.{Share};
 
 use crate::faults::FileFault;
-use crate::head::{HEAD, check_front, check_length, read_head, read_plan, write_head};
+use crate::head::{check_front, check_length, read_head, read_plan, write_head};
 use crate::share::Share;
+use crate::sizes::HEAD;
 use coalition_map::Plan;
 use lms_bytes::bytes::{part, put};
 
@@ -21,7 +22,8 @@ const SHARE_MAGIC: &[u8; 4] = b"TLSH";
 pub fn read_share(bytes: &[u8]) -> Result<Share, FileFault>
     ensures share { IfOk result (λ share. bytes.now ≡ share_bytes share) }
     ensures dealt { IfOk result (λ share. CanBeDealt share.params) }
-    ensures read { (share : Share) → CanBeDealt share.params → bytes.now ≡ share_bytes share → IsOkAnd result (SameShare share) }
+    ensures read { (share : Share) → CanBeDealt share.params → bytes.now ≡ share_bytes share
+        → IsOkAnd result (SameShare share) }
     ensures faultless { OnOk result (share_fault bytes.now ≡ None) }
     ensures refused { IfErr result (λ fault. share_fault bytes.now ≡ Some fault) }
 {

@@ -2,10 +2,11 @@
 
 ghost use Rattle.std.specs.Prelude.{◌≡◌, ℕ, List, ◌+◌, ◌-◌, ◌*◌, ◌^◌, None, Some, OnOk, IfOk, IfErr, IsOkAnd};
 ghost use Rattle.lms_bytes.specs.declared.params.Params.{Params};
-ghost use Rattle.share_files.specs.TreeFile.{HasTreeLayout, tree_fault, tree_head};
+ghost use Rattle.share_files.specs.TreeFile.{HasTreeLayout, SameTree, tree_fault, tree_head};
 
 use crate::faults::FileFault;
-use crate::head::{HEAD, check_front, check_length, check_zero, read_head, write_head};
+use crate::head::{check_front, check_length, check_zero, read_head, write_head};
+use crate::sizes::HEAD;
 use lms_bytes::bytes::part;
 use lms_bytes::{KeyId, Params};
 
@@ -26,7 +27,7 @@ pub struct TreeView<'a> {
 pub fn read_tree<'a>(bytes: &'a [u8]) -> Result<TreeView<'a>, FileFault>
     ensures layout { IfOk result (λ view. HasTreeLayout view.params bytes.now view.id view.nodes.now) }
     ensures read { (params : Params) (id nodes : List ℕ) → HasTreeLayout params bytes.now id nodes
-        → IsOkAnd result (λ view. (view.params.lms ≡ params.lms) × (view.params.ots ≡ params.ots) × (view.id ≡ id) × (view.nodes.now ≡ nodes)) }
+        → IsOkAnd result (λ view. SameTree params view.params id view.id nodes view.nodes.now) }
     ensures faultless { OnOk result (tree_fault bytes.now ≡ None) }
     ensures refused { IfErr result (λ fault. tree_fault bytes.now ≡ Some fault) }
 {

@@ -90,7 +90,7 @@ fn dealt_files(
         Ok(dealt) => dealt,
         Err(fault) => return Err(end_of_fault(fault)),
     };
-    match dealt.into_files(alloc, plan) {
+    match dealt.into_files(alloc) {
         Ok(files) => Ok(files),
         Err(NoMemory) => Err(Ending::NoMemory),
     }

@@ -1,5 +1,5 @@
 use Rattle.std.proofs.Common.{◌≡◌, ◌+◌, arith}
-use Rattle.coalition_map.specs.CoalitionLaws.{IsSubset-listed, Contains-subsets}
+use Rattle.coalition_map.proofs.CoalitionLaws.{IsSubset-listed, Contains-subsets}
 use Rattle.coalition_map.proofs.laws.all_are_listed.Goals as goal
 
 pub returns : goal.returns

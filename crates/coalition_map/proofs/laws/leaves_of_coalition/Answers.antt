@@ -1,7 +1,7 @@
 use Rattle.std.proofs.Common.{◌%◌, ◌^◌, inl, inr}
 use Rattle.std.proofs.lemmas.Bool.{cases_lt}
 use Rattle.coalition_map.specs.Coalitions.{count_of}
-use Rattle.coalition_map.specs.LeafLaws.{length-leaves_of-first, length-leaves_of-others}
+use Rattle.coalition_map.proofs.LeafLaws.{length-leaves_of-first, length-leaves_of-others}
 use Rattle.coalition_map.proofs.laws.leaves_of_coalition.Goals as goal
 
 pub returns-clause-first : goal.returns-clause-first

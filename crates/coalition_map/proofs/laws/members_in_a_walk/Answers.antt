@@ -1,5 +1,5 @@
 use Rattle.std.proofs.Common.{arith}
-use Rattle.coalition_map.specs.MemberLaws.{below-none, below-more_in, below-more_out, below-all}
+use Rattle.coalition_map.proofs.MemberLaws.{below-none, below-more_in, below-more_out, below-all}
 use Rattle.coalition_map.proofs.laws.members_in_a_walk.Goals as goal
 
 pub returns-clause-start : goal.returns-clause-start

@@ -1,8 +1,8 @@
 use Rattle.std.proofs.Common.{◌≤◌, ◌<◌, ◌+◌, arith}
 use Rattle.std.proofs.lemmas.List.Elements.{All-weaker}
 use Rattle.coalition_map.specs.Coalitions.{coalition}
-use Rattle.coalition_map.specs.CoalitionLaws.{IsSubset-coalition}
-use Rattle.coalition_map.specs.MemberLaws.{All-from_IsAscendingIn, IsStrictlyIncreasing-from_IsAscendingIn}
+use Rattle.coalition_map.proofs.CoalitionLaws.{IsSubset-coalition}
+use Rattle.coalition_map.proofs.MemberLaws.{All-from_IsAscendingIn, IsStrictlyIncreasing-from_IsAscendingIn}
 use Rattle.coalition_map.proofs.laws.members_of_coalition.Goals as goal
 
 pub returns-clause-size : goal.returns-clause-size

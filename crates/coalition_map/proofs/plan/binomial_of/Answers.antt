@@ -1,6 +1,6 @@
 use Rattle.std.proofs.Common.{◌≤◌, sym, arith}
 use Rattle.std.proofs.lemmas.Nat.{mul-le}
-use Rattle.coalition_map.specs.CoalitionLaws.{binomial-zero, binomial-quotient, binomial-small}
+use Rattle.coalition_map.proofs.CoalitionLaws.{binomial-zero, binomial-quotient, binomial-small}
 use Rattle.coalition_map.proofs.plan.binomial_of.Goals as goal
 
 pub chosen-init : goal.chosen-init

@@ -1,7 +1,8 @@
 use Rattle.std.proofs.Common.{◌≡◌, ◌*◌, ◌^◌, ◌∙◌, length, refl, arith, mul-zero}
 use Rattle.reference_value.specs.Dealing.{leaf_part}
-use Rattle.reference_value.specs.Places.{leaf_length}
-use Rattle.reference_value.proofs.Joined.{joined-none, front-more, put-part, row-fits}
+use Rattle.share_files.specs.Reference.{leaf_length}
+use Rattle.lms_bytes.proofs.Joined.{joined-none, front-more, row-fits}
+use Rattle.reference_value.proofs.Parts.{put-part}
 use Rattle.dealer.specs.Secrets.{dealing_with}
 use Rattle.dealer.proofs.leaves.write_leaves.Goals as goal
 

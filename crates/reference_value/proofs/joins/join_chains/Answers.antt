@@ -1,22 +1,22 @@
 use Rattle.std.proofs.Common.{IsTrue, ◌≡◌, ℕ, List, ◌*◌, ◌∙◌, length, sym, ap, refl, arith, mul-zero}
 use Rattle.lms_bytes.specs.Bytes.{xor, bytes_at}
 use Rattle.lms_bytes.specs.Digits.{digit_of}
+use Rattle.lms_bytes.specs.declared.params.Params.{Params}
 use Rattle.reference_value.specs.Joins.{joined_chain, joined_chains}
 use Rattle.reference_value.specs.Places.{cell_in}
-use Rattle.reference_value.proofs.Joined.{joined-none, front-more, front-all, row-fits}
+use Rattle.lms_bytes.proofs.Joined.{joined-none, front-more, front-all, row-fits}
 use Rattle.reference_value.proofs.Xor.{length-xor}
 use Rattle.reference_value.proofs.joins.join_chains.Goals as goal
 
 pub chains-init : goal.chains-init
-chains-init g c = record {
-  stays_set = c.requires.set;
-  stays_plan = refl;
-  stays_told = refl;
-  stays_steady = refl;
-  count = omega arith;
-  same = λ _. refl;
-  front = λ _. let none : c.args.params.now.n * 0 ≡ 0 = mul-zero _ in rw (none, joined-none (joined_chain c.args.params.now (g.R.Cells.plan c.args.cells.now) (g.R.Cells.leaves c.args.cells.now) c.args.q c.args.digest.now c.args.sums.now)) refl;
-}
+chains-init g c =
+    let cells = c.args.cells.now in
+    let value = joined_chain c.args.params.now (g.R.Cells.plan cells) (g.R.Cells.leaves cells) c.args.q c.args.digest.now c.args.sums.now in
+    record {
+      stays = record { set = refl; plan = refl; told = refl; steady = refl; leaves = λ _. refl };
+      count = refl;
+      front = λ _. let none : c.args.params.now.n * 0 ≡ 0 = mul-zero _ in rw (none, joined-none value) refl;
+    }
 
 -- the value that is written, and its length
 value_is : (n : ℕ) (cell sum part made value written : List ℕ) → length cell ≡ n → length part ≡ n → part ≡ sum → made ≡ part → value ≡ xor cell made → written ≡ value
@@ -29,7 +29,7 @@ value_is n cell sum part made value written size long a b d e =
 pub put-requires : goal.put-requires
 put-requires g c =
     let params = c.args.params.now in
-    let size : length c.in_ok-cell.cell ≡ params.n = c.in_ok-cell.ensures.length ∙ rw c.chains.invariant.stays_set refl in
+    let size : length c.in_ok-cell.cell ≡ params.n = c.in_ok-cell.ensures.length ∙ ap (λ (p : Params). p.n) (c.chains.invariant.stays.set ∙ c.requires.set) in
     let v = value_is params.n c.in_ok-cell.cell _ _ _ _ c.bytes.result.now size c.part.ensures.length c.part.ensures.bytes c.of.ensures c.xor-value.ensures c.bytes.ensures.bytes in
     let within = row-fits params.n c.chains.i params.p (omega arith) in
     omega (arith, v.1)
@@ -38,20 +38,24 @@ pub chains-preserved : goal.chains-preserved
 chains-preserved g c =
     let params = c.args.params.now in
     let before = c.chains.invariant in
-    let size : length c.in_ok-cell.cell ≡ params.n = c.in_ok-cell.ensures.length ∙ rw before.stays_set refl in
+    let cells = c.args.cells.now in
+    let set = before.stays.set ∙ c.requires.set in
+    let size : length c.in_ok-cell.cell ≡ params.n = c.in_ok-cell.ensures.length ∙ ap (λ (p : Params). p.n) set in
     let v = value_is params.n c.in_ok-cell.cell _ _ _ _ c.bytes.result.now size c.part.ensures.length c.part.ensures.bytes c.of.ensures c.xor-value.ensures c.bytes.ensures.bytes in
-    let f = joined_chain params (g.R.Cells.plan c.args.cells.now) (g.R.Cells.leaves c.args.cells.now) c.args.q c.args.digest.now c.args.sums.now in
+    let f = joined_chain params (g.R.Cells.plan cells) (g.R.Cells.leaves cells) c.args.q c.args.digest.now c.args.sums.now in
     record {
-      stays_set = c.cell.ensures.stays_set ∙ before.stays_set;
-      stays_plan = c.cell.ensures.stays_plan ∙ before.stays_plan;
-      stays_told = c.cell.ensures.stays_told ∙ before.stays_told;
-      stays_steady = c.cell.ensures.stays_steady ∙ before.stays_steady;
-      count = omega (arith, c.cell.ensures.count, before.count);
-      same = λ told. let now : IsTrue (g.R.Cells.told c.chains.cells) = rw before.stays_told told in c.cell.ensures.same now ∙ before.same told;
+      stays = record {
+        set = c.cell.ensures.stays_set ∙ before.stays.set;
+        plan = c.cell.ensures.stays_plan ∙ before.stays.plan;
+        told = c.cell.ensures.stays_told ∙ before.stays.told;
+        steady = c.cell.ensures.stays_steady ∙ before.stays.steady;
+        leaves = λ told. let now : IsTrue (g.R.Cells.told c.chains.cells) = rw before.stays.told told in c.cell.ensures.same now ∙ before.stays.leaves told;
+      };
+      count = c.in_ok-cell.ensures.cause.succeeded ∙ before.count;
       front = λ told.
-          let now : IsTrue (g.R.Cells.told c.chains.cells) = rw before.stays_told told in
-          let cell : c.in_ok-cell.cell ≡ cell_in params (g.R.Cells.plan c.args.cells.now) (g.R.Cells.leaves c.args.cells.now) c.args.q c.chains.i (digit_of params c.args.digest.now c.chains.i) =
-          c.in_ok-cell.ensures.value now ∙ rw (before.stays_set, before.stays_plan, before.same told, c.digit.ensures) refl in
+          let now : IsTrue (g.R.Cells.told c.chains.cells) = rw before.stays.told told in
+          let cell : c.in_ok-cell.cell ≡ cell_in params (g.R.Cells.plan cells) (g.R.Cells.leaves cells) c.args.q c.chains.i (digit_of params c.args.digest.now c.chains.i) =
+          c.in_ok-cell.ensures.value now ∙ rw (set, before.stays.plan, before.stays.leaves told, c.digit.ensures) refl in
           front-more f params.n c.chains.i c.chains.out c.put.new.out c.bytes.result.now (v.0 ∙ ap (λ (x : List ℕ). xor x (bytes_at c.args.sums.now (params.n * c.chains.i) params.n)) cell)
           v.1 (before.front told) c.put.ensures.front;
     }

@@ -1,5 +1,5 @@
 use Rattle.std.proofs.Common.{◌≡◌, [], ◌∙◌, length, ap, refl, arith}
-use Rattle.coalition_map.specs.MemberLaws.{below-none, below-all, below-more_in, below-more_out}
+use Rattle.coalition_map.proofs.MemberLaws.{below-none, below-all, below-more_in, below-more_out}
 use Rattle.reference_value.specs.Dealing.{Dealing, members_of}
 use Rattle.reference_value.proofs.Members.{building-none, building-more, built, tag-room}
 use Rattle.reference_value.proofs.leaf.build_leaf.Goals as goal

@@ -1,6 +1,7 @@
 use Rattle.std.proofs.Common.{◌≡◌, ◌^◌, refl, arith}
 use Rattle.std.proofs.lemmas.Nat.{pow_pos}
-use Rattle.reference_value.proofs.Joined.{masking-none, masking-more, front-all}
+use Rattle.lms_bytes.proofs.Joined.{front-all}
+use Rattle.reference_value.proofs.Parts.{masking-none, masking-more}
 use Rattle.reference_value.proofs.leaf.mask_chain.Goals as goal
 
 pub steps-init : goal.steps-init

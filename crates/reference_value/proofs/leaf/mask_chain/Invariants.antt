@@ -1,6 +1,6 @@
 use Rattle.mask_prf.specs.Masks.{chain_mask_of}
 use Rattle.reference_value.specs.Masking.{masked_at}
-use Rattle.reference_value.proofs.Joined.{IsMasking}
+use Rattle.reference_value.proofs.Parts.{IsMasking}
 use Rattle.reference_value.proofs.leaf.mask_chain.Given as goal
 
 abbrev pub invariant-steps : goal.invariant-steps

@@ -3,7 +3,8 @@ use Rattle.lms_bytes.specs.Bytes.{bytes_at, joined}
 use Rattle.lms_bytes.specs.declared.params.Params.{Params}
 use Rattle.mask_prf.specs.Masks.{chain_mask_of}
 use Rattle.reference_value.specs.Masking.{masked_at, masked_chain}
-use Rattle.reference_value.proofs.Joined.{masking-none, masking-more, put-part, span, row-fits}
+use Rattle.lms_bytes.proofs.Joined.{row-fits}
+use Rattle.reference_value.proofs.Parts.{masking-none, masking-more, put-part, span}
 use Rattle.reference_value.proofs.leaf.mask_chains.Goals as goal
 
 pub chains-init : goal.chains-init

@@ -1,5 +1,5 @@
 use Rattle.reference_value.specs.Masking.{masked_chain}
-use Rattle.reference_value.proofs.Joined.{IsMasking}
+use Rattle.reference_value.proofs.Parts.{IsMasking}
 use Rattle.reference_value.proofs.leaf.mask_chains.Given as goal
 
 abbrev pub invariant-chains : goal.invariant-chains

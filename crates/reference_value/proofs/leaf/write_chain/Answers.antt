@@ -2,7 +2,7 @@ use Rattle.std.proofs.Common.{◌≡◌, ◌+◌, ◌^◌, ◌∙◌, length, sy
 use Rattle.std.proofs.lemmas.Nat.{pow_pos}
 use Rattle.reference_value.specs.Dealing.{value_of_seed}
 use Rattle.reference_value.proofs.Chains.{steps-none, steps-next}
-use Rattle.reference_value.proofs.Joined.{front-first, front-more, front-all}
+use Rattle.lms_bytes.proofs.Joined.{front-first, front-more, front-all}
 use Rattle.reference_value.proofs.leaf.write_chain.Goals as goal
 
 pub steps-init : goal.steps-init

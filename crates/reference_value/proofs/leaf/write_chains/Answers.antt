@@ -1,6 +1,7 @@
 use Rattle.std.proofs.Common.{◌≡◌, ◌*◌, length, refl, arith, mul-zero}
 use Rattle.reference_value.specs.Dealing.{values_of_seed}
-use Rattle.reference_value.proofs.Joined.{joined-none, front-more, front-all, put-part, row-fits}
+use Rattle.lms_bytes.proofs.Joined.{joined-none, front-more, front-all, row-fits}
+use Rattle.reference_value.proofs.Parts.{put-part}
 use Rattle.reference_value.proofs.leaf.write_chains.Goals as goal
 
 pub chains-init : goal.chains-init

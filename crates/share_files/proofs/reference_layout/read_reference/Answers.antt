@@ -35,7 +35,7 @@ returns-clause-layout c =
     sym (c.copy_from_slice.ensures.after ∙ c.part.ensures.bytes) ∙ c.in_ok-read_ref_header.ensures.header in
     record {
       dealt = c.in_ok-read_ref_header.ensures.dealt;
-      leaves_length = c.part-2.ensures.length ∙ rest_length _ _ _ refl c.in_ok-read_ref_header.ensures.size;
+      leaves_are = c.part-2.ensures.length ∙ rest_length _ _ _ refl c.in_ok-read_ref_header.ensures.size;
       parts = head_and_rest c.args.bytes.now (reference_head header) c.part-2.result.now (length c.args.bytes.now - 32)
           (omega (arith, c.in_ok-check_front.ensures.room)) front c.part-2.ensures.bytes;
     }

@@ -80,12 +80,13 @@ returns-clause-layout c =
 
 pub returns-clause-read : goal.returns-clause-read
 returns-clause-read c = λ params id nodes l.
-    let lies = tree_lies params c.args.bytes.now id nodes l in (
-      c.in_ok-head.ensures.codes.0 ∙ lies.lms_is,
-      c.in_ok-head.ensures.codes.1 ∙ lies.ots_is,
-      c.in_ok-head.ensures.id ∙ lies.id_at,
-      c.part.ensures.bytes ∙ rest_at params c.args.bytes.now id nodes l,
-    )
+    let lies = tree_lies params c.args.bytes.now id nodes l in
+    record {
+      lms = c.in_ok-head.ensures.codes.0 ∙ lies.lms_is;
+      ots = c.in_ok-head.ensures.codes.1 ∙ lies.ots_is;
+      same_id = c.in_ok-head.ensures.id ∙ lies.id_at;
+      same_nodes = c.part.ensures.bytes ∙ rest_at params c.args.bytes.now id nodes l;
+    }
 
 pub returns-clause-faultless : goal.returns-clause-faultless
 unfolding tree_fault

@@ -1,5 +1,5 @@
 use Rattle.std.proofs.Common.{sym}
-use Rattle.coalition_map.specs.MemberLaws.{bits_of-member_numbers}
+use Rattle.coalition_map.specs.MembersInside.{bits_of-member_numbers}
 use Rattle.coalition_map.proofs.members.Members.bits.Goals as goal
 
 pub returns-clause-value : goal.returns-clause-value

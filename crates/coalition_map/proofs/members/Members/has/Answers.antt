@@ -1,6 +1,6 @@
 use Rattle.std.proofs.Common.{◌≡◌, ◌≤◌, ◌+◌, ◌-◌, ◌%◌, arith}
 use Rattle.std.proofs.lemmas.Bool.{eqb-true, eq-eqb, ltb-true}
-use Rattle.coalition_map.specs.MemberLaws.{has-member, member-has, member-within}
+use Rattle.coalition_map.proofs.MemberLaws.{has-member, member-has, member-within}
 use Rattle.coalition_map.proofs.members.Members.has.Goals as goal
 
 pub returns-then-place-lt16 : goal.returns-then-place-lt16

@@ -1,5 +1,5 @@
 use Rattle.std.proofs.Common.{sym}
-use Rattle.coalition_map.specs.MemberLaws.{length-member_numbers}
+use Rattle.coalition_map.proofs.MemberLaws.{length-member_numbers}
 use Rattle.coalition_map.proofs.members.Members.size.Goals as goal
 
 pub returns-clause-number : goal.returns-clause-number

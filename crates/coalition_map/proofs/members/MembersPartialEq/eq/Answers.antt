@@ -3,7 +3,7 @@ use Rattle.std.proofs.lemmas.Bool.{cases_eq, eq-eqb, ne_eqb, false_from_ne_true}
 use Rattle.std.proofs.lemmas.Slice.Eq.{bytes_eq-Decides}
 use Rattle.std.specs.Cmp.Lexicographic.{pointwise}
 use Rattle.coalition_map.specs.Members.{member_numbers}
-use Rattle.coalition_map.specs.MemberLaws.{member_numbers-distinct}
+use Rattle.coalition_map.proofs.MemberLaws.{member_numbers-distinct}
 use Rattle.coalition_map.proofs.members.MembersPartialEq.eq.Goals as goal
 
 -- the bits are equal exactly where the lists are

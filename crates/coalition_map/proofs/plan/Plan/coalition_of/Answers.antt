@@ -1,5 +1,5 @@
 use Rattle.std.proofs.lemmas.Nat.{mod_below}
-use Rattle.coalition_map.specs.CoalitionLaws.{count_of-pos}
+use Rattle.coalition_map.proofs.CoalitionLaws.{count_of-pos}
 use Rattle.coalition_map.proofs.plan.Plan.coalition_of.Goals as goal
 
 pub nonzero_rem-result : goal.nonzero_rem-result

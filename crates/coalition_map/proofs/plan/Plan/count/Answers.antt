@@ -1,4 +1,4 @@
-use Rattle.coalition_map.specs.CoalitionLaws.{count_of-pos}
+use Rattle.coalition_map.proofs.CoalitionLaws.{count_of-pos}
 use Rattle.coalition_map.proofs.plan.Plan.count.Goals as goal
 
 pub returns-clause-some : goal.returns-clause-some

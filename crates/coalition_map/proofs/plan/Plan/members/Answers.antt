@@ -1,5 +1,5 @@
 use Rattle.std.proofs.Common.{◌≡◌, ◌+◌, ◌-◌, ◌<◌, ◌∙◌, arith}
-use Rattle.coalition_map.specs.CoalitionLaws.{IsSubset-coalition}
+use Rattle.coalition_map.proofs.CoalitionLaws.{IsSubset-coalition}
 use Rattle.coalition_map.proofs.Unranking.{start, turn, step_taken, step_passed, ended}
 use Rattle.coalition_map.proofs.plan.Plan.members.Goals as goal
 use Rattle.coalition_map.proofs.plan.Plan.members.Goals.{then-rest-having, else-rest-having}

@@ -2,7 +2,7 @@ use Rattle.std.proofs.Common.{◌≡◌, ℕ, length, sym, ◌∙◌, refl, arit
 use Rattle.std.proofs.lemmas.Bool.{false≢true}
 use Rattle.std.proofs.lemmas.Nat.{one_shl}
 use Rattle.coalition_map.specs.Coalitions.{coalitions, binomial, IsThreshold}
-use Rattle.coalition_map.specs.CoalitionLaws.{length-subsets}
+use Rattle.coalition_map.proofs.CoalitionLaws.{length-subsets}
 use Rattle.coalition_map.proofs.plan.Plan.new.Goals as goal
 
 counted : (n k count : ℕ) → count ≡ binomial n k → count ≡ length (coalitions n k)

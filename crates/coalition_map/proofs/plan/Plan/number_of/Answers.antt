@@ -3,7 +3,7 @@ use Rattle.std.proofs.Math.Nat.{div-eq_of_lt}
 use Rattle.std.proofs.lemmas.Bool.{false≢true}
 use Rattle.std.proofs.lemmas.Nat.{div-add-mod', mod_below, pow_pos}
 use Rattle.coalition_map.specs.Coalitions.{IsSubset}
-use Rattle.coalition_map.specs.CoalitionLaws.{IsSubset-from_bits, bits-from_IsSubset, IsSubset-listed}
+use Rattle.coalition_map.proofs.CoalitionLaws.{IsSubset-from_bits, bits-from_IsSubset, IsSubset-listed}
 use Rattle.coalition_map.proofs.plan.Plan.number_of.Goals as goal
 use Rattle.coalition_map.proofs.plan.Plan.number_of.Goals.{else-size-self-via-then-size-self+else-bits-self-eq0, else-size-self-via-else-size-self}
 

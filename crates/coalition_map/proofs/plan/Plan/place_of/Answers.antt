@@ -1,7 +1,7 @@
 use Rattle.std.proofs.Common.{◌≡◌, ◌+◌, ◌-◌, ◌%◌, ◌<◌, sym, ◌∙◌, arith}
 use Rattle.std.proofs.lemmas.Nat.{and_mask}
 use lib.Bits.{bit_and}
-use Rattle.coalition_map.specs.CoalitionLaws.{binomial-small}
+use Rattle.coalition_map.proofs.CoalitionLaws.{binomial-small}
 use Rattle.coalition_map.proofs.Ranking.{start, turn, step_taken, step_passed, ended}
 use Rattle.coalition_map.proofs.plan.Plan.place_of.Goals as goal
 use Rattle.coalition_map.proofs.plan.Plan.place_of.Goals.{then-bits-eq1, else-bits-eq1}

@@ -6,7 +6,7 @@ use Rattle.dealer.proofs.dealing.Dealt.into_files.Goals as goal
 -- each file is what is written from its part
 pub returns : goal.returns
 returns c = record {
-  files = λ d same _ _ is. are_files d c.args.self c.args.plan.now _ same is
+  files = λ d is. are_files d c.args.self c.index-share.result.now _ is c.requires c.index-share.ensures
       c.in_ok-public_file.ensures c.in_ok-tree_file.ensures c.in_ok-reference_file.ensures
       (c.in_ok-files_of_shares.ensures ∙ ap (map share_bytes) c.deref.ensures.value);
 }

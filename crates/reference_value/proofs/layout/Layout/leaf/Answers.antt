@@ -1,6 +1,6 @@
 use Rattle.std.proofs.Common.{◌^◌}
-use Rattle.reference_value.specs.Places.{leaf_length}
-use Rattle.reference_value.proofs.Joined.{row-fits}
+use Rattle.share_files.specs.Reference.{leaf_length}
+use Rattle.lms_bytes.proofs.Joined.{row-fits}
 use Rattle.reference_value.proofs.layout.Layout.leaf.Goals as goal
 
 pub returns-clause-within : goal.returns-clause-within

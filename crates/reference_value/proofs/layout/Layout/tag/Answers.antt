@@ -1,7 +1,7 @@
 use Rattle.std.proofs.Common.{subst, ◌%◌, ◌≡◌, ℕ, List, [], ◌∷◌, ◌<◌, ◌≤◌, ◌∙◌, Contains, sym, refl, arith, length-append}
 use Rattle.coalition_map.specs.Coalitions.{IsSubset, PlanNumbers, coalition, count_of, leaf_members}
 use Rattle.coalition_map.specs.Members.{below}
-use Rattle.coalition_map.specs.MemberLaws.{below-none, below-more_in, below-more_out, All-from_IsAscendingIn}
+use Rattle.coalition_map.proofs.MemberLaws.{below-none, below-more_in, below-more_out, All-from_IsAscendingIn}
 use Rattle.std.proofs.lemmas.List.Elements.{All-contains}
 use Rattle.reference_value.proofs.Members.{tag-room}
 use Rattle.reference_value.proofs.layout.Layout.tag.Goals as goal

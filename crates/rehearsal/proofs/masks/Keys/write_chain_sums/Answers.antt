@@ -1,5 +1,5 @@
 use Rattle.std.proofs.Common.{◌≡◌, ◌*◌, ◌∙◌, ap, length, refl, arith, mul-zero}
-use Rattle.reference_value.proofs.Joined.{joined-none, front-more, front-all, row-fits}
+use Rattle.lms_bytes.proofs.Joined.{joined-none, front-more, front-all, row-fits}
 use Rattle.rehearsal.specs.Signing.{digit_sum}
 use Rattle.rehearsal.proofs.masks.Keys.write_chain_sums.Goals as goal
 

@@ -6,7 +6,8 @@ use Rattle.std.proofs.lemmas.Nat.{pow_pos, div-mul-add}
 use Rattle.std.proofs.lemmas.List.{length-append, length-map, get_or_append_left, get_or-append_right, get_or-map, nil_from_length}
 use Rattle.std.proofs.lemmas.List.Elements.{All-cons, All-nil, All-weaker, All-contains, All-append, All-map, Contains-append_left, Contains-append_right}
 use Rattle.coalition_map.specs.Members.{IsAscendingIn, member_numbers}
-use Rattle.coalition_map.specs.MemberLaws.{IsAscendingIn-lower, IsAscendingIn-trustees_from, member_numbers-within, bits_of-within, bits_of-member_numbers}
+use Rattle.coalition_map.specs.MembersInside.{bits_of-member_numbers}
+use Rattle.coalition_map.proofs.MemberLaws.{IsAscendingIn-lower, IsAscendingIn-trustees_from, member_numbers-within, bits_of-within}
 use Rattle.coalition_map.specs.Coalitions.{subsets, binomial, PlanNumbers, count_of, coalition, IsSubset, IsPlan}
 
 -- ---- how many

@@ -1,0 +1,27 @@
+//! How long the parts of the files are, in bytes.
+
+ghost use Rattle.std.specs.Prelude.{◌≡◌, ◌*◌, ◌≤◌, ◌^◌};
+ghost use Rattle.share_files.specs.Reference.{leaf_length};
+
+use lms_bytes::Params;
+
+/// The length of a head.
+pub const HEAD: usize = 32;
+
+/// The length of a check tag.
+pub const TAG: usize = 32;
+
+/// The length of a chain's cells in a leaf of the reference.
+pub fn chain_bytes(params: &Params) -> usize
+    ensures length { result ≡ params.now.n * 2 ^ params.now.w }
+    ensures all { result * params.now.p ≤ 2170880 }
+{
+    (params.n as usize) << params.w
+}
+
+/// The length of a leaf of the reference, where each leaf has `k` members.
+pub fn leaf_bytes(params: &Params, k: u8) -> usize
+    ensures { result ≡ leaf_length params.now k }
+{
+    params.n as usize + TAG * k as usize + chain_bytes(params) * params.p as usize
+}
