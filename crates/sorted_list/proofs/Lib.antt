@@ -1,1 +1,2 @@
+pub mod Exact
 mod Places

@@ -1,6 +1,6 @@
 //! The list.
 
-ghost use Rattle.std.specs.Prelude.{◌≡◌, ◌≢◌, ◌+◌, ◌≤◌, ◌<◌, ◌↔◌, ◌∷◌, [], length, IsTrue, IfOk, IfErr, MatchOption, All};
+ghost use Rattle.std.specs.Prelude.{◌≡◌, ◌≢◌, ◌+◌, ◌≤◌, ◌<◌, ◌↔◌, ◌∷◌, [], false, length, IsTrue, IfOk, IfErr, MatchOption, All};
 ghost use Rattle.std.specs.List.{AllWithin, HoldsAt};
 ghost use Rattle.std.specs.List.Sorted.{IsPermutation, IsPartitionPoint};
 ghost use Rattle.sorted_list.specs.Sorted.{Holds, IsAscending, IsLeastFrom, Takes};
@@ -53,18 +53,22 @@ impl<T: Ord + Copy> SortedList<T> {
         self.search(item).is_ok()
     }
 
-    /// Adds an item, where no equal one is there.
-    pub fn insert(&mut self, item: T)
+    /// Adds an item where no equal one is there, and says whether it did.
+    pub fn insert(&mut self, item: T) -> bool
         requires { length self.old.items < self.old.room }
-        ensures there { Holds T.cmp self.old.items item → self.new ≡ self.old }
-        ensures added { (Holds T.cmp self.old.items item → ⊥)
-            → IsPermutation (item ∷ self.old.items) self.new.items }
+        ensures added { IsTrue result → (Holds T.cmp self.old.items item → ⊥)
+            × IsPermutation (item ∷ self.old.items) self.new.items }
+        ensures there { result ≡ false → Holds T.cmp self.old.items item × (self.new ≡ self.old) }
         ensures length { length self.new.items ≤ length self.old.items + 1 }
         ensures room { self.new.room ≡ self.old.room }
     {
-        if let Err(place) = self.search(&item) {
-            // There is room.
-            self.items.insert(place, item).unwrap();
+        match self.search(&item) {
+            Ok(_) => false,
+            Err(place) => {
+                // There is room.
+                self.items.insert(place, item).unwrap();
+                true
+            }
         }
     }
 

@@ -1,0 +1,3 @@
+pub mod Approved
+pub mod Book
+pub mod Listed
