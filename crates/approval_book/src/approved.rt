@@ -1,8 +1,9 @@
 //! The list of approved messages.
 
-ghost use Rattle.std.specs.Prelude.{◌≡◌, ◌≤◌, ◌<◌, ◌+◌, ◌↔◌, ◌⊎◌, ℕ, List, [], length, Contains, IsTrue, IfOk};
+ghost use Rattle.std.specs.Prelude.{◌≡◌, ◌≤◌, ◌<◌, ◌+◌, ◌↔◌, ◌||◌, ℕ, List, [], length, nat_eq, Contains, IsTrue, IfOk};
+ghost use Rattle.std.specs.Cmp.Lexicographic.{pointwise};
 ghost use Rattle.lms_bytes.specs.MessageId.{message_id_bytes};
-ghost use Rattle.approval_book.specs.Approved.{ids_of};
+ghost use Rattle.approval_book.specs.Approved.{ids_of, is_in, room_of};
 
 use lms_bytes::MessageId;
 use memory::NoMemory;
@@ -16,8 +17,6 @@ pub struct Approved {
 }
 
 impl Approved {
-    ghost use Rattle.approval_book.specs.Approved.{room_of};
-
     /// Whether a message is approved.
     pub fn has(&self, message: &MessageId) -> bool
         ensures { IsTrue result ↔ Contains (ids_of self.now) (message_id_bytes message.now) }
@@ -37,7 +36,7 @@ impl Approved {
 
     /// Whether an id is listed.
     pub(crate) fn lists(&self, id: &[u8; 36]) -> bool
-        ensures { IsTrue result ↔ Contains (ids_of self.now) id.now }
+        ensures { result ≡ is_in (ids_of self.now) id.now }
     {
         self.ids.holds(id)
     }
@@ -46,7 +45,7 @@ impl Approved {
     pub(crate) fn insert(&mut self, id: [u8; 36])
         requires { length (ids_of self.old) < room_of self.old }
         ensures listed { (other : List ℕ)
-            → Contains (ids_of self.new) other ↔ ((other ≡ id) ⊎ Contains (ids_of self.old) other) }
+            → is_in (ids_of self.new) other ≡ (pointwise nat_eq other id || is_in (ids_of self.old) other) }
         ensures length { length (ids_of self.new) ≤ length (ids_of self.old) + 1 }
         ensures room { room_of self.new ≡ room_of self.old }
     {

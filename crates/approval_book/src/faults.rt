@@ -1,8 +1,19 @@
 //! The answers of a book.
 
-use disk_trait::DiskFault;
+ghost use Rattle.std.specs.Prelude.{◌≡◌};
+ghost use Rattle.approval_book.specs.Listed.{unsettled_by};
+
 use slot_cache::SettleFault;
 use thiserror::Error;
+
+/// Whether a message was listed.
+#[derive(Clone, Copy, Debug, PartialEq, Eq)]
+pub enum Entered {
+    /// It is listed now.
+    New,
+    /// It was listed.
+    Old,
+}
 
 /// Why a message is not listed, in the order of the tests.
 #[derive(Clone, Copy, Debug, PartialEq, Eq, Error)]
@@ -25,19 +36,10 @@ pub enum BookFault {
     Full,
 }
 
-impl From<DiskFault> for BookFault {
-    ghost use Rattle.approval_book.specs.declared.faults.BookFault.TheVariants.{Device};
-    ghost use Rattle.std.specs.Prelude.{◌≡◌};
-
-    ghost from_gives = { λ _ fault. fault ≡ Device };
-
-    fn from(_: DiskFault) -> Self {
-        BookFault::Device
-    }
-}
-
 /// Why a book is not settled.
-pub(crate) fn unsettled(fault: SettleFault) -> BookFault {
+pub(crate) fn unsettled(fault: SettleFault) -> BookFault
+    ensures { result ≡ unsettled_by fault }
+{
     match fault {
         SettleFault::Device => BookFault::Device,
         SettleFault::Damaged { slot, a, b } => BookFault::Damaged { slot, a, b },

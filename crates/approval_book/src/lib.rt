@@ -7,7 +7,4 @@ mod faults;
 
 pub use approved::Approved;
 pub use book::Book;
-pub use faults::BookFault;
-
-#[cfg(test)]
-mod tests;
+pub use faults::{BookFault, Entered};

@@ -88,6 +88,13 @@ impl<D: Disk> CachedSlots<D> {
         &self.cached[slot as usize]
     }
 
+    /// All slots. A put in doubt is left aside.
+    pub fn slots(&self) -> &[Slot]
+        ensures { result.now ≡ (state_of self.now).slots }
+    {
+        self.cached.as_slice()
+    }
+
     /// How many slots there are.
     pub fn count(&self) -> u32
         ensures { result ≡ count_of self.now }

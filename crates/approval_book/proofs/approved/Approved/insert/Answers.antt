@@ -1,8 +1,7 @@
-use Rattle.std.proofs.lemmas.Map.Lookups.{exact_bytes}
-use Rattle.sorted_list.proofs.Exact.{contains-added}
+use Rattle.approval_book.proofs.Listings.{in-added}
 use Rattle.approval_book.proofs.approved.Approved.insert.Goals as goal
 
 pub returns-clause-listed : goal.returns-clause-listed
 returns-clause-listed c =
-    contains-added _ exact_bytes c.insert.result _ _ _ (λ added. (c.insert.ensures.added added).1)
-        (λ not_added. let found = c.insert.ensures.there not_added in (found.0, λ i. (found.1 i).items))
+    in-added c.insert.result _ _ _ (λ added. (c.insert.ensures.added added).1)
+    (λ not_added. let found = c.insert.ensures.there not_added in (found.0, λ i. (found.1 i).items))
