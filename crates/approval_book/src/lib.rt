@@ -8,3 +8,6 @@ mod faults;
 pub use approved::Approved;
 pub use book::Book;
 pub use faults::{BookFault, Entered};
+
+#[cfg(test)]
+mod tests;
