@@ -1,29 +1,9 @@
 -- The bytes of the bodies of slots.
 use Rattle.std.proofs.Common.{◌≡◌, ℕ, ◌+◌, ◌-◌, replicate, append_assoc, length-append, ◌<◌, ◌≤◌, List, ◌++◌, length, get_or, take, drop, sym, ◌∙◌, ap, arith, refl, inl, inr, length-take, length-drop, get_or-take}
-use Rattle.std.proofs.lemmas.Bool.{cases_lt}
 use Rattle.std.proofs.Math.Seq.{drop-append_seam}
 use Rattle.std.proofs.lemmas.List.{take_at, length-replicate, get_or_past, places, same_lists, take-append-drop, take_all}
-use Rattle.std.proofs.lemmas.Nat.{be_bytes_4}
 use borrow.Rule.Slice.PartMut.{put_mid}
-use Rattle.lms_bytes.specs.MessageId.{message_id_bytes}
-use Rattle.opening_journal.specs.Kept.{filled}
-use Rattle.opening_journal.specs.Loading.{message_of}
-
-two-parts : (m n : ℕ) (body : List ℕ) → length body ≡ m + n → take m body ++ take n (drop m body) ≡ body
-two-parts m n body size =
-    ap (λ (back : List ℕ). take m body ++ back) (take_all n (drop m body) (omega (arith, length-drop m body))) ∙ take-append-drop m body
-
-front-small : (m : ℕ) (body : List ℕ) → ((i : ℕ) → get_or body i 0 < 256) → (i : ℕ) → get_or (take m body) i 0 < 256
-front-small m body small i = elim (cases_lt i m) [
-  | inl below ↦ omega (arith, get_or-take m body i 0 below, small i)
-  | inr past ↦ omega (arith, get_or_past (take m body) i 0 (omega (arith, length-take m body)))
-]
-
-pub message-bytes : (body : List ℕ) → length body ≡ 36 → ((i : ℕ) → get_or body i 0 < 256) → message_id_bytes (message_of body) ≡ body
-message-bytes body size small =
-    let four = take 4 body in
-    let is_four : length four ≡ 4 = omega (arith, length-take 4 body) in
-    ap (λ (front : List ℕ). front ++ take 32 (drop 4 body)) (be_bytes_4 four _ is_four (front-small 4 body small) refl) ∙ two-parts 4 32 body size
+use Rattle.opening_journal.specs.EntrySlots.{filled}
 
 -- what is written over the end of a list
 pub put-back : (a k : ℕ) (front tail ys : List ℕ) → length front ≡ a → length tail ≡ k → length ys ≡ k → put_mid a k (front ++ tail) ys ≡ front ++ ys

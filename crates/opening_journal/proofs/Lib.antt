@@ -1,8 +1,7 @@
 mod Answered
 mod BodyBytes
-mod Doubts
 pub mod Held
+mod Holding
+mod Legal
+mod Listed
 pub mod Maps
-mod Read
-mod Shown
-mod Tables

@@ -1,5 +1,5 @@
 -- What a journal keeps of each leaf: by its entries, and by the slots of its file.
-use Rattle.std.specs.Prelude.{◌==◌, ◌≡◌, ◌<◌, ◌⊎◌, ℕ, List, ◌∷◌, ◌++◌, [], take, drop, fold, Option, Some, if◌then◌else◌}
+use Rattle.std.specs.Prelude.{◌==◌, ◌≡◌, ◌<◌, ◌⊎◌, ℕ, List, ◌∷◌, ◌++◌, [], length, take, drop, fold, slice_index_or, Option, Some, if◌then◌else◌}
 use Rattle.lms_bytes.specs.MessageId.{message_id_bytes}
 use Rattle.opening_journal.specs.declared.entry.Entry.{Entry}
 use Rattle.opening_journal.specs.declared.entry.Entry.TheVariants.{Bound, Opened}
@@ -15,15 +15,36 @@ pub data LeafState : Type 0 where
   IsOpened : (message c digest : List ℕ) → (moment : ℕ) → LeafState
   IsTorn : (a b : ℕ) → LeafState
 
+-- the leaf of an entry
+abbrev pub leaf_of : Entry → ℕ
+leaf_of (Bound leaf message) = leaf
+leaf_of (Opened leaf message c digest moment) = leaf
+
+-- its leaf before it and after it
+abbrev pub state_before : Entry → LeafState
+state_before (Bound leaf message) = IsFree
+state_before (Opened leaf message c digest moment) = IsBound (message_id_bytes message)
+
+abbrev pub state_after : Entry → LeafState
+state_after (Bound leaf message) = IsBound (message_id_bytes message)
+state_after (Opened leaf message c digest moment) = IsOpened (message_id_bytes message) c digest moment
+
 -- all leaves once one more entry was made
 abbrev pub with_entry : (ℕ → LeafState) → Entry → ℕ → LeafState
-with_entry map (Bound leaf message) other = if other == leaf then IsBound (message_id_bytes message) else map other
-with_entry map (Opened leaf message c digest moment) other =
-    if other == leaf then IsOpened (message_id_bytes message) c digest moment else map other
+with_entry map entry leaf = if leaf == leaf_of entry then state_after entry else map leaf
 
 -- all leaves once these entries were made, in this order
 unfoldable pub map_of : List Entry → ℕ → LeafState
 map_of entries = fold with_entry (λ leaf. IsFree) entries
+
+-- the entry may follow where its leaf is this
+abbrev pub Adds : Entry → LeafState → Type 0
+Adds entry state = state ≡ state_before entry
+
+-- each entry may follow those before it
+abbrev pub IsLegalList : List Entry → Type 0
+IsLegalList entries = (place : ℕ) (none : Entry) → place < length entries
+    → let entry = slice_index_or entries place none in Adds entry (map_of (take place entries) (leaf_of entry))
 
 -- this project's profile: body A of a slot is the message id, and body B is C and Q, each filled to 32 bytes; n is the
 -- hash length
@@ -49,4 +70,5 @@ pub record JournalState : Type 0 where
 -- the file stands for the journal: with the entry in doubt, or without
 abbrev pub StandsFor : ℕ → ℕ → List ℕ → JournalState → Type 0
 StandsFor n count file state =
-    HasEntries n count file state.entries ⊎ ((entry : Entry) × (state.doubt ≡ Some entry) × HasEntries n count file (state.entries ++ (entry ∷ [])))
+    HasEntries n count file state.entries
+    ⊎ ((entry : Entry) × (state.doubt ≡ Some entry) × HasEntries n count file (state.entries ++ (entry ∷ [])))

@@ -1,20 +1,24 @@
--- A journal as contracts see it.
-use Rattle.std.specs.Prelude.{◌≡◌, ◌^◌, ℕ, List, IsTrue}
+-- A journal as contracts see it, and what always holds of it.
+use Rattle.std.specs.Prelude.{◌≡◌, ◌≢◌, ◌^◌, ℕ, List, None, Result, Err, IsTrue}
 use Rattle.disk_trait.specs.declared.disk.Pages as pages
 use Rattle.disk_trait.specs.declared.faults.Faults as faults
 use Rattle.lms_bytes.specs.declared.params.Params.{Params}
-use Rattle.opening_journal.specs.Entries.{JournalState, StandsFor}
+use Rattle.opening_journal.specs.Entries.{IsLegalList, JournalState, StandsFor}
+use Rattle.opening_journal.specs.Loading.{IsJournalFile}
+use Rattle.opening_journal.specs.declared.faults.Entered.{Entered}
+use Rattle.opening_journal.specs.declared.faults.JournalFault.{JournalFault}
+use Rattle.opening_journal.specs.declared.faults.JournalFault.TheVariants.{Damaged, Device}
 use Rattle.opening_journal.specs.declared.journal.Journal.{Journal}
-use Rattle.slot_file.specs.Disks.{SameDisk}
-use Rattle.slot_file.specs.Slots.{disk_of as slots_disk, header_of as slots_header}
+use Rattle.slot_cache.specs.Cache.{disk_of as cache_disk, header_of as cache_header}
+use Rattle.slot_file.specs.Disks.{RisesAt, SameDisk}
 use Rattle.slot_file.specs.declared.header.Header.{Header}
 
 module _ {D : Type 0} {p : pages.Ghosts D} {f : faults.Ghosts D} where
   abbrev pub disk_of : Journal D p f → D
-  disk_of journal = slots_disk journal.slots
+  disk_of journal = cache_disk journal.slots
 
   abbrev pub header_of : Journal D p f → Header
-  header_of journal = slots_header journal.slots
+  header_of journal = cache_header journal.slots
 
   abbrev pub params_of : Journal D p f → Params
   params_of journal = journal.params
@@ -34,16 +38,30 @@ module _ {D : Type 0} {p : pages.Ghosts D} {f : faults.Ghosts D} where
   abbrev pub IsSteady : Journal D p f → Type 0
   IsSteady journal = IsTrue (f.steady (disk_of journal))
 
-  -- what a read gives, and each image that a crash may leave, stands for the journal
-  abbrev pub ReadsStand : Journal D p f → Type 0
-  ReadsStand journal = IsTold journal → StandsFor journal.params.n (2 ^ journal.params.h) (p.reads (disk_of journal)) (state_of journal)
+  -- a file of the journal's header that loads, and that stands for the journal
+  pub record Keeps (journal : Journal D p f) (file : List ℕ) : Type 0 where
+    pub loads : IsJournalFile (header_of journal) (2 ^ (params_of journal).h) file
+    pub stands : StandsFor (params_of journal).n (2 ^ (params_of journal).h) file (state_of journal)
 
-  abbrev pub ImagesStand : Journal D p f → Type 0
-  ImagesStand journal = IsTold journal → IsHonest journal → (image : List ℕ) → p.may_leave (disk_of journal) image
-      → StandsFor journal.params.n (2 ^ journal.params.h) image (state_of journal)
+  -- What holds of every journal: what a read gives and each image that a crash may leave is a file that loads and
+  -- stands for it, an entry is in doubt only where a call of the disk has failed, and each entry may follow those before.
+  pub record Holds (journal : Journal D p f) : Type 0 where
+    pub reads : IsTold journal → Keeps journal (p.reads (disk_of journal))
+    pub images : IsTold journal → IsHonest journal → (image : List ℕ) → p.may_leave (disk_of journal) image
+        → Keeps journal image
+    pub cause : faults_of journal ≡ 0 → (state_of journal).doubt ≡ None
+    pub legal : IsLegalList (state_of journal).entries
 
   -- what no call changes
   pub record Stays (old new : Journal D p f) : Type 0 where
-    pub params : new.params ≡ old.params
+    pub params : params_of new ≡ params_of old
     pub header : header_of new ≡ header_of old
     pub disk : SameDisk p f (disk_of old) (disk_of new)
+
+  -- What binding and opening say of the disk: no slot is found damaged where the disk tells its content, a steady disk
+  -- that tells it does not fail, and the count rises where the answer is Device and nowhere else.
+  pub record Enters (old new : Journal D p f) (result : Result Entered JournalFault) : Type 0 where
+    pub told : IsTold old → (leaf a b : ℕ) → result ≢ Err (Damaged leaf a b)
+    pub succeeds : IsSteady old → IsTold old → result ≢ Err Device
+    pub cause : RisesAt (faults_of old) (faults_of new) result (Err Device)
+    pub stays : Stays old new

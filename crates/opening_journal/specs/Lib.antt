@@ -1,9 +1,9 @@
-pub mod Book
-pub mod BookFields
+pub mod Answers
 pub mod Entries
-pub mod Held
+pub mod EntrySlots
+pub mod Faults
+pub mod Inside
 pub mod Journal
-pub mod Kept
+pub mod Loaded
 pub mod Loading
 pub mod Opening
-pub mod Reading

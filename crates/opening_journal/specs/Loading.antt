@@ -1,43 +1,44 @@
--- What loading a journal gives.
-use Rattle.std.specs.Prelude.{◌≡◌, ◌≢◌, ◌<◌, ℕ, List, [], ◌∷◌, Some, None, take, drop}
+-- The entries of a journal's file, and why it is not loaded.
+use Rattle.std.specs.Prelude.{◌≡◌, ◌<◌, ℕ, List, [], ◌∷◌, Some, None, take, drop, false}
 use Rattle.std.specs.List.{flat_map, range_with_len}
-use Rattle.lms_bytes.specs.Bytes.{bytes_at, str_to_u32}
-use Rattle.lms_bytes.specs.declared.message.MessageId.{MessageId}
+use Rattle.lms_bytes.specs.MessageId.{message_id_of}
 use Rattle.opening_journal.specs.declared.entry.Entry.{Entry}
 use Rattle.opening_journal.specs.declared.entry.Entry.TheVariants.{Bound, Opened}
 use Rattle.opening_journal.specs.declared.faults.JournalLoad.{JournalLoad}
 use Rattle.opening_journal.specs.declared.faults.JournalLoad.TheVariants as load
+use Rattle.slot_file.specs.Copies.{IsFirstDamaged, is_damaged}
 use Rattle.slot_file.specs.Layout.{load_fault, slot_at}
 use Rattle.slot_file.specs.declared.header.Header.{Header}
 use Rattle.slot_file.specs.declared.header.LoadFault.{LoadFault}
 use Rattle.slot_file.specs.declared.slot.Slot.{Slot}
 use Rattle.slot_file.specs.declared.slot.Slot.TheVariants.{Free, Half, Full, Damaged}
 
--- the message id of 36 bytes
-abbrev pub message_of : List ℕ → MessageId
-message_of body = record { length = str_to_u32 (bytes_at body 0 4); hash = bytes_at body 4 32 }
-
 -- the entries that a slot has: its binding, and then its opening
 abbrev pub entries_of_slot : ℕ → ℕ → Slot → List Entry
 entries_of_slot n leaf Free = []
-entries_of_slot n leaf (Half a) = Bound leaf (message_of a) ∷ []
+entries_of_slot n leaf (Half a) = Bound leaf (message_id_of a) ∷ []
 entries_of_slot n leaf (Full a b moment) =
-    Bound leaf (message_of a) ∷ Opened leaf (message_of a) (take n b) (take n (drop 32 b)) moment ∷ []
+    Bound leaf (message_id_of a) ∷ Opened leaf (message_id_of a) (take n b) (take n (drop 32 b)) moment ∷ []
 entries_of_slot n leaf (Damaged a b) = []
 
--- those of a file, leaf by leaf
-unfoldable pub entries_of_file : ℕ → ℕ → List ℕ → List Entry
-entries_of_file n count file = flat_map (λ leaf. entries_of_slot n leaf (slot_at 2 leaf file)) (range_with_len 0 count)
+-- those of so many slots, leaf by leaf
+unfoldable pub entries_of : ℕ → ℕ → (ℕ → Slot) → List Entry
+entries_of n count slots = flat_map (λ leaf. entries_of_slot n leaf (slots leaf)) (range_with_len 0 count)
+
+-- those of a file
+abbrev pub entries_of_file : ℕ → ℕ → List ℕ → List Entry
+entries_of_file n count file = entries_of n count (λ leaf. slot_at 2 leaf file)
 
 -- the file opens, and no slot of it is damaged
 pub record IsJournalFile (header : Header) (count : ℕ) (file : List ℕ) : Type 0 where
   pub opens : load_fault header count file ≡ None
-  pub whole : (leaf a b : ℕ) → leaf < count → slot_at 2 leaf file ≢ Damaged a b
+  pub whole : (leaf : ℕ) → leaf < count → is_damaged (slot_at 2 leaf file) ≡ false
 
 -- why a file is not loaded, by the first test that fails
 pub data LoadRefused (header : Header) (count : ℕ) (file : List ℕ) : JournalLoad → Type 0 where
-  other_file : (fault : LoadFault) → load_fault header count file ≡ Some fault → LoadRefused header count file (load.Slots fault)
-  damaged : (leaf a b : ℕ) → load_fault header count file ≡ None → leaf < count → slot_at 2 leaf file ≡ Damaged a b
-      → ((before x y : ℕ) → before < leaf → slot_at 2 before file ≢ Damaged x y) → LoadRefused header count file (load.Damaged leaf a b)
+  other_file : (fault : LoadFault) → load_fault header count file ≡ Some fault
+      → LoadRefused header count file (load.Slots fault)
+  damaged : (leaf a b : ℕ) → load_fault header count file ≡ None → IsFirstDamaged 2 count file leaf a b
+      → LoadRefused header count file (load.Damaged leaf a b)
   device : LoadRefused header count file load.Device
   no_memory : load_fault header count file ≡ None → LoadRefused header count file load.NoMemory

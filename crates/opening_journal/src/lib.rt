@@ -3,11 +3,10 @@
 
 mod answers;
 mod bodies;
-mod book;
 mod entry;
 mod faults;
 mod journal;
-mod reading;
+mod listing;
 mod steps;
 
 pub use entry::Entry;

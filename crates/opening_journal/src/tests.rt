@@ -3,8 +3,8 @@ ghost use Rattle.opening_journal.specs.Journal.{params_of};
 
 use super::*;
 use disk_trait::{Disk, MemDisk};
-use memory::NoMemory;
 use lms_bytes::{MessageId, Params, Val};
+use memory::NoMemory;
 use slot_file::{Header, LoadFault, prepare};
 use std::alloc::Global;
 use std::process::Abort;

@@ -2,29 +2,20 @@
 use Rattle.std.proofs.Common.{◌≡◌, ℕ, List, [], ◌∷◌, ◌++◌, None, Some, inl, inr, refl, sym, ◌∙◌, ap, subst}
 use Rattle.std.proofs.lemmas.Bool.{cases_eq}
 use Rattle.lms_bytes.specs.MessageId.{message_id_bytes}
-use Rattle.opening_journal.specs.Entries.{IsBound, IsFree, IsOpened, JournalState, LeafState, map_of}
-use Rattle.opening_journal.specs.Kept.{Adds, kept_by, leaf_of, state_before, state_of_kept}
+use Rattle.opening_journal.specs.Entries.{Adds, IsBound, IsFree, IsOpened, JournalState, LeafState, leaf_of, map_of, state_after, state_before}
 use Rattle.opening_journal.specs.Opening.{AnswersFor, SettlesTo, bound, opened}
 use Rattle.opening_journal.specs.declared.entry.Entry.{Entry}
 use Rattle.opening_journal.specs.declared.entry.Entry.TheVariants.{Bound, Opened}
 use Rattle.opening_journal.proofs.Maps.{map_of-other, map_of-same}
+use Rattle.trustee_core.specs.Growth.{IsBelow, frees, opens, same}
 
--- a leaf answers as before, and if it was opened it is the same
-pub record Keeps (before after : LeafState) : Type 0 where
-  pub answers : (message : List ℕ) → AnswersFor message before → AnswersFor message after
-  pub same : (message c digest : List ℕ) (moment : ℕ) → before ≡ IsOpened message c digest moment → after ≡ IsOpened message c digest moment
+pub below-same : (before after : LeafState) → before ≡ after → IsBelow before after
+below-same before after is = subst (IsBelow before) is (same before)
 
-pub keeps-same : (before after : LeafState) → before ≡ after → Keeps before after
-keeps-same before after is = record {
-  answers = λ message. subst (AnswersFor message) is;
-  same = λ message c digest moment was. sym is ∙ was;
-}
-
-pub keeps-then : (a b c : LeafState) → Keeps a b → Keeps b c → Keeps a c
-keeps-then a b c first next = record {
-  answers = λ message answer. next.answers message (first.answers message answer);
-  same = λ message x digest moment was. next.same message x digest moment (first.same message x digest moment was);
-}
+pub below-then : (a b c : LeafState) → IsBelow a b → IsBelow b c → IsBelow a c
+below-then a b c (same state) next = next
+below-then a b c (frees state) next = frees c
+below-then a b c (opens message x digest moment) (same state) = opens message x digest moment
 
 free-never : (message : List ℕ) (state : LeafState) → state ≡ IsFree → AnswersFor message state → ⊥
 free-never message state is bound = absurd (cc)
@@ -36,26 +27,32 @@ bound-opens message other c digest moment state is bound =
     subst (λ (m : List ℕ). AnswersFor message (IsOpened m c digest moment)) same (opened c digest moment)
 bound-opens message other c digest moment state is (opened x y then) = absurd (cc)
 
-entry-keeps : (entry : Entry) → Keeps (state_before entry) (state_of_kept (kept_by entry))
-entry-keeps (Bound leaf message) = record {
-  answers = λ other answer. absurd (free-never other IsFree refl answer);
-  same = λ other c digest moment was. absurd (cc);
-}
-entry-keeps (Opened leaf message c digest moment) = record {
-  answers = λ other answer. bound-opens other (message_id_bytes message) c digest moment (IsBound (message_id_bytes message)) refl answer;
-  same = λ other x y then was. absurd (cc);
-}
+-- a leaf answers as before
+pub below-answers : (message : List ℕ) (before after : LeafState) → IsBelow before after → AnswersFor message before → AnswersFor message after
+below-answers message before after (same state) answer = answer
+below-answers message before after (frees state) answer = absurd (free-never message IsFree refl answer)
+below-answers message before after (opens other c digest moment) answer = bound-opens message other c digest moment (IsBound other) refl answer
 
--- an entry that may follow keeps each leaf
-pub push-keeps : (entries : List Entry) (entry : Entry) (leaf : ℕ) → Adds entry (map_of entries (leaf_of entry)) → Keeps (map_of entries leaf) (map_of (entries ++ entry ∷ []) leaf)
-push-keeps entries entry leaf adds = elim (cases_eq leaf (leaf_of entry)) [
+-- and if it was opened it is the same
+pub below-opened : (message c digest : List ℕ) (moment : ℕ) (before after : LeafState) → IsBelow before after → before ≡ IsOpened message c digest moment → after ≡ IsOpened message c digest moment
+below-opened message c digest moment before after (same state) is = is
+below-opened message c digest moment before after (frees state) is = absurd (cc)
+below-opened message c digest moment before after (opens other x y then) is = absurd (cc)
+
+entry-below : (entry : Entry) → IsBelow (state_before entry) (state_after entry)
+entry-below (Bound leaf message) = frees (IsBound (message_id_bytes message))
+entry-below (Opened leaf message c digest moment) = opens (message_id_bytes message) c digest moment
+
+-- an entry that may follow lets each leaf grow
+pub push-below : (entries : List Entry) (entry : Entry) (leaf : ℕ) → Adds entry (map_of entries (leaf_of entry)) → IsBelow (map_of entries leaf) (map_of (entries ++ entry ∷ []) leaf)
+push-below entries entry leaf adds = elim (cases_eq leaf (leaf_of entry)) [
   | inl here ↦
-      keeps-then _ _ _ (keeps-same _ _ (ap (map_of entries) here ∙ adds)) (keeps-then _ _ _ (entry-keeps entry)
-      (keeps-same _ _ (sym (map_of-same entries entry leaf here))))
-  | inr differs ↦ keeps-same _ _ (sym (map_of-other entries entry leaf differs))
+      below-then _ _ _ (below-same _ _ (ap (map_of entries) here ∙ adds)) (below-then _ _ _ (entry-below entry)
+      (below-same _ _ (sym (map_of-same entries entry leaf here))))
+  | inr differs ↦ below-same _ _ (sym (map_of-other entries entry leaf differs))
 ]
 
-pub map_of-made : (entries : List Entry) (entry : Entry) → map_of (entries ++ entry ∷ []) (leaf_of entry) ≡ state_of_kept (kept_by entry)
+pub map_of-made : (entries : List Entry) (entry : Entry) → map_of (entries ++ entry ∷ []) (leaf_of entry) ≡ state_after entry
 map_of-made entries entry = map_of-same entries entry (leaf_of entry) refl
 
 -- the doubt, if there is one, may follow the entries
@@ -65,10 +62,10 @@ IsSound state = (entry : Entry) → state.doubt ≡ Some entry → Adds entry (m
 pub no-doubt : (state : JournalState) → state.doubt ≡ None → IsSound state
 no-doubt state none entry is = absurd (cc)
 
--- settling keeps each leaf
-pub settles-keeps : (before : JournalState) (entries : List Entry) (leaf : ℕ) → IsSound before → SettlesTo before entries → Keeps (map_of before.entries leaf) (map_of entries leaf)
-settles-keeps before entries leaf sound settles = elim settles [
-  | inl as_before ↦ keeps-same _ _ (ap (λ (e : List Entry). map_of e leaf) (sym as_before))
+-- settling lets each leaf grow
+pub settles-below : (before : JournalState) (entries : List Entry) (leaf : ℕ) → IsSound before → SettlesTo before entries → IsBelow (map_of before.entries leaf) (map_of entries leaf)
+settles-below before entries leaf sound settles = elim settles [
+  | inl as_before ↦ below-same _ _ (ap (λ (e : List Entry). map_of e leaf) (sym as_before))
   | inr made ↦
-      keeps-then _ _ _ (push-keeps before.entries made.0 leaf (sound made.0 made.1)) (keeps-same _ _ (ap (λ (e : List Entry). map_of e leaf) (sym made.2)))
+      below-then _ _ _ (push-below before.entries made.0 leaf (sound made.0 made.1)) (below-same _ _ (ap (λ (e : List Entry). map_of e leaf) (sym made.2)))
 ]

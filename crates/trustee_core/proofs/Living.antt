@@ -1,5 +1,5 @@
 -- What all that happens to a journal says of the asks that were granted.
-use Rattle.std.proofs.Common.{◌≡◌, ◌^◌, ℕ, List, None, Some, All, refl, sym, ◌∙◌, ap, subst}
+use Rattle.std.proofs.Common.{◌≡◌, ◌^◌, ◌∷◌, ℕ, List, Option, None, Some, All, Contains, is_some, refl, sym, ◌∙◌, ap, subst}
 use Rattle.std.proofs.lemmas.List.Elements.{All-cons, All-contains, All-nil}
 use Rattle.lms_bytes.specs.MessageId.{message_id_bytes}
 use Rattle.lms_bytes.specs.declared.ask.Ask.{Ask}
@@ -7,34 +7,45 @@ use Rattle.lms_bytes.specs.declared.ask.Second.{Second}
 use Rattle.opening_journal.specs.Entries.{JournalState, LeafState, map_of}
 use Rattle.opening_journal.specs.Opening.{AnswersFor, bound, opened, settled_with}
 use Rattle.share_files.specs.declared.share.Share.{Share}
-use Rattle.trustee_core.specs.Decisions.{Granted}
-use Rattle.trustee_core.specs.Lives.{Lives, OneOpening, ended, granted, restarted, unanswered}
+use Rattle.lms_bytes.specs.Digits.{digit_of}
+use Rattle.mask_prf.specs.Masks.{chain_mask_of}
+use Rattle.trustee_core.specs.Decisions.{Answer, Decides, Granted, Refused}
+use Rattle.trustee_core.specs.Grants.{mask_at}
+use Rattle.trustee_core.specs.Growth.{MapGrows}
+use Rattle.trustee_core.specs.Lives.{Answered, Lives, OneOpening, answered, ended, granted_in, lost, restarted}
 use Rattle.trustee_core.proofs.Adding.{IsSound, no-doubt}
 use Rattle.trustee_core.proofs.Stepping.{Fits, Steps, decides-steps, fits-later, granted-fits, steps-loaded, steps-none, steps-then}
 
--- the last state follows, and it fits each ask
-record Ends (count : ℕ) (before : JournalState) (asks : List Ask) (last : JournalState) : Type 0 where
+-- the last state follows, and it fits each ask that was granted
+record Ends (count : ℕ) (before : JournalState) (answers : List Answered) (last : JournalState) : Type 0 where
   pub steps : Steps count before last
-  pub fits : All (Fits count last) asks
+  pub fits : All (Fits count last) (granted_in answers)
 
-ends-later : (count : ℕ) (before after : JournalState) (asks : List Ask) (last : JournalState) → Steps count before after → Ends count after asks last → Ends count before asks last
-ends-later count before after asks last steps ends = record { steps = steps-then count before after last steps ends.steps; fits = ends.fits }
+ends-later : (count : ℕ) (before after : JournalState) (answers : List Answered) (last : JournalState) → Steps count before after → Ends count after answers last → Ends count before answers last
+ends-later count before after answers last steps ends = record { steps = steps-then count before after last steps ends.steps; fits = ends.fits }
 
-lives-end : (share : Share) (before : JournalState) (asks : List Ask) (last : JournalState) → IsSound before → Lives share before asks last
-    → Ends (2 ^ share.params.h) before asks last
-lives-end share before asks last sound (ended state) =
-    record { steps = steps-none (2 ^ share.params.h) state sound; fits = All-nil (Fits (2 ^ share.params.h) state) }
-lives-end share before asks last sound (granted from after to ask moment rest decides lives) =
+-- one more answer
+fits-more : (share : Share) (from after to : JournalState) (ask : Ask) (moment : ℕ) (answer : Answer) (rest : List Answered) → Decides share from ask moment answer after → Steps (2 ^ share.params.h) after to
+    → All (Fits (2 ^ share.params.h) to) (granted_in rest) → All (Fits (2 ^ share.params.h) to) (granted_in (record { ask = ask; answer = answer } ∷ rest))
+fits-more share from after to ask moment Granted rest decides steps fits =
     let count = 2 ^ share.params.h in
-    let steps = decides-steps count share from ask moment Granted after sound decides in
+    All-cons (Fits count to) ask (granted_in rest) (fits-later count after to ask steps (granted-fits share from ask moment Granted after refl decides)) fits
+fits-more share from after to ask moment (Refused why) rest decides steps fits = fits
+
+lives-end : (share : Share) (before : JournalState) (answers : List Answered) (last : JournalState) → IsSound before → Lives share before answers last
+    → Ends (2 ^ share.params.h) before answers last
+lives-end share before answers last sound (ended state) =
+    record { steps = steps-none (2 ^ share.params.h) state sound; fits = All-nil (Fits (2 ^ share.params.h) state) }
+lives-end share before answers last sound (answered from after to ask moment answer rest decides lives) =
+    let count = 2 ^ share.params.h in
+    let steps = decides-steps count share from ask moment answer after sound decides in
     let ends = lives-end share after rest to steps.sound lives in
-    let fits = fits-later count after to ask ends.steps (granted-fits share from ask moment Granted after refl decides) in
-    record { steps = steps-then count from after to steps ends.steps; fits = All-cons (Fits count to) ask rest fits ends.fits }
-lives-end share before asks last sound (unanswered from after to ask moment answer rest decides lives) =
+    record { steps = steps-then count from after to steps ends.steps; fits = fits-more share from after to ask moment answer rest decides ends.steps ends.fits }
+lives-end share before answers last sound (lost from after to ask moment answer rest decides lives) =
     let count = 2 ^ share.params.h in
     let steps = decides-steps count share from ask moment answer after sound decides in
     ends-later count from after rest to steps (lives-end share after rest to steps.sound lives)
-lives-end share before asks last sound (restarted from to old entries rest settles same lives) =
+lives-end share before answers last sound (restarted from to old entries rest settles same lives) =
     let count = 2 ^ share.params.h in
     let steps = steps-loaded count from old entries sound settles same in
     ends-later count from (settled_with entries) rest to steps (lives-end share (settled_with entries) rest to steps.sound lives)
@@ -56,13 +67,32 @@ pair-agrees count state a b x y leaf is_x is_y first second =
     let same = sym of_a.1 ∙ ap (map_of state.entries) leaf ∙ of_b.1 in
     (cc, cc)
 
-pub one-opening : (share : Share) (before last : JournalState) (asks : List Ask) → before.doubt ≡ None → Lives share before asks last → OneOpening asks
-one-opening share before last asks none lives =
-    let count = 2 ^ share.params.h in
-    let fits = (lives-end share before asks last (no-doubt before none) lives).fits in
-    record {
-      message = λ a b in_a in_b leaf.
-          message-agrees count last a b leaf (All-contains (Fits count last) asks a fits in_a) (All-contains (Fits count last) asks b fits in_b);
-      pair = λ a b x y in_a in_b leaf is_x is_y.
-          pair-agrees count last a b x y leaf is_x is_y (All-contains (Fits count last) asks a fits in_a) (All-contains (Fits count last) asks b fits in_b);
-    }
+-- two asks of one round on one leaf have the same masks
+masks-agree : (share : Share) (leaf : ℕ) (x y : Option Second) → is_some x ≡ is_some y → ((s t : Second) → x ≡ Some s → y ≡ Some t → s.digest ≡ t.digest) → (i : ℕ) → mask_at share leaf x i ≡ mask_at share leaf y i
+masks-agree share leaf None None rounds same i = refl
+masks-agree share leaf None (Some t) rounds same i = absurd (cc)
+masks-agree share leaf (Some s) None rounds same i = absurd (cc)
+masks-agree share leaf (Some s) (Some t) rounds same i =
+    ap (λ (d : List ℕ). chain_mask_of share.params share.key share.id leaf i (digit_of share.params d i)) (same s t refl refl)
+
+module _ (share : Share) (before last : JournalState) (answers : List Answered) (none : before.doubt ≡ None) (lives : Lives share before answers last) where
+  abbrev count : ℕ
+  count = 2 ^ share.params.h
+
+  pub grows : MapGrows count before.entries last.entries
+  grows = (lives-end share before answers last (no-doubt before none) lives).steps.keeps
+
+  fits-in : (ask : Ask) → Contains (granted_in answers) ask → Fits count last ask
+  fits-in ask within = All-contains (Fits count last) (granted_in answers) ask (lives-end share before answers last (no-doubt before none) lives).fits within
+
+  pub one-opening : OneOpening share (granted_in answers)
+  one-opening =
+      let pair = λ (a b : Ask) (x y : Second) (in_a : Contains (granted_in answers) a) (in_b : Contains (granted_in answers) b) (leaf : a.leaf ≡ b.leaf) (is_x : a.second ≡ Some x) (is_y : b.second ≡ Some y).
+      pair-agrees count last a b x y leaf is_x is_y (fits-in a in_a) (fits-in b in_b) in
+      record {
+        message = λ a b in_a in_b leaf. message-agrees count last a b leaf (fits-in a in_a) (fits-in b in_b);
+        pair = pair;
+        masks = λ a b in_a in_b leaf rounds i.
+            ap (λ (q : ℕ). mask_at share q a.second i) leaf
+            ∙ masks-agree share b.leaf a.second b.second rounds (λ x y is_x is_y. (pair a b x y in_a in_b leaf is_x is_y).1) i;
+      }

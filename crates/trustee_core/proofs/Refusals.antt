@@ -1,9 +1,10 @@
 -- Which refusals come from what.
-use Rattle.std.proofs.Common.{◌≡◌, ◌≢◌, ℕ, arith}
+use Rattle.std.proofs.Common.{◌≡◌, ◌≢◌, ℕ, Result, Err, ◌∙◌, ap, arith}
 use Rattle.lms_bytes.specs.declared.ask.Ask.{Ask}
 use Rattle.opening_journal.specs.declared.faults.JournalFault.{JournalFault}
 use Rattle.opening_journal.specs.declared.faults.JournalFault.TheVariants as journal
 use Rattle.share_files.specs.declared.share.Share.{Share}
+use Rattle.slot_file.specs.Disks.{RisesAt}
 use Rattle.trustee_core.specs.Decisions.{FailsTest, foreign_key, no_such_leaf, not_member, too_long, bad_check, refusal_of}
 use Rattle.trustee_core.specs.declared.refusal.Refusal.{Refusal}
 use Rattle.trustee_core.specs.declared.refusal.Refusal.TheVariants.{Device, Damaged}
@@ -38,3 +39,14 @@ fault-damaged (journal.Damaged leaf x y) torn a b is = grind arith
 fault-damaged journal.NotBound torn a b is = grind arith
 fault-damaged (journal.Spent kept) torn a b is = grind arith
 fault-damaged (journal.OtherDigest c digest) torn a b is = grind arith
+
+-- a fault that is handed on as a refusal
+pub rises-refusal : {S T : Type 0} (before now : ℕ) (fault : JournalFault) (why : Refusal) → why ≡ refusal_of fault
+    → RisesAt {R = Result S JournalFault} before now (Err fault) (Err journal.Device) → RisesAt {R = Result T Refusal} before now (Err why) (Err Device)
+rises-refusal before now fault why is call = record {
+  later = call.later;
+  failed = λ same. let device : refusal_of fault ≡ Device = cc in call.failed (ap Err (fault-device fault device));
+  others = λ differs. call.others (λ same.
+      let device : fault ≡ journal.Device = cc in
+      differs (ap Err (is ∙ ap refusal_of device)));
+}

@@ -1,7 +1,6 @@
 -- What a trustee decides: the tests that need no journal, in their order, and then the journal.
 use Rattle.std.specs.Prelude.{◌≡◌, ◌≢◌, ◌<◌, ◌≤◌, ◌^◌, ℕ, None, Some, Contains, Result, Ok, Err}
 use Rattle.coalition_map.specs.Coalitions.{leaf_members}
-use Rattle.trustee_core.specs.declared.TheConstants.{MESSAGE_LIMIT}
 use Rattle.lms_bytes.specs.declared.ask.Ask.{Ask}
 use Rattle.lms_bytes.specs.declared.ask.Second.{Second}
 use Rattle.mask_prf.specs.Masks.{check_tag_of}
@@ -14,12 +13,16 @@ use Rattle.share_files.specs.declared.share.Share.{Share}
 use Rattle.trustee_core.specs.declared.refusal.Refusal.{Refusal}
 use Rattle.trustee_core.specs.declared.refusal.Refusal.TheVariants.{ForeignKey, NoSuchLeaf, NotMember, TooLong, BadCheck, Device, Damaged, NotBound, Spent, OtherDigest}
 
+-- this project's profile: a trustee answers for messages of at most 16,777,216 bytes
+abbrev pub longest_message : ℕ
+longest_message = 16777216
+
 -- the ask is for a leaf of the trustee's own, of a message within the limit
 pub record IsForLeaf (share : Share) (ask : Ask) : Type 0 where
   pub key : ask.key ≡ share.id
   pub leaf : ask.leaf < 2 ^ share.params.h
   pub member : Contains (leaf_members share.plan ask.leaf) share.member
-  pub length : ask.message.length ≤ MESSAGE_LIMIT
+  pub length : ask.message.length ≤ longest_message
 
 -- the check tag is the trustee's own for this randomizer
 abbrev pub HasTag : Share → Ask → Second → Type 0
@@ -29,12 +32,14 @@ HasTag share ask second = second.tag ≡ check_tag_of share.key share.id ask.lea
 pub data FailsTest (share : Share) (ask : Ask) : Refusal → Type 0 where
   foreign_key : ask.key ≢ share.id → FailsTest share ask ForeignKey
   no_such_leaf : ask.key ≡ share.id → 2 ^ share.params.h ≤ ask.leaf → FailsTest share ask NoSuchLeaf
-  not_member : ask.key ≡ share.id → ask.leaf < 2 ^ share.params.h → (Contains (leaf_members share.plan ask.leaf) share.member → ⊥)
+  not_member : ask.key ≡ share.id → ask.leaf < 2 ^ share.params.h
+      → (Contains (leaf_members share.plan ask.leaf) share.member → ⊥)
       → FailsTest share ask NotMember
-  too_long : ask.key ≡ share.id → ask.leaf < 2 ^ share.params.h → Contains (leaf_members share.plan ask.leaf) share.member
-      → MESSAGE_LIMIT < ask.message.length → FailsTest share ask (TooLong ask.message.length)
-  bad_check : (second : Second) → IsForLeaf share ask → ask.second ≡ Some second → second.tag ≢ check_tag_of share.key share.id ask.leaf second.c
-      → FailsTest share ask BadCheck
+  too_long : ask.key ≡ share.id → ask.leaf < 2 ^ share.params.h
+      → Contains (leaf_members share.plan ask.leaf) share.member
+      → longest_message < ask.message.length → FailsTest share ask (TooLong ask.message.length)
+  bad_check : (second : Second) → IsForLeaf share ask → ask.second ≡ Some second
+      → second.tag ≢ check_tag_of share.key share.id ask.leaf second.c → FailsTest share ask BadCheck
 
 -- a journal's fault as a refusal
 abbrev pub refusal_of : JournalFault → Refusal
@@ -54,11 +59,17 @@ abbrev pub answer_of : Result Entered JournalFault → Answer
 answer_of (Ok entered) = Granted
 answer_of (Err fault) = Refused (refusal_of fault)
 
+-- the answer of a decision
+abbrev pub answer_in : {T : Type 0} → Result T Refusal → Answer
+answer_in (Ok grant) = Granted
+answer_in (Err why) = Refused why
+
 -- what an ask does at a moment: the answer, and the journal after it
-pub data Decides (share : Share) (before : JournalState) (ask : Ask) (moment : ℕ) : Answer → JournalState → Type 0 where
+pub data Decides (share : Share) (before : JournalState) (ask : Ask) (moment : ℕ)
+    : Answer → JournalState → Type 0 where
   tested : (why : Refusal) → FailsTest share ask why → Decides share before ask moment (Refused why) before
   first : (result : Result Entered JournalFault) (after : JournalState) → IsForLeaf share ask → ask.second ≡ None
       → Binds before ask.leaf ask.message result after → Decides share before ask moment (answer_of result) after
-  second : (result : Result Entered JournalFault) (after : JournalState) (pair : Second) → IsForLeaf share ask → ask.second ≡ Some pair
-      → HasTag share ask pair → Opens before ask.leaf ask.message pair.c pair.digest moment result after
+  second : (result : Result Entered JournalFault) (after : JournalState) (pair : Second) → IsForLeaf share ask
+      → ask.second ≡ Some pair → HasTag share ask pair → Opens before ask.leaf ask.message pair.c pair.digest moment result after
       → Decides share before ask moment (answer_of result) after

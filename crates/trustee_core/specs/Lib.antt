@@ -1,5 +1,6 @@
 pub mod Codes
 pub mod Decisions
 pub mod Grants
+pub mod Growth
 pub mod Lives
 pub mod Trustee

@@ -1,13 +1,24 @@
 //! What follows from the definitions. No function here does anything.
 
-ghost use Rattle.std.specs.Prelude.{◌≡◌, List, None};
+ghost use Rattle.std.specs.Prelude.{◌≡◌, ◌^◌, ℕ, List, None};
 ghost use Rattle.lms_bytes.specs.declared.ask.Ask.{Ask};
 ghost use Rattle.opening_journal.specs.Entries.{JournalState};
 ghost use Rattle.share_files.specs.declared.share.Share.{Share};
-ghost use Rattle.trustee_core.specs.Lives.{Lives, OneOpening};
+ghost use Rattle.trustee_core.specs.Decisions.{Answer, Decides};
+ghost use Rattle.trustee_core.specs.Growth.{Extends, MapGrows};
+ghost use Rattle.trustee_core.specs.Lives.{Answered, Lives, OneOpening, granted_in};
 
-/// Whatever is asked, and however the journal is stopped and loaded again, a trustee answers for one message at most per leaf,
-/// and for one randomizer and one digest.
+/// Whatever is asked, and however the journal is stopped and loaded again, a trustee answers for one message at most per
+/// leaf, and for one randomizer and one digest, and what it keeps of the leaves only grows.
 pub fn one_opening()
-    ensures { (share : Share) (before last : JournalState) (asks : List Ask) → before.doubt ≡ None → Lives share before asks last → OneOpening asks }
+    ensures opening { (share : Share) (before last : JournalState) (answers : List Answered) → before.doubt ≡ None
+        → Lives share before answers last → OneOpening share (granted_in answers) }
+    ensures grows { (share : Share) (before last : JournalState) (answers : List Answered) → before.doubt ≡ None
+        → Lives share before answers last → MapGrows (2 ^ share.params.h) before.entries last.entries }
+{}
+
+/// A decision adds to the end of the list: at most the entry in doubt, and at most one more.
+pub fn decision_extends()
+    ensures { (share : Share) (before after : JournalState) (ask : Ask) (moment : ℕ) (answer : Answer)
+        → Decides share before ask moment answer after → Extends before after.entries }
 {}

@@ -3,12 +3,14 @@
 
 mod clock;
 mod grant;
+mod kept;
 pub mod laws;
 mod refusal;
 mod trustee;
 
 pub use clock::Clock;
 pub use grant::{Grant, mask_count, release};
+pub use kept::TrusteeName;
 pub use refusal::Refusal;
 pub use trustee::Trustee;
 

@@ -6,9 +6,9 @@ ghost use Rattle.trustee_core.specs.Trustee.{share_of};
 
 use crate::{Grant, Refusal, Trustee, mask_count, release};
 use disk_trait::MemDisk;
-use memory::NoMemory;
 use lms_bytes::{Ask, LIMIT, MessageId, Second, Val};
 use mask_prf::{chain_mask, check_tag, random_mask};
+use memory::NoMemory;
 use opening_journal::Journal;
 use share_files::{Share, read_share};
 use slot_file::{Header, prepare};

@@ -1,16 +1,18 @@
 //! The trustee.
 
-ghost use Rattle.std.specs.Prelude.{◌≡◌, ◌≢◌, ℕ, length, IfOk, IfErr, IfSome, OnOk, Some};
-ghost use Rattle.disk_trait.specs.Faults.{Rose};
-ghost use Rattle.opening_journal.specs.Journal.{ImagesStand, IsHonest, IsSteady, IsTold, ReadsStand, Stays, disk_of, faults_of, header_of, params_of, state_of};
-ghost use Rattle.slot_file.specs.Disks.{SameDisk};
-ghost use Rattle.trustee_core.specs.Decisions.{Decides, FailsTest, Granted, HasTag, IsForLeaf, Refused, answer_of, refusal_of};
+ghost use Rattle.std.specs.Prelude.{◌≡◌, ◌≢◌, ◌≤◌, ◌^◌, ℕ, [], length, IfOk, IfErr, IfSome, OnOk, None, Some, Ok, Err};
+ghost use Rattle.opening_journal.specs.Entries.{JournalState, StandsFor};
+ghost use Rattle.opening_journal.specs.Journal.{Enters, Holds, IsTold, disk_of, header_of, params_of, state_of};
+ghost use Rattle.trustee_core.specs.Codes.{refusal_code};
+ghost use Rattle.trustee_core.specs.Decisions.{Decides, FailsTest, HasTag, IsForLeaf, answer_in, answer_of, refusal_of};
 ghost use Rattle.trustee_core.specs.Grants.{ask_of};
+ghost use Rattle.trustee_core.specs.Lives.{Lives};
 
+use crate::MESSAGE_LIMIT;
 use crate::grant::Grant;
 use crate::refusal::Refusal;
 use disk_trait::Disk;
-use lms_bytes::{Ask, LIMIT, Second};
+use lms_bytes::{Ask, Second};
 use mask_prf::check_tag;
 use opening_journal::{Entered, Journal, JournalFault};
 use share_files::Share;
@@ -21,39 +23,50 @@ pub struct Trustee<D: Disk> {
     share: Share,
     journal: Journal<D>,
     ghost params: { params_of journal ≡ share.params },
-    ghost header: { header_of journal ≡ record { version = 2; number = share.member; lms = share.params.lms; ots = share.params.ots; id = share.id } },
+    ghost header: { header_of journal ≡ record {
+      version = 2;
+      number = share.member;
+      lms = share.params.lms;
+      ots = share.params.ots;
+      id = share.id;
+    } },
 }
 
 impl<D: Disk> Trustee<D> {
-    ghost use Rattle.trustee_core.specs.Trustee.{journal_header, journal_of, share_of};
+    ghost use Rattle.trustee_core.specs.Trustee.{Decided, journal_header, journal_of, share_of};
 
-    /// The trustee of this share, whose journal this is.
+    /// The trustee of this share, whose journal this is. A journal that was loaded from what an earlier life left goes on
+    /// with that life.
     pub fn new(share: Share, journal: Journal<D>) -> Trustee<D>
         requires header { header_of journal ≡ journal_header share }
         requires params { params_of journal ≡ share.params }
         ensures share { share_of result ≡ share }
         ensures journal { journal_of result ≡ journal }
+        ensures restarts { IsTold journal → (state_of journal).doubt ≡ None → (earlier : JournalState)
+            → StandsFor share.params.n (2 ^ share.params.h) (D.reads (disk_of journal)) earlier
+            → Lives share earlier [] (state_of journal) }
     {
         Trustee { share, journal }
     }
 
-    /// Decides on an ask at a moment, in seconds since the start of 1970. The randomizer and the digest of a round-two ask have
-    /// `n` bytes. A grant comes only after the sync that makes its entry stable.
+    /// Decides on an ask at a moment, in seconds since the start of 1970. The randomizer and the digest of a round-two
+    /// ask have `n` bytes. A grant comes only after the sync that makes its entry stable. A refusal by a test that needs
+    /// no journal leaves the trustee as it is, and where no entry is in doubt only a new entry makes calls of the disk.
     pub fn decide(&mut self, ask: &Ask, moment: u64) -> Result<Grant, Refusal>
         requires c { IfSome ask.now.second (λ second. length second.c ≡ (share_of self.old).params.n) }
         requires digest { IfSome ask.now.second (λ second. length second.digest ≡ (share_of self.old).params.n) }
-        ensures granted { IfOk result (λ _. Decides (share_of self.old) (state_of (journal_of self.old)) ask.now moment Granted (state_of (journal_of self.new))) }
+        ensures event { Decides (share_of self.old) (state_of (journal_of self.old)) ask.now moment (answer_in result)
+            (state_of (journal_of self.new)) }
         ensures ask { IfOk result (λ grant. ask_of grant ≡ ask.now) }
-        ensures refused { IfErr result (λ why. Decides (share_of self.old) (state_of (journal_of self.old)) ask.now moment (Refused why) (state_of (journal_of self.new))) }
-        ensures reads_stand { ReadsStand (journal_of self.new) }
-        ensures images_stand { ImagesStand (journal_of self.new) }
-        ensures honest { IsHonest (journal_of self.old) → IsTold (journal_of self.old) → IfErr result (λ why. (torn a b : ℕ) → why ≢ Refusal.Damaged torn a b) }
-        ensures succeeds { IsSteady (journal_of self.old) → IsTold (journal_of self.old) → IfErr result (λ why. why ≢ Refusal.Device) }
-        ensures cause { IfErr result (λ why. why ≡ Refusal.Device → Rose (faults_of (journal_of self.old)) (faults_of (journal_of self.new))) }
-        ensures share { share_of self.new ≡ share_of self.old }
-        ensures stays { SameDisk D.Pages.own D.Faults (disk_of (journal_of self.old)) (disk_of (journal_of self.new)) }
+        ensures tested { IfErr result (λ why. refusal_code why ≤ 5 → self.new ≡ self.old) }
+        ensures idle { (state_of (journal_of self.old)).doubt ≡ None → result ≢ Err Refusal.Device
+            → (state_of (journal_of self.new)).entries ≡ (state_of (journal_of self.old)).entries
+            → journal_of self.new ≡ journal_of self.old }
+        ensures decided { Decided self.old self.new result }
     {
-        test(&self.share, ask)?;
+        if let Err(why) = test(&self.share, ask) {
+            return Err(why);
+        }
         match self.enter(ask, moment) {
             Ok(_) => Ok(Grant { ask: *ask }),
             Err(fault) => Err(refusal_of(&fault)),
@@ -66,14 +79,14 @@ impl<D: Disk> Trustee<D> {
         requires tag { IfSome ask.now.second (HasTag (share_of self.old) ask.now) }
         requires c { IfSome ask.now.second (λ second. length second.c ≡ (share_of self.old).params.n) }
         requires digest { IfSome ask.now.second (λ second. length second.digest ≡ (share_of self.old).params.n) }
-        ensures event { Decides (share_of self.old) (state_of (journal_of self.old)) ask.now moment (answer_of result) (state_of (journal_of self.new)) }
-        ensures reads_stand { ReadsStand (journal_of self.new) }
-        ensures images_stand { ImagesStand (journal_of self.new) }
-        ensures honest { IsHonest (journal_of self.old) → IsTold (journal_of self.old) → IfErr result (λ fault. (torn a b : ℕ) → fault ≢ JournalFault.Damaged torn a b) }
-        ensures succeeds { IsSteady (journal_of self.old) → IsTold (journal_of self.old) → IfErr result (λ fault. fault ≢ JournalFault.Device) }
-        ensures cause { IfErr result (λ fault. fault ≡ JournalFault.Device → Rose (faults_of (journal_of self.old)) (faults_of (journal_of self.new))) }
+        ensures event { Decides (share_of self.old) (state_of (journal_of self.old)) ask.now moment (answer_of result)
+            (state_of (journal_of self.new)) }
+        ensures idle { (state_of (journal_of self.old)).doubt ≡ None → result ≢ Ok Entered.New
+            → result ≢ Err JournalFault.Device → journal_of self.new ≡ journal_of self.old }
+        ensures added { result ≡ Ok Entered.New
+            → (state_of (journal_of self.new)).entries ≢ (state_of (journal_of self.old)).entries }
+        ensures enters { Enters (journal_of self.old) (journal_of self.new) result }
         ensures share { share_of self.new ≡ share_of self.old }
-        ensures stays { Stays (journal_of self.old) (journal_of self.new) }
     {
         let (leaf, message) = (ask.leaf, &ask.message);
         match &ask.second {
@@ -88,8 +101,9 @@ impl<D: Disk> Trustee<D> {
     /// Gives the disk back.
     pub fn end(self) -> D
         ensures disk { result ≡ disk_of (journal_of self) }
-        ensures reads_stand { ReadsStand (journal_of self) }
-        ensures images_stand { ImagesStand (journal_of self) }
+        ensures header { header_of (journal_of self) ≡ journal_header (share_of self) }
+        ensures params { params_of (journal_of self) ≡ (share_of self).params }
+        ensures holds { Holds (journal_of self) }
     {
         self.journal.end()
     }
@@ -101,7 +115,9 @@ fn test(share: &Share, ask: &Ask) -> Result<(), Refusal>
     ensures tag { OnOk result (IfSome ask.now.second (HasTag share.now ask.now)) }
     ensures refused { IfErr result (FailsTest share.now ask.now) }
 {
-    test_leaf(share, ask)?;
+    if let Err(why) = test_leaf(share, ask) {
+        return Err(why);
+    }
     match &ask.second {
         None => Ok(()),
         Some(second) => test_tag(share, ask, second),
@@ -123,7 +139,7 @@ fn test_leaf(share: &Share, ask: &Ask) -> Result<(), Refusal>
         return Err(Refusal::NotMember);
     }
     let got = ask.message.length;
-    if got > LIMIT {
+    if got > MESSAGE_LIMIT {
         return Err(Refusal::TooLong { got });
     }
     Ok(())
@@ -136,6 +152,8 @@ fn test_tag(share: &Share, ask: &Ask, second: &Second) -> Result<(), Refusal>
     ensures tag { OnOk result (HasTag share.now ask.now second.now) }
     ensures refused { IfErr result (FailsTest share.now ask.now) }
 {
+    // The comparison need not hide how long it takes: a forged tag spends the leaf on another randomizer, and never opens
+    // it twice.
     if second.tag != check_tag(&share.key, &share.id, ask.leaf, &second.c) {
         return Err(Refusal::BadCheck);
     }

@@ -1,5 +1,8 @@
-use Rattle.trustee_core.proofs.Living.{one-opening}
+use Rattle.trustee_core.proofs.Living.{grows, one-opening}
 use Rattle.trustee_core.proofs.laws.one_opening.Goals as goal
 
-pub returns : goal.returns
-returns c = one-opening
+pub returns-clause-opening : goal.returns-clause-opening
+returns-clause-opening c = one-opening
+
+pub returns-clause-grows : goal.returns-clause-grows
+returns-clause-grows c = grows

@@ -11,5 +11,5 @@ returns-then-ask-leaves-clause-refused c = no_such_leaf (search rules) (search (
 pub returns-then-not-is_member-clause-refused : goal.returns-then-not-is_member-clause-refused
 returns-then-not-is_member-clause-refused c = not_member (search rules) (search (arith, rules)) (λ has. search rules)
 
-pub returns-then-got-gt-LIMIT-clause-refused : goal.returns-then-got-gt-LIMIT-clause-refused
-returns-then-got-gt-LIMIT-clause-refused c = too_long (search rules) (search (arith, rules)) (search rules) (search (arith, rules))
+pub returns-then-got-gt-MESSAGE_LIMIT-clause-refused : goal.returns-then-got-gt-MESSAGE_LIMIT-clause-refused
+returns-then-got-gt-MESSAGE_LIMIT-clause-refused c = too_long (search rules) (search (arith, rules)) (search rules) (search (arith, rules))

@@ -1,30 +1,46 @@
-use Rattle.std.proofs.Common.{◌≡◌, ◌^◌, ℕ, List, sym, ◌∙◌, ap, subst}
-use Rattle.opening_journal.specs.Book.{BookState}
-use Rattle.opening_journal.specs.Loading.{no_memory}
-use Rattle.opening_journal.specs.Reading.{IsReadRefused}
-use Rattle.opening_journal.proofs.Read.{refused-file, refused-read}
-use Rattle.slot_file.specs.Layout.{load_fault}
-use Rattle.slot_file.specs.Slots.{file_of}
+use Rattle.std.proofs.Common.{◌≡◌, ◌<◌, ◌^◌, ℕ, List, None, length, refl, sym, ◌∙◌, ap, subst, arith}
+use Rattle.opening_journal.specs.Loading.{IsJournalFile, LoadRefused, entries_of, no_memory}
+use Rattle.opening_journal.specs.Opening.{settled_with}
+use Rattle.opening_journal.specs.declared.faults.JournalLoad.{JournalLoad}
+use Rattle.opening_journal.proofs.Held.{has-loads}
+use Rattle.opening_journal.proofs.Listed.{entries-same, refused-load}
+use Rattle.slot_cache.specs.Cache.{state_of}
+use Rattle.slot_cache.specs.State.{slot_in}
+use Rattle.slot_file.specs.Layout.{load_fault, slot_at}
 use Rattle.opening_journal.proofs.journal.Journal.load.Goals as goal
 
 pub returns-in-Err-clause-refused : goal.returns-in-Err-clause-refused
 returns-in-Err-clause-refused g c = λ told.
-    let count = 2 ^ c.args.params.now.h in
-    rw c.refused_by.ensures (refused-file c.args.header.now count (g.D.Pages.reads c.args.disk) c.in-Err.fault (rw c.leaves-leaves.ensures at (c.in-Err.ensures.refuses told)))
-
-pub returns-in-Err-new-clause-refused : goal.returns-in-Err-new-clause-refused
-returns-in-Err-new-clause-refused g c = λ told. no_memory (ap (λ (n : ℕ). load_fault c.args.header.now n (g.D.Pages.reads c.args.disk)) (sym c.leaves-leaves.ensures) ∙ c.in-Ok.ensures.opens told)
-
-pub returns-in-Err-read_slots-clause-refused : goal.returns-in-Err-read_slots-clause-refused
-returns-in-Err-read_slots-clause-refused g c = λ told.
     let header = c.args.header.now in
-    let count = 2 ^ c.args.params.now.h in
     let file = g.D.Pages.reads c.args.disk in
-    let fault = c.in-Err-read_slots.fault in
-    let opens = ap (λ (n : ℕ). load_fault header n file) (sym c.leaves-leaves.ensures) ∙ c.in-Ok.ensures.opens told in
-    let told_slots = c.in-Ok.ensures.stays.told ∙ told in
-    let slots_file = file_of c.in-Ok.slots in
-    let refused = c.in-Err-read_slots.ensures.refused told_slots in
-    let leaves : c.in-Ok-new.entries.leaves ≡ count = ap (λ (b : BookState). b.leaves) c.in-Ok-new.ensures ∙ c.leaves-leaves.ensures in
-    refused-read header count file fault opens
-    (subst (λ (l : List ℕ). IsReadRefused count l fault) (c.in-Ok.ensures.same told) (subst (λ (n : ℕ). IsReadRefused n slots_file fault) leaves refused))
+    let refused = refused-load header c.leaves.result file c.in-Err.fault c.requires.version (c.in-Err.ensures.refused told) in
+    subst (λ (count : ℕ). LoadRefused header count file c.journal_load.result) c.leaves.ensures
+    (subst (LoadRefused header c.leaves.result file) (sym c.journal_load.ensures) refused)
+
+pub returns-in-Ok-entries_of-clause-loaded : goal.returns-in-Ok-entries_of-clause-loaded
+returns-in-Ok-entries_of-clause-loaded g c =
+    let header = c.args.header.now in
+    let n = c.args.params.now.n in
+    let file = g.D.Pages.reads c.args.disk in
+    let slots = (state_of c.in-Ok.slots).slots in
+    let loaded = c.in-Ok.ensures.loaded in
+    let size : length slots ≡ 2 ^ c.args.params.now.h = loaded.size ∙ c.leaves.ensures in
+    record {
+      file = λ told. subst (λ (count : ℕ). IsJournalFile header count file) size (has-loads header slots file c.requires.version (loaded.file told));
+      entries = λ told.
+          let here : (leaf : ℕ) → leaf < length slots → slot_in slots leaf ≡ slot_at 2 leaf file =
+          λ leaf below. sym ((loaded.file told).shows leaf below) ∙ ap (λ (v : ℕ). slot_at v leaf file) c.requires.version in
+          ap settled_with (c.in-Ok-entries_of.ensures.items ∙ entries-same n (length slots) (slot_in slots) (λ leaf. slot_at 2 leaf file) here
+          ∙ ap (λ (count : ℕ). entries_of n count (λ leaf. slot_at 2 leaf file)) size);
+      named = loaded.named;
+      sized = refl;
+      unwritten = loaded.unwritten;
+      faults = loaded.faults;
+    }
+
+pub returns-in-Err-entries_of-clause-refused : goal.returns-in-Err-entries_of-clause-refused
+returns-in-Err-entries_of-clause-refused g c = λ told.
+    let header = c.args.header.now in
+    let file = g.D.Pages.reads c.args.disk in
+    let loaded = c.in-Ok.ensures.loaded in
+    no_memory (ap (λ (count : ℕ). load_fault header count file) (sym (loaded.size ∙ c.leaves.ensures)) ∙ (loaded.file told).opens)

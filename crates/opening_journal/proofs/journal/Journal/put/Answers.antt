@@ -1,38 +1,43 @@
-use Rattle.std.proofs.Common.{◌≡◌, ◌^◌, ℕ, List, sym, ◌∙◌, ap}
-use Rattle.opening_journal.specs.Held.{Shows}
-use Rattle.opening_journal.specs.Kept.{leaf_of}
-use Rattle.opening_journal.proofs.Doubts.{doubt-none, doubt-put}
-use Rattle.opening_journal.proofs.Shown.{all-shown, has-all, most, put-made, put-shown}
-use Rattle.slot_file.specs.Layout.{slot_at}
-use Rattle.slot_file.specs.Slots.{doubt_of, file_of}
-use Rattle.slot_file.specs.declared.slots.Doubt.TheVariants.{Nowhere}
+use Rattle.std.proofs.Common.{◌≡◌, ◌<◌, ◌∷◌, ◌++◌, [], List, Some, length, set, sym, ◌∙◌, ap, subst, arith, length-append}
+use Rattle.opening_journal.specs.Entries.{leaf_of}
+use Rattle.opening_journal.specs.EntrySlots.{room_in, slot_with}
+use Rattle.opening_journal.specs.Inside.{IsHeld}
+use Rattle.opening_journal.specs.declared.entry.Entry.{Entry}
+use Rattle.slot_cache.specs.Cache.{state_of}
+use Rattle.slot_cache.specs.State.{CacheState, settled_with}
+use Rattle.opening_journal.proofs.Holding.{held-doubt, held-made, most, put_of, room-made, slot-after}
 use Rattle.opening_journal.proofs.journal.Journal.put.Goals as goal
+
+pub add-requires : goal.add-requires
+add-requires g c =
+    let self = c.args.self.now in
+    let entry = c.args.entry.now in
+    let n = self.params.n in
+    let items = self.entries.items in
+    let cache = state_of self.slots in
+    let within : leaf_of entry < length cache.slots = omega (arith, c.requires.within, self.count) in
+    omega (arith, self.room, room-made n cache.slots items entry within self.held.slots c.requires.adds)
 
 pub invariant_of-self : goal.invariant_of-self
 invariant_of-self g c =
     let self = c.args.self.now in
     let entry = c.args.entry.now in
     let n = self.params.n in
-    let count = 2 ^ self.params.h in
-    let slots = c.put_entry.new.slots in
+    let items = self.entries.items in
+    let cache = state_of self.slots in
+    let new = state_of c.put_entry.new.slots in
     let call = c.put_entry.ensures in
-    let version = ap (λ h. h.version) call.stays.header ∙ self.version in
-    let nowhere : doubt_of slots ≡ Nowhere = c.in-Ok.ensures.doubt ∙ self.in_doubt.nowhere c.requires.sure in
-    let made = λ (told_new : _).
-    let told = sym call.stays.disk.told ∙ told_new in
-    let has = has-all n count (file_of self.slots) self.entries.items self.doubt c.requires.sure (self.shown told) in
-    put-made n count (file_of self.slots) (file_of slots) self.entries.items entry (most n self.params.hash_length) c.requires.sizes has (call.file told)
-    (ap (λ (v : ℕ). slot_at v (leaf_of entry) (file_of slots)) (sym version) ∙ c.in-Ok.ensures.put told) in
+    let within : leaf_of entry < length cache.slots = omega (arith, c.requires.within, self.count) in
+    let after = slot-after n entry (most n self.params.hash_length) c.requires.sizes in
+    let event : new ≡ settled_with (set cache.slots (leaf_of entry) (slot_with entry)) = c.in-Ok.ensures.event in
+    let held = held-made n cache.slots items entry within self.held.slots c.requires.adds after new self.doubt self.held.legal event c.requires.settled in
+    let room = room-made n cache.slots items entry within self.held.slots c.requires.adds in
     record {
-      version = version;
+      version = ap (λ h. h.version) call.stays.header ∙ self.version;
       codes = (ap (λ h. h.lms) call.stays.header ∙ self.codes.0, ap (λ h. h.ots) call.stays.header ∙ self.codes.1);
       count = call.stays.count ∙ self.count;
-      leaves = rw c.add.ensures self.leaves;
-      in_doubt = rw (c.add.ensures, c.requires.sure) (doubt-none count _ (doubt_of slots) nowhere);
-      shown = λ told_new. rw (c.add.ensures, c.requires.sure) (all-shown n count (file_of slots) _ (made told_new));
-      images_shown = λ told_new honest_new image leaves.
-          let is = c.in-Ok.ensures.stable told_new honest_new image leaves in
-          rw (c.add.ensures, c.requires.sure, is) (all-shown n count (file_of slots) _ (made told_new));
+      held = subst (λ (l : List Entry). IsHeld n new l self.doubt) (sym c.add.ensures.items) held;
+      room = omega (arith, self.room, c.add.ensures.room, ap length c.add.ensures.items, length-append items (entry ∷ []), room, ap (λ (s : CacheState). room_in s.slots) event);
     }
 
 pub invariant_of-self-in-Err : goal.invariant_of-self-in-Err
@@ -40,24 +45,17 @@ invariant_of-self-in-Err g c =
     let self = c.args.self.now in
     let entry = c.args.entry.now in
     let n = self.params.n in
-    let count = 2 ^ self.params.h in
     let items = self.entries.items in
-    let slots = c.put_entry.new.slots in
+    let cache = state_of self.slots in
+    let new = state_of c.put_entry.new.slots in
     let call = c.put_entry.ensures in
-    let small = most n self.params.hash_length in
-    let has = λ (file : List ℕ) (shows : Shows n count file items self.doubt). has-all n count file items self.doubt c.requires.sure shows in
+    let within : leaf_of entry < length cache.slots = omega (arith, c.requires.within, self.count) in
+    let after = slot-after n entry (most n self.params.hash_length) c.requires.sizes in
+    let event : new ≡ record { slots = cache.slots; doubt = Some (put_of entry) } = c.in-Err.ensures.event in
     record {
       version = ap (λ h. h.version) call.stays.header ∙ self.version;
       codes = (ap (λ h. h.lms) call.stays.header ∙ self.codes.0, ap (λ h. h.ots) call.stays.header ∙ self.codes.1);
       count = call.stays.count ∙ self.count;
-      leaves = self.leaves;
-      in_doubt = doubt-put count items entry (doubt_of slots) c.in-Err.ensures.doubt c.requires.within c.requires.adds;
-      shown = λ told_new.
-          let told = sym call.stays.disk.told ∙ told_new in
-          put-shown n count (file_of self.slots) items entry (file_of slots) c.requires.within small c.requires.sizes (has _ (self.shown told)) (call.file told);
-      images_shown = λ told_new honest_new image leaves.
-          let told = sym call.stays.disk.told ∙ told_new in
-          let honest = sym call.stays.disk.honest ∙ honest_new in
-          let from = call.images told honest image leaves in
-          put-shown n count from.0 items entry image c.requires.within small c.requires.sizes (has _ (self.images_shown told honest from.0 from.1)) from.2;
+      held = held-doubt n cache.slots items entry within self.held.slots c.requires.adds after new self.held.legal event;
+      room = omega (arith, self.room, ap (λ (s : CacheState). room_in s.slots) event);
     }

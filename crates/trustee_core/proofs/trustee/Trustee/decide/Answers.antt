@@ -1,35 +1,38 @@
-use Rattle.std.proofs.Common.{sym, ◌∙◌}
-use Rattle.std.proofs.lemmas.Result.{err_from_is_err_and}
-use Rattle.opening_journal.proofs.Held.{images_stand, reads_stand}
-use Rattle.trustee_core.specs.Decisions.{tested}
-use Rattle.trustee_core.proofs.Refusals.{fault-damaged, tests-damaged, tests-device}
+use Rattle.std.proofs.Common.{◌≡◌, Err, refl, ap, arith}
+use Rattle.opening_journal.specs.Journal.{disk_of}
+use Rattle.slot_file.proofs.Unwritten.{same-none}
+use Rattle.trustee_core.specs.Decisions.{refusal_of, tested}
+use Rattle.trustee_core.specs.declared.refusal.Refusal.TheVariants.{Damaged}
+use Rattle.trustee_core.proofs.Refusals.{fault-damaged, fault-device, rises-refusal, tests-damaged, tests-device}
 use Rattle.trustee_core.proofs.trustee.Trustee.decide.Goals as goal
 
-pub returns-in_err-test-clause-refused : goal.returns-in_err-test-clause-refused
-returns-in_err-test-clause-refused g c =
-    let p = err_from_is_err_and c.from_residual.result c.from_residual.ensures.1 in
-    rw (p.1, p.2) (tested _ c.in_err-test.ensures.refused)
+pub returns-in-Err-clause-event : goal.returns-in-Err-clause-event
+returns-in-Err-clause-event g c = tested c.in-Err.why c.in-Err.ensures.refused
 
-pub returns-in_err-test-clause-reads_stand : goal.returns-in_err-test-clause-reads_stand
-returns-in_err-test-clause-reads_stand g c = reads_stand c.args.self.now.journal
+pub returns-in-Err-clause-decided : goal.returns-in-Err-clause-decided
+returns-in-Err-clause-decided g c =
+    let why = c.in-Err.why in
+    let fails = c.in-Err.ensures.refused in
+    record {
+      told = λ told leaf a b is. tests-damaged _ _ why fails leaf a b (cc);
+      succeeds = λ steady told is. tests-device _ _ why fails (cc);
+      cause = record { later = omega arith; failed = λ is. absurd (tests-device _ _ why fails (cc)); others = λ differs. refl };
+      share = refl;
+      stays = record { params = refl; header = refl; disk = same-none g.D.Pages g.D.Faults (disk_of c.args.self.now.journal) };
+    }
 
-pub returns-in_err-test-clause-images_stand : goal.returns-in_err-test-clause-images_stand
-returns-in_err-test-clause-images_stand g c = images_stand c.args.self.now.journal
-
-pub returns-in_err-test-clause-honest : goal.returns-in_err-test-clause-honest
-returns-in_err-test-clause-honest g c honest told =
-    let p = err_from_is_err_and c.from_residual.result c.from_residual.ensures.1 in
-    rw (p.1, p.2) (tests-damaged _ _ _ c.in_err-test.ensures.refused)
-
-pub returns-in_err-test-clause-succeeds : goal.returns-in_err-test-clause-succeeds
-returns-in_err-test-clause-succeeds g c steady told =
-    let p = err_from_is_err_and c.from_residual.result c.from_residual.ensures.1 in
-    rw (p.1, p.2) (tests-device _ _ _ c.in_err-test.ensures.refused)
-
-pub returns-in_err-test-clause-cause : goal.returns-in_err-test-clause-cause
-returns-in_err-test-clause-cause g c =
-    let p = err_from_is_err_and c.from_residual.result c.from_residual.ensures.1 in
-    rw (p.1, p.2) (λ is. absurd (tests-device _ _ _ c.in_err-test.ensures.refused is))
-
-pub returns-in-Err-clause-honest : goal.returns-in-Err-clause-honest
-returns-in-Err-clause-honest g c honest told torn a b is = c.in-Err.ensures.honest honest told torn a b (fault-damaged _ torn a b (sym c.refusal_of.ensures ∙ is))
+pub returns-in-Err-enter-clause-decided : goal.returns-in-Err-enter-clause-decided
+returns-in-Err-enter-clause-decided g c =
+    let fault = c.in-Err-enter.fault in
+    let why = c.refusal_of.result in
+    let is : why ≡ refusal_of fault = c.refusal_of.ensures in
+    let enters = c.in-Err-enter.ensures.enters in
+    record {
+      told = λ told leaf a b same.
+          let damaged : refusal_of fault ≡ Damaged leaf a b = cc in
+          enters.told told leaf a b (ap Err (fault-damaged fault leaf a b damaged));
+      succeeds = λ steady told same. enters.succeeds steady told (ap Err (fault-device fault (cc)));
+      cause = rises-refusal _ _ fault why is enters.cause;
+      share = c.enter.ensures.share;
+      stays = enters.stays;
+    }

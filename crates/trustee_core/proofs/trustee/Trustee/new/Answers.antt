@@ -1,0 +1,14 @@
+use Rattle.std.proofs.Common.{◌^◌, subst}
+use Rattle.lms_bytes.specs.declared.params.Params.{Params}
+use Rattle.opening_journal.proofs.Held.{holds}
+use Rattle.opening_journal.specs.Entries.{StandsFor}
+use Rattle.opening_journal.specs.Journal.{disk_of, state_of}
+use Rattle.trustee_core.proofs.Restarting.{restarts}
+use Rattle.trustee_core.proofs.trustee.Trustee.new.Goals as goal
+
+pub returns-clause-restarts : goal.returns-clause-restarts
+returns-clause-restarts g c = λ told none old stands.
+    let journal = c.args.journal in
+    let file = g.D.Pages.reads (disk_of journal) in
+    let now = subst (λ (q : Params). StandsFor q.n (2 ^ q.h) file (state_of journal)) c.requires.params ((holds journal).reads told).stands in
+    restarts c.args.share c.args.share.params.n file old (state_of journal) none now stands
