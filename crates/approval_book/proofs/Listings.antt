@@ -5,7 +5,7 @@ use Rattle.slot_file.specs.Copies.{is_free, taken_count}
 use Rattle.slot_file.specs.declared.slot.Slot.{Slot}
 use Rattle.slot_file.specs.declared.slot.Slot.TheVariants as slot
 use Rattle.approval_book.specs.Listed.{AddsTo, IsAdding, IsFreeIn, IsSettled, old, is_half, is_listed, lists}
-use Rattle.approval_book.specs.declared.faults.Entered.TheVariants.{Old}
+use Rattle.opening_journal.specs.declared.faults.Entered.TheVariants.{Old}
 use Rattle.slot_cache.specs.Calls.{Settles}
 use Rattle.slot_cache.specs.declared.faults.Settled.{Settled}
 use Rattle.slot_cache.specs.declared.faults.Settled.TheVariants.{Made, Nothing, NotMade}

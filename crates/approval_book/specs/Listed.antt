@@ -5,8 +5,8 @@ use Rattle.std.specs.List.{list_any}
 use Rattle.std.specs.Prelude.{Result, Ok, Err}
 use Rattle.approval_book.specs.declared.faults.BookFault.{BookFault}
 use Rattle.approval_book.specs.declared.faults.BookFault.TheVariants.{Device, Damaged, Full}
-use Rattle.approval_book.specs.declared.faults.Entered.{Entered}
-use Rattle.approval_book.specs.declared.faults.Entered.TheVariants.{New, Old}
+use Rattle.opening_journal.specs.declared.faults.Entered.{Entered}
+use Rattle.opening_journal.specs.declared.faults.Entered.TheVariants.{New, Old}
 use Rattle.slot_cache.specs.Calls.{Settles}
 use Rattle.slot_cache.specs.State.{CacheState, settled_with, slot_in}
 use Rattle.slot_cache.specs.declared.doubted.Doubted.{Doubted}

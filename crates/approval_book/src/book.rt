@@ -15,10 +15,11 @@ ghost use Rattle.slot_cache.specs.declared.doubted.Doubted.{Doubted as DoubtedPu
 ghost use Rattle.slot_file.specs.Disks.{RisesAt, Unwritten};
 
 use crate::approved::Approved;
-use crate::faults::{BookFault, Entered, unsettled};
+use crate::faults::{BookFault, unsettled};
 use disk_trait::{Disk, DiskFault};
 use lms_bytes::MessageId;
 use memory::NoMemory;
+use opening_journal::Entered;
 use slot_cache::{CacheLoad, CachedSlots, Doubted, Settled};
 use slot_file::{Header, Slot};
 use std::alloc::Global;

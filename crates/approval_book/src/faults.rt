@@ -6,15 +6,6 @@ ghost use Rattle.approval_book.specs.Listed.{unsettled_by};
 use slot_cache::SettleFault;
 use thiserror::Error;
 
-/// Whether a message was listed.
-#[derive(Clone, Copy, Debug, PartialEq, Eq)]
-pub enum Entered {
-    /// It is listed now.
-    New,
-    /// It was listed.
-    Old,
-}
-
 /// Why a message is not listed, in the order of the tests.
 #[derive(Clone, Copy, Debug, PartialEq, Eq, Error)]
 pub enum BookFault {
