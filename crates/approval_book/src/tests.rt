@@ -1,12 +1,25 @@
+ghost use Rattle.std.specs.Prelude.{◌≡◌, IfOk, None};
+ghost use Rattle.trustee_core.specs.Trustee.{share_of};
+
 use super::*;
 use disk_trait::{Disk, MemDisk};
-use lms_bytes::MessageId;
+use lms_bytes::{Ask, MessageId};
 use memory::NoMemory;
+use opening_journal::{Entered, Journal};
+use share_files::{Share, read_share};
 use slot_cache::CacheLoad;
 use slot_file::{Header, LoadFault, prepare};
 use std::alloc::Global;
 use std::process::Abort;
 use std::test::Fail;
+use trustee_core::Trustee;
+
+/// The share of trustee 1 in a dealing of the typecodes 5 and 3 to coalitions of 3 of 5 trustees.
+const SHARE: [u8; 64] = [
+    0x54, 0x4c, 0x53, 0x48, 1, 1, 3, 5, 0, 0, 0, 5, 0, 0, 0, 3, 0, 1, 2, 3, 4, 5, 6, 7, 8, 9, 10,
+    11, 12, 13, 14, 15, 80, 81, 82, 83, 84, 85, 86, 87, 88, 89, 90, 91, 92, 93, 94, 95, 96, 97, 98,
+    99, 100, 101, 102, 103, 104, 105, 106, 107, 108, 109, 110, 111,
+];
 
 /// The bytes of a book.
 const ROOM: usize = 131_200;
@@ -152,5 +165,68 @@ fn a_load_is_refused(rt: HostRuntime) -> Result<(), Fail> {
     let version = CacheLoad::Slots(LoadFault::Version { got: 2 });
     let refused = Book::load(alloc, disk, &header()).err().map(|e| e.1);
     assert_eq!(rt; refused, Some(version));
+    Ok(())
+}
+
+fn share(rt: &impl Abort) -> Share
+    ensures { result.params.h ≡ 5 }
+{
+    let share = read_share(&SHARE).expect(rt, "share");
+    assert_eq!(rt; share.params.h, 5);
+    share
+}
+
+fn new_trustee(rt: &impl Abort, alloc: Global) -> Result<Trustee<MemDisk>, NoMemory> {
+    let share = share(rt);
+    let header = Header {
+        version: 2,
+        number: share.member,
+        lms: share.params.lms,
+        ots: share.params.ots,
+        id: share.id,
+    };
+    let mut disk = MemDisk::new(alloc, 5248, usize::MAX)?;
+    assert_eq!(rt; prepare(&mut disk, &header, 32), Ok(()));
+    match Journal::load(alloc, disk, &header, &share.params) {
+        Ok(journal) => Ok(Trustee::new(share, journal)),
+        Err((_, fault)) => panic!(rt; "load: {fault:?}"),
+    }
+}
+
+// What an ask of round one is answered, by its number, and 0 where it is granted.
+fn code(
+    book: Option<&Approved>,
+    trustee: &mut Trustee<MemDisk>,
+    key: [u8; 16],
+    leaf: u32,
+    text: &[u8; 3],
+) -> u8 {
+    let ask = Ask {
+        key,
+        leaf,
+        message: MessageId::of(text),
+        second: None,
+    };
+    match decide_approved(book, trustee, &ask, 7) {
+        Ok(_) => 0,
+        Err(Denial::NotApproved { .. }) => 12,
+        Err(Denial::Core(why)) => why.code(),
+    }
+}
+
+#[test]
+fn what_is_not_listed_is_denied(rt: HostRuntime) -> Result<(), Fail> {
+    let alloc = rt.alloc();
+    let mut book = loaded(&rt, alloc, prepared(&rt, alloc)?);
+    assert_eq!(rt; book.add(&MessageId::of(b"abc")), Ok(Entered::New));
+    let mut trustee = new_trustee(&rt, alloc)?;
+    let own = share(&rt).id;
+    let approved = Some(book.approved());
+    assert_eq!(rt; code(approved, &mut trustee, own, 0, b"abc"), 0);
+    assert_eq!(rt; code(approved, &mut trustee, own, 10, b"xyz"), 12);
+    // a denial comes before each of the trustee's own refusals, and leaves the leaf free
+    assert_eq!(rt; code(approved, &mut trustee, [0; 16], 32, b"xyz"), 12);
+    assert_eq!(rt; code(approved, &mut trustee, [0; 16], 10, b"abc"), 1);
+    assert_eq!(rt; code(None, &mut trustee, own, 10, b"xyz"), 0);
     Ok(())
 }
