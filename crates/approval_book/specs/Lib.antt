@@ -1,0 +1,4 @@
+pub mod Approved
+pub mod Book
+pub mod Decisions
+pub mod Listed
