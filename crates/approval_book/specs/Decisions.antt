@@ -46,7 +46,8 @@ pub record BookAnswered : Type 0 where
   pub ask : Ask
   pub answer : BookAnswer
 
--- Events from one state of the journal to another, as in the lives of a trustee without a book. A denial changes nothing.
+-- Events from one state of the journal to another, as in the lives of a trustee without a book. A denial changes
+-- nothing.
 pub data BookLives (share : Share) : JournalState → List BookAnswered → JournalState → Type 0 where
   ended : (state : JournalState) → BookLives share state [] state
   answered : (ids : Option (List (List ℕ))) (before after last : JournalState) (ask : Ask) (moment : ℕ)

@@ -1,5 +1,6 @@
 -- What a book lists: the message ids of its slots.
-use Rattle.std.specs.Prelude.{◌≡◌, ◌<◌, ℕ, List, length, slice_set, position, Bool, true, false, Option, None, Some, IsTrue, nat_eq}
+use Rattle.std.specs.Prelude.{◌≡◌, ◌<◌, ℕ, List, length, slice_set, position, Bool, true, false, Option, None, Some}
+use Rattle.std.specs.Prelude.{IsTrue, nat_eq}
 use Rattle.std.specs.Cmp.Lexicographic.{pointwise}
 use Rattle.std.specs.List.{list_any}
 use Rattle.std.specs.Prelude.{Result, Ok, Err}
@@ -32,8 +33,8 @@ is_listed slots id = list_any (λ slot. lists slot id) slots
 abbrev pub first_free : List Slot → Option ℕ
 first_free slots = position is_free slots
 
--- What a settled book does where an id is to be listed: it is there, or there is room for it and it is put into the least
--- free slot, or all slots are taken.
+-- What a settled book does where an id is to be listed: it is there, or there is room for it and it is put into the
+-- least free slot, or all slots are taken.
 pub data AddsTo (slots : List Slot) (id : List ℕ) : Result Entered BookFault → CacheState → Type 0 where
   old : IsTrue (is_listed slots id) → AddsTo slots id (Ok Old) (settled_with slots)
   new : (place : ℕ) → is_listed slots id ≡ false → first_free slots ≡ Some place
@@ -54,7 +55,8 @@ IsSettled before (Err Full) after = ⊥
 pub data Adds (before : CacheState) (id : List ℕ) : Result Entered BookFault → CacheState → Type 0 where
   settled : (between : CacheState) (result : Result Entered BookFault) (after : CacheState)
       → IsSettled before (Ok tt) between → AddsTo between.slots id result after → Adds before id result after
-  unsettled : (fault : BookFault) (after : CacheState) → IsSettled before (Err fault) after → Adds before id (Err fault) after
+  unsettled : (fault : BookFault) (after : CacheState) → IsSettled before (Err fault) after
+      → Adds before id (Err fault) after
 
 abbrev pub is_half : Slot → Bool
 is_half slot.Free = false

@@ -1,11 +1,13 @@
 //! The book.
 
-ghost use Rattle.std.specs.Prelude.{◌≡◌, ◌≢◌, ◌≤◌, ◌<◌, ◌↔◌, ℕ, List, length, Contains, None, Some, IsTrue, IfOk, IfErr};
+ghost use Rattle.std.specs.Prelude.{◌≡◌, ◌≢◌, ◌≤◌, ◌<◌, ◌↔◌, ℕ, List, length, Contains, None, Some, IsTrue, IfOk};
+ghost use Rattle.std.specs.Prelude.{IfErr};
 ghost use Rattle.std.specs.Prelude.{IsSome, IsSomeAnd, IfSome, Err, true, false, nat_eq};
 ghost use Rattle.std.specs.Cmp.Lexicographic.{pointwise};
 ghost use Rattle.std.specs.Option.{option_map_or};
 ghost use Rattle.approval_book.specs.Approved.{ids_of, is_in, room_of};
-ghost use Rattle.approval_book.specs.Listed.{Adds, AddsTo, IsAdding, IsFreeIn, IsSettled, first_free, is_half, is_listed};
+ghost use Rattle.approval_book.specs.Listed.{Adds, AddsTo, IsAdding, IsFreeIn, IsSettled, first_free, is_half};
+ghost use Rattle.approval_book.specs.Listed.{is_listed};
 ghost use Rattle.approval_book.specs.Listed.{lists};
 ghost use Rattle.slot_file.specs.Copies.{is_free, taken_count};
 ghost use Rattle.slot_file.specs.declared.slot.Slot.TheVariants as slot;

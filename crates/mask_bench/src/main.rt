@@ -1,5 +1,5 @@
-//! Computes chain masks under one key, by the plain call or by the keyed state, and prints the exclusive or of the first
-//! bytes. `bench/masks` times both.
+//! Computes chain masks under one key, by the plain call or by the keyed state, and prints the exclusive or of the
+//! first bytes. `bench/masks` times both.
 #![tactic(auto)]
 
 use lms_bytes::Params;

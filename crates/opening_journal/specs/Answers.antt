@@ -1,5 +1,6 @@
 -- What a leaf answers, and what the steps of a call make. Only contracts inside the crate speak of it.
-use Rattle.std.specs.Prelude.{◌≡◌, ◌≢◌, ◌⊎◌, ℕ, List, [], ◌∷◌, ◌++◌, length, take, drop, None, Some, IsSome, Result, Ok, Err}
+use Rattle.std.specs.Prelude.{◌≡◌, ◌≢◌, ◌⊎◌, ℕ, List, [], ◌∷◌, ◌++◌, length, take, drop, None, Some, IsSome, Result, Ok}
+use Rattle.std.specs.Prelude.{Err}
 use Rattle.lms_bytes.specs.MessageId.{message_id_bytes}
 use Rattle.lms_bytes.specs.declared.message.MessageId.{MessageId}
 use Rattle.opening_journal.specs.Entries.{IsBound, IsFree, IsOpened, JournalState, LeafState, leaf_of}
@@ -10,7 +11,8 @@ use Rattle.opening_journal.specs.declared.entry.Entry.TheVariants.{Bound, Opened
 use Rattle.opening_journal.specs.declared.faults.Entered.{Entered}
 use Rattle.opening_journal.specs.declared.faults.Entered.TheVariants.{New, Old}
 use Rattle.opening_journal.specs.declared.faults.JournalFault.{JournalFault}
-use Rattle.opening_journal.specs.declared.faults.JournalFault.TheVariants.{Device, Damaged, NotBound, Spent, OtherDigest}
+use Rattle.opening_journal.specs.declared.faults.JournalFault.TheVariants.{Device, Damaged, NotBound, Spent}
+use Rattle.opening_journal.specs.declared.faults.JournalFault.TheVariants.{OtherDigest}
 use Rattle.slot_cache.specs.Calls.{IsNeither}
 
 -- C and Q have n bytes

@@ -1,5 +1,6 @@
 -- What a journal keeps of each leaf: by its entries, and by the slots of its file.
-use Rattle.std.specs.Prelude.{◌==◌, ◌≡◌, ◌<◌, ◌⊎◌, ℕ, List, ◌∷◌, ◌++◌, [], length, take, drop, fold, slice_index_or, Option, Some, if◌then◌else◌}
+use Rattle.std.specs.Prelude.{◌==◌, ◌≡◌, ◌<◌, ◌⊎◌, ℕ, List, ◌∷◌, ◌++◌, [], length, take, drop, fold, slice_index_or}
+use Rattle.std.specs.Prelude.{Option, Some, if◌then◌else◌}
 use Rattle.lms_bytes.specs.MessageId.{message_id_bytes}
 use Rattle.opening_journal.specs.declared.entry.Entry.{Entry}
 use Rattle.opening_journal.specs.declared.entry.Entry.TheVariants.{Bound, Opened}

@@ -44,7 +44,8 @@ module _ {D : Type 0} {p : pages.Ghosts D} {f : faults.Ghosts D} where
     pub stands : StandsFor (params_of journal).n (2 ^ (params_of journal).h) file (state_of journal)
 
   -- What holds of every journal: what a read gives and each image that a crash may leave is a file that loads and
-  -- stands for it, an entry is in doubt only where a call of the disk has failed, and each entry may follow those before.
+  -- stands for it, an entry is in doubt only where a call of the disk has failed, and each entry may follow those
+  -- before.
   pub record Holds (journal : Journal D p f) : Type 0 where
     pub reads : IsTold journal → Keeps journal (p.reads (disk_of journal))
     pub images : IsTold journal → IsHonest journal → (image : List ℕ) → p.may_leave (disk_of journal) image

@@ -10,7 +10,8 @@ use Rattle.opening_journal.specs.declared.entry.Entry.TheVariants.{Bound, Opened
 use Rattle.opening_journal.specs.declared.faults.Entered.{Entered}
 use Rattle.opening_journal.specs.declared.faults.Entered.TheVariants.{New, Old}
 use Rattle.opening_journal.specs.declared.faults.JournalFault.{JournalFault}
-use Rattle.opening_journal.specs.declared.faults.JournalFault.TheVariants.{Device, Damaged, NotBound, Spent, OtherDigest}
+use Rattle.opening_journal.specs.declared.faults.JournalFault.TheVariants.{Device, Damaged, NotBound, Spent}
+use Rattle.opening_journal.specs.declared.faults.JournalFault.TheVariants.{OtherDigest}
 use Rattle.slot_cache.specs.Calls.{IsNeither}
 
 -- the state with these entries and no doubt

@@ -1,6 +1,7 @@
 //! The journal.
 
-ghost use Rattle.std.specs.Prelude.{◌≡◌, ◌≢◌, ◌^◌, ◌+◌, ◌<◌, ◌≤◌, ℕ, length, vec_capacity, IsTrue, IfOk, IfErr, None, Some, Ok, Err};
+ghost use Rattle.std.specs.Prelude.{◌≡◌, ◌≢◌, ◌^◌, ◌+◌, ◌<◌, ◌≤◌, ℕ, length, vec_capacity, IsTrue, IfOk, IfErr, None};
+ghost use Rattle.std.specs.Prelude.{Some, Ok, Err};
 ghost use Rattle.opening_journal.specs.Answers.{HasSizes, Makes, Settles};
 ghost use Rattle.opening_journal.specs.Entries.{Adds, leaf_of, map_of};
 ghost use Rattle.opening_journal.specs.EntrySlots.{room_in};
@@ -36,7 +37,8 @@ pub struct Journal<D: Disk> {
 }
 
 impl<D: Disk> Journal<D> {
-    ghost use Rattle.opening_journal.specs.Journal.{Enters, Holds, IsSteady, IsTold, Stays, disk_of, faults_of, params_of, state_of};
+    ghost use Rattle.opening_journal.specs.Journal.{Enters, Holds, IsSteady, IsTold, Stays, disk_of, faults_of};
+    ghost use Rattle.opening_journal.specs.Journal.{params_of, state_of};
     ghost use Rattle.opening_journal.specs.Loaded.{IsLoaded};
     ghost use Rattle.opening_journal.specs.Loading.{LoadRefused};
 
@@ -94,9 +96,9 @@ impl<D: Disk> Journal<D> {
         }
     }
 
-    /// Opens leaf `leaf`, which is bound to this message, with C and Q of `n` bytes. An entry in doubt is settled first.
-    /// A new entry is stable before it is answered. Where none is in doubt, only a new entry makes calls of the disk. It
-    /// takes no memory.
+    /// Opens leaf `leaf`, which is bound to this message, with C and Q of `n` bytes. An entry in doubt is settled
+    /// first. A new entry is stable before it is answered. Where none is in doubt, only a new entry makes calls of the
+    /// disk. It takes no memory.
     pub fn open_leaf(
         &mut self,
         leaf: u32,

@@ -1,4 +1,5 @@
-//! The journal of a trustee: which leaf is bound to which message, and which was opened with which randomizer and digest.
+//! The journal of a trustee: which leaf is bound to which message, and which was opened with which randomizer and
+//! digest.
 #![tactic(auto)]
 
 mod answers;

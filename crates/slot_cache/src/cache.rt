@@ -7,7 +7,9 @@ ghost use Rattle.slot_cache.specs.State.{IsWhole, slot_in};
 ghost use Rattle.slot_cache.specs.Inside.{IsDoubt, Shows};
 ghost use Rattle.slot_file.specs.Disks.{RisesAt, Unwritten};
 ghost use Rattle.slot_file.specs.Files.{IsHalf, with_b};
-ghost use Rattle.slot_file.specs.Slots.{count_of as slots_count, doubt_of, faults_of as slots_faults, header_of as slots_header, MayLeave as MaySlotsLeave, IsTold as AreSlotsTold, IsHonest as AreSlotsHonest, file_of as slots_file};
+ghost use Rattle.slot_file.specs.Slots.{count_of as slots_count, doubt_of, faults_of as slots_faults};
+ghost use Rattle.slot_file.specs.Slots.{header_of as slots_header, MayLeave as MaySlotsLeave, IsTold as AreSlotsTold};
+ghost use Rattle.slot_file.specs.Slots.{IsHonest as AreSlotsHonest, file_of as slots_file};
 
 use crate::doubted::Doubted;
 use crate::faults::{CacheLoad, SettleFault, Settled};
@@ -45,10 +47,11 @@ impl From<DiskFault> for SettleFault {
 
 impl<D: Disk> CachedSlots<D> {
     ghost use Rattle.slot_cache.specs.Loading.{IsLoaded, LoadRefused};
-    ghost use Rattle.slot_cache.specs.Cache.{Holds, IsHonest, IsSteady, IsTold, MayLeave, Stays, count_of, disk_of, faults_of, file_of, header_of, state_of};
+    ghost use Rattle.slot_cache.specs.Cache.{Holds, IsHonest, IsSteady, IsTold, MayLeave, Stays, count_of, disk_of};
+    ghost use Rattle.slot_cache.specs.Cache.{faults_of, file_of, header_of, state_of};
 
-    /// Loads a file of `count` slots: reads each slot, and takes all the memory that is wanted. A refusal gives the disk
-    /// back.
+    /// Loads a file of `count` slots: reads each slot, and takes all the memory that is wanted. A refusal gives the
+    /// disk back.
     pub fn load(
         alloc: Global,
         disk: D,
@@ -109,8 +112,8 @@ impl<D: Disk> CachedSlots<D> {
         self.doubt
     }
 
-    /// Finds out whether the put in doubt was made: syncs, and looks at its slot. It makes no call of the disk where no put
-    /// is in doubt.
+    /// Finds out whether the put in doubt was made: syncs, and looks at its slot. It makes no call of the disk where no
+    /// put is in doubt.
     pub fn settle(&mut self) -> Result<Settled, SettleFault>
         ensures event { Settles (header_of self.old).version (state_of self.old) result (state_of self.new) }
         ensures idle { (state_of self.old).doubt ≡ None → self.new ≡ self.old }
@@ -180,8 +183,8 @@ impl<D: Disk> CachedSlots<D> {
         requires settled { (state_of self.old).doubt ≡ None }
         requires half { IsHalf (slot_in (state_of self.old).slots slot) }
         requires moment { (header_of self.old).version ≢ 2 → moment ≡ 0 }
-        ensures event { Puts (state_of self.old) slot (with_b (slot_in (state_of self.old).slots slot) body.now moment) result
-            (state_of self.new) }
+        ensures event { Puts (state_of self.old) slot
+            (with_b (slot_in (state_of self.old).slots slot) body.now moment) result (state_of self.new) }
         ensures succeeds { IsSteady self.old → IsTold self.old → IsOk result }
         ensures cause { HasCause (faults_of self.old) (faults_of self.new) result }
         ensures stays { Stays self.old self.new }

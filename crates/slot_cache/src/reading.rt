@@ -1,6 +1,7 @@
 //! Reading the slots of a file.
 
-ghost use Rattle.std.specs.Prelude.{◌≡◌, ◌≢◌, ◌<◌, ℕ, length, replicate, false, slice_index_or, Err, IsOk, IfOk, IfErr, OnOk};
+ghost use Rattle.std.specs.Prelude.{◌≡◌, ◌≢◌, ◌<◌, ℕ, length, replicate, false, slice_index_or, Err, IsOk, IfOk, IfErr};
+ghost use Rattle.std.specs.Prelude.{OnOk};
 ghost use Rattle.disk_trait.specs.Faults.{HasCause};
 ghost use Rattle.slot_cache.specs.Reading.{IsReadRefused, IsSlotRefused, refused_by};
 ghost use Rattle.slot_cache.specs.State.{IsWhole, slot_in};
@@ -8,7 +9,8 @@ ghost use Rattle.slot_file.specs.Copies.{is_damaged};
 ghost use Rattle.slot_file.specs.Disks.{RisesAt, Unwritten};
 ghost use Rattle.slot_file.specs.Doubts.{looked, settled};
 ghost use Rattle.slot_file.specs.Layout.{IsShown};
-ghost use Rattle.slot_file.specs.Slots.{IsSteady, IsTold, Stays, count_of, disk_of, doubt_of, faults_of, file_of, header_of, slot_now};
+ghost use Rattle.slot_file.specs.Slots.{IsSteady, IsTold, Stays, count_of, disk_of, doubt_of, faults_of, file_of};
+ghost use Rattle.slot_file.specs.Slots.{header_of, slot_now};
 
 use crate::faults::CacheLoad;
 use disk_trait::{Disk, DiskFault};
@@ -62,7 +64,8 @@ pub(crate) fn read_slots<D: Disk>(
 ) -> Result<(), CacheLoad>
     requires { count_of slots.old ≡ length out.old.items }
     ensures shows { IsTold slots.old
-        → OnOk result ((slot : ℕ) → slot < length out.old.items → slot_now slots.old slot ≡ slot_in out.new.items slot) }
+        → OnOk result ((slot : ℕ) → slot < length out.old.items
+        → slot_now slots.old slot ≡ slot_in out.new.items slot) }
     ensures whole { OnOk result (IsWhole out.new.items) }
     ensures refused { IsTold slots.old
         → IfErr result (IsReadRefused (header_of slots.old).version (length out.old.items) (file_of slots.old)) }

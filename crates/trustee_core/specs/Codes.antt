@@ -1,7 +1,9 @@
 -- The numbers by which an aggregator knows refusals, in the order of the tests, from 1 on.
 use Rattle.std.specs.Prelude.{ℕ}
 use Rattle.trustee_core.specs.declared.refusal.Refusal.{Refusal}
-use Rattle.trustee_core.specs.declared.refusal.Refusal.TheVariants.{ForeignKey, NoSuchLeaf, NotMember, TooLong, BadCheck, Device, Damaged, NotBound, Spent, OtherDigest}
+use Rattle.trustee_core.specs.declared.refusal.Refusal.TheVariants.{ForeignKey, NoSuchLeaf, NotMember, TooLong}
+use Rattle.trustee_core.specs.declared.refusal.Refusal.TheVariants.{BadCheck, Device, Damaged, NotBound, Spent}
+use Rattle.trustee_core.specs.declared.refusal.Refusal.TheVariants.{OtherDigest}
 
 abbrev pub refusal_code : Refusal → ℕ
 refusal_code ForeignKey = 1

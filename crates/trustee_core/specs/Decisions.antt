@@ -11,7 +11,9 @@ use Rattle.opening_journal.specs.declared.faults.JournalFault.{JournalFault}
 use Rattle.opening_journal.specs.declared.faults.JournalFault.TheVariants as journal
 use Rattle.share_files.specs.declared.share.Share.{Share}
 use Rattle.trustee_core.specs.declared.refusal.Refusal.{Refusal}
-use Rattle.trustee_core.specs.declared.refusal.Refusal.TheVariants.{ForeignKey, NoSuchLeaf, NotMember, TooLong, BadCheck, Device, Damaged, NotBound, Spent, OtherDigest}
+use Rattle.trustee_core.specs.declared.refusal.Refusal.TheVariants.{ForeignKey, NoSuchLeaf, NotMember, TooLong}
+use Rattle.trustee_core.specs.declared.refusal.Refusal.TheVariants.{BadCheck, Device, Damaged, NotBound, Spent}
+use Rattle.trustee_core.specs.declared.refusal.Refusal.TheVariants.{OtherDigest}
 
 -- this project's profile: a trustee answers for messages of at most 16,777,216 bytes
 abbrev pub longest_message : ℕ
@@ -71,5 +73,6 @@ pub data Decides (share : Share) (before : JournalState) (ask : Ask) (moment : �
   first : (result : Result Entered JournalFault) (after : JournalState) → IsForLeaf share ask → ask.second ≡ None
       → Binds before ask.leaf ask.message result after → Decides share before ask moment (answer_of result) after
   second : (result : Result Entered JournalFault) (after : JournalState) (pair : Second) → IsForLeaf share ask
-      → ask.second ≡ Some pair → HasTag share ask pair → Opens before ask.leaf ask.message pair.c pair.digest moment result after
+      → ask.second ≡ Some pair → HasTag share ask pair
+      → Opens before ask.leaf ask.message pair.c pair.digest moment result after
       → Decides share before ask moment (answer_of result) after

@@ -28,8 +28,8 @@ module _ {D : Type 0} {p : pages.Ghosts D} {f : faults.Ghosts D} where
   abbrev pub journal_of : Trustee D p f → Journal D p f
   journal_of trustee = trustee.journal
 
-  -- What a decision says of the disk: no slot is found damaged where the disk tells its content, a steady disk that tells
-  -- it does not fail, and the count rises where the answer is Device and nowhere else.
+  -- What a decision says of the disk: no slot is found damaged where the disk tells its content, a steady disk that
+  -- tells it does not fail, and the count rises where the answer is Device and nowhere else.
   pub record Decided {T : Type 0} (old new : Trustee D p f) (result : Result T Refusal) : Type 0 where
     pub told : IsTold (journal_of old) → (leaf a b : ℕ) → result ≢ Err (Damaged leaf a b)
     pub succeeds : IsSteady (journal_of old) → IsTold (journal_of old) → result ≢ Err Device

@@ -8,8 +8,8 @@ ghost use Rattle.trustee_core.specs.Decisions.{Answer, Decides};
 ghost use Rattle.trustee_core.specs.Growth.{Extends, MapGrows};
 ghost use Rattle.trustee_core.specs.Lives.{Answered, Lives, OneOpening, granted_in};
 
-/// Whatever is asked, and however the journal is stopped and loaded again, a trustee answers for one message at most per
-/// leaf, and for one randomizer and one digest, and what it keeps of the leaves only grows.
+/// Whatever is asked, and however the journal is stopped and loaded again, a trustee answers for one message at most
+/// per leaf, and for one randomizer and one digest, and what it keeps of the leaves only grows.
 pub fn one_opening()
     ensures opening { (share : Share) (before last : JournalState) (answers : List Answered) → before.doubt ≡ None
         → Lives share before answers last → OneOpening share (granted_in answers) }

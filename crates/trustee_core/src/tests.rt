@@ -1,4 +1,5 @@
-//! Tests of what no contract says: the answers of a trustee of a whole dealing, each refusal by its number, and its masks.
+//! Tests of what no contract says: the answers of a trustee of a whole dealing, each refusal by its number, and its
+//! masks.
 
 ghost use Rattle.std.specs.Prelude.{◌≡◌, length, IfOk, IfSome, None};
 ghost use Rattle.trustee_core.specs.Grants.{ask_of};

@@ -35,8 +35,8 @@ pub struct Trustee<D: Disk> {
 impl<D: Disk> Trustee<D> {
     ghost use Rattle.trustee_core.specs.Trustee.{Decided, journal_header, journal_of, share_of};
 
-    /// The trustee of this share, whose journal this is. A journal that was loaded from what an earlier life left goes on
-    /// with that life.
+    /// The trustee of this share, whose journal this is. A journal that was loaded from what an earlier life left goes
+    /// on with that life.
     pub fn new(share: Share, journal: Journal<D>) -> Trustee<D>
         requires header { header_of journal ≡ journal_header share }
         requires params { params_of journal ≡ share.params }
@@ -50,8 +50,9 @@ impl<D: Disk> Trustee<D> {
     }
 
     /// Decides on an ask at a moment, in seconds since the start of 1970. The randomizer and the digest of a round-two
-    /// ask have `n` bytes. A grant comes only after the sync that makes its entry stable. A refusal by a test that needs
-    /// no journal leaves the trustee as it is, and where no entry is in doubt only a new entry makes calls of the disk.
+    /// ask have `n` bytes. A grant comes only after the sync that makes its entry stable. A refusal by a test that
+    /// needs no journal leaves the trustee as it is, and where no entry is in doubt only a new entry makes calls of the
+    /// disk.
     pub fn decide(&mut self, ask: &Ask, moment: u64) -> Result<Grant, Refusal>
         requires c { IfSome ask.now.second (λ second. length second.c ≡ (share_of self.old).params.n) }
         requires digest { IfSome ask.now.second (λ second. length second.digest ≡ (share_of self.old).params.n) }
@@ -152,8 +153,8 @@ fn test_tag(share: &Share, ask: &Ask, second: &Second) -> Result<(), Refusal>
     ensures tag { OnOk result (HasTag share.now ask.now second.now) }
     ensures refused { IfErr result (FailsTest share.now ask.now) }
 {
-    // The comparison need not hide how long it takes: a forged tag spends the leaf on another randomizer, and never opens
-    // it twice.
+    // The comparison need not hide how long it takes: a forged tag spends the leaf on another randomizer, and never
+    // opens it twice.
     if second.tag != check_tag(&share.key, &share.id, ask.leaf, &second.c) {
         return Err(Refusal::BadCheck);
     }
