@@ -8,3 +8,4 @@ mod PutB
 mod Puts
 mod Shown
 mod Shut
+pub mod Unwritten

@@ -2,7 +2,7 @@
 use Rattle.std.specs.Prelude.{◌≡◌, ◌≢◌, ◌⊎◌, ℕ, List, length, slice_index, None}
 use Rattle.slot_file.specs.declared.header.Header.{Header}
 use Rattle.slot_file.specs.declared.slot.Slot.{Slot}
-use Rattle.slot_file.specs.declared.slot.Slot.TheVariants.{Half, Full}
+use Rattle.slot_file.specs.declared.slot.Slot.TheVariants.{Damaged, Free, Half, Full}
 use Rattle.slot_file.specs.Layout.{header_in, file_size, slot_at, load_fault}
 
 -- the file opens: it has this header, its gate is open, and it has this many slots
@@ -31,3 +31,10 @@ with_b slot b moment = slot
 abbrev pub without_moment : Slot → Slot
 without_moment (Full a b moment) = Full a b 0
 without_moment slot = slot
+
+-- the bytes of a slot's two gates: a closed one counts as 0, but in a damaged slot
+abbrev pub gates_of : Slot → ℕ × ℕ
+gates_of Free = (0, 0)
+gates_of (Half a) = (0xB1, 0)
+gates_of (Full a b moment) = (0xB1, 0xC2)
+gates_of (Damaged a b) = (a, b)

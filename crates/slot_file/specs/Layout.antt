@@ -1,6 +1,6 @@
 -- The layout of a slot file: a header block of 128 bytes, and slots of equal length after it. A number has its highest
 -- byte first. A gate is open at one value alone, and closed at every other.
-use Rattle.std.specs.Prelude.{◌==◌, ◌&&◌, ℕ, ◌+◌, ◌*◌, Bool, not, List, ◌∷◌, ◌++◌, length, take, drop, replicate, slice_index, Option, None, Some, if◌then◌else◌, nat_lt, is_some}
+use Rattle.std.specs.Prelude.{◌≡◌, ◌==◌, ◌&&◌, ℕ, ◌+◌, ◌*◌, Bool, not, List, ◌∷◌, ◌++◌, length, take, drop, replicate, slice_index, Option, None, Some, if◌then◌else◌, nat_lt, is_some}
 use Rattle.std.specs.Cmp.Lexicographic.{pointwise}
 use Rattle.byteorder.specs.Endian.{big_number, big_bytes}
 use Rattle.slot_file.specs.declared.header.Header.{Header}
@@ -75,6 +75,10 @@ slot_of version bytes =
     let b = slice_index bytes 40 in
     if a == 0xB1 then (if b == 0xC2 then Full (part 4 36 bytes) (part 44 64 bytes) (moment_of version bytes) else Half (part 4 36 bytes))
     else (if b == 0xC2 then Damaged a b else Free)
+
+-- some bytes show this slot
+abbrev pub IsShown : ℕ → Slot → Type 0
+IsShown version slot = (bytes : List ℕ) × (slot ≡ slot_of version bytes)
 
 -- a slot of a file
 abbrev pub slot_at : ℕ → ℕ → List ℕ → Slot

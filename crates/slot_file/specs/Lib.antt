@@ -1,8 +1,10 @@
 pub mod Copies
 pub mod Disks
+pub mod Doubts
 pub mod Files
 pub mod Fresh
 pub mod Gated
 pub mod Layout
+pub mod Opened
 pub mod Slots
 pub mod SlotsLaws

@@ -1,11 +1,11 @@
 -- What holds of each file of slots that is open.
-use Rattle.std.specs.Prelude.{◌≡◌, ℕ, List, None, false}
-use Rattle.std.proofs.Common.{ap}
+use Rattle.std.specs.Prelude.{◌≡◌, List, ℕ, None}
 use Rattle.disk_trait.specs.declared.disk.Pages as pages
 use Rattle.disk_trait.specs.declared.faults.Faults as faults
 use Rattle.slot_file.specs.declared.slots.Slots.{Slots}
-use Rattle.slot_file.specs.Layout.{slot_at, load_fault}
-use Rattle.slot_file.specs.Slots.{header_of, count_of, doubt_of, file_of, is_in, IsTold, IsHonest, IsSettled, IsStable, MayLeave}
+use Rattle.slot_file.specs.Doubts.{IsSure}
+use Rattle.slot_file.specs.Layout.{load_fault}
+use Rattle.slot_file.specs.Slots.{header_of, count_of, doubt_of, file_of, IsTold, IsHonest, IsStable, MayLeave}
 
 module _ {D : Type 0} {p : pages.Ghosts D} {f : faults.Ghosts D} (slots : Slots D p f) where
   -- it opens again
@@ -16,9 +16,6 @@ module _ {D : Type 0} {p : pages.Ghosts D} {f : faults.Ghosts D} (slots : Slots 
   pub images_open : IsTold slots → IsHonest slots → (image : List ℕ) → MayLeave slots image → load_fault (header_of slots) (count_of slots) image ≡ None
   images_open told honest image leaves = (slots.images_whole told honest image leaves).opens
 
-  -- where a crash leaves what a read gives, each slot is settled that is not in doubt
-  pub settled_where_stable : (slot : ℕ) → IsStable slots → is_in (doubt_of slots) slot ≡ false → IsSettled slots slot
-  settled_where_stable slot stable sure = record {
-    no_doubt = sure;
-    sure = λ told honest image leaves. ap (slot_at (header_of slots).version slot) (stable told honest image leaves);
-  }
+  -- a crash leaves what a read gives, unless a put was refused since the last settle
+  pub stable_where_sure : IsSure (doubt_of slots) → IsStable slots
+  stable_where_sure sure told honest = slots.stable sure told honest

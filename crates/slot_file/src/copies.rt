@@ -14,16 +14,19 @@ use crate::fresh::{append, open_gate, write_shut};
 use crate::slot::slot_start;
 use crate::{Doubt, Header, Slot, Slots};
 use disk_trait::{Disk, DiskFault};
+use thiserror::Error;
 
 /// Why slots could not be copied.
-#[derive(Clone, Copy, Debug, PartialEq, Eq)]
+#[derive(Clone, Copy, Debug, PartialEq, Eq, Error)]
 pub enum CopyFault {
     /// The new disk holds bytes.
+    #[error("the new disk holds {length} bytes, and must be empty")]
     NotEmpty {
         /// How many.
         length: u64,
     },
     /// A slot has gate B open and gate A closed. It is the first.
+    #[error("slot {slot} is damaged: gate A is {a:#04x}, and gate B is open with {b:#04x}")]
     Damaged {
         /// The slot.
         slot: u32,
@@ -33,6 +36,7 @@ pub enum CopyFault {
         b: u8,
     },
     /// One of the two disks failed.
+    #[error("a call of one of the two disks failed")]
     Device,
 }
 

@@ -1,7 +1,7 @@
 //! A body and then the gate before it, each made stable.
 
-ghost use Rattle.std.specs.Prelude.{◌≡◌, ◌≤◌, ◌+◌, length, IsTrue, IsOk, OnOk, OnErr};
-ghost use Rattle.disk_trait.specs.Faults.{Rose};
+ghost use Rattle.std.specs.Prelude.{◌≡◌, ◌≤◌, ◌+◌, length, IsTrue, IsOk, OnOk};
+ghost use Rattle.disk_trait.specs.Faults.{HasCause};
 ghost use Rattle.disk_trait.specs.Images.{Only, Follows};
 ghost use Rattle.slot_file.specs.Disks.{SameDisk};
 ghost use Rattle.slot_file.specs.Gated.{Gated, gated};
@@ -29,7 +29,7 @@ pub(crate) fn write_gated<D: Disk>(
     ensures succeeds { IsTrue (D.steady disk.old) → IsTrue (D.told disk.old)
         → at + length body.now ≤ length (D.reads disk.old) → gate_at + 1 ≤ length (D.reads disk.old)
         → length (D.reads disk.old) ≤ D.room disk.old → IsOk result }
-    ensures cause { OnErr result (Rose (D.count disk.old) (D.count disk.new)) }
+    ensures cause { HasCause (D.count disk.old) (D.count disk.new) result }
     ensures stays { SameDisk D.Pages.own D.Faults disk.old disk.new }
 {
     disk.write_at(at, body)?;

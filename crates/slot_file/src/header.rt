@@ -4,6 +4,7 @@ ghost use Rattle.std.specs.Prelude.{◌≡◌, ◌≢◌, MatchResult, IfErr, No
 
 use byteorder::{BigEndian, ByteOrder};
 use disk_trait::DiskFault;
+use thiserror::Error;
 
 /// The byte of an open gate.
 pub(crate) const OPEN: u8 = 0xA7;
@@ -27,9 +28,10 @@ pub struct Header {
 }
 
 /// Why a file could not be opened, in the order of the tests.
-#[derive(Clone, Copy, Debug, PartialEq, Eq)]
+#[derive(Clone, Copy, Debug, PartialEq, Eq, Error)]
 pub enum LoadFault {
     /// There are fewer bytes than the header has, or not those of the header and the slots.
+    #[error("the file has {got} bytes, and the header and the slots have {want}")]
     Length {
         /// The length.
         got: u64,
@@ -37,21 +39,25 @@ pub enum LoadFault {
         want: u64,
     },
     /// The header's gate is closed.
+    #[error("the file is not ready: its gate is {gate:#04x}, and an open one is 0xa7")]
     NotReady {
         /// The gate's byte.
         gate: u8,
     },
     /// The version is another.
+    #[error("the file has version {got}, and another was wanted")]
     Version {
         /// The file's.
         got: u8,
     },
     /// The header is another.
+    #[error("the file is of another key or trustee: its number is {}, its codes are {} and {}", kept.number, kept.lms, kept.ots)]
     Foreign {
         /// The file's.
         kept: Header,
     },
     /// The disk failed.
+    #[error("a call of the disk failed")]
     Device,
 }
 

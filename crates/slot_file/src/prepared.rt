@@ -11,16 +11,19 @@ use crate::Header;
 use crate::fresh::{append, open_gate, write_shut};
 use crate::slot::{slot_len, slot_start};
 use disk_trait::{Disk, DiskFault};
+use thiserror::Error;
 
 /// Why a file could not be made.
-#[derive(Clone, Copy, Debug, PartialEq, Eq)]
+#[derive(Clone, Copy, Debug, PartialEq, Eq, Error)]
 pub enum PrepareFault {
     /// The disk holds bytes.
+    #[error("the disk holds {length} bytes, and must be empty")]
     NotEmpty {
         /// How many.
         length: u64,
     },
     /// The disk failed.
+    #[error("a call of the disk failed")]
     Device,
 }
 

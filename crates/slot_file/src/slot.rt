@@ -1,6 +1,6 @@
 //! What a slot is.
 
-ghost use Rattle.std.specs.Prelude.{◌≡◌, ◌≤◌, ◌<◌, ◌+◌, ◌^◌, length};
+ghost use Rattle.std.specs.Prelude.{◌≡◌, ◌≤◌, ◌<◌, ◌↔◌, ◌+◌, ◌^◌, length, IsTrue};
 ghost use Rattle.disk_trait.specs.Images.{written};
 ghost use Rattle.slot_file.specs.Copies.{with_part};
 ghost use Rattle.slot_file.specs.Layout.{slot_size, slot_start, file_size, moment_bytes};
@@ -52,6 +52,7 @@ pub enum Slot {
 
 impl Slot {
     ghost use Rattle.slot_file.specs.Copies.{is_free, slot_block};
+    ghost use Rattle.slot_file.specs.Files.{gates_of, with_b};
     ghost use Rattle.slot_file.specs.Layout.{slot_of};
 
     /// Whether both gates are closed.
@@ -59,6 +60,35 @@ impl Slot {
         ensures { result ≡ is_free self.now }
     {
         matches!(self, Slot::Free)
+    }
+
+    /// Whether the two are equal.
+    pub fn is_same(&self, other: &Slot) -> bool
+        ensures { IsTrue result ↔ (self.now ≡ other.now) }
+    {
+        self == other
+    }
+
+    /// A half slot with a second body. Every other slot stays as it is.
+    pub fn with_b(&self, body: &[u8; 64], moment: u64) -> Slot
+        ensures { result ≡ with_b self.now body.now moment }
+    {
+        match self {
+            Slot::Half(a) => Slot::Full(*a, *body, moment),
+            Slot::Free | Slot::Full(..) | Slot::Damaged { .. } => *self,
+        }
+    }
+
+    /// The bytes of the two gates: an open one is known, and a closed one is 0 but in a damaged slot.
+    pub fn gates(&self) -> (u8, u8)
+        ensures { result ≡ gates_of self.now }
+    {
+        match *self {
+            Slot::Free => (0, 0),
+            Slot::Half(_) => (A_OPEN, 0),
+            Slot::Full(..) => (A_OPEN, B_OPEN),
+            Slot::Damaged { a, b } => (a, b),
+        }
     }
 
     /// The bytes of a slot of 160 bytes, with moment 0.

@@ -1,11 +1,12 @@
 //! A file of slots that is open.
 
-ghost use Rattle.std.specs.Prelude.{◌≡◌, ◌≢◌, ◌⊎◌, ◌≤◌, ◌<◌, ◌↔◌, ◌+◌, ◌^◌, ℕ, List, length, take, IsTrue, None, Some, IsOk, IfOk, IfErr, OnOk, OnErr, Ok, if◌then◌else◌, is_ok};
-ghost use Rattle.disk_trait.specs.Faults.{Rose};
+ghost use Rattle.std.specs.Prelude.{◌≡◌, ◌≢◌, ◌⊎◌, ◌≤◌, ◌<◌, ◌↔◌, ◌+◌, ◌^◌, ℕ, List, length, take, IsTrue, None, Some, IsOk, IfOk, IfErr, OnOk, OnErr, Ok, Err, if◌then◌else◌, is_ok};
+ghost use Rattle.disk_trait.specs.Faults.{HasCause};
+ghost use Rattle.slot_file.specs.Doubts.{IsSure};
 ghost use Rattle.disk_trait.specs.Images.{Only, Follows};
-ghost use Rattle.slot_file.specs.Disks.{SameDisk};
+ghost use Rattle.slot_file.specs.Disks.{RisesAt, Unwritten};
 ghost use Rattle.slot_file.specs.Gated.{Gated, gated, second_body};
-ghost use Rattle.slot_file.specs.Layout.{file_size, slot_size, slot_start, load_fault};
+ghost use Rattle.slot_file.specs.Layout.{file_size, slot_size, slot_start, load_fault, IsShown};
 ghost use Rattle.slot_file.specs.Files.{IsFile, IsHalf, IsPut, with_b};
 
 use crate::gated::write_gated;
@@ -48,6 +49,8 @@ pub struct Slots<D: Disk> {
     ghost has_room: { IsTrue (D.told disk) → file_size header.version count ≤ D.room disk },
     ghost images_whole: { IsTrue (D.told disk) → IsTrue (D.honest disk)
         → (image : List ℕ) → D.may_leave disk image → IsFile header count image },
+    ghost stable: { IsSure doubt → IsTrue (D.told disk) → IsTrue (D.honest disk)
+        → Only (D.reads disk) (D.may_leave disk) },
 }
 
 // The bytes of body B and of the moment behind it, and how many they are.
@@ -70,15 +73,12 @@ fn check_file<D: Disk>(disk: &mut D, header: &Header, count: u32) -> Result<(), 
 
     ensures stable { IsTrue (D.honest disk.old) → IsTrue (D.told disk.old)
         → OnOk result (Only (D.reads disk.old) (D.may_leave disk.new)) }
-    ensures same { IsTrue (D.told disk.old) → D.reads disk.new ≡ D.reads disk.old }
-    ensures images { IsTrue (D.honest disk.old)
-        → (image : List ℕ) → D.may_leave disk.new image → D.may_leave disk.old image }
+    ensures unwritten { Unwritten D.Pages.own D.Faults disk.old disk.new }
     ensures has_room { IsTrue (D.told disk.old) → length (D.reads disk.old) ≤ D.room disk.old }
 
     ensures succeeds { IsTrue (D.steady disk.old) → IsTrue (D.told disk.old)
         → IfErr result (λ e. e ≢ LoadFault.Device) }
-    ensures cause { IfErr result (λ e. e ≡ LoadFault.Device → Rose (D.count disk.old) (D.count disk.new)) }
-    ensures stays { SameDisk D.Pages.own D.Faults disk.old disk.new }
+    ensures cause { RisesAt (D.count disk.old) (D.count disk.new) result (Err LoadFault.Device) }
 {
     disk.sync()?;
     let got = disk.len()?;
@@ -98,31 +98,18 @@ fn check_file<D: Disk>(disk: &mut D, header: &Header, count: u32) -> Result<(), 
 }
 
 impl<D: Disk> Slots<D> {
-    ghost use Rattle.slot_file.specs.Slots.{disk_of, header_of, count_of, doubt_of, faults_of, file_of, slot_now, IsTold, IsHonest, IsSteady, MayLeave, IsStable, IsSettled, Stays, settled, looked};
+    ghost use Rattle.slot_file.specs.Opened.{IsOpened};
+    ghost use Rattle.slot_file.specs.Slots.{disk_of, header_of, count_of, doubt_of, faults_of, file_of, slot_now, IsTold, IsHonest, IsSteady, MayLeave, IsStable, Stays};
+    ghost use Rattle.slot_file.specs.Doubts.{settled, looked};
 
     /// Opens a file: syncs, and tests its length and its header. A refusal gives the disk back.
     pub fn load(disk: D, header: &Header, count: u32) -> Result<Slots<D>, (D, LoadFault)>
-        ensures opens { IsTrue (D.told disk)
-            → IfOk result (λ _. load_fault header.now count (D.reads disk) ≡ None) }
+        ensures opened { IfOk result (IsOpened D.Pages.own D.Faults header.now count disk) }
         ensures refuses { IsTrue (D.told disk)
             → IfErr result (λ e. (e.1 ≡ LoadFault.Device) ⊎ (load_fault header.now count (D.reads disk) ≡ Some e.1)) }
-
-        ensures header { IfOk result (λ slots. header_of slots ≡ header.now) }
-        ensures count { IfOk result (λ slots. count_of slots ≡ count) }
-        ensures doubt { IfOk result (λ slots. doubt_of slots ≡ Doubt.Nowhere) }
-        ensures stable { IfOk result IsStable }
-        ensures same { IsTrue (D.told disk) → IfOk result (λ slots. file_of slots ≡ D.reads disk) }
-        ensures same_refused { IsTrue (D.told disk) → IfErr result (λ e. D.reads e.0 ≡ D.reads disk) }
-        ensures images { IsTrue (D.honest disk)
-            → IfOk result (λ slots. (image : List ℕ) → MayLeave slots image → D.may_leave disk image) }
-        ensures images_refused { IsTrue (D.honest disk)
-            → IfErr result (λ e. (image : List ℕ) → D.may_leave e.0 image → D.may_leave disk image) }
-
-        ensures succeeds { IsTrue (D.steady disk) → IsTrue (D.told disk)
-            → IfErr result (λ e. e.1 ≢ LoadFault.Device) }
-        ensures cause { IfErr result (λ e. e.1 ≡ LoadFault.Device → Rose (D.count disk) (D.count e.0)) }
-        ensures stays { IfOk result (λ slots. SameDisk D.Pages.own D.Faults disk (disk_of slots)) }
-        ensures stays_refused { IfErr result (λ e. SameDisk D.Pages.own D.Faults disk e.0) }
+        ensures unwritten { IfErr result (λ e. Unwritten D.Pages.own D.Faults disk e.0) }
+        ensures succeeds { IsTrue (D.steady disk) → IsTrue (D.told disk) → IfErr result (λ e. e.1 ≢ LoadFault.Device) }
+        ensures cause { IfErr result (λ e. RisesAt (D.count disk) (D.count e.0) e.1 LoadFault.Device) }
     {
         let mut disk = disk;
         match check_file(&mut disk, header, count) {
@@ -139,13 +126,11 @@ impl<D: Disk> Slots<D> {
     /// One sync, after which a crash leaves what a read gives.
     pub fn settle(&mut self) -> Result<(), DiskFault>
         ensures stable { OnOk result (IsStable self.new) }
-        ensures same { IsTold self.old → file_of self.new ≡ file_of self.old }
-        ensures images { IsHonest self.old
-            → (image : List ℕ) → MayLeave self.new image → MayLeave self.old image }
+        ensures unwritten { Unwritten D.Pages.own D.Faults (disk_of self.old) (disk_of self.new) }
         ensures doubt { doubt_of self.new
             ≡ (if is_ok result then settled (doubt_of self.old) else doubt_of self.old) }
         ensures succeeds { IsSteady self.old → IsOk result }
-        ensures cause { OnErr result (Rose (faults_of self.old) (faults_of self.new)) }
+        ensures cause { HasCause (faults_of self.old) (faults_of self.new) result }
         ensures stays { Stays self.old self.new }
     {
         self.disk.sync()?;
@@ -159,13 +144,14 @@ impl<D: Disk> Slots<D> {
     pub fn look(&mut self, slot: u32) -> Result<Slot, DiskFault>
         requires { slot < count_of self.old }
         ensures slot { IsTold self.old → IfOk result (λ found. found ≡ slot_now self.old slot) }
+        ensures shown { IfOk result (IsShown (header_of self.old).version) }
         ensures same { IsTold self.old → file_of self.new ≡ file_of self.old }
         ensures images { IsHonest self.old
             → (image : List ℕ) → MayLeave self.new image ↔ MayLeave self.old image }
         ensures doubt { doubt_of self.new
             ≡ (if is_ok result then looked slot (doubt_of self.old) else doubt_of self.old) }
         ensures succeeds { IsSteady self.old → IsTold self.old → IsOk result }
-        ensures cause { OnErr result (Rose (faults_of self.old) (faults_of self.new)) }
+        ensures cause { HasCause (faults_of self.old) (faults_of self.new) result }
         ensures stays { Stays self.old self.new }
     {
         let version = self.header.version;
@@ -182,7 +168,7 @@ impl<D: Disk> Slots<D> {
     /// leave, the slot is as before or has the whole body. After a refusal the slot is in doubt.
     pub fn put_a(&mut self, slot: u32, body: &[u8; 36]) -> Result<(), DiskFault>
         requires within { slot < count_of self.old }
-        requires settled { IsSettled self.old slot }
+        requires sure { doubt_of self.old ≡ Doubt.Nowhere }
         requires free { IsTold self.old → slot_now self.old slot ≡ Slot.Free }
 
         ensures put { IsTold self.old → OnOk result (slot_now self.new slot ≡ Slot.Half body.now) }
@@ -194,7 +180,7 @@ impl<D: Disk> Slots<D> {
         ensures doubt { doubt_of self.new ≡ (if is_ok result then doubt_of self.old else Doubt.Refused slot) }
 
         ensures succeeds { IsSteady self.old → IsTold self.old → IsOk result }
-        ensures cause { OnErr result (Rose (faults_of self.old) (faults_of self.new)) }
+        ensures cause { HasCause (faults_of self.old) (faults_of self.new) result }
         ensures stays { Stays self.old self.new }
     {
         self.put(slot, 4, body, 0, A_OPEN)
@@ -204,7 +190,7 @@ impl<D: Disk> Slots<D> {
     /// moment is 0.
     pub fn put_b(&mut self, slot: u32, body: &[u8; 64], moment: u64) -> Result<(), DiskFault>
         requires within { slot < count_of self.old }
-        requires settled { IsSettled self.old slot }
+        requires sure { doubt_of self.old ≡ Doubt.Nowhere }
         requires half { IsTold self.old → IsHalf (slot_now self.old slot) }
         requires moment { (header_of self.old).version ≢ 2 → moment ≡ 0 }
 
@@ -220,7 +206,7 @@ impl<D: Disk> Slots<D> {
         ensures doubt { doubt_of self.new ≡ (if is_ok result then doubt_of self.old else Doubt.Refused slot) }
 
         ensures succeeds { IsSteady self.old → IsTold self.old → IsOk result }
-        ensures cause { OnErr result (Rose (faults_of self.old) (faults_of self.new)) }
+        ensures cause { HasCause (faults_of self.old) (faults_of self.new) result }
         ensures stays { Stays self.old self.new }
     {
         let (block, len) = second_block(self.header.version, body, moment);
@@ -253,7 +239,7 @@ impl<D: Disk> Slots<D> {
         ensures doubt { doubt_of self.new ≡ (if is_ok result then doubt_of self.old else Doubt.Refused slot) }
 
         ensures succeeds { IsSteady self.old → IsTold self.old → IsOk result }
-        ensures cause { OnErr result (Rose (faults_of self.old) (faults_of self.new)) }
+        ensures cause { HasCause (faults_of self.old) (faults_of self.new) result }
         ensures stays { Stays self.old self.new }
     {
         let start = slot_start(self.header.version, slot);

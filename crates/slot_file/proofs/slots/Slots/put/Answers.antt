@@ -1,9 +1,18 @@
-use Rattle.std.proofs.Common.{◌+◌, ◌≤◌, List, ℕ, length, ◌∙◌, sym, arith}
+use Rattle.std.proofs.Common.{◌≡◌, ◌+◌, ◌≤◌, List, ℕ, Result, Ok, Err, OnOk, is_ok, if◌then◌else◌, length, ◌∙◌, sym, subst, arith}
+use Rattle.slot_file.specs.Doubts.{IsSure}
+use Rattle.slot_file.specs.declared.slots.Doubt.{Doubt}
+use Rattle.slot_file.specs.declared.slots.Doubt.TheVariants.{Refused}
 use Rattle.slot_file.specs.Layout.{file_size}
 use Rattle.slot_file.specs.Files.{IsFile}
 use Rattle.slot_file.specs.Gated.{Gated}
 use Rattle.slot_file.proofs.Kept.{slot-within, gated_stays}
 use Rattle.slot_file.proofs.slots.Slots.put.Goals as goal
+
+-- where no put was refused, what holds after a put that succeeded
+sure-after : {T E X : Type 0} (done : Result T E) (was doubt : Doubt) (slot : ℕ)
+    → doubt ≡ (if is_ok done then was else Refused slot) → OnOk done X → IsSure doubt → X
+sure-after (Ok x) was doubt slot is holds sure = holds
+sure-after (Err e) was doubt slot is holds sure = absurd (subst IsSure is sure)
 
 pub invariant_of-self : goal.invariant_of-self
 invariant_of-self g c =
@@ -24,4 +33,9 @@ invariant_of-self g c =
           let was_honest = sym call.stays.honest ∙ honest in
           let from = call.images was_told was_honest image leaves in
           stays from.0 image (slots.images_whole was_told was_honest from.0 from.1) from.2;
+      stable = λ sure told honest.
+          let was_told = sym call.stays.told ∙ told in
+          let was_honest = sym call.stays.honest ∙ honest in
+          sure-after c.write_gated-done.result slots.doubt c.after-self.result c.args.slot c.after-self.ensures
+          (call.stable was_told was_honest) sure;
     }

@@ -1,5 +1,7 @@
-use Rattle.std.proofs.Common.{◌∙◌, arith}
+use Rattle.std.proofs.Common.{◌∙◌, ap, arith, subst, sym}
 use Rattle.std.proofs.lemmas.Result.{on_ok_weaker}
+use Rattle.slot_file.specs.Doubts.{IsSure}
+use Rattle.slot_file.specs.Layout.{slot_at}
 use Rattle.slot_file.proofs.Kept.{slot-within}
 use Rattle.slot_file.proofs.PutA.{puts_a, has_a}
 use Rattle.slot_file.proofs.slots.Slots.put_a.Goals as goal
@@ -25,5 +27,7 @@ returns-clause-images g c = λ told honest image leaves.
     let from = c.put.ensures.images told honest image leaves in
     let file = slots.images_whole told honest from.0 from.1 in
     let fits = slot-within slots.header.version c.args.slot slots.count c.requires.within in
-    let free = c.requires.settled.sure told honest from.0 from.1 ∙ c.requires.free told in
+    let sure = subst IsSure (sym c.requires.sure) tt in
+    let same = ap (slot_at slots.header.version c.args.slot) (slots.stable sure told honest from.0 from.1) in
+    let free = same ∙ c.requires.free told in
     (from.0, from.1, puts_a slots.header.version c.args.slot c.args.body.now from.0 c.told-body (omega (arith, file.size)) free image from.2)

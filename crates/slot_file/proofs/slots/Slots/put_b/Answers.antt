@@ -1,7 +1,9 @@
-use Rattle.std.proofs.Common.{◌∙◌, ap, arith}
+use Rattle.std.proofs.Common.{◌∙◌, ap, arith, subst, sym}
 use Rattle.std.proofs.lemmas.Result.{on_ok_weaker}
 use Rattle.slot_file.specs.declared.slot.Slot.{Slot}
 use Rattle.slot_file.specs.Files.{with_b}
+use Rattle.slot_file.specs.Doubts.{IsSure}
+use Rattle.slot_file.specs.Layout.{slot_at}
 use Rattle.slot_file.proofs.Kept.{slot-within}
 use Rattle.slot_file.proofs.PutB.{second, puts_b, has_b, half-body}
 use Rattle.slot_file.proofs.slots.Slots.put_b.Goals as goal
@@ -40,5 +42,7 @@ returns-clause-images g c = λ told honest image leaves.
     let half = half-body _ (c.requires.half told) in
     let two = second version c.args.body.now c.args.moment _ c.told-body (omega arith) c.requires.moment c.second_block-len.ensures.bytes in
     let full = ap (λ (s : Slot). with_b s c.args.body.now c.args.moment) half.1 in
-    let was_half = c.requires.settled.sure told honest from.0 from.1 ∙ half.1 in
+    let sure = subst IsSure (sym c.requires.sure) tt in
+    let same = ap (slot_at slots.header.version c.args.slot) (slots.stable sure told honest from.0 from.1) in
+    let was_half = same ∙ half.1 in
     (from.0, from.1, rw full (puts_b version c.args.slot c.args.body.now c.args.moment _ from.0 half.0 two (omega (arith, file.size)) was_half image from.2))

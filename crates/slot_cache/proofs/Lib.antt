@@ -1,0 +1,5 @@
+mod Files
+pub mod Held
+mod Read
+mod Same
+mod Sure

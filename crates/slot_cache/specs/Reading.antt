@@ -1,0 +1,28 @@
+-- What reading the slots of a file gives. Only contracts inside the crate speak of it.
+use Rattle.std.specs.Prelude.{◌≡◌, ℕ, List}
+use Rattle.slot_cache.specs.declared.faults.CacheLoad.{CacheLoad}
+use Rattle.slot_cache.specs.declared.faults.CacheLoad.TheVariants as load
+use Rattle.slot_file.specs.Copies.{IsFirstDamaged}
+use Rattle.slot_file.specs.declared.header.LoadFault.{LoadFault}
+use Rattle.slot_file.specs.declared.header.LoadFault.TheVariants.{Device}
+use Rattle.slot_file.specs.declared.slot.Slot.{Slot}
+use Rattle.slot_file.specs.declared.slot.Slot.TheVariants.{Damaged}
+
+-- a file of slots that is refused
+abbrev pub refused_by : LoadFault → CacheLoad
+refused_by Device = load.Device
+refused_by fault = load.Slots fault
+
+-- a slot is not read: it is damaged, or the disk failed
+abbrev pub IsSlotRefused : ℕ → Slot → CacheLoad → Type 0
+IsSlotRefused place slot (load.Damaged torn a b) = (torn ≡ place) × (slot ≡ Damaged a b)
+IsSlotRefused place slot load.Device = Unit {0}
+IsSlotRefused place slot (load.Slots fault) = ⊥
+IsSlotRefused place slot load.NoMemory = ⊥
+
+-- of all slots it is the first
+abbrev pub IsReadRefused : ℕ → ℕ → List ℕ → CacheLoad → Type 0
+IsReadRefused version count file (load.Damaged torn a b) = IsFirstDamaged version count file torn a b
+IsReadRefused version count file load.Device = Unit {0}
+IsReadRefused version count file (load.Slots fault) = ⊥
+IsReadRefused version count file load.NoMemory = ⊥
