@@ -1,0 +1,7 @@
+mod BodyBytes
+mod Legal
+mod Listed
+pub mod Maps
+mod Sound
+pub mod Held
+mod Found

@@ -1,0 +1,196 @@
+//! The leaf table.
+
+ghost use Rattle.std.specs.Prelude.{◌≡◌, ◌≢◌, ◌^◌, ◌+◌, ◌<◌, ◌≤◌, ℕ, length, vec_capacity, IsTrue, IfOk, IfErr, None, Ok, Err};
+ghost use Rattle.coalition_map.specs.Coalitions.{count_of as coalition_count};
+ghost use Rattle.lms_bytes.specs.MessageId.{message_id_bytes};
+ghost use Rattle.leaf_table.specs.Entries.{IsFree, IsLeased, map_of};
+ghost use Rattle.leaf_table.specs.Leasing.{Burns, Leases, WasLeasedFor};
+ghost use Rattle.leaf_table.specs.Slots.{report_body, room_in};
+ghost use Rattle.leaf_table.specs.State.{IsSound, state_with};
+ghost use Rattle.leaf_table.specs.Steps.{LeasesIn, Makes, Settles};
+ghost use Rattle.slot_cache.specs.Cache.{count_of, header_of as cache_header, state_of as cache_state};
+ghost use Rattle.slot_file.specs.Disks.{RisesAt, Unwritten};
+
+use crate::bodies::{message_bytes, report_bytes};
+use crate::faults::TableFault;
+use crate::lease::{Lease, lease_of_slot};
+use crate::listing::{add, entries_of};
+use crate::searching::least_leaf;
+use coalition_map::{Members, Plan};
+use disk_trait::{Disk, DiskFault};
+use lms_bytes::MessageId;
+use memory::NoMemory;
+use slot_cache::{CacheLoad, CachedSlots, Settled};
+use slot_file::{Header, Slot};
+use std::alloc::Global;
+
+/// A leaf table on a disk.
+#[derive(Drop)]
+pub struct Table<D: Disk> {
+    slots: CachedSlots<D>,
+    plan: Plan,
+    entries: Vec<Lease>,
+    ghost version: { (cache_header slots).version ≡ 1 },
+    ghost count: { count_of slots ≡ 2 ^ plan.h },
+    ghost sound: { IsSound (state_with (cache_state slots) entries.items) },
+    ghost room: { length entries.items + room_in (cache_state slots).slots ≤ vec_capacity entries },
+}
+
+impl<D: Disk> Table<D> {
+    ghost use Rattle.leaf_table.specs.Loaded.{IsLoaded};
+    ghost use Rattle.leaf_table.specs.Table.{Enters, Holds, Stays, disk_of, faults_of, IsSteady, IsTold, plan_of, state_of};
+    ghost use Rattle.slot_cache.specs.Loading.{LoadRefused};
+
+    /// Loads a table: reads every slot, and takes the memory for all entries that can be made. A refusal gives the disk
+    /// back.
+    pub fn load(
+        alloc: Global,
+        disk: D,
+        header: &Header,
+        plan: &Plan,
+    ) -> Result<Table<D>, (D, CacheLoad)>
+        requires { header.now.version ≡ 1 }
+        ensures loaded { IfOk result (IsLoaded D.Pages.own D.Faults header.now plan.now disk) }
+        ensures refused { IsTrue (D.told disk)
+            → IfErr result (λ e. LoadRefused header.now (2 ^ plan.now.h) (D.reads disk) e.1) }
+        ensures unwritten { IfErr result (λ e. Unwritten D.Pages.own D.Faults disk e.0) }
+        ensures succeeds { IsTrue (D.steady disk) → IsTrue (D.told disk)
+            → IfErr result (λ e. e.1 ≢ CacheLoad.Device) }
+        ensures cause { IfErr result (λ e. RisesAt (D.count disk) (D.count e.0) e.1 CacheLoad.Device) }
+    {
+        let slots = match CachedSlots::load(alloc, disk, header, 1 << plan.h()) {
+            Ok(slots) => slots,
+            Err(refused) => return Err(refused),
+        };
+        match entries_of(alloc, &slots) {
+            Ok(entries) => Ok(Table {
+                slots,
+                plan: *plan,
+                entries,
+            }),
+            Err(NoMemory) => Err((slots.end(), CacheLoad::NoMemory)),
+        }
+    }
+
+    /// The leaf of the members' coalition for this message, which is leased now if it was not before. An entry in doubt
+    /// is settled first. A new entry is stable before it is answered. Where none is in doubt, only a new entry makes
+    /// calls of the disk. It takes no memory.
+    pub fn lease(&mut self, members: Members, message: &MessageId) -> Result<u32, TableFault>
+        ensures event { Leases (plan_of self.old) (state_of self.old) members message.now result (state_of self.new) }
+        ensures enters { Enters self.old self.new result }
+    {
+        let Some(c) = self.plan.number_of(members) else {
+            return Err(TableFault::NotACoalition);
+        };
+        if let Err(fault) = self.settle() {
+            return Err(fault);
+        }
+        self.lease_of(c, message)
+    }
+
+    // The leaf of coalition `c` for this message, where nothing is in doubt.
+    fn lease_of(&mut self, c: u32, message: &MessageId) -> Result<u32, TableFault>
+        requires settled { (state_of self.old).doubt ≡ None }
+        ensures event { LeasesIn (plan_of self.old) (state_of self.old) c message.now result (state_of self.new) }
+        ensures enters { Enters self.old self.new result }
+    {
+        let leased = Slot::Half(message_bytes(message));
+        if let Some(leaf) = least_leaf(&self.slots, &self.plan, c, &leased) {
+            return Ok(leaf);
+        }
+        let Some(leaf) = least_leaf(&self.slots, &self.plan, c, &Slot::Free) else {
+            return Err(TableFault::NoLeaf { coalition: c });
+        };
+        self.put_lease(leaf, message)
+    }
+
+    // Leases a free leaf, where nothing is in doubt.
+    fn put_lease(&mut self, leaf: u32, message: &MessageId) -> Result<u32, TableFault>
+        requires settled { (state_of self.old).doubt ≡ None }
+        requires within { leaf < 2 ^ (plan_of self.old).h }
+        requires free { map_of (state_of self.old).entries leaf ≡ IsFree }
+        ensures event { Makes (state_of self.old) (Lease.Leased leaf message.now) leaf
+            (Slot.Half (message_id_bytes message.now)) result (state_of self.new) }
+        ensures leaf { IfOk result (λ leased. leased ≡ leaf) }
+        ensures enters { Enters self.old self.new result }
+    {
+        match self.slots.put_a(leaf, &message_bytes(message)) {
+            Ok(()) => {
+                let message = *message;
+                add(&mut self.entries, &Lease::Leased { leaf, message });
+                Ok(leaf)
+            }
+            Err(DiskFault) => Err(TableFault::Device),
+        }
+    }
+
+    /// Burns a leaf that was leased for this message, with the member that reported it spent. A leaf that is burnt stays
+    /// as it is. An entry in doubt is settled first. It takes no memory.
+    pub fn burn(&mut self, leaf: u32, message: &MessageId, by: u8) -> Result<(), TableFault>
+        requires within { leaf < 2 ^ (plan_of self.old).h }
+        requires leased { WasLeasedFor (message_id_bytes message.now) (map_of (state_of self.old).entries leaf) }
+        ensures event { Burns (state_of self.old) leaf (message_id_bytes message.now) by result (state_of self.new) }
+        ensures enters { Enters self.old self.new result }
+    {
+        if let Err(fault) = self.settle() {
+            return Err(fault);
+        }
+        match self.slots.slot(leaf) {
+            Slot::Half(_) => self.put_burnt(leaf, message, by),
+            Slot::Free | Slot::Full(..) | Slot::Damaged { .. } => Ok(()),
+        }
+    }
+
+    // Burns a leaf that is leased for this message, where nothing is in doubt.
+    fn put_burnt(&mut self, leaf: u32, message: &MessageId, by: u8) -> Result<(), TableFault>
+        requires settled { (state_of self.old).doubt ≡ None }
+        requires within { leaf < 2 ^ (plan_of self.old).h }
+        requires leased { map_of (state_of self.old).entries leaf ≡ IsLeased (message_id_bytes message.now) }
+        ensures event { Makes (state_of self.old) (Lease.Burnt leaf) leaf
+            (Slot.Full (message_id_bytes message.now) (report_body (message_id_bytes message.now) by) 0) result
+            (state_of self.new) }
+        ensures enters { Enters self.old self.new result }
+    {
+        match self.slots.put_b(leaf, &report_bytes(message, by), 0) {
+            Ok(()) => {
+                add(&mut self.entries, &Lease::Burnt { leaf });
+                Ok(())
+            }
+            Err(DiskFault) => Err(TableFault::Device),
+        }
+    }
+
+    // Finds out whether the entry in doubt was made.
+    fn settle(&mut self) -> Result<(), TableFault>
+        ensures event { Settles (state_of self.old) result (state_of self.new) }
+        ensures idle { (state_of self.old).doubt ≡ None → self.new ≡ self.old }
+        ensures enters { Enters self.old self.new result }
+    {
+        let Some(doubted) = self.slots.doubt() else {
+            return Ok(());
+        };
+        match self.slots.settle() {
+            Ok(Settled::Made) => {
+                add(&mut self.entries, &lease_of_slot(doubted.slot, &doubted.after));
+                Ok(())
+            }
+            Ok(Settled::NotMade | Settled::Nothing) => Ok(()),
+            Err(fault) => Err(TableFault::of_settling(fault)),
+        }
+    }
+
+    /// The entries, in the order in which they were made; those of the file first, leaf by leaf.
+    pub fn entries(&self) -> &[Lease]
+        ensures { result.now ≡ (state_of self.now).entries }
+    {
+        self.entries.as_slice()
+    }
+
+    /// Gives the disk back.
+    pub fn end(self) -> D
+        ensures disk { result ≡ disk_of self }
+        ensures holds { Holds self }
+    {
+        self.slots.end()
+    }
+}
