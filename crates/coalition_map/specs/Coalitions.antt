@@ -1,5 +1,6 @@
 -- Coalitions: the sets of k of n trustees that may sign together, in order, and the leaves of each.
-use Rattle.std.specs.Prelude.{◌≡◌, ℕ, zero, suc, ◌+◌, ◌%◌, ◌^◌, ◌<◌, ◌≤◌, ◌==◌, List, [], ◌∷◌, ◌++◌, length, map, filter, slice_index_or, Option, IfSome}
+use Rattle.std.specs.Prelude.{◌≡◌, ℕ, zero, suc, ◌+◌, ◌%◌, ◌^◌, ◌<◌, ◌≤◌, ◌==◌, List, [], ◌∷◌, ◌++◌, length, map}
+use Rattle.std.specs.Prelude.{filter, slice_index_or, Option, IfSome}
 use Rattle.std.specs.List.{range_with_len}
 use Rattle.coalition_map.specs.Members.{IsAscendingIn}
 

@@ -1,5 +1,6 @@
 -- Sets of trustees, each seen as the list of its trustees in ascending order.
-use Rattle.std.specs.Prelude.{ℕ, zero, suc, ◌<◌, ◌≤◌, nat_lt, filter, ◌+◌, ◌-◌, ◌/◌, ◌%◌, ◌^◌, ◌==◌, if◌then◌else◌, List, [], ◌∷◌, ◌++◌}
+use Rattle.std.specs.Prelude.{ℕ, zero, suc, ◌<◌, ◌≤◌, nat_lt, filter, ◌+◌, ◌-◌, ◌/◌, ◌%◌, ◌^◌, ◌==◌, if◌then◌else◌}
+use Rattle.std.specs.Prelude.{List, [], ◌∷◌, ◌++◌}
 
 -- this project's profile: of the trustees a .. a + count - 1 those whose bit is set, the lowest bit standing for a
 unfoldable pub trustees_from : ℕ → ℕ → ℕ → List ℕ

@@ -1,5 +1,6 @@
 -- A set of trustees gives its bits back.
-use Rattle.std.proofs.Common.{◌≡◌, inl, inr, ◌≢◌, ℕ, zero, suc, ◌+◌, ◌-◌, ◌*◌, ◌/◌, ◌%◌, ◌^◌, ◌<◌, eqb, List, [], ◌∷◌, refl, ◌∙◌, ap, arith, pow-suc}
+use Rattle.std.proofs.Common.{◌≡◌, inl, inr, ◌≢◌, ℕ, zero, suc, ◌+◌, ◌-◌, ◌*◌, ◌/◌, ◌%◌, ◌^◌, ◌<◌, eqb, List, [], ◌∷◌}
+use Rattle.std.proofs.Common.{refl, ◌∙◌, ap, arith, pow-suc}
 use Rattle.std.proofs.lemmas.Bool.{cases_eq, cond-true, cond-false}
 use Rattle.coalition_map.specs.declared.members.Members.TheInside.{Inside}
 use Rattle.coalition_map.specs.Members.{trustees_from, member_numbers, bits_of}
@@ -26,14 +27,16 @@ even_product : (x y b : ℕ) → b ≡ 2 * y → (x * 2) * y ≡ x * b
 even_product x y b e = rw e (omega arith)
 
 -- ---- the bits of a set give its bits
-bits_in : (a m b : ℕ) → b % 2 ≡ 1 → bits_of (trustees_from (suc a + 1) m (b / 2)) ≡ 2 ^ suc a * (b / 2) → bits_of (trustees_from (suc a) (suc m) b) ≡ 2 ^ a * b
+bits_in : (a m b : ℕ) → b % 2 ≡ 1 → bits_of (trustees_from (suc a + 1) m (b / 2)) ≡ 2 ^ suc a * (b / 2)
+    → bits_of (trustees_from (suc a) (suc m) b) ≡ 2 ^ a * b
 unfolding bits_of
 bits_in a m b e ih =
     let l : suc a - 1 ≡ a = omega arith in
     let half : b ≡ 2 * (b / 2) + 1 = omega arith in
     rw (trustees_from-in (suc a) m b e, ih, l, pow-suc 2 a) (odd_product (2 ^ a) (b / 2) b half)
 
-bits_out : (a m b : ℕ) → b % 2 ≢ 1 → bits_of (trustees_from (suc a + 1) m (b / 2)) ≡ 2 ^ suc a * (b / 2) → bits_of (trustees_from (suc a) (suc m) b) ≡ 2 ^ a * b
+bits_out : (a m b : ℕ) → b % 2 ≢ 1 → bits_of (trustees_from (suc a + 1) m (b / 2)) ≡ 2 ^ suc a * (b / 2)
+    → bits_of (trustees_from (suc a) (suc m) b) ≡ 2 ^ a * b
 bits_out a m b e ih =
     let half : b ≡ 2 * (b / 2) = omega arith in
     rw (trustees_from-out (suc a) m b e, ih, pow-suc 2 a) (even_product (2 ^ a) (b / 2) b half)
@@ -43,7 +46,8 @@ unfolding trustees_from bits_of
 bits_of-trustees_from a zero b h = rw (below_one b h) (omega arith)
 bits_of-trustees_from a (suc m) b h =
     let s : suc a + 1 ≡ suc (suc a) = omega arith in
-    let ih : bits_of (trustees_from (suc a + 1) m (b / 2)) ≡ 2 ^ suc a * (b / 2) = rw s (bits_of-trustees_from (suc a) m (b / 2) (half_below b m h)) in
+    let ih : bits_of (trustees_from (suc a + 1) m (b / 2)) ≡ 2 ^ suc a * (b / 2) =
+    rw s (bits_of-trustees_from (suc a) m (b / 2) (half_below b m h)) in
     elim (cases_eq (b % 2) 1) [ inl e ↦ bits_in a m b e ih | inr e ↦ bits_out a m b e ih ]
 
 pub bits_of-member_numbers : (b : ℕ) → b < 2 ^ 16 → bits_of (member_numbers b) ≡ b

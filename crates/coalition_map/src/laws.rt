@@ -1,8 +1,10 @@
 //! What follows from the definitions, for whoever proves something about coalitions. No function here does anything.
 
-ghost use Rattle.std.specs.Prelude.{◌≡◌, ◌⊎◌, ◌↔◌, ℕ, List, [], ◌∷◌, ◌++◌, ◌+◌, ◌/◌, ◌%◌, ◌^◌, ◌<◌, ◌≤◌, All, Contains, length};
+ghost use Rattle.std.specs.Prelude.{◌≡◌, ◌⊎◌, ◌↔◌, ℕ, List, [], ◌∷◌, ◌++◌, ◌+◌, ◌/◌, ◌%◌, ◌^◌, ◌<◌, ◌≤◌, All, Contains};
+ghost use Rattle.std.specs.Prelude.{length};
 ghost use Rattle.std.specs.List.Sorted.{IsStrictlyIncreasing};
-ghost use Rattle.coalition_map.specs.Coalitions.{binomial, coalition, coalitions, count_of, leaf_members, leaves_of, IsSubset, PlanNumbers};
+ghost use Rattle.coalition_map.specs.Coalitions.{binomial, coalition, coalitions, count_of, leaf_members, leaves_of};
+ghost use Rattle.coalition_map.specs.Coalitions.{IsSubset, PlanNumbers};
 ghost use Rattle.coalition_map.specs.Members.{below, bits_of, member_numbers, IsAscendingIn};
 
 /// The bits of a set give the set, and the set its bits.

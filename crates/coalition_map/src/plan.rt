@@ -1,7 +1,9 @@
 //! Plans: which coalition signs with which leaf.
 
-ghost use Rattle.std.specs.Prelude.{◌≡◌, ◌↔◌, ℕ, ◌+◌, ◌*◌, ◌%◌, ◌^◌, ◌<◌, ◌≤◌, Contains, IfOk, IfSome, IsNone, IsOk, IsSome, IsTrue, length};
-ghost use Rattle.coalition_map.specs.Coalitions.{binomial, coalition, coalitions, count_of, leaf_members, IsLeafAfter, IsPlan, IsSubset, IsThreshold};
+ghost use Rattle.std.specs.Prelude.{◌≡◌, ◌↔◌, ℕ, ◌+◌, ◌*◌, ◌%◌, ◌^◌, ◌<◌, ◌≤◌, Contains, IfOk, IfSome, IsNone, IsOk};
+ghost use Rattle.std.specs.Prelude.{IsSome, IsTrue, length};
+ghost use Rattle.coalition_map.specs.Coalitions.{binomial, coalition, coalitions, count_of, leaf_members, IsLeafAfter};
+ghost use Rattle.coalition_map.specs.Coalitions.{IsPlan, IsSubset, IsThreshold};
 ghost use Rattle.coalition_map.specs.Members.{member_numbers};
 
 use crate::members::Members;

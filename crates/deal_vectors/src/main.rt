@@ -1,6 +1,9 @@
 //! Deals keys and rehearses signing by the tool, as a user does, over files. It prints the status behind each line, and
-//! behind that the length and the SHA-256 of files that the command wrote or had to leave alone.
+//! behind that the length and the SHA-256 of files that the command wrote or had to leave alone. Then it runs the tool
+//! over files in memory, whose calls can fail.
 #![tactic(auto)]
+
+mod memory;
 
 use sha2::{Digest, Sha256};
 use share_files::{read_reference, read_share, read_tree};
@@ -44,6 +47,7 @@ const REHEARSALS: &[(&str, &str)] = &[
     ),
     ("rehearse 144 empty new new", ""),
     ("verify new.key empty empty.signature", ""),
+    ("rehearse 144 empty twice.key ./twice.key", "twice.key"),
 ];
 
 /// Dealings that another implementation made as well, with their files.
@@ -158,5 +162,6 @@ fn main(rt: HostRuntime) -> io::Result<()> {
             }
         }
     }
-    print_readings(rt, &mut store)
+    print_readings(rt, &mut store)?;
+    memory::print_runs(rt)
 }

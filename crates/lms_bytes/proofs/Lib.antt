@@ -6,3 +6,4 @@ pub mod Lengths
 pub mod Parts
 pub mod Shortfall
 pub mod Xor
+pub mod MessageIds

@@ -9,7 +9,7 @@ use sha2::{Digest, Sha256};
 pub const LIMIT: u32 = 16_777_216;
 
 /// What stands for a message: its length and its SHA-256.
-#[derive(Clone, Copy, Debug, PartialEq, Eq)]
+#[derive(Clone, Copy, Debug, PartialEq, Eq, PartialOrd, Ord)]
 pub struct MessageId {
     /// The length of the message in bytes.
     pub length: u32,
@@ -18,7 +18,7 @@ pub struct MessageId {
 }
 
 impl MessageId {
-    ghost use Rattle.lms_bytes.specs.MessageId.{message_id};
+    ghost use Rattle.lms_bytes.specs.MessageId.{message_id, message_id_bytes, message_id_of};
 
     /// The id of a message.
     pub fn of(message: &[u8]) -> MessageId
@@ -28,6 +28,31 @@ impl MessageId {
         let mut hash = IdHash::new();
         hash.update(message);
         hash.finish()
+    }
+
+    /// The 36 bytes in which it lies.
+    pub fn to_bytes(&self) -> [u8; 36]
+        ensures { result ≡ message_id_bytes self.now }
+    {
+        let mut bytes = [0; 36];
+        bytes[..4].copy_from_slice(&self.length.to_be_bytes());
+        bytes[4..].copy_from_slice(&self.hash);
+        bytes
+    }
+
+    /// The id that lies in these bytes.
+    pub fn of_bytes(bytes: &[u8; 36]) -> MessageId
+        ensures fields { result ≡ message_id_of bytes.now }
+        ensures bytes { message_id_bytes result ≡ bytes.now }
+    {
+        let mut length = [0; 4];
+        length.copy_from_slice(&bytes[..4]);
+        let mut hash = [0; 32];
+        hash.copy_from_slice(&bytes[4..]);
+        MessageId {
+            length: u32::from_be_bytes(length),
+            hash,
+        }
     }
 }
 

@@ -40,6 +40,10 @@ fn digits_have_their_checksum_behind_them(rt: HostRuntime) {
             );
         }
     }
+}
+
+#[test]
+fn digits_of_ones_have_no_checksum(rt: HostRuntime) {
     let params = set_of(&rt, 5, 3);
     let ones = Val::of(&[0xff; 32][..params.n as usize]);
     for i in 0..params.p {
@@ -91,6 +95,11 @@ fn a_public_key_is_read_as_it_is_written(rt: HostRuntime) {
         &bytes[46..] == [0x22, 0x22, 0x33, 0x33, 0x33, 0x33, 0x33, 0x33, 0x33, 0x33].as_slice()
     );
     assert_eq!(rt; read_public(&bytes[..48]), Ok(key));
+}
+
+#[test]
+fn other_bytes_are_no_public_key(rt: HostRuntime) {
+    let mut bytes = [0; 48];
     let faults: [(usize, u8, u8, u8); 5] = [
         (7, 10, 7, 1),
         (48, 4, 7, 2),
@@ -136,6 +145,16 @@ fn a_signature_is_read_as_it_is_written(rt: HostRuntime) {
     assert!(rt; view.c == [1; 24].as_slice());
     assert!(rt; view.chains == [2; 624].as_slice());
     assert!(rt; view.path == [3; 120].as_slice());
+}
+
+#[test]
+fn other_bytes_are_no_signature(rt: HostRuntime) {
+    let params = set_of(&rt, 10, 8);
+    let mut bytes = [0; 781];
+    // The number of leaf 31, and the two typecodes.
+    bytes[3] = 31;
+    bytes[7] = 8;
+    bytes[659] = 10;
     let cut = [(7, 1), (659, 3), (779, 6), (781, 6)];
     for (length, number) in cut {
         let fault = front_fault(&params, &bytes, length);

@@ -49,6 +49,22 @@ fn a_signature_is_accepted_for_its_message_alone(rt: HostRuntime) {
 }
 
 #[test]
+fn verdicts_read_as_sentences(rt: HostRuntime) -> Result<(), Fail> {
+    let cases = [
+        (Verdict::Accepted { leaf: 3 }, "accepted: leaf 3 signed"),
+        (
+            Verdict::Malformed(SigFault::Leaf { q: 32 }),
+            "no signature of the key's set: leaf 32 where a leaf of the key's tree is wanted",
+        ),
+    ];
+    for (verdict, want) in cases {
+        let text = format!(in rt.alloc(); "{verdict}")?;
+        assert!(rt; text.as_str() == want);
+    }
+    Ok(())
+}
+
+#[test]
 fn other_bytes_are_no_signature(rt: HostRuntime) {
     let key = public_key(&rt);
     // Each with the byte that is changed, and the length.

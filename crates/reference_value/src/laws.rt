@@ -5,7 +5,9 @@ ghost use Rattle.std.specs.Prelude.{◌≡◌, ℕ, List, ◌∷◌, ◌++◌, �
 ghost use Rattle.coalition_map.specs.Coalitions.{IsPlan};
 ghost use Rattle.lms_bytes.specs.Bytes.{joined, xor};
 ghost use Rattle.lms_bytes.specs.Digits.{digit_of};
-ghost use Rattle.reference_value.specs.Dealing.{Dealing, cell, chain_mask, chain_sums, chain_value, check_tag, leaf_part, leaf_randomizer, masked_randomizer, members_of, random_mask, reference, sum_of_masks};
+ghost use Rattle.reference_value.specs.Dealing.{Dealing, cell, chain_mask, chain_sums, chain_value, check_tag};
+ghost use Rattle.reference_value.specs.Dealing.{leaf_part, leaf_randomizer, masked_randomizer, members_of, random_mask};
+ghost use Rattle.reference_value.specs.Dealing.{reference, sum_of_masks};
 ghost use Rattle.reference_value.specs.Joins.{joined_chains};
 ghost use Rattle.reference_value.specs.Pads.{AreValues, ExactlyOne, JoinTo};
 ghost use Rattle.reference_value.specs.Places.{cell_in, randomizer_in, tag_in};

@@ -1,7 +1,8 @@
 -- The numbers by which users know faults.
 use Rattle.std.specs.Prelude.{ℕ}
 use Rattle.share_files.specs.declared.faults.FileFault.{FileFault}
-use Rattle.share_files.specs.declared.faults.FileFault.TheVariants.{Magic, Version, Code, Plan, Length, Number, OtherKey}
+use Rattle.share_files.specs.declared.faults.FileFault.TheVariants.{Magic, Version, Code, Plan, Length, Number}
+use Rattle.share_files.specs.declared.faults.FileFault.TheVariants.{OtherKey}
 
 abbrev pub file_fault_number : FileFault → ℕ
 file_fault_number Magic = 1

@@ -1,5 +1,6 @@
 -- The heads of the files of a dealing, and the tests of their readers.
-use Rattle.std.specs.Prelude.{ℕ, ◌^◌, List, [], ◌∷◌, ◌++◌, length, slice_index, Bool, Option, Some, None, ◌==◌, ◌&&◌, nat_lt, nat_le, if◌then◌else◌}
+use Rattle.std.specs.Prelude.{ℕ, ◌^◌, List, [], ◌∷◌, ◌++◌, length, slice_index, Bool, Option, Some, None, ◌==◌, ◌&&◌}
+use Rattle.std.specs.Prelude.{nat_lt, nat_le, if◌then◌else◌}
 use Rattle.std.specs.Str.{bytes_eq}
 use Rattle.lms_bytes.specs.Bytes.{u32str, str_to_u32, bytes_at}
 use Rattle.lms_bytes.specs.declared.params.Params.{Params}

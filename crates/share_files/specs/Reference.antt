@@ -2,7 +2,8 @@
 use Rattle.std.specs.Prelude.{◌≡◌, ℕ, ◌+◌, ◌*◌, ◌^◌, List, [], ◌∷◌, ◌++◌, length, take, slice_index, Option, codes}
 use Rattle.coalition_map.specs.Coalitions.{PlanNumbers}
 use Rattle.lms_bytes.specs.declared.params.Params.{Params}
-use Rattle.share_files.specs.Head.{head_bytes, first_fault, short_fault, head_fault, plan_fault, zero_fault, length_fault, lms_at, ots_at}
+use Rattle.share_files.specs.Head.{head_bytes, first_fault, short_fault, head_fault, plan_fault, zero_fault}
+use Rattle.share_files.specs.Head.{length_fault, lms_at, ots_at}
 use Rattle.share_files.specs.Sets.{CanBeDealt, chain_count, height_of, node_length, width_of}
 use Rattle.share_files.specs.declared.faults.FileFault.{FileFault}
 use Rattle.share_files.specs.declared.reference.RefHeader.{RefHeader}

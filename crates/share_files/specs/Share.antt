@@ -1,5 +1,6 @@
 -- The share file of a trustee.
-use Rattle.std.specs.Prelude.{◌≡◌, ℕ, List, [], ◌∷◌, ◌++◌, length, slice_index, Option, Some, None, ◌&&◌, nat_le, codes, if◌then◌else◌}
+use Rattle.std.specs.Prelude.{◌≡◌, ℕ, List, [], ◌∷◌, ◌++◌, length, slice_index, Option, Some, None, ◌&&◌, nat_le, codes}
+use Rattle.std.specs.Prelude.{if◌then◌else◌}
 use Rattle.coalition_map.specs.Coalitions.{PlanNumbers}
 use Rattle.lms_bytes.specs.declared.params.Params.{Params}
 use Rattle.share_files.specs.Head.{head_bytes, first_fault, short_fault, head_fault, plan_fault, length_fault}

@@ -1,4 +1,4 @@
 pub mod Calls
 pub mod MemStore
-pub mod Sink
 pub mod Store
+pub mod Talk

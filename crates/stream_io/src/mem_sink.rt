@@ -1,11 +1,13 @@
 //! A sink in memory.
 
-ghost use Rattle.std.specs.Prelude.{◌≡◌, ◌-◌, ◌<◌, ◌↔◌, [], IsTrue, IfOk, true, vec_len, vec_capacity};
+ghost use Rattle.std.specs.Prelude.{◌≡◌, ◌-◌, ◌<◌, ◌↔◌, [], None, IsTrue, IfOk, true, refl, vec_len, vec_capacity};
 ghost use Rattle.stream_io.specs.Calls.{is_empty};
+ghost use Rattle.stream_io.specs.Talk.{Talk};
 
 use crate::calls::Calls;
 use crate::failed::Failed;
 use crate::sink::Sink;
+use crate::stream::Stream;
 use disk_trait::Faults;
 use memory::NoMemory;
 use std::alloc::Global;
@@ -29,9 +31,9 @@ impl MemSink {
         failing: Vec<u64>,
     ) -> Result<MemSink, NoMemory>
         requires { 0 < most }
-        ensures told { IfOk result (λ s. IsTrue (⟦<MemSink as Sink>⟧.told s)) }
+        ensures told { IfOk result (λ s. IsTrue (⟦<MemSink as Stream>⟧.talk s).told) }
         ensures steady { IfOk result (λ s. IsTrue (⟦<MemSink as Faults>⟧.steady s) ↔ (failing.items ≡ [])) }
-        ensures written { IfOk result (λ s. ⟦<MemSink as Sink>⟧.written s ≡ []) }
+        ensures written { IfOk result (λ s. (⟦<MemSink as Stream>⟧.talk s).written ≡ []) }
         ensures room { IfOk result (λ s. ⟦<MemSink as Sink>⟧.room s ≡ capacity) }
         ensures count { IfOk result (λ s. ⟦<MemSink as Faults>⟧.count s ≡ 0) }
     {
@@ -45,7 +47,7 @@ impl MemSink {
 
     /// All that was written.
     pub fn written(&self) -> &[u8]
-        ensures { result.now ≡ ⟦<MemSink as Sink>⟧.written self.now }
+        ensures { result.now ≡ (⟦<MemSink as Stream>⟧.talk self.now).written }
     {
         self.written.as_slice()
     }
@@ -61,11 +63,20 @@ impl Faults for MemSink {
     }
 }
 
+impl Stream for MemSink {
+    ghost talk = { λ s. record {
+      told = true;
+      place = None;
+      taken = [];
+      left = [];
+      written = s.written.items;
+      count = s.calls.faults;
+    } };
+
+    ghost counts = { λ _. refl };
+}
+
 impl Sink for MemSink {
-    ghost told = { λ _. true };
-
-    ghost written = { λ s. s.written.items };
-
     ghost room = { λ s. vec_capacity s.written - vec_len s.written };
 
     fn write(&mut self, bytes: &[u8]) -> Result<usize, Failed> {

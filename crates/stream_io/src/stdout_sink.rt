@@ -1,9 +1,11 @@
 //! The sink over standard output.
 
-ghost use Rattle.std.specs.Prelude.{◌≡◌, [], IsFalse, false};
+ghost use Rattle.std.specs.Prelude.{◌≡◌, [], None, IsFalse, false, refl};
+ghost use Rattle.stream_io.specs.Talk.{Talk};
 
 use crate::failed::Failed;
 use crate::sink::Sink;
+use crate::stream::Stream;
 use disk_trait::Faults;
 
 /// The sink over a runtime's standard output, which keeps no byte back. It tells nothing but its count of faults.
@@ -16,7 +18,7 @@ pub struct StdoutSink<R: Print + Drop> {
 impl<R: Print + Drop> StdoutSink<R> {
     /// The sink over the standard output of this runtime.
     pub fn new(rt: R) -> StdoutSink<R>
-        ensures told { IsFalse (⟦<StdoutSink<R> as Sink>⟧.told result) }
+        ensures told { IsFalse (⟦<StdoutSink<R> as Stream>⟧.talk result).told }
         ensures steady { IsFalse (⟦<StdoutSink<R> as Faults>⟧.steady result) }
         ensures count { ⟦<StdoutSink<R> as Faults>⟧.count result ≡ 0 }
     {
@@ -34,11 +36,20 @@ impl<R: Print + Drop> Faults for StdoutSink<R> {
     }
 }
 
+impl<R: Print + Drop> Stream for StdoutSink<R> {
+    ghost talk = { λ s. record {
+      told = false;
+      place = None;
+      taken = [];
+      left = [];
+      written = [];
+      count = s.faults;
+    } };
+
+    ghost counts = { λ _. refl };
+}
+
 impl<R: Print + Drop> Sink for StdoutSink<R> {
-    ghost told = { λ _. false };
-
-    ghost written = { λ _. [] };
-
     ghost room = { λ _. 0 };
 
     fn write(&mut self, bytes: &[u8]) -> Result<usize, Failed> {

@@ -1,8 +1,8 @@
 //! Tests of what no contract says: that calls succeed, which of them fail, and what the system gives.
 
 use crate::{
-    Failed, FileStore, MemNet, MemSink, MemStore, Net, NewFault, ReadAllFault, Sink, StdoutSink,
-    Store, TcpNet, write_whole,
+    Failed, FileStore, MemNet, MemSink, MemSource, MemStore, Net, NewFault, ReadAllFault, Sink,
+    Source, StdoutSink, Store, TcpNet, read_whole, write_whole,
 };
 use disk_trait::Faults;
 use std::alloc::{AllocError, Global};
@@ -39,6 +39,33 @@ fn a_sink_in_memory_keeps_what_was_written(rt: HostRuntime) -> Result<(), AllocE
         assert_eq!(rt; sink.written(), text.as_bytes());
         assert_eq!(rt; sink.faults(), faults);
     }
+    Ok(())
+}
+
+/// Whether the next read gives this text.
+fn reads<S: Source>(source: &mut S, text: &str) -> bool {
+    let mut room = [0; 8];
+    let read = source.read(&mut room);
+    matches!(read, Ok(count) if count <= 8 && &room[..count] == text.as_bytes())
+}
+
+#[test]
+fn a_source_in_memory_gives_its_bytes_by_pieces(rt: HostRuntime) -> Result<(), AllocError> {
+    let alloc = rt.alloc();
+    let bytes = Vec::from_slice(alloc, b"hello, all")?;
+    let pieces = Vec::from_slice(alloc, &[2, 0])?;
+    let mut source = MemSource::new(bytes, pieces, Vec::from_slice(alloc, &[2])?);
+    assert!(rt; reads(&mut source, "he"));
+    assert!(rt; reads(&mut source, "l"));
+    let mut room = [0; 4];
+    assert_eq!(rt; read_whole(&mut source, &mut room), Err(Failed));
+    assert_eq!(rt; source.faults(), 1);
+    assert_eq!(rt; read_whole(&mut source, &mut room), Ok(4));
+    assert_eq!(rt; &room[..], b"lo, ".as_slice());
+    assert_eq!(rt; read_whole(&mut source, &mut room), Ok(3));
+    assert_eq!(rt; &room[..3], b"all".as_slice());
+    assert!(rt; reads(&mut source, ""));
+    assert_eq!(rt; source.faults(), 1);
     Ok(())
 }
 

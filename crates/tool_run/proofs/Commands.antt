@@ -1,5 +1,5 @@
 -- The names of a command's outputs.
-use Rattle.std.proofs.Common.{◌≡◌, ℕ, Bool, true, false, List, [], ◌∷◌, Option, None, Some, if◌then◌else◌, refl, subst}
+use Rattle.std.proofs.Common.{◌≡◌, ◌==◌, length, ℕ, Bool, true, false, List, [], ◌∷◌, Option, None, Some, if◌then◌else◌, refl, subst}
 use Rattle.std.specs.List.{list_any}
 use Rattle.std.specs.Prelude.{codes}
 use Rattle.std.specs.Str.{bytes_eq}
@@ -67,7 +67,8 @@ deal_differ (a ∷ b ∷ []) row is = absurd (cc)
 deal_differ (a ∷ b ∷ c ∷ []) row is = absurd (cc)
 deal_differ (a ∷ b ∷ c ∷ d ∷ []) row is = absurd (cc)
 deal_differ (a ∷ b ∷ c ∷ d ∷ e ∷ []) row is = absurd (cc)
-deal_differ (a ∷ b ∷ c ∷ d ∷ e ∷ f ∷ []) row is = with_numbers a f (number_of b) (number_of c) (number_of d) (number_of e) row is
+deal_differ (a ∷ b ∷ c ∷ d ∷ e ∷ f ∷ []) row is =
+    taken (length f == 0) None _ row none (with_numbers a f (number_of b) (number_of c) (number_of d) (number_of e)) is
 deal_differ (a ∷ b ∷ c ∷ d ∷ e ∷ f ∷ g ∷ more) row is = absurd (cc)
 
 row_differs : (words : List (List ℕ)) (row : Row) → row_of words ≡ Some row → OutputsDiffer row

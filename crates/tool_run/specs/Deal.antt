@@ -52,7 +52,8 @@ pub record IsDealtTo (words : DealWords) (entropy : List ℕ) (outputs : List Ou
 
 -- the end where the entropy is not dealt
 pub data IsNotDealt (words : DealWords) (entropy : List ℕ) : Ending → Type 0 where
-  no_set : (fault : KeyFault) → codes_fault words.lms words.ots ≡ Some fault → IsNotDealt words entropy (ending.NotDealt Code)
+  no_set : (fault : KeyFault) → codes_fault words.lms words.ots ≡ Some fault
+      → IsNotDealt words entropy (ending.NotDealt Code)
   no_threshold : (params : Params) → IsSet words params → (IsThreshold words.n words.k → ⊥)
       → IsNotDealt words entropy (ending.NotDealt Threshold)
   too_many_coalitions : (params : Params) → IsSet words params → IsThreshold words.n words.k
@@ -65,12 +66,14 @@ pub data IsNotDealt (words : DealWords) (entropy : List ℕ) : Ending → Type 0
 -- the end, and the outputs that were written
 pub data DealEnds (store : StoreRun) (words : DealWords) : Ending → List Output → Type 0 where
   not_read : (end : Ending) → FailsToRead store words.entropy end → DealEnds store words end []
-  not_dealt : (entropy : List ℕ) (end : Ending) → IsRead store words.entropy (Bytes entropy) → IsNotDealt words entropy end
+  not_dealt : (entropy : List ℕ) (end : Ending) → IsRead store words.entropy (Bytes entropy)
+      → IsNotDealt words entropy end
       → DealEnds store words end []
   not_new : (entropy : List ℕ) (outputs : List Output) (done end : Ending) → IsRead store words.entropy (Bytes entropy)
       → IsDealtTo words entropy outputs done → FirstNotNew store (map (λ output. output.name) outputs) end
       → DealEnds store words end []
-  stopped : (entropy : List ℕ) (outputs written : List Output) (done end : Ending) → IsRead store words.entropy (Bytes entropy)
+  stopped : (entropy : List ℕ) (outputs written : List Output) (done end : Ending)
+      → IsRead store words.entropy (Bytes entropy)
       → IsDealtTo words entropy outputs done → All (IsNew store) (map (λ output. output.name) outputs)
       → StopsAfter store outputs written end → DealEnds store words end written
   dealt : (entropy : List ℕ) (outputs : List Output) (done : Ending) → IsRead store words.entropy (Bytes entropy)

@@ -6,7 +6,8 @@ use Rattle.lms_bytes.specs.FaultNumbers.{signature_fault_number}
 use Rattle.lms_verify.specs.declared.verification.Verdict.{Verdict}
 use Rattle.lms_verify.specs.declared.verification.Verdict.TheVariants.{Accepted, Malformed, OtherRoot}
 use Rattle.tool_run.specs.declared.undealt.Undealt.{Undealt}
-use Rattle.tool_run.specs.declared.undealt.Undealt.TheVariants.{Code, Threshold, Coalitions, Height, Width, Entropy, Keys}
+use Rattle.tool_run.specs.declared.undealt.Undealt.TheVariants.{Code, Threshold, Coalitions, Height, Width}
+use Rattle.tool_run.specs.declared.undealt.Undealt.TheVariants.{Entropy, Keys}
 
 -- an end, with what its line names
 pub data Ending : Type 0 where
@@ -46,15 +47,20 @@ undealt_line Threshold = codes "error 5 threshold" ++ end_of_line
 undealt_line (Coalitions count) = codes "error 5 coalitions " ++ (decimal count ++ end_of_line)
 undealt_line (Height h) = codes "error 5 height " ++ (decimal h ++ end_of_line)
 undealt_line Width = codes "error 5 width" ++ end_of_line
-undealt_line (Entropy got want) = codes "error 5 entropy " ++ (decimal got ++ (codes " " ++ (decimal want ++ end_of_line)))
+undealt_line (Entropy got want) =
+    codes "error 5 entropy " ++ (decimal got ++ (codes " " ++ (decimal want ++ end_of_line)))
 undealt_line (Keys t u) = codes "error 5 keys " ++ (decimal t ++ (codes " " ++ (decimal u ++ end_of_line)))
 
 abbrev pub line_of : Ending → List ℕ
 line_of (Verified (Accepted leaf)) = codes "accepted leaf " ++ (decimal leaf ++ end_of_line)
-line_of (Verified (Malformed fault)) = codes "not accepted: malformed " ++ (decimal (signature_fault_number fault) ++ end_of_line)
-line_of (Verified (OtherRoot got want)) = codes "not accepted: root " ++ (encode_lower got ++ (codes " key " ++ (encode_lower want ++ end_of_line)))
+line_of (Verified (Malformed fault)) =
+    codes "not accepted: malformed " ++ (decimal (signature_fault_number fault) ++ end_of_line)
+line_of (Verified (OtherRoot got want)) =
+    codes "not accepted: root " ++ (encode_lower got ++ (codes " key " ++ (encode_lower want ++ end_of_line)))
 line_of Rehearsed = codes "rehearsed leaf 0" ++ end_of_line
-line_of (Dealt leaves coalitions) = codes "dealt " ++ (decimal leaves ++ (codes " leaves to " ++ (decimal coalitions ++ (codes " coalitions" ++ end_of_line))))
+line_of (Dealt leaves coalitions) =
+    codes "dealt " ++ (decimal leaves
+    ++ (codes " leaves to " ++ (decimal coalitions ++ (codes " coalitions" ++ end_of_line))))
 line_of Usage = codes "error 2 usage" ++ end_of_line
 line_of StoreFailed = codes "error 3 store" ++ end_of_line
 line_of (Unreadable name fault) = codes "error 4 file " ++ (name ++ (codes " fault " ++ (decimal fault ++ end_of_line)))

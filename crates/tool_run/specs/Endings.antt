@@ -2,7 +2,8 @@
 use Rattle.std.specs.Prelude.{string_bytes}
 use Rattle.tool_run.specs.Ending as spec
 use Rattle.tool_run.specs.declared.ending.Ending.{Ending}
-use Rattle.tool_run.specs.declared.ending.Ending.TheVariants.{Verified, Rehearsed, Dealt, Usage, StoreFailed, Unreadable, NotDealt, TooLong, NoMemory, Exists}
+use Rattle.tool_run.specs.declared.ending.Ending.TheVariants.{Verified, Rehearsed, Dealt, Usage, StoreFailed}
+use Rattle.tool_run.specs.declared.ending.Ending.TheVariants.{Unreadable, NotDealt, TooLong, NoMemory, Exists}
 
 -- the end, with the bytes of the names in it
 abbrev pub ending : Ending → spec.Ending

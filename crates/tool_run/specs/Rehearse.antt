@@ -1,5 +1,5 @@
--- How `rehearse` ends: it tests that both outputs are new, reads the entropy and the message, deals and signs in memory,
--- and writes the public key and then the signature.
+-- How `rehearse` ends: it tests that both outputs are new, reads the entropy and the message, deals and signs in
+-- memory, and writes the public key and then the signature.
 use Rattle.std.specs.Prelude.{◌≡◌, ℕ, List, [], ◌∷◌, All}
 use Rattle.dealer.specs.declared.faults.DealFault.{DealFault}
 use Rattle.lms_bytes.specs.PublicKey.{public_bytes}
@@ -18,7 +18,8 @@ pub record IsRehearsedTo (entropy message key_out signature_out : List ℕ) (out
   pub signature : List ℕ
   pub can : CanRehearse entropy
   pub rehearsed : IsRehearsed entropy message public signature
-  pub outputs_are : outputs ≡ record { name = key_out; bytes = public_bytes public } ∷ record { name = signature_out; bytes = signature } ∷ []
+  pub outputs_are : outputs
+      ≡ record { name = key_out; bytes = public_bytes public } ∷ record { name = signature_out; bytes = signature } ∷ []
 
 -- the end where there is no rehearsal with this entropy
 pub data IsNotRehearsed (entropy : List ℕ) : Ending → Type 0 where
@@ -26,7 +27,8 @@ pub data IsNotRehearsed (entropy : List ℕ) : Ending → Type 0 where
   no_memory : IsNotRehearsed entropy ending.NoMemory
 
 -- the end, and the outputs that were written
-pub data RehearseEnds (store : StoreRun) (entropy message key_out signature_out : List ℕ) : Ending → List Output → Type 0 where
+pub data RehearseEnds (store : StoreRun) (entropy message key_out signature_out : List ℕ) : Ending → List Output
+    → Type 0 where
   not_new : (end : Ending) → FirstNotNew store (key_out ∷ signature_out ∷ []) end
       → RehearseEnds store entropy message key_out signature_out end []
   entropy_not_read : (end : Ending) → All (IsNew store) (key_out ∷ signature_out ∷ []) → FailsToRead store entropy end
@@ -37,7 +39,8 @@ pub data RehearseEnds (store : StoreRun) (entropy message key_out signature_out 
   not_rehearsed : (bytes text : List ℕ) (end : Ending) → All (IsNew store) (key_out ∷ signature_out ∷ [])
       → IsRead store entropy (Bytes bytes) → IsRead store message (Bytes text) → IsNotRehearsed bytes end
       → RehearseEnds store entropy message key_out signature_out end []
-  stopped : (bytes text : List ℕ) (outputs written : List Output) (end : Ending) → All (IsNew store) (key_out ∷ signature_out ∷ [])
+  stopped : (bytes text : List ℕ) (outputs written : List Output) (end : Ending)
+      → All (IsNew store) (key_out ∷ signature_out ∷ [])
       → IsRead store entropy (Bytes bytes) → IsRead store message (Bytes text)
       → IsRehearsedTo bytes text key_out signature_out outputs → StopsAfter store outputs written end
       → RehearseEnds store entropy message key_out signature_out end written

@@ -1,7 +1,8 @@
 -- What a call of the tool does: words, status, store and output before and after.
-use Rattle.std.specs.Prelude.{◌≡◌, ◌⊎◌, ◌<◌, ℕ, List, [], Option, Some, None, ◌++◌, length, IsTrue, ◌==◌, if◌then◌else◌}
+use Rattle.std.specs.Prelude.{◌≡◌, ◌⊎◌, ◌<◌, ℕ, List, [], Option, Some, None, ◌++◌, length, IsTrue, ◌==◌}
+use Rattle.std.specs.Prelude.{if◌then◌else◌}
 use Rattle.disk_trait.specs.Faults.{Rose}
-use Rattle.stream_io.specs.Sink.{GrewByPart}
+use Rattle.stream_io.specs.Talk.{WrotePart}
 use Rattle.tool_run.specs.Ending.{Ending, Usage, NoMemory, status_of, line_of}
 use Rattle.tool_run.specs.Deal.{DealEnds}
 use Rattle.tool_run.specs.Outputs.{EndsWith, Output}
@@ -25,12 +26,12 @@ MayEnd (Some row) store end written = CommandEnds row store end written
 
 -- the line was printed whole
 pub record IsPrinted (output : OutputRun) (line : List ℕ) : Type 0 where
-  pub grown : IsTrue output.told → output.written_after ≡ output.written ++ line
+  pub grown : IsTrue output.before.told → output.after.written ≡ output.before.written ++ line
 
 -- The line was not printed whole: the count of faults rose. A steady output lacked the room.
 pub record IsCutShort (output : OutputRun) (line : List ℕ) : Type 0 where
-  pub grown : IsTrue output.told → GrewByPart output.written output.written_after line
-  pub rose : Rose output.count output.count_after
+  pub grown : IsTrue output.before.told → WrotePart output.before output.after line
+  pub rose : Rose output.before.count output.after.count
   pub no_room : IsTrue output.steady → output.room < length line
 
 -- the status where the line could not be printed whole
@@ -49,9 +50,9 @@ pub record EndsSo (output : OutputRun) (end : Ending) (status : ℕ) : Type 0 wh
   pub is : (shown ≡ NoMemory) ⊎ (shown ≡ end)
   pub answered : IsAnswered output shown status
 
--- A call with these words: it came to an end by the rules of its command and had written these files, the store has them
--- beside what it had, and its status and its output are that end's or, where there was no memory for the line, those of
--- want of memory.
+-- A call with these words: it came to an end by the rules of its command and had written these files, the store has
+-- them beside what it had, and its status and its output are that end's or, where there was no memory for the line,
+-- those of want of memory.
 pub record ToolRun (words : List (List ℕ)) (world : World) (status : ℕ) : Type 0 where
   pub end : Ending
   pub ended : EndsWith (MayEnd (command_of words) world.store) world.store end

@@ -14,7 +14,8 @@ use Rattle.tool_run.specs.World.{StoreRun, Failed, TooLong, Bytes, IsRead}
 -- what became of the key's file, the message's and the signature's
 pub data VerifyEnds (store : StoreRun) (key message signature : List ℕ) : Ending → Type 0 where
   key_failed : IsRead store key Failed → VerifyEnds store key message signature ending.StoreFailed
-  key_too_long : (got : ℕ) → IsRead store key (TooLong got) → VerifyEnds store key message signature (ending.TooLong got)
+  key_too_long : (got : ℕ) → IsRead store key (TooLong got)
+      → VerifyEnds store key message signature (ending.TooLong got)
   key_refused : (bytes : List ℕ) (fault : KeyFault) → IsRead store key (Bytes bytes) → public_fault bytes ≡ Some fault
       → VerifyEnds store key message signature (ending.Unreadable key (key_fault_number fault))
   message_failed : (public : PublicKey) → IsRead store key (Bytes (public_bytes public)) → IsRead store message Failed
@@ -22,10 +23,12 @@ pub data VerifyEnds (store : StoreRun) (key message signature : List ℕ) : Endi
   message_too_long : (public : PublicKey) (got : ℕ) → IsRead store key (Bytes (public_bytes public))
       → IsRead store message (TooLong got) → VerifyEnds store key message signature (ending.TooLong got)
   signature_failed : (public : PublicKey) (text : List ℕ) → IsRead store key (Bytes (public_bytes public))
-      → IsRead store message (Bytes text) → IsRead store signature Failed → VerifyEnds store key message signature ending.StoreFailed
+      → IsRead store message (Bytes text) → IsRead store signature Failed
+      → VerifyEnds store key message signature ending.StoreFailed
   signature_too_long : (public : PublicKey) (text : List ℕ) (got : ℕ) → IsRead store key (Bytes (public_bytes public))
       → IsRead store message (Bytes text) → IsRead store signature (TooLong got)
       → VerifyEnds store key message signature (ending.TooLong got)
-  verified : (public : PublicKey) (text bytes : List ℕ) (says : Verdict) → IsRead store key (Bytes (public_bytes public))
+  verified : (public : PublicKey) (text bytes : List ℕ) (says : Verdict)
+      → IsRead store key (Bytes (public_bytes public))
       → IsRead store message (Bytes text) → IsRead store signature (Bytes bytes) → IsVerdict public text bytes says
       → VerifyEnds store key message signature (ending.Verified says)

@@ -1,5 +1,6 @@
 -- Which words are a command. A word is the list of its bytes.
-use Rattle.std.specs.Prelude.{◌≢◌, ⊤, ℕ, Bool, false, ◌==◌, ◌&&◌, ◌^◌, nat_le, nat_lt, List, [], ◌∷◌, length, Option, Some, None, if◌then◌else◌, codes}
+use Rattle.std.specs.Prelude.{◌≢◌, ⊤, ℕ, Bool, false, ◌==◌, ◌&&◌, ◌^◌, nat_le, nat_lt, List, [], ◌∷◌, length}
+use Rattle.std.specs.Prelude.{Option, Some, None, if◌then◌else◌, codes}
 use Rattle.std.specs.List.{list_any}
 use Rattle.std.specs.Str.{all_ascii_digits, bytes_eq}
 use Rattle.std.specs.Str.Parse.{digits_value}
@@ -48,9 +49,10 @@ rehearse_of (entropy ∷ message ∷ key_out ∷ signature_out ∷ []) =
     if bytes_eq key_out signature_out then None else Some (Rehearse entropy message key_out signature_out)
 rehearse_of words = None
 
--- the words after `deal`
+-- the words after `deal`; the outputs' names begin with some byte
 abbrev pub deal_of : List (List ℕ) → Option Row
 deal_of (entropy ∷ lms ∷ ots ∷ n ∷ k ∷ prefix ∷ []) =
+    if length prefix == 0 then None else
     elim (number_of lms) [
       | None ↦ None
       | Some lms ↦ elim (number_of ots) [

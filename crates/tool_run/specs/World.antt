@@ -1,7 +1,7 @@
 -- What is known of the outside before and after a call of the tool.
 use Rattle.std.specs.Prelude.{◌≡◌, ◌≤◌, ◌<◌, ℕ, Bool, List, Option, Some, None, length, option_map, IsTrue}
 use Rattle.disk_trait.specs.Faults.{Rose}
-use Rattle.tool_run.specs.declared.TheConstants.{FILE_LIMIT}
+use Rattle.stream_io.specs.Talk.{Talk}
 
 -- a store: whether it tells its content and whether it is steady, what a name is read with, and its count of faults
 pub record StoreRun : Type 0 where
@@ -13,7 +13,8 @@ pub record StoreRun : Type 0 where
   pub count_after : ℕ
 
 -- a store from one state to another
-abbrev pub store_run : {S : Type 0} → (S → Bool) → (S → Bool) → (S → List ℕ → Option (List ℕ)) → (S → ℕ) → S → S → StoreRun
+abbrev pub store_run : {S : Type 0} → (S → Bool) → (S → Bool) → (S → List ℕ → Option (List ℕ)) → (S → ℕ) → S → S
+    → StoreRun
 store_run told steady file count before after = record {
   told = told before;
   steady = steady before;
@@ -23,32 +24,29 @@ store_run told steady file count before after = record {
   count_after = count after;
 }
 
--- an output: whether it tells what was written and whether it is steady, the room that it has, all that was written to
--- it, and its count of faults
+-- an output: whether it is steady, the room that it has, and its talk before and after
 pub record OutputRun : Type 0 where
-  pub told : Bool
   pub steady : Bool
   pub room : ℕ
-  pub written : List ℕ
-  pub written_after : List ℕ
-  pub count : ℕ
-  pub count_after : ℕ
+  pub before : Talk
+  pub after : Talk
 
 -- an output from one state to another
-abbrev pub output_run : {O : Type 0} → (O → Bool) → (O → Bool) → (O → ℕ) → (O → List ℕ) → (O → ℕ) → O → O → OutputRun
-output_run told steady room written count before after = record {
-  told = told before;
+abbrev pub output_run : {O : Type 0} → (O → Bool) → (O → ℕ) → (O → Talk) → O → O → OutputRun
+output_run steady room talk before after = record {
   steady = steady before;
   room = room before;
-  written = written before;
-  written_after = written after;
-  count = count before;
-  count_after = count after;
+  before = talk before;
+  after = talk after;
 }
 
 pub record World : Type 0 where
   pub store : StoreRun
   pub output : OutputRun
+
+-- how long a file may be that the tool reads whole
+abbrev pub file_limit : ℕ
+file_limit = 67108864
 
 -- what came of reading a file
 pub data Reading : Type 0 where
@@ -61,5 +59,6 @@ pub data Reading : Type 0 where
 abbrev pub IsRead : StoreRun → List ℕ → Reading → Type 0
 IsRead store name Failed =
     Rose store.count store.count_after × (IsTrue store.told → IsTrue store.steady → store.file name ≡ None)
-IsRead store name (TooLong got) = (FILE_LIMIT < got) × (IsTrue store.told → option_map length (store.file name) ≡ Some got)
-IsRead store name (Bytes bytes) = (length bytes ≤ FILE_LIMIT) × (IsTrue store.told → store.file name ≡ Some bytes)
+IsRead store name (TooLong got) =
+    (file_limit < got) × (IsTrue store.told → option_map length (store.file name) ≡ Some got)
+IsRead store name (Bytes bytes) = (length bytes ≤ file_limit) × (IsTrue store.told → store.file name ≡ Some bytes)

@@ -1,6 +1,7 @@
 //! What makes clocks, in memory and over the machine's clock.
 
-ghost use Rattle.std.specs.Prelude.{◌≡◌, ◌+◌, ◌-◌, ◌^◌, ℕ, Bool, All, min, length, IsTrue, IsFalse, IfOk, true, false};
+ghost use Rattle.std.specs.Prelude.{◌≡◌, ◌+◌, ◌-◌, ◌^◌, ℕ, Bool, All, min, length, IsTrue, IsFalse, IfOk, true};
+ghost use Rattle.std.specs.Prelude.{false};
 
 use memory::NoMemory;
 use std::alloc::Global;

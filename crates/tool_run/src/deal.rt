@@ -23,8 +23,8 @@ use crate::undealt::Undealt;
 use crate::words::DealWords;
 use coalition_map::{Plan, PlanFault};
 use dealer::{DealFault, DealingFiles, deal};
-use memory::NoMemory;
 use lms_bytes::Params;
+use memory::NoMemory;
 use std::alloc::{AllocError, Global};
 use stream_io::Store;
 
@@ -59,7 +59,8 @@ fn dealt_outputs(
     words: &DealWords,
     entropy: &[u8],
 ) -> Result<(Vec<Output>, Ending), Ending>
-    ensures dealt { IfOk result (λ dealt. IsDealtTo (deal_words words.now) entropy.now (map output_of dealt.0.items) (ending dealt.1)) }
+    ensures dealt { IfOk result (λ dealt.
+        IsDealtTo (deal_words words.now) entropy.now (map output_of dealt.0.items) (ending dealt.1)) }
     ensures refused { IfErr result (λ end. IsNotDealt (deal_words words.now) entropy.now (ending end)) }
 {
     let params = set_of(words)?;
@@ -84,7 +85,8 @@ fn dealt_files(
     requires plan { IsPlan plan.now }
     ensures files { IfOk result (AreFiles (dealing_of params.now plan.now entropy.now)) }
     ensures dealable { OnOk result (IsDealable params.now plan.now entropy.now) }
-    ensures refused { IfErr result (λ end. (ending end ≡ spec.NoMemory) ⊎ (fault : DealFault) × HasFault params.now plan.now entropy.now fault × (ending end ≡ end_of_fault fault)) }
+    ensures refused { IfErr result (λ end. (ending end ≡ spec.NoMemory) ⊎ (fault : DealFault)
+        × HasFault params.now plan.now entropy.now fault × (ending end ≡ end_of_fault fault)) }
 {
     let dealt = match deal(alloc, params, plan, entropy) {
         Ok(dealt) => dealt,
@@ -154,7 +156,8 @@ fn named(name: String, bytes: Vec<u8>) -> Output
 /// The parameter set of the words.
 fn set_of(words: &DealWords) -> Result<Params, Ending>
     ensures set { IfOk result (IsSet (deal_words words.now)) }
-    ensures refused { IfErr result (λ end. (entropy : List ℕ) → IsNotDealt (deal_words words.now) entropy (ending end)) }
+    ensures refused { IfErr result (λ end. (entropy : List ℕ)
+        → IsNotDealt (deal_words words.now) entropy (ending end)) }
 {
     match Params::of_codes(words.lms, words.ots) {
         Ok(params) => Ok(params),
@@ -167,7 +170,8 @@ fn plan_of(words: &DealWords, params: &Params) -> Result<Plan, Ending>
     requires set { IsSet (deal_words words.now) params.now }
     ensures plan { IfOk result (λ plan. plan ≡ plan_of (deal_words words.now) params.now) }
     ensures sound { IfOk result IsPlan }
-    ensures refused { IfErr result (λ end. (entropy : List ℕ) → IsNotDealt (deal_words words.now) entropy (ending end)) }
+    ensures refused { IfErr result (λ end. (entropy : List ℕ)
+        → IsNotDealt (deal_words words.now) entropy (ending end)) }
 {
     match Plan::new(byte_of(words.n), byte_of(words.k), params.h) {
         Ok(plan) => Ok(plan),

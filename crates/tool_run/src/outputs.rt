@@ -1,10 +1,12 @@
 //! Files that a command writes under new names.
 
-ghost use Rattle.std.specs.Prelude.{◌≡◌, ◌≤◌, ◌⊎◌, ℕ, List, [], ◌∷◌, All, map, string_bytes, None, IsTrue, IfErr, OnOk, OnErr};
+ghost use Rattle.std.specs.Prelude.{◌≡◌, ◌≤◌, ◌⊎◌, ℕ, List, [], ◌∷◌, All, map, string_bytes, None, IsTrue};
+ghost use Rattle.std.specs.Prelude.{IfErr, OnOk, OnErr};
 ghost use Rattle.tool_run.specs.Ending as spec;
 ghost use Rattle.tool_run.specs.Endings.{ending};
 ghost use Rattle.tool_run.specs.OutputOf.{output_of};
-ghost use Rattle.tool_run.specs.Outputs.{AreDifferent, EndsWith, FirstNotNew, IsLeft, IsNew, IsNotNew, StopsAfter, all_added};
+ghost use Rattle.tool_run.specs.Outputs.{AreDifferent, EndsWith, FirstNotNew, IsLeft, IsNew, IsNotNew};
+ghost use Rattle.tool_run.specs.Outputs.{StopsAfter, all_added};
 ghost use Rattle.tool_run.specs.World.{store_run};
 
 use crate::ending::Ending;
@@ -30,7 +32,8 @@ fn exists(alloc: Global, name: &str) -> Ending
 
 /// Tests that a name is not in the store.
 pub(crate) fn test_new<S: Store>(alloc: Global, store: &mut S, name: &str) -> Result<(), Ending>
-    ensures new { let run = store_run S.told S.steady S.file S.count store.old store.new in OnOk result (IsNew run name.now) }
+    ensures new { let run = store_run S.told S.steady S.file S.count store.old store.new in
+        OnOk result (IsNew run name.now) }
     ensures refused { let run = store_run S.told S.steady S.file S.count store.old store.new in
         IfErr result (λ end. IsNotNew run name.now (ending end)) }
     ensures file { S.file store.new ≡ S.file store.old }
@@ -98,7 +101,8 @@ pub(crate) fn write_all<S: Store>(
     ensures written { let run = store_run S.told S.steady S.file S.count store.old store.new in
         OnOk result (IsLeft run (map output_of outputs.now)) }
     ensures refused { let run = store_run S.told S.steady S.file S.count store.old store.new in
-        IfErr result (λ end. EndsWith (λ end written. StopsAfter run (map output_of outputs.now) written end) run (ending end)) }
+        IfErr result (λ end.
+        EndsWith (λ end written. StopsAfter run (map output_of outputs.now) written end) run (ending end)) }
     ensures count { S.count store.old ≤ S.count store.new }
     ensures told { S.told store.new ≡ S.told store.old }
     ensures steady { S.steady store.new ≡ S.steady store.old }

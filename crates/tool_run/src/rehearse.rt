@@ -49,9 +49,11 @@ fn try_rehearse<S: Store>(
 ) -> Result<(), Ending>
     requires { key_out.now ≢ signature_out.now }
     ensures rehearsed { let run = store_run S.told S.steady S.file S.count store.old store.new in
-        OnOk result (EndsWith (RehearseEnds run entropy.now message.now key_out.now signature_out.now) run spec.Rehearsed) }
+        OnOk result (EndsWith (RehearseEnds run entropy.now message.now key_out.now signature_out.now) run
+        spec.Rehearsed) }
     ensures refused { let run = store_run S.told S.steady S.file S.count store.old store.new in
-        IfErr result (λ end. EndsWith (RehearseEnds run entropy.now message.now key_out.now signature_out.now) run (ending end)) }
+        IfErr result (λ end. EndsWith (RehearseEnds run entropy.now message.now key_out.now signature_out.now) run
+        (ending end)) }
 {
     test_new(alloc, store, key_out)?;
     test_new(alloc, store, signature_out)?;
@@ -69,7 +71,8 @@ fn rehearsed_outputs(
     key_out: &str,
     signature_out: &str,
 ) -> Result<[Output; 2], Ending>
-    ensures rehearsed { IfOk result (λ outputs. IsRehearsedTo entropy.now message.now key_out.now signature_out.now (map output_of outputs)) }
+    ensures rehearsed { IfOk result (λ outputs.
+        IsRehearsedTo entropy.now message.now key_out.now signature_out.now (map output_of outputs)) }
     ensures refused { IfErr result (λ end. IsNotRehearsed entropy.now (ending end)) }
 {
     let rehearsed = match rehearse(alloc, entropy, message) {

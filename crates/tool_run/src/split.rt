@@ -17,9 +17,14 @@ fn command<'a>(alloc: Global, name: &'a str, words: &[&'a str]) -> Result<Parser
         .disable_help_flag(true)
         .disable_version_flag(true);
     for word in words {
-        parser = parser.arg(Arg::new(alloc, word).required(true).action(ArgAction::Set))?;
+        parser = parser.arg(word_of(alloc, word))?;
     }
     Ok(parser)
+}
+
+/// A word of a command, which has to be there.
+fn word_of<'a>(alloc: Global, name: &'a str) -> Arg<'a> {
+    Arg::new(alloc, name).required(true).action(ArgAction::Set)
 }
 
 /// The parser of all commands. It has no help and no version.

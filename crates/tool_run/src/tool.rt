@@ -33,7 +33,7 @@ pub fn run_tool<R: Threads + Wait + Sync, S: Store, N: Net, T: Clocks, O: Sink>(
     ensures run { ToolRun (map string_bytes words.now)
         (record {
           store = store_run S.told S.steady S.file S.count store.old store.new;
-          output = output_run O.told O.steady O.room O.written O.count out.old out.new;
+          output = output_run O.steady O.room O.talk out.old out.new;
         })
         result }
 {
@@ -76,7 +76,7 @@ fn run_command<S: Store>(alloc: Global, store: &mut S, command: &Command) -> End
 
 /// Prints the line of an end, and answers its status.
 fn finish<O: Sink>(alloc: Global, end: &Ending, out: &mut O) -> u8
-    ensures { let run = output_run O.told O.steady O.room O.written O.count out.old out.new in
+    ensures { let run = output_run O.steady O.room O.talk out.old out.new in
         EndsSo run (ending end.now) result }
 {
     match end.line(alloc) {
@@ -87,7 +87,7 @@ fn finish<O: Sink>(alloc: Global, end: &Ending, out: &mut O) -> u8
 
 /// Prints a line, and answers the status: 3 in the place of 0 where the line cannot be printed whole.
 fn print<O: Sink>(line: &[u8], status: u8, out: &mut O) -> u8
-    ensures { let run = output_run O.told O.steady O.room O.written O.count out.old out.new in
+    ensures { let run = output_run O.steady O.room O.talk out.old out.new in
         (IsPrinted run line.now × (result ≡ status))
         ⊎ (IsCutShort run line.now × (result ≡ (if status == 0 then 3 else status))) }
 {

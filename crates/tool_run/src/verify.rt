@@ -43,7 +43,8 @@ fn read_and_verify<S: Store>(
     ensures verdict { let run = store_run S.told S.steady S.file S.count store.old store.new in
         IfOk result (λ verdict. VerifyEnds run key.now message.now signature.now (spec.Verified verdict)) }
     ensures refused { let run = store_run S.told S.steady S.file S.count store.old store.new in
-        IfErr result (λ end. (ending end ≡ spec.NoMemory) ⊎ VerifyEnds run key.now message.now signature.now (ending end)) }
+        IfErr result (λ end. (ending end ≡ spec.NoMemory)
+        ⊎ VerifyEnds run key.now message.now signature.now (ending end)) }
     ensures file { S.file store.new ≡ S.file store.old }
 {
     let public = read_key(alloc, store, key)?;

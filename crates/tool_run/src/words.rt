@@ -134,13 +134,16 @@ fn rehearse_of(words: &[String]) -> Option<Command<'_>>
     })
 }
 
-/// The words after `deal`.
+/// The words after `deal`. What the names of the outputs begin with is not empty.
 fn deal_of(words: &[String]) -> Option<Command<'_>>
     ensures { option_map row result ≡ deal_of (map string_bytes words.now) }
 {
     let [entropy, lms, ots, n, k, prefix] = words else {
         return None;
     };
+    if prefix.as_str().is_empty() {
+        return None;
+    }
     Some(Command::Deal(DealWords {
         entropy: entropy.as_str(),
         lms: number_of(lms.as_str())?,

@@ -1,6 +1,9 @@
 //! Runs the tool as a user does, over files: on keys and signatures of twelve parameter sets that another
-//! implementation made, and on words and files that it has to refuse. It prints the status behind each line.
+//! implementation made, and on words and files that it has to refuse; and then over files in memory. It prints the
+//! status behind each line.
 #![tactic(auto)]
+
+mod memory;
 
 use std::alloc::{AllocError, Global};
 use std::io;
@@ -12,19 +15,29 @@ const VECTORS: [&str; 12] = [
     "5-1", "5-2", "5-3", "5-4", "10-5", "10-6", "10-7", "10-8", "6-3", "9-4", "11-7", "14-8",
 ];
 
-/// Words that end otherwise: a signature of another set, a message in the place of the key, a file that is not there,
-/// and a word too many.
-const REFUSED: [&[&str]; 4] = [
-    &["verify", "5-3.key", "5-3.message", "5-4.signature"],
-    &["verify", "10-8.message", "10-8.message", "10-8.signature"],
-    &["verify", "10-8.key", "10-8.message", "none"],
-    &[
-        "verify",
-        "10-8.key",
-        "10-8.message",
-        "10-8.signature",
-        "more",
-    ],
+/// Words that end otherwise: a signature of another set, a message in the place of the key, and a file that is not
+/// there.
+const REFUSED: [&str; 3] = [
+    "verify 5-3.key 5-3.message 5-4.signature",
+    "verify 10-8.message 10-8.message 10-8.signature",
+    "verify 10-8.key 10-8.message none",
+];
+
+/// Words that are no command: no word, a word too few or too many, an option, no name of a command, outputs of one
+/// name, numbers that are none or too great or too long, and an empty prefix.
+const FAULTY: [&str; 12] = [
+    "",
+    "verify 10-8.key 10-8.message",
+    "verify 10-8.key 10-8.message 10-8.signature more",
+    "verify 10-8.key -x 10-8.signature",
+    "help",
+    "rehearse e m a a",
+    "deal e 5 3 3  a",
+    "deal e 5 3 3 +2 a",
+    "deal e 5 3 3 4294967296 a",
+    "deal e 5 3 3 00000000002 a",
+    "deal e 5 3 3 2 a b",
+    "deal e 5 3 3 2 ",
 ];
 
 /// The words `verify NAME.key NAME.message NAME.signature`.
@@ -37,11 +50,11 @@ fn verify_words(alloc: Global, name: &str) -> Result<Vec<String>, AllocError> {
     Ok(words)
 }
 
-/// A list of words.
-fn words_of(alloc: Global, texts: &[&str]) -> Result<Vec<String>, AllocError> {
+/// The words of a text.
+fn words_of(alloc: Global, text: &str) -> Result<Vec<String>, AllocError> {
     let mut words = Vec::new(alloc);
-    for text in texts {
-        words.push(String::from_str(alloc, text)?)?;
+    for word in text.split(' ') {
+        words.push(String::from_str(alloc, word)?)?;
     }
     Ok(words)
 }
@@ -52,8 +65,11 @@ fn cases(alloc: Global) -> Result<Vec<Vec<String>>, AllocError> {
     for name in VECTORS {
         cases.push(verify_words(alloc, name)?)?;
     }
-    for texts in REFUSED {
-        cases.push(words_of(alloc, texts)?)?;
+    for text in REFUSED {
+        cases.push(words_of(alloc, text)?)?;
+    }
+    for text in FAULTY {
+        cases.push(words_of(alloc, text)?)?;
     }
     Ok(cases)
 }
@@ -75,5 +91,5 @@ fn main(rt: HostRuntime) -> io::Result<()> {
         );
         println!(rt; "status {status}")?;
     }
-    Ok(())
+    memory::print_runs(rt)
 }

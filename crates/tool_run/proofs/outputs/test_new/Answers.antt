@@ -8,4 +8,4 @@ returns-in-Ok-true-clause-refused g c =
 
 pub returns-in-Err-clause-refused : goal.returns-in-Err-clause-refused
 returns-in-Err-clause-refused g c =
-    test_failed (record { rose = c.in-Err.ensures.cause; unsteady = λ steady. let ok = c.in-Err.ensures.answers steady in cc })
+    test_failed (record { rose = c.in-Err.ensures.cause.failed; unsteady = λ steady. let ok = c.in-Err.ensures.answers steady in cc })

@@ -12,7 +12,7 @@ returns-in-Err-Exists-clause-refused g c =
 
 pub returns-in-Err-Failed-clause-refused : goal.returns-in-Err-Failed-clause-refused
 returns-in-Err-Failed-clause-refused g c =
-    test_failed (record { rose = c.in-Err-Failed.ensures.cause (cc); unsteady = λ steady. c.in-Err-Failed.ensures.answers steady (cc) })
+    test_failed (record { rose = c.in-Err-Failed.ensures.cause.rose (cc); unsteady = λ steady. c.in-Err-Failed.ensures.answers steady (cc) })
 
 pub returns-in-Err-NoMemory-clause-refused : goal.returns-in-Err-NoMemory-clause-refused
 returns-in-Err-NoMemory-clause-refused g c = no_memory_to_name

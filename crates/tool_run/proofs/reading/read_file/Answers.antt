@@ -5,14 +5,14 @@ pub returns-in-Err-Failed-clause-refused : goal.returns-in-Err-Failed-clause-ref
 returns-in-Err-Failed-clause-refused g c =
     let read = c.in-Err-Failed.ensures in
     let is = c.in-Err-Failed.field-0-is in
-    failed (read.cause (cc), λ told steady. read.absent told steady (cc))
+    failed (read.cause.rose (cc), λ told steady. read.absent told steady (cc))
 
 pub returns-in-Err-TooLong-clause-refused : goal.returns-in-Err-TooLong-clause-refused
 returns-in-Err-TooLong-clause-refused g c =
     let read = c.in-Err-TooLong.ensures in
     let is = c.in-Err-TooLong.field-0-is in
     let got = c.in-Err-TooLong.got-is in
-    too_long c.in-Err-TooLong.got (read.above c.in-Err-TooLong.got (cc), λ told. read.length told c.in-Err-TooLong.got (cc))
+    too_long c.in-Err-TooLong.got (read.above c.in-Err-TooLong.got (cc))
 
 pub returns-in-Err-NoMemory-clause-refused : goal.returns-in-Err-NoMemory-clause-refused
 returns-in-Err-NoMemory-clause-refused g c = no_memory

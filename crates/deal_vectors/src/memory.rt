@@ -1,0 +1,85 @@
+//! Runs over files in memory: what stands after each failed call, and each refusal of a dealing with its line.
+
+use std::alloc::AllocError;
+use std::io::{self, ErrorKind};
+use stream_io::{MemNet, MemSink, MemStore, StdoutSink, Store, write_whole};
+use tool_run::{MemClocks, run_tool};
+
+/// Names that a run may write.
+const OUTPUTS: &[&str] = &[
+    "k", "s", "a.pub", "a.tree", "a.ref", "a.share1", "a.share2", "a.share3",
+];
+
+/// Dealings that are refused, each with the length of its entropy.
+const REFUSED: &[(&str, usize)] = &[
+    ("deal e 5 9 5 3 a", 240),
+    ("deal e 5 3 5 1 a", 240),
+    ("deal e 5 3 300 256 a", 240),
+    ("deal e 5 3 12 6 a", 464),
+    ("deal e 7 3 5 3 a", 239),
+    ("deal e 6 4 5 3 a", 239),
+    ("deal e 5 3 5 3 a", 239),
+    ("deal e 5 3 12 12 a", 464),
+];
+
+/// A store with the file `e` of so many bytes, which count up from 0, and the empty file `m`. The listed calls fail.
+fn dealing_store(rt: HostRuntime, length: usize, failing: &[u64]) -> Result<MemStore, AllocError> {
+    let mut entropy = Vec::new(rt.alloc());
+    for i in 0..length {
+        entropy.push((i % 256) as u8)?;
+    }
+    let mut files = Vec::new(rt.alloc());
+    files.push((String::from_str(rt.alloc(), "e")?, entropy))?;
+    files.push((String::from_str(rt.alloc(), "m")?, Vec::new(rt.alloc())))?;
+    Ok(MemStore::new(files, Vec::from_slice(rt.alloc(), failing)?))
+}
+
+/// Runs the words over a store. It prints what was printed, the status, and the outputs that are in the store.
+fn print_run(rt: HostRuntime, text: &str, mut store: MemStore, room: usize) -> io::Result<()> {
+    let words = crate::words_of(rt.alloc(), text)?;
+    let Ok(mut out) = MemSink::new(rt.alloc(), room, 7, Vec::new(rt.alloc())) else {
+        return Err(io::Error::from(ErrorKind::OutOfMemory));
+    };
+    let status = run_tool(
+        &rt,
+        rt.alloc(),
+        words.as_slice(),
+        &mut store,
+        &mut MemNet::new(Vec::new(rt.alloc())),
+        &mut MemClocks::new(0),
+        &mut out,
+    );
+    let _ = write_whole(&mut StdoutSink::new(rt), out.written());
+    print!(rt; "[status {status}]")?;
+    for name in OUTPUTS {
+        if let Ok(true) = store.has(name) {
+            print!(rt; " {name}")?;
+        }
+    }
+    println!(rt; "")
+}
+
+/// Runs `rehearse` and `deal` with each failing call, with none, and with little room, and then what is refused.
+pub(crate) fn print_runs(rt: HostRuntime) -> io::Result<()> {
+    // Two tests of names, two reads and two writes; the key is written before the signature.
+    for call in 0..6 {
+        print_run(
+            rt,
+            "rehearse e m k s",
+            dealing_store(rt, 144, &[call])?,
+            100,
+        )?;
+    }
+    // A read, six tests of names and six writes.
+    let deal = "deal e 10 5 3 2 a";
+    for call in 0..13 {
+        print_run(rt, deal, dealing_store(rt, 176, &[call])?, 100)?;
+    }
+    for room in [100, 5] {
+        print_run(rt, deal, dealing_store(rt, 176, &[])?, room)?;
+    }
+    for (text, length) in REFUSED {
+        print_run(rt, text, dealing_store(rt, *length, &[])?, 100)?;
+    }
+    Ok(())
+}

@@ -1,0 +1,46 @@
+-- What has gone over a stream, and what a call on it changes.
+use Rattle.std.specs.Prelude.{◌≡◌, ◌<◌, ◌≤◌, ◌++◌, ℕ, Bool, List, Option, length, take, drop}
+
+-- A stream in one state: whether it tells its bytes, the place that was dialled or none, the bytes that were read of it
+-- and those that a peer has given and nobody has read, the bytes that were written to it, the oldest byte first each,
+-- and its count of faults. The bytes mean something only where they are told.
+pub record Talk : Type 0 where
+  pub told : Bool
+  pub place : Option (List ℕ)
+  pub taken : List ℕ
+  pub left : List ℕ
+  pub written : List ℕ
+  pub count : ℕ
+
+-- a call that reads: what was written stays, and no count falls
+pub record OnlyRead (old new : Talk) : Type 0 where
+  pub told : new.told ≡ old.told
+  pub place : new.place ≡ old.place
+  pub written : new.written ≡ old.written
+  pub count : old.count ≤ new.count
+
+-- a call that writes: what was read and what is left stays, and no count falls
+pub record OnlyWrote (old new : Talk) : Type 0 where
+  pub told : new.told ≡ old.told
+  pub place : new.place ≡ old.place
+  pub taken : new.taken ≡ old.taken
+  pub left : new.left ≡ old.left
+  pub count : old.count ≤ new.count
+
+-- so many bytes were left, and just these were read
+pub record Took (old new : Talk) (size : ℕ) : Type 0 where
+  pub there : size ≤ length old.left
+  pub taken : new.taken ≡ old.taken ++ take size old.left
+  pub left : new.left ≡ drop size old.left
+
+-- some bytes were read, fewer than were asked for
+pub record TookPart (old new : Talk) (asked : ℕ) : Type 0 where
+  pub size : ℕ
+  pub short : size < asked
+  pub took : Took old new size
+
+-- a beginning of the bytes was written, and not all of them
+pub record WrotePart (old new : Talk) (bytes : List ℕ) : Type 0 where
+  pub size : ℕ
+  pub short : size < length bytes
+  pub written : new.written ≡ old.written ++ take size bytes
