@@ -5,3 +5,5 @@ pub mod Maps
 mod Sound
 pub mod Held
 mod Found
+mod Events
+mod Entering

@@ -1,7 +1,6 @@
 -- What the slots of a leaf table's file mean.
 use Rattle.std.specs.Prelude.{◌≡◌, ◌<◌, ℕ, Bool, true, false, List, [], ◌∷◌, ◌++◌, length, replicate, sum_by}
-use Rattle.lms_bytes.specs.Bytes.{bytes_at, str_to_u32}
-use Rattle.lms_bytes.specs.declared.message.MessageId.{MessageId}
+use Rattle.lms_bytes.specs.MessageId.{message_id_of}
 use Rattle.leaf_table.specs.Entries.{LeafUse, IsFree, IsLeased, IsBurnt, IsTorn, map_of}
 use Rattle.leaf_table.specs.declared.lease.Lease.{Lease}
 use Rattle.leaf_table.specs.declared.lease.Lease.TheVariants.{Leased, Burnt}
@@ -20,20 +19,16 @@ use_of_slot (Damaged a b) = IsTorn
 abbrev pub report_body : List ℕ → ℕ → List ℕ
 report_body message by = message ++ by ∷ replicate 27 0
 
--- the message id of 36 bytes
-abbrev pub message_of : List ℕ → MessageId
-message_of body = record { length = str_to_u32 (bytes_at body 0 4); hash = bytes_at body 4 32 }
-
 -- the entry that made a slot what it is
 abbrev pub lease_of_slot : ℕ → Slot → Lease
-lease_of_slot leaf (Half a) = Leased leaf (message_of a)
+lease_of_slot leaf (Half a) = Leased leaf (message_id_of a)
 lease_of_slot leaf slot = Burnt leaf
 
 -- the entries that a slot has: its lease, and then its burning
 abbrev pub entries_of_slot : ℕ → Slot → List Lease
 entries_of_slot leaf Free = []
-entries_of_slot leaf (Half a) = Leased leaf (message_of a) ∷ []
-entries_of_slot leaf (Full a b moment) = Leased leaf (message_of a) ∷ Burnt leaf ∷ []
+entries_of_slot leaf (Half a) = Leased leaf (message_id_of a) ∷ []
+entries_of_slot leaf (Full a b moment) = Leased leaf (message_id_of a) ∷ Burnt leaf ∷ []
 entries_of_slot leaf (Damaged a b) = []
 
 -- a slot may become another by one entry

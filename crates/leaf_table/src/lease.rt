@@ -3,7 +3,6 @@
 ghost use Rattle.std.specs.Prelude.{◌≡◌};
 ghost use Rattle.leaf_table.specs.Slots.{lease_of_slot};
 
-use crate::bodies::message_of;
 use lms_bytes::MessageId;
 use slot_file::Slot;
 
@@ -31,7 +30,7 @@ pub(crate) fn lease_of_slot(leaf: u32, slot: &Slot) -> Lease
     match slot {
         Slot::Half(a) => Lease::Leased {
             leaf,
-            message: message_of(a),
+            message: MessageId::of_bytes(a),
         },
         Slot::Free | Slot::Full(..) | Slot::Damaged { .. } => Lease::Burnt { leaf },
     }

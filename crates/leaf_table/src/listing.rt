@@ -8,9 +8,9 @@ ghost use Rattle.slot_cache.specs.Cache.{count_of, state_of as cache_state};
 ghost use Rattle.slot_cache.specs.State.{IsWhole, slot_in};
 ghost use Rattle.slot_file.specs.Copies.{is_damaged};
 
-use crate::bodies::message_of;
 use crate::lease::Lease;
 use disk_trait::Disk;
+use lms_bytes::MessageId;
 use memory::NoMemory;
 use slot_cache::CachedSlots;
 use slot_file::Slot;
@@ -40,11 +40,11 @@ fn add_slot(entries: &mut Vec<Lease>, leaf: u32, slot: &Slot)
     match slot {
         Slot::Free | Slot::Damaged { .. } => {}
         Slot::Half(a) => {
-            let message = message_of(a);
+            let message = MessageId::of_bytes(a);
             add(entries, &Lease::Leased { leaf, message });
         }
         Slot::Full(a, ..) => {
-            let message = message_of(a);
+            let message = MessageId::of_bytes(a);
             add(entries, &Lease::Leased { leaf, message });
             add(entries, &Lease::Burnt { leaf });
         }

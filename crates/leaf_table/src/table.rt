@@ -11,7 +11,7 @@ ghost use Rattle.leaf_table.specs.Steps.{LeasesIn, Makes, Settles};
 ghost use Rattle.slot_cache.specs.Cache.{count_of, header_of as cache_header, state_of as cache_state};
 ghost use Rattle.slot_file.specs.Disks.{RisesAt, Unwritten};
 
-use crate::bodies::{message_bytes, report_bytes};
+use crate::bodies::report_bytes;
 use crate::faults::TableFault;
 use crate::lease::{Lease, lease_of_slot};
 use crate::listing::{add, entries_of};
@@ -94,7 +94,7 @@ impl<D: Disk> Table<D> {
         ensures event { LeasesIn (plan_of self.old) (state_of self.old) c message.now result (state_of self.new) }
         ensures enters { Enters self.old self.new result }
     {
-        let leased = Slot::Half(message_bytes(message));
+        let leased = Slot::Half(message.to_bytes());
         if let Some(leaf) = least_leaf(&self.slots, &self.plan, c, &leased) {
             return Ok(leaf);
         }
@@ -114,7 +114,7 @@ impl<D: Disk> Table<D> {
         ensures leaf { IfOk result (λ leased. leased ≡ leaf) }
         ensures enters { Enters self.old self.new result }
     {
-        match self.slots.put_a(leaf, &message_bytes(message)) {
+        match self.slots.put_a(leaf, &message.to_bytes()) {
             Ok(()) => {
                 let message = *message;
                 add(&mut self.entries, &Lease::Leased { leaf, message });
@@ -135,10 +135,10 @@ impl<D: Disk> Table<D> {
         if let Err(fault) = self.settle() {
             return Err(fault);
         }
-        match self.slots.slot(leaf) {
-            Slot::Half(_) => self.put_burnt(leaf, message, by),
-            Slot::Free | Slot::Full(..) | Slot::Damaged { .. } => Ok(()),
-        }
+        let Slot::Half(_) = self.slots.slot(leaf) else {
+            return Ok(());
+        };
+        self.put_burnt(leaf, message, by)
     }
 
     // Burns a leaf that is leased for this message, where nothing is in doubt.
