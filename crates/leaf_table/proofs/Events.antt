@@ -1,6 +1,6 @@
 -- The events of a call from those of its steps.
 use Rattle.std.proofs.Common.{◌≡◌, ◌≢◌, ◌⊎◌, ◌^◌, ◌<◌, ℕ, List, ◌∷◌, [], ◌++◌, Option, None, Some, Result, Ok, Err, true, length, inl, inr, refl, sym, ◌∙◌, ap, subst}
-use Rattle.std.specs.Prelude.{IfOk}
+use Rattle.std.specs.Prelude.{IfNone, IfOk, IfSome}
 use Rattle.std.proofs.lemmas.Bool.{cases_eq}
 use Rattle.coalition_map.specs.Coalitions.{IsLeafAfter, PlanNumbers}
 use Rattle.lms_bytes.specs.MessageId.{message_id_bytes}
@@ -38,6 +38,14 @@ module _ (plan : PlanNumbers) (c : ℕ) (slots : List Slot) (entries : List Leas
 
   pub none-of : (wanted : LeafUse) → HasNone plan c (λ q. use_of_slot (slot_in slots q)) wanted → HasNone plan c (map_of entries) wanted
   none-of wanted none leaf own is = none leaf own (here leaf own ∙ is)
+
+pub if-some : (o : Option ℕ) (P Q : ℕ → Type 0) → ((x : ℕ) → P x → Q x) → IfSome o P → IfSome o Q
+if-some None P Q on h = h
+if-some (Some x) P Q on h = on x h
+
+pub if-none : (o : Option ℕ) (P Q : Type 0) → (P → Q) → IfNone o P → IfNone o Q
+if-none None P Q on h = on h
+if-none (Some x) P Q on h = h
 
 -- ---- leasing
 pub leases-unsettled : (plan : PlanNumbers) (before after : TableState) (members : List ℕ) (message : MessageId) (c : ℕ) (fault : TableFault)

@@ -7,3 +7,5 @@ pub mod Held
 mod Found
 mod Events
 mod Entering
+mod Running
+mod Once

@@ -3,6 +3,7 @@
 
 mod bodies;
 mod faults;
+pub mod laws;
 mod lease;
 mod listing;
 mod searching;
@@ -10,4 +11,7 @@ mod table;
 
 pub use faults::TableFault;
 pub use lease::Lease;
-pub use table::Table;
+pub use table::{Table, TableName};
+
+#[cfg(test)]
+mod tests;

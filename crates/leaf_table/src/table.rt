@@ -1,11 +1,11 @@
 //! The leaf table.
 
-ghost use Rattle.std.specs.Prelude.{◌≡◌, ◌≢◌, ◌^◌, ◌+◌, ◌<◌, ◌≤◌, ℕ, length, vec_capacity, IsTrue, IfOk, IfErr, None, Ok, Err};
+ghost use Rattle.std.specs.Prelude.{◌≡◌, ◌≢◌, ◌^◌, ◌+◌, ◌<◌, ◌≤◌, ℕ, length, vec_capacity, IsTrue, IfOk, IfErr, IfNone, IfSome, OnOk, None, Ok, Err};
 ghost use Rattle.coalition_map.specs.Coalitions.{count_of as coalition_count};
 ghost use Rattle.lms_bytes.specs.MessageId.{message_id_bytes};
-ghost use Rattle.leaf_table.specs.Entries.{IsFree, IsLeased, map_of};
-ghost use Rattle.leaf_table.specs.Leasing.{Burns, Leases, WasLeasedFor};
-ghost use Rattle.leaf_table.specs.Slots.{report_body, room_in};
+ghost use Rattle.leaf_table.specs.Entries.{IsBurnt, IsFree, IsLeased, IsTorn, map_of};
+ghost use Rattle.leaf_table.specs.Leasing.{Burns, HasNone, IsLeast, Leases, WasLeasedFor};
+ghost use Rattle.leaf_table.specs.Slots.{report_body, room_in, use_of_slot};
 ghost use Rattle.leaf_table.specs.State.{IsSound, state_with};
 ghost use Rattle.leaf_table.specs.Steps.{LeasesIn, Makes, Settles};
 ghost use Rattle.slot_cache.specs.Cache.{count_of, header_of as cache_header, state_of as cache_state};
@@ -23,6 +23,7 @@ use memory::NoMemory;
 use slot_cache::{CacheLoad, CachedSlots, Settled};
 use slot_file::{Header, Slot};
 use std::alloc::Global;
+use turn_lock::Kept;
 
 /// A leaf table on a disk.
 #[derive(Drop)]
@@ -77,6 +78,8 @@ impl<D: Disk> Table<D> {
     /// calls of the disk. It takes no memory.
     pub fn lease(&mut self, members: Members, message: &MessageId) -> Result<u32, TableFault>
         ensures event { Leases (plan_of self.old) (state_of self.old) members message.now result (state_of self.new) }
+        ensures idle { (state_of self.old).doubt ≡ None → (state_of self.new).entries ≡ (state_of self.old).entries
+            → result ≢ Err TableFault.Device → self.new ≡ self.old }
         ensures enters { Enters self.old self.new result }
     {
         let Some(c) = self.plan.number_of(members) else {
@@ -92,16 +95,29 @@ impl<D: Disk> Table<D> {
     fn lease_of(&mut self, c: u32, message: &MessageId) -> Result<u32, TableFault>
         requires settled { (state_of self.old).doubt ≡ None }
         ensures event { LeasesIn (plan_of self.old) (state_of self.old) c message.now result (state_of self.new) }
+        ensures idle { (state_of self.old).doubt ≡ None → (state_of self.new).entries ≡ (state_of self.old).entries
+            → result ≢ Err TableFault.Device → self.new ≡ self.old }
         ensures enters { Enters self.old self.new result }
     {
-        let leased = Slot::Half(message.to_bytes());
-        if let Some(leaf) = least_leaf(&self.slots, &self.plan, c, &leased) {
+        if let Some(leaf) = self.least_leaf(c, &Slot::Half(message.to_bytes())) {
             return Ok(leaf);
         }
-        let Some(leaf) = least_leaf(&self.slots, &self.plan, c, &Slot::Free) else {
+        let Some(leaf) = self.least_leaf(c, &Slot::Free) else {
             return Err(TableFault::NoLeaf { coalition: c });
         };
         self.put_lease(leaf, message)
+    }
+
+    // The least leaf of coalition `c` whose slot is this, which is free or half.
+    fn least_leaf(&self, c: u32, wanted: &Slot) -> Option<u32>
+        requires not_burnt { use_of_slot wanted.now ≢ IsBurnt }
+        requires not_torn { use_of_slot wanted.now ≢ IsTorn }
+        ensures least { IfSome result
+            (IsLeast (plan_of self.now) c (map_of (state_of self.now).entries) (use_of_slot wanted.now)) }
+        ensures none { IfNone result
+            (HasNone (plan_of self.now) c (map_of (state_of self.now).entries) (use_of_slot wanted.now)) }
+    {
+        least_leaf(&self.slots, &self.plan, c, wanted)
     }
 
     // Leases a free leaf, where nothing is in doubt.
@@ -112,6 +128,7 @@ impl<D: Disk> Table<D> {
         ensures event { Makes (state_of self.old) (Lease.Leased leaf message.now) leaf
             (Slot.Half (message_id_bytes message.now)) result (state_of self.new) }
         ensures leaf { IfOk result (λ leased. leased ≡ leaf) }
+        ensures new { OnOk result ((state_of self.new).entries ≢ (state_of self.old).entries) }
         ensures enters { Enters self.old self.new result }
     {
         match self.slots.put_a(leaf, &message.to_bytes()) {
@@ -130,6 +147,8 @@ impl<D: Disk> Table<D> {
         requires within { leaf < 2 ^ (plan_of self.old).h }
         requires leased { WasLeasedFor (message_id_bytes message.now) (map_of (state_of self.old).entries leaf) }
         ensures event { Burns (state_of self.old) leaf (message_id_bytes message.now) by result (state_of self.new) }
+        ensures idle { (state_of self.old).doubt ≡ None → (state_of self.new).entries ≡ (state_of self.old).entries
+            → result ≢ Err TableFault.Device → self.new ≡ self.old }
         ensures enters { Enters self.old self.new result }
     {
         if let Err(fault) = self.settle() {
@@ -149,6 +168,7 @@ impl<D: Disk> Table<D> {
         ensures event { Makes (state_of self.old) (Lease.Burnt leaf) leaf
             (Slot.Full (message_id_bytes message.now) (report_body (message_id_bytes message.now) by) 0) result
             (state_of self.new) }
+        ensures new { OnOk result ((state_of self.new).entries ≢ (state_of self.old).entries) }
         ensures enters { Enters self.old self.new result }
     {
         match self.slots.put_b(leaf, &report_bytes(message, by), 0) {
@@ -193,4 +213,38 @@ impl<D: Disk> Table<D> {
     {
         self.slots.end()
     }
+}
+
+/// What tells one table from another for good: its file's header, its plan, and what is known of its disk.
+pub struct TableName {
+    /// The header of the table's file.
+    pub header: Header,
+    /// Which coalition signs with which leaf.
+    pub plan: Plan,
+    /// Whether the disk tells its content.
+    pub told: bool,
+    /// Whether the disk keeps the model of crashes.
+    pub honest: bool,
+    /// Whether the disk's calls fail for their arguments alone.
+    pub steady: bool,
+}
+
+impl<D: Disk> Kept for Table<D> {
+    ghost use Rattle.leaf_table.specs.Table.{disk_of, faults_of, header_of, plan_of, state_of};
+
+    type Entry = Lease;
+
+    type Name = TableName;
+
+    ghost entries = { λ table. (state_of table).entries };
+
+    ghost number = { λ table. faults_of table };
+
+    ghost name = { λ table. record {
+        header = header_of table;
+        plan = plan_of table;
+        told = D.told (disk_of table);
+        honest = D.honest (disk_of table);
+        steady = D.steady (disk_of table);
+    } };
 }

@@ -49,4 +49,8 @@ returns-in_default-slot g c =
     let within : leaf < length (cache_state mid.slots).slots = omega (arith, c.requires.within, mid.count, ap (λ (p : PlanNumbers). 2 ^ p.h) c.settle.ensures.enters.stays.plan) in
     let was = was-leased (state_of old) (state_of mid) leaf id old.sound before c.in_default.ensures.event.1 c.requires.leased in
     let burnt = burnt-of (slot_in (cache_state mid.slots).slots leaf) id (map_of mid.entries.items leaf) (λ a half. c.in_default-slot.not-Half a (c.slot.ensures ∙ half)) (mid.sound.slots leaf within) was in
-    record { event = leasing.kept (state_of mid) c.in_default.ensures.event.1 burnt; enters = c.in_default.ensures.enters }
+    record {
+      event = leasing.kept (state_of mid) c.in_default.ensures.event.1 burnt;
+      idle = λ none same differs. c.in_default.ensures.idle none;
+      enters = c.in_default.ensures.enters;
+    }

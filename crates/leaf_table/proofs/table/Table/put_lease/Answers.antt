@@ -81,3 +81,8 @@ invariant_of-self-in-Err g c =
       sound = subst IsSound (sym same) sound;
       room = omega (arith, self.room, ap (λ (s : CacheState). room_in s.slots) event);
     }
+
+pub returns-in-Ok-clause-new : goal.returns-in-Ok-clause-new
+returns-in-Ok-clause-new g c = λ same.
+    let items = c.args.self.now.entries.items in
+    omega (arith, ap length (sym c.add.ensures.items ∙ same), length-append items (Leased c.args.leaf c.args.message.now ∷ []))
