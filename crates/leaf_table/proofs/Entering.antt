@@ -1,12 +1,10 @@
 -- What two calls in turn say of the disk.
-use Rattle.std.proofs.Common.{◌≡◌, ◌≢◌, ◌≤◌, ℕ, Result, Ok, Err, IsTrue, refl, sym, ◌∙◌, ap, subst, arith}
+use Rattle.std.proofs.Common.{◌≡◌, Result, Ok, Err, IsTrue, sym, ◌∙◌, ap, subst, arith}
 use Rattle.disk_trait.specs.declared.disk.Pages as pages
 use Rattle.disk_trait.specs.declared.faults.Faults as faults
-use Rattle.leaf_table.specs.Table.{Enters, Stays}
+use Rattle.leaf_table.specs.Table.{Enters}
 use Rattle.leaf_table.specs.declared.faults.TableFault.{TableFault}
-use Rattle.leaf_table.specs.declared.faults.TableFault.TheVariants.{Damaged, Device}
 use Rattle.leaf_table.specs.declared.table.Table.{Table}
-use Rattle.slot_file.specs.Disks.{RisesAt}
 
 pub only-err : {T : Type 0} {fault other : TableFault} → ◌≡◌ {A = Result T TableFault} (Err fault) (Err other) → fault ≡ other
 only-err e = cc

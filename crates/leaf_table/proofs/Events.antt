@@ -1,15 +1,15 @@
 -- The events of a call from those of its steps.
-use Rattle.std.proofs.Common.{◌≡◌, ◌≢◌, ◌⊎◌, ◌^◌, ◌<◌, ℕ, List, ◌∷◌, [], ◌++◌, Option, None, Some, Result, Ok, Err, true, length, inl, inr, refl, sym, ◌∙◌, ap, subst}
+use Rattle.std.proofs.Common.{◌≡◌, ◌^◌, ◌<◌, ℕ, List, Option, None, Some, Result, Ok, Err, true, length, inl, inr, refl, sym, ◌∙◌, ap, subst}
 use Rattle.std.specs.Prelude.{IfNone, IfOk, IfSome}
 use Rattle.std.proofs.lemmas.Bool.{cases_eq}
 use Rattle.coalition_map.specs.Coalitions.{IsLeafAfter, PlanNumbers}
 use Rattle.lms_bytes.specs.MessageId.{message_id_bytes}
 use Rattle.lms_bytes.specs.declared.message.MessageId.{MessageId}
-use Rattle.leaf_table.specs.Entries.{IsBurnt, IsFree, IsLeased, LeafUse, map_of, use_after}
+use Rattle.leaf_table.specs.Entries.{IsBurnt, IsFree, IsLeased, LeafUse, map_of}
 use Rattle.leaf_table.specs.Leasing.{Burns, HasNone, IsCoalition, IsLeast, LeaseOf, Leases, WasLeasedFor}
 use Rattle.leaf_table.specs.Leasing as leasing
 use Rattle.leaf_table.specs.Slots.{may_become, report_body, use_of_slot}
-use Rattle.leaf_table.specs.State.{IsSound, SettlesTo, TableState, lease_of, with_doubt, with_lease}
+use Rattle.leaf_table.specs.State.{IsSound, SettlesTo, TableState, lease_of, with_doubt}
 use Rattle.leaf_table.specs.Steps.{IsLease, LeasesIn, Makes, Settles}
 use Rattle.leaf_table.specs.Steps as steps
 use Rattle.leaf_table.specs.declared.faults.TableFault.{TableFault}
@@ -19,7 +19,6 @@ use Rattle.leaf_table.specs.declared.lease.Lease.TheVariants.{Leased, Burnt}
 use Rattle.leaf_table.proofs.Maps.{map_of-other, map_of-same}
 use Rattle.leaf_table.proofs.Sound.{leaf_of-lease}
 use Rattle.slot_cache.specs.State.{slot_in}
-use Rattle.slot_cache.specs.declared.doubted.Doubted.{Doubted}
 use Rattle.slot_file.specs.declared.slot.Slot.{Slot}
 use Rattle.slot_file.specs.declared.slot.Slot.TheVariants.{Free, Half, Full, Damaged as Torn}
 

@@ -1,13 +1,13 @@
 -- What holds of every leaf table.
-use Rattle.std.proofs.Common.{◌≡◌, ◌<◌, ℕ, List, length, Some, inl, inr, sym, ◌∙◌, ap, subst, arith}
+use Rattle.std.proofs.Common.{◌≡◌, ◌<◌, ℕ, List, length, inl, inr, sym, ◌∙◌, ap, subst, arith}
 use Rattle.std.proofs.lemmas.List.{length-set}
 use Rattle.disk_trait.specs.declared.disk.Pages as pages
 use Rattle.disk_trait.specs.declared.faults.Faults as faults
 use Rattle.leaf_table.specs.Entries.{map_of}
 use Rattle.leaf_table.specs.Loading.{IsTableFile}
 use Rattle.leaf_table.specs.Slots.{HasEntries, use_of_slot}
-use Rattle.leaf_table.specs.State.{IsSound, StandsFor, TableState, lease_of, state_with}
-use Rattle.leaf_table.specs.Table.{Holds, Keeps, header_of, state_of}
+use Rattle.leaf_table.specs.State.{IsSound, StandsFor, lease_of, state_with}
+use Rattle.leaf_table.specs.Table.{Holds, Keeps, header_of}
 use Rattle.leaf_table.specs.declared.lease.Lease.{Lease}
 use Rattle.leaf_table.specs.declared.table.Table.{Table}
 use Rattle.leaf_table.proofs.Sound.{have-made, leaf_of-lease}
@@ -48,8 +48,12 @@ stands header cache entries file version sound stands_for = elim stands_for [
       let d = put.0 in
       let have = have-made (state_with cache entries) (lease_of d) d.slot d.after (sound.within d put.1) sound (sound.next d put.1)
       (leaf_of-lease d.slot d.after) (sound.makes d put.1) in
-      inr (d, put.1, λ leaf below.
-      shown header (with_made cache.slots d) file version put.2 _ have leaf (omega (arith, below, length-set cache.slots d.slot d.after)))
+      inr (
+        d,
+        put.1,
+        λ leaf below.
+            shown header (with_made cache.slots d) file version put.2 _ have leaf (omega (arith, below, length-set cache.slots d.slot d.after)),
+      )
 ]
 
 module _ {D : Type 0} {p : pages.Ghosts D} {f : faults.Ghosts D} (table : Table D p f) where

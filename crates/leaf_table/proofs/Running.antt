@@ -1,5 +1,5 @@
 -- What a run of a table keeps.
-use Rattle.std.proofs.Common.{◌≡◌, ◌≢◌, ◌+◌, ◌<◌, ℕ, List, [], ◌∷◌, ◌++◌, Option, None, Some, Result, Ok, Err, length, get_or, take, true, inl, inr, refl, sym, ◌∙◌, ap, subst, arith, length-append}
+use Rattle.std.proofs.Common.{◌≡◌, ◌<◌, ℕ, List, [], ◌∷◌, ◌++◌, Option, None, Some, Result, length, take, true, inl, inr, refl, sym, ◌∙◌, ap, subst, arith, length-append}
 use Rattle.std.proofs.Math.Seq.{get_or-append_seam}
 use Rattle.std.proofs.lemmas.Bool.{cases_eq}
 use Rattle.std.proofs.lemmas.List.{take_at}
@@ -12,7 +12,7 @@ use Rattle.leaf_table.specs.Leasing as leasing
 use Rattle.leaf_table.specs.Runs.{Grows, KeepsOneLease, TableRun, ended, restarted}
 use Rattle.leaf_table.specs.Runs as runs
 use Rattle.leaf_table.specs.Slots.{lease_of_slot, report_body}
-use Rattle.leaf_table.specs.State.{SettlesTo, TableState, lease_of, with_doubt, with_lease, without_doubt}
+use Rattle.leaf_table.specs.State.{SettlesTo, TableState, lease_of, with_doubt, with_lease}
 use Rattle.leaf_table.specs.declared.faults.TableFault.{TableFault}
 use Rattle.leaf_table.specs.declared.lease.Lease.{Lease}
 use Rattle.leaf_table.specs.declared.lease.Lease.TheVariants.{Leased, Burnt}

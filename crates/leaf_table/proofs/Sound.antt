@@ -1,16 +1,16 @@
 -- The entries beside the slots, through puts and settling.
-use Rattle.std.proofs.Common.{◌≡◌, ◌≢◌, ℕ, ◌+◌, ◌<◌, List, [], ◌∷◌, ◌++◌, Option, None, Some, true, false, length, get_or, set, refl, sym, ◌∙◌, ap, subst, inl, inr, arith}
+use Rattle.std.proofs.Common.{◌≡◌, ℕ, ◌+◌, ◌<◌, List, [], ◌∷◌, ◌++◌, Some, true, length, set, refl, sym, ◌∙◌, ap, subst, inl, inr, arith}
 use Rattle.std.proofs.lemmas.Bool.{cases_eq}
 use Rattle.std.proofs.lemmas.List.{get_or-set_same, get_or-set_other, length-set}
 use Rattle.std.proofs.lemmas.List.Sums.{sum_by-set}
-use Rattle.leaf_table.specs.Entries.{LeafUse, IsFree, IsLeased, leaf_of, map_of, may_follow, use_after}
+use Rattle.leaf_table.specs.Entries.{leaf_of, map_of, may_follow, use_after}
 use Rattle.leaf_table.specs.Slots.{lease_of_slot, may_become, room_in, room_of, use_of_slot}
-use Rattle.leaf_table.specs.State.{IsSound, TableState, lease_of, state_with, with_doubt, with_lease, without_doubt}
+use Rattle.leaf_table.specs.State.{IsSound, TableState, lease_of, with_doubt, with_lease, without_doubt}
 use Rattle.leaf_table.specs.declared.lease.Lease.{Lease}
 use Rattle.leaf_table.specs.declared.lease.Lease.TheVariants.{Leased, Burnt}
 use Rattle.leaf_table.proofs.Legal.{legal-more}
 use Rattle.leaf_table.proofs.Maps.{map_of-other, map_of-same}
-use Rattle.slot_cache.specs.State.{CacheState, settled_with, slot_in}
+use Rattle.slot_cache.specs.State.{slot_in}
 use Rattle.slot_cache.specs.declared.doubted.Doubted.{Doubted}
 use Rattle.slot_file.specs.declared.slot.Slot.{Slot}
 use Rattle.slot_file.specs.declared.slot.Slot.TheVariants.{Free, Half, Full, Damaged}

@@ -1,5 +1,5 @@
 -- What loading a table gives.
-use Rattle.std.specs.Prelude.{◌≡◌, ◌^◌, ℕ, None, IsTrue}
+use Rattle.std.specs.Prelude.{◌≡◌, ◌^◌, None, IsTrue}
 use Rattle.coalition_map.specs.Coalitions.{PlanNumbers}
 use Rattle.disk_trait.specs.declared.disk.Pages as pages
 use Rattle.disk_trait.specs.declared.faults.Faults as faults

@@ -1,5 +1,5 @@
 -- What the slots of a leaf table's file mean.
-use Rattle.std.specs.Prelude.{◌≡◌, ◌<◌, ℕ, Bool, true, false, List, [], ◌∷◌, ◌++◌, length, replicate, sum_by}
+use Rattle.std.specs.Prelude.{◌≡◌, ◌<◌, ℕ, Bool, true, false, List, [], ◌∷◌, ◌++◌, replicate, sum_by}
 use Rattle.lms_bytes.specs.MessageId.{message_id_of}
 use Rattle.leaf_table.specs.Entries.{LeafUse, IsFree, IsLeased, IsBurnt, IsTorn, map_of}
 use Rattle.leaf_table.specs.declared.lease.Lease.{Lease}

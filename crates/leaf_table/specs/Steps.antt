@@ -1,5 +1,5 @@
 -- What the steps of a call do. Only contracts inside the crate speak of it.
-use Rattle.std.specs.Prelude.{◌≡◌, ℕ, None, Some, Option, Result, Ok, Err, IsSome}
+use Rattle.std.specs.Prelude.{◌≡◌, ℕ, None, Some, Result, Ok, Err, IsSome}
 use Rattle.coalition_map.specs.Coalitions.{PlanNumbers}
 use Rattle.lms_bytes.specs.MessageId.{message_id_bytes}
 use Rattle.lms_bytes.specs.declared.message.MessageId.{MessageId}
@@ -7,7 +7,7 @@ use Rattle.leaf_table.specs.Entries.{IsFree, IsLeased, map_of}
 use Rattle.leaf_table.specs.Leasing.{LeaseOf}
 use Rattle.leaf_table.specs.State.{SettlesTo, TableState, with_doubt, with_lease}
 use Rattle.leaf_table.specs.declared.faults.TableFault.{TableFault}
-use Rattle.leaf_table.specs.declared.faults.TableFault.TheVariants.{Device, Damaged, NotACoalition, NoLeaf}
+use Rattle.leaf_table.specs.declared.faults.TableFault.TheVariants.{Device, Damaged, NoLeaf}
 use Rattle.leaf_table.specs.declared.lease.Lease.{Lease}
 use Rattle.leaf_table.specs.declared.lease.Lease.TheVariants.{Leased}
 use Rattle.slot_cache.specs.Calls.{IsNeither}

@@ -78,6 +78,9 @@ impl<D: Disk> Table<D> {
     /// calls of the disk. It takes no memory.
     pub fn lease(&mut self, members: Members, message: &MessageId) -> Result<u32, TableFault>
         ensures event { Leases (plan_of self.old) (state_of self.old) members message.now result (state_of self.new) }
+        ensures within { IfOk result (λ leaf. leaf < 2 ^ (plan_of self.new).h) }
+        ensures leased { IfOk result (λ leaf.
+            map_of (state_of self.new).entries leaf ≡ IsLeased (message_id_bytes message.now)) }
         ensures idle { (state_of self.old).doubt ≡ None → (state_of self.new).entries ≡ (state_of self.old).entries
             → result ≢ Err TableFault.Device → self.new ≡ self.old }
         ensures enters { Enters self.old self.new result }
@@ -95,6 +98,9 @@ impl<D: Disk> Table<D> {
     fn lease_of(&mut self, c: u32, message: &MessageId) -> Result<u32, TableFault>
         requires settled { (state_of self.old).doubt ≡ None }
         ensures event { LeasesIn (plan_of self.old) (state_of self.old) c message.now result (state_of self.new) }
+        ensures within { IfOk result (λ leaf. leaf < 2 ^ (plan_of self.new).h) }
+        ensures leased { IfOk result (λ leaf.
+            map_of (state_of self.new).entries leaf ≡ IsLeased (message_id_bytes message.now)) }
         ensures idle { (state_of self.old).doubt ≡ None → (state_of self.new).entries ≡ (state_of self.old).entries
             → result ≢ Err TableFault.Device → self.new ≡ self.old }
         ensures enters { Enters self.old self.new result }
@@ -127,7 +133,9 @@ impl<D: Disk> Table<D> {
         requires free { map_of (state_of self.old).entries leaf ≡ IsFree }
         ensures event { Makes (state_of self.old) (Lease.Leased leaf message.now) leaf
             (Slot.Half (message_id_bytes message.now)) result (state_of self.new) }
-        ensures leaf { IfOk result (λ leased. leased ≡ leaf) }
+        ensures leaf { IfOk result (λ got. got ≡ leaf) }
+        ensures leased { OnOk result
+            (map_of (state_of self.new).entries leaf ≡ IsLeased (message_id_bytes message.now)) }
         ensures new { OnOk result ((state_of self.new).entries ≢ (state_of self.old).entries) }
         ensures enters { Enters self.old self.new result }
     {
@@ -191,7 +199,10 @@ impl<D: Disk> Table<D> {
         };
         match self.slots.settle() {
             Ok(Settled::Made) => {
-                add(&mut self.entries, &lease_of_slot(doubted.slot, &doubted.after));
+                add(
+                    &mut self.entries,
+                    &lease_of_slot(doubted.slot, &doubted.after),
+                );
                 Ok(())
             }
             Ok(Settled::NotMade | Settled::Nothing) => Ok(()),
@@ -241,10 +252,10 @@ impl<D: Disk> Kept for Table<D> {
     ghost number = { λ table. faults_of table };
 
     ghost name = { λ table. record {
-        header = header_of table;
-        plan = plan_of table;
-        told = D.told (disk_of table);
-        honest = D.honest (disk_of table);
-        steady = D.steady (disk_of table);
+      header = header_of table;
+      plan = plan_of table;
+      told = D.told (disk_of table);
+      honest = D.honest (disk_of table);
+      steady = D.steady (disk_of table);
     } };
 }

@@ -105,6 +105,38 @@ fn a_leaf_is_leased_for_one_message(rt: HostRuntime) -> Result<(), Fail> {
     Ok(())
 }
 
+/// Leases a leaf of trustees 1 and 3 for a message, and burns it.
+fn lease_and_burn(
+    table: &mut Table<MemDisk>,
+    message: &MessageId,
+    by: u8,
+) -> Result<u32, TableFault> {
+    let leaf = match table.lease(first_and_third(), message) {
+        Ok(leaf) => leaf,
+        Err(fault) => return Err(fault),
+    };
+    match table.burn(leaf, message, by) {
+        Ok(()) => Ok(leaf),
+        Err(fault) => Err(fault),
+    }
+}
+
+#[test]
+fn a_burnt_leaf_is_leased_no_more(rt: HostRuntime) -> Result<(), Fail> {
+    let alloc = rt.alloc();
+    let mut table = loaded(&rt, alloc, prepared(&rt, alloc)?);
+    assert_eq!(rt; lease_and_burn(&mut table, &ONE, 3), Ok(1));
+    assert_eq!(rt; table.lease(first_and_third(), &ONE), Ok(4));
+    let disk = table.end();
+    // Body B of leaf 1: the id, and the member that reported the leaf.
+    assert_eq!(rt; disk.bytes().get(300..304), Some([0, 0, 0, 3].as_slice()));
+    assert_eq!(rt; disk.bytes().get(335..338), Some([0x11, 3, 0].as_slice()));
+    let table = loaded(&rt, alloc, disk);
+    let want = [leased(1, ONE), Lease::Burnt { leaf: 1 }, leased(4, ONE)];
+    assert_eq!(rt; table.entries(), want.as_slice());
+    Ok(())
+}
+
 #[test]
 fn a_coalition_runs_out_of_leaves(rt: HostRuntime) -> Result<(), Fail> {
     let alloc = rt.alloc();

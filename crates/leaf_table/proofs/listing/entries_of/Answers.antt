@@ -1,6 +1,5 @@
-use Rattle.std.proofs.Common.{◌≡◌, ◌<◌, ◌++◌, ◌+◌, ℕ, List, length, take, sum_by, inl, inr, sym, ◌∙◌, ap, subst, arith}
+use Rattle.std.proofs.Common.{◌<◌, ◌++◌, ◌+◌, ℕ, List, length, take, sum_by, inl, inr, sym, ◌∙◌, ap, subst, arith}
 use Rattle.std.proofs.lemmas.Bool.{cases_eq}
-use Rattle.std.proofs.lemmas.List.{take_all}
 use Rattle.leaf_table.specs.Entries.{OneLease, map_of}
 use Rattle.leaf_table.specs.Slots.{entries_of_slot, room_of, use_of_slot}
 use Rattle.leaf_table.specs.declared.lease.Lease.{Lease}

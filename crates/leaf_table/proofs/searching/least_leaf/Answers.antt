@@ -1,1 +1,0 @@
-use Rattle.leaf_table.proofs.searching.least_leaf.Goals as goal

@@ -1,15 +1,13 @@
-use Rattle.std.proofs.Common.{◌≡◌, ◌<◌, ◌^◌, ℕ, length, inl, inr, sym, ◌∙◌, ap, subst, arith}
+use Rattle.std.proofs.Common.{◌<◌, ◌^◌, length, sym, ◌∙◌, ap, arith}
 use Rattle.coalition_map.specs.Coalitions.{PlanNumbers}
 use Rattle.lms_bytes.specs.MessageId.{message_id_bytes}
-use Rattle.leaf_table.specs.Entries.{IsBurnt, IsLeased, map_of}
+use Rattle.leaf_table.specs.Entries.{map_of}
 use Rattle.leaf_table.specs.Leasing as leasing
-use Rattle.leaf_table.specs.Slots.{use_of_slot}
 use Rattle.leaf_table.specs.Table.{state_of}
 use Rattle.leaf_table.proofs.Events.{burns-made, burns-unsettled, was-leased}
 use Rattle.leaf_table.proofs.Found.{burnt-of, half-of}
 use Rattle.slot_cache.specs.Cache.{state_of as cache_state}
 use Rattle.slot_cache.specs.State.{slot_in}
-use Rattle.slot_file.specs.declared.slot.Slot.{Slot}
 use Rattle.leaf_table.proofs.table.Table.burn.Goals as goal
 
 pub returns-in-Err-clause-event : goal.returns-in-Err-clause-event

@@ -22,3 +22,9 @@ returns-clause-event g c =
     let found = c.in-Some-least_leaf.ensures.least in
     leased-in (plan_of self) (state_of self) (state_of c.put_lease.new.self) c.args.message.now c.args.c leaf c.put_lease.result
     (free leaf leased found) found.used c.put_lease.ensures.event c.put_lease.ensures.leaf
+
+pub returns-in-Some-clause-within : goal.returns-in-Some-clause-within
+returns-in-Some-clause-within g c = c.in-Some.ensures.least.own.leaf
+
+pub returns-in-Some-clause-leased : goal.returns-in-Some-clause-leased
+returns-in-Some-clause-leased g c = let found = rw c.to_bytes.ensures at c.in-Some.ensures.least in found.used

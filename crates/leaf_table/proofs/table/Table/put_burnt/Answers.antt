@@ -1,9 +1,8 @@
-use Rattle.std.proofs.Common.{◌≡◌, ◌<◌, ◌∷◌, ◌++◌, [], ℕ, List, None, Some, true, length, refl, sym, ◌∙◌, ap, subst, arith, length-append}
+use Rattle.std.proofs.Common.{◌≡◌, ◌<◌, ◌∷◌, [], None, Some, true, length, refl, sym, ◌∙◌, ap, subst, arith, length-append}
 use Rattle.std.specs.Prelude.{slice_set}
 use Rattle.lms_bytes.specs.MessageId.{message_id_bytes}
 use Rattle.leaf_table.specs.Slots.{may_become, report_body, room_in}
 use Rattle.leaf_table.specs.State.{IsSound, state_with, with_doubt, with_lease}
-use Rattle.leaf_table.specs.declared.lease.Lease.{Lease}
 use Rattle.leaf_table.specs.declared.lease.Lease.TheVariants.{Burnt}
 use Rattle.leaf_table.proofs.Found.{leased-use}
 use Rattle.leaf_table.proofs.Sound.{room-put, sound-doubt, sound-made}

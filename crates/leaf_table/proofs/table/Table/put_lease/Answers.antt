@@ -1,13 +1,14 @@
-use Rattle.std.proofs.Common.{◌≡◌, ◌<◌, ◌∷◌, ◌++◌, [], ℕ, List, None, Some, true, length, refl, sym, ◌∙◌, ap, subst, arith, rules, length-append}
+use Rattle.std.proofs.Common.{◌≡◌, ◌<◌, ◌∷◌, [], ℕ, List, None, Some, true, length, refl, sym, ◌∙◌, ap, subst, arith, rules, length-append}
 use Rattle.std.specs.Prelude.{slice_set}
 use Rattle.lms_bytes.specs.MessageId.{message_id_bytes}
 use Rattle.leaf_table.specs.Entries.{IsLeased, map_of, use_after}
 use Rattle.leaf_table.specs.Slots.{lease_of_slot, may_become, room_in, use_of_slot}
-use Rattle.leaf_table.specs.State.{IsSound, TableState, state_with, with_doubt, with_lease}
+use Rattle.leaf_table.specs.State.{IsSound, state_with, with_doubt, with_lease}
 use Rattle.leaf_table.specs.declared.lease.Lease.{Lease}
 use Rattle.leaf_table.specs.declared.lease.Lease.TheVariants.{Leased}
 use Rattle.leaf_table.proofs.BodyBytes.{back}
 use Rattle.leaf_table.proofs.Found.{free-use}
+use Rattle.leaf_table.proofs.Maps.{map_of-same}
 use Rattle.leaf_table.proofs.Sound.{room-put, sound-doubt, sound-made}
 use Rattle.slot_cache.specs.Cache.{state_of}
 use Rattle.slot_cache.specs.State.{CacheState, slot_in}
@@ -86,3 +87,9 @@ pub returns-in-Ok-clause-new : goal.returns-in-Ok-clause-new
 returns-in-Ok-clause-new g c = λ same.
     let items = c.args.self.now.entries.items in
     omega (arith, ap length (sym c.add.ensures.items ∙ same), length-append items (Leased c.args.leaf c.args.message.now ∷ []))
+
+pub returns-in-Ok-clause-leased : goal.returns-in-Ok-clause-leased
+returns-in-Ok-clause-leased g c =
+    let items = c.args.self.now.entries.items in
+    let lease = Leased c.args.leaf c.args.message.now in
+    ap (λ (l : List Lease). map_of l c.args.leaf) c.add.ensures.items ∙ map_of-same items lease c.args.leaf refl

@@ -1,4 +1,4 @@
-use Rattle.std.proofs.Common.{◌≡◌, ◌<◌, ◌∷◌, ◌++◌, [], ℕ, List, Option, None, Some, Ok, length, sym, ◌∙◌, ap, subst, arith, length-append}
+use Rattle.std.proofs.Common.{◌≡◌, ◌∷◌, ◌++◌, [], Option, Some, Ok, length, sym, ◌∙◌, ap, subst, arith, length-append}
 use Rattle.leaf_table.specs.Slots.{room_in}
 use Rattle.leaf_table.specs.State.{IsSound, lease_of, state_with, with_lease}
 use Rattle.leaf_table.specs.declared.lease.Lease.{Lease}
