@@ -1,0 +1,26 @@
+-- Lists of which each entry may follow those before it.
+use Rattle.std.proofs.Common.{◌≡◌, ℕ, List, [], ◌∷◌, ◌++◌, length, get_or, take, inl, inr, refl, sym, ap, ◌∙◌, subst, arith, length-append}
+use Rattle.std.proofs.Math.Seq.{get_or-append_seam}
+use Rattle.std.proofs.lemmas.Bool.{cases_lt}
+use Rattle.std.proofs.lemmas.List.{get_or_append_left, take-append-le, take_at}
+use Rattle.leaf_table.specs.Entries.{Follows, OneLease}
+use Rattle.leaf_table.specs.declared.lease.Lease.{Lease}
+
+pub legal-none : OneLease []
+legal-none place none below = absurd (omega (arith, below))
+
+follows-at : (before was : List Lease) (entry then : Lease) → before ≡ was → entry ≡ then → Follows was then → Follows before entry
+follows-at before was entry then same is follows =
+    subst (λ (b : List Lease). Follows b entry) (sym same) (subst (λ (e : Lease). Follows was e) (sym is) follows)
+
+pub legal-more : (entries : List Lease) (entry : Lease) → OneLease entries → Follows entries entry → OneLease (entries ++ entry ∷ [])
+legal-more entries entry legal follows place none below = elim (cases_lt place (length entries)) [
+  | inl before ↦
+      follows-at (take place (entries ++ entry ∷ [])) (take place entries) (get_or (entries ++ entry ∷ []) place none) (get_or entries place none)
+      (take-append-le place entries (entry ∷ []) (omega (arith, before))) (get_or_append_left entries (entry ∷ []) none place before) (legal place none before)
+  | inr past ↦
+      let last : place ≡ length entries = omega (arith, past, below, length-append entries (entry ∷ [])) in
+      follows-at (take place (entries ++ entry ∷ [])) entries (get_or (entries ++ entry ∷ []) place none) entry
+      (ap (λ (n : ℕ). take n (entries ++ entry ∷ [])) last ∙ take_at entries (entry ∷ []) (length entries) refl)
+      (ap (λ (n : ℕ). get_or (entries ++ entry ∷ []) n none) last ∙ get_or-append_seam entries entry [] none) follows
+]

@@ -1,0 +1,10 @@
+pub mod Entries
+pub mod Slots
+pub mod State
+pub mod Leasing
+pub mod Loading
+pub mod Table
+pub mod Loaded
+pub mod Runs
+pub mod Faults
+pub mod Steps

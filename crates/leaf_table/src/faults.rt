@@ -1,0 +1,47 @@
+//! The answers of a leaf table.
+
+ghost use Rattle.std.specs.Prelude.{◌≡◌};
+
+use slot_cache::SettleFault;
+use thiserror::Error;
+
+/// Why no leaf is leased or burnt, in the order of the tests.
+#[derive(Clone, Copy, Debug, PartialEq, Eq, Error)]
+pub enum TableFault {
+    /// The members are no coalition of the plan.
+    #[error("the members are no coalition of the plan")]
+    NotACoalition,
+    /// The disk failed. The entry may or may not have been made; the next call finds out.
+    #[error("a call of the table's disk failed")]
+    Device,
+    /// The slot of a leaf is neither as before its entry nor as after it: its two gates.
+    #[error("the slot of leaf {leaf} is neither as before its entry nor as after it: its gates are {a:#04x} and {b:#04x}")]
+    Damaged {
+        /// The leaf.
+        leaf: u32,
+        /// The byte of gate A, 0 where it is closed and the slot is not damaged.
+        a: u8,
+        /// The byte of gate B, 0 where it is closed.
+        b: u8,
+    },
+    /// No leaf of the coalition is leased for the message, and none is free.
+    #[error("coalition {coalition} has no leaf for the message")]
+    NoLeaf {
+        /// The coalition's number.
+        coalition: u32,
+    },
+}
+
+impl TableFault {
+    ghost use Rattle.leaf_table.specs.Faults.{table_fault};
+
+    /// Why the entry in doubt is not settled.
+    pub(crate) fn of_settling(fault: SettleFault) -> TableFault
+        ensures { result ≡ table_fault fault }
+    {
+        match fault {
+            SettleFault::Device => TableFault::Device,
+            SettleFault::Damaged { slot, a, b } => TableFault::Damaged { leaf: slot, a, b },
+        }
+    }
+}

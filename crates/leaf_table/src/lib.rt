@@ -1,0 +1,17 @@
+//! The leaf table of an aggregator: which leaf is leased for which message, and which is burnt.
+#![tactic(auto)]
+
+mod bodies;
+mod faults;
+pub mod laws;
+mod lease;
+mod listing;
+mod searching;
+mod table;
+
+pub use faults::TableFault;
+pub use lease::Lease;
+pub use table::{Table, TableName};
+
+#[cfg(test)]
+mod tests;
