@@ -13,6 +13,7 @@ use std::str;
 use stream_io::{FileStore, MemSource, Store};
 
 /// A row of the table.
+#[derive(Clone, Copy)]
 struct Row<'a> {
     params: Params,
     reader: &'a str,

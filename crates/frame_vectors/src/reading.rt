@@ -59,7 +59,11 @@ fn fault_text(alloc: Global, fault: FrameFault) -> Result<String, AllocError> {
 type Values = Result<(&'static str, String), FrameFault>;
 
 /// The values of an ask.
-fn ask_values(alloc: Global, params: &Params, source: &mut MemSource) -> Result<Values, AllocError> {
+fn ask_values(
+    alloc: Global,
+    params: &Params,
+    source: &mut MemSource,
+) -> Result<Values, AllocError> {
     match next_ask(params, source) {
         Ok(ask) => Ok(Ok(("ask", ask_text(alloc, &ask)?))),
         Err(fault) => Ok(Err(fault)),
@@ -96,7 +100,11 @@ fn id_text(alloc: Global, id: &MessageId) -> Result<String, AllocError> {
 }
 
 /// The values of a reply.
-fn reply_values(alloc: Global, params: &Params, source: &mut MemSource) -> Result<Values, AllocError> {
+fn reply_values(
+    alloc: Global,
+    params: &Params,
+    source: &mut MemSource,
+) -> Result<Values, AllocError> {
     let mut body = [0; 8480];
     match next_reply(params, source, &mut body) {
         Ok((head, length)) => Ok(Ok(("reply", reply_text(alloc, &head, &body[..length])?))),
@@ -137,7 +145,11 @@ fn request_values(alloc: Global, source: &mut MemSource) -> Result<Values, Alloc
 }
 
 /// The values of a result.
-fn result_values(alloc: Global, params: &Params, source: &mut MemSource) -> Result<Values, AllocError> {
+fn result_values(
+    alloc: Global,
+    params: &Params,
+    source: &mut MemSource,
+) -> Result<Values, AllocError> {
     match next_result(alloc, params, source) {
         Ok(Outcome::Signature(bytes)) => Ok(Ok(("signature", hex::encode(alloc, &bytes)?))),
         Ok(Outcome::Failure(failure)) => {

@@ -159,15 +159,15 @@ first-again params key leaf id k l s h =
     let long : length payload ≡ 56 = length-append (key ++ u32str leaf) tail ∙ (omega (arith, twenty, end)) in
     let one : payload ≡ key ++ (u32str leaf ++ tail) = append_assoc key (u32str leaf) tail in
     let three : payload ≡ ((key ++ u32str leaf) ++ u32str id.length) ++ (id.hash ++ []) =
-        sym (append_assoc (key ++ u32str leaf) (u32str id.length) id.hash) ∙ ap (λ x. ((key ++ u32str leaf) ++ u32str id.length) ++ x) (sym (append-nil id.hash)) in
+    sym (append_assoc (key ++ u32str leaf) (u32str id.length) id.hash) ∙ ap (λ x. ((key ++ u32str leaf) ++ u32str id.length) ++ x) (sym (append-nil id.hash)) in
     let four : length ((key ++ u32str leaf) ++ u32str id.length) ≡ 24 = length-append (key ++ u32str leaf) (u32str id.length) ∙ ap (λ n. n + 4) twenty in
     reads-back (asks params) 1 payload (record { key = key; leaf = leaf; message = id; second = None }) (omega (arith, long)) refl (let n = small-hash params in omega (arith, long, n))
-      (ap (λ n. n == 56) long)
-      (ap (λ a. Ok a) (ask-parts key (bytes_at payload 0 16) leaf (str_to_u32 (bytes_at payload 16 4)) id.length (str_to_u32 (bytes_at payload 20 4)) id.hash (bytes_at payload 24 32)
-        (ap (λ p. bytes_at p 0 16) one ∙ take_at key (u32str leaf ++ tail) 16 k)
-        (ap (λ p. str_to_u32 (bytes_at p 16 4)) one ∙ ap str_to_u32 (mid key (u32str leaf) tail 16 4 k refl) ∙ number-again leaf l)
-        (ap str_to_u32 (mid (key ++ u32str leaf) (u32str id.length) id.hash 20 4 twenty refl) ∙ number-again id.length s)
-        (ap (λ p. bytes_at p 24 32) three ∙ mid ((key ++ u32str leaf) ++ u32str id.length) id.hash [] 24 32 four h)))
+    (ap (λ n. n == 56) long)
+    (ap (λ a. Ok a) (ask-parts key (bytes_at payload 0 16) leaf (str_to_u32 (bytes_at payload 16 4)) id.length (str_to_u32 (bytes_at payload 20 4)) id.hash (bytes_at payload 24 32)
+    (ap (λ p. bytes_at p 0 16) one ∙ take_at key (u32str leaf ++ tail) 16 k)
+    (ap (λ p. str_to_u32 (bytes_at p 16 4)) one ∙ ap str_to_u32 (mid key (u32str leaf) tail 16 4 k refl) ∙ number-again leaf l)
+    (ap str_to_u32 (mid (key ++ u32str leaf) (u32str id.length) id.hash 20 4 twenty refl) ∙ number-again id.length s)
+    (ap (λ p. bytes_at p 24 32) three ∙ mid ((key ++ u32str leaf) ++ u32str id.length) id.hash [] 24 32 four h)))
 
 to-the-left : (h k u c t : List ℕ) → h ++ (((k ++ u) ++ c) ++ t) ≡ (((h ++ k) ++ u) ++ c) ++ t
 to-the-left h k u c t =
@@ -177,7 +177,7 @@ to-the-left h k u c t =
 pub second-again : (params : Params) (key : List ℕ) (leaf : ℕ) (message : List ℕ) (second : Second) → length key ≡ 16 → leaf < 2 ^ 32
     → IsSecond params (record { key = key; leaf = leaf; message = message_id message; second = Some second }) message second
     → ReadsBack (asks params) ((header_bytes 2 (52 + length second.c + length message) ++ key ++ u32str leaf ++ second.c ++ second.tag) ++ message)
-      (record { key = key; leaf = leaf; message = message_id message; second = Some second })
+    (record { key = key; leaf = leaf; message = message_id message; second = Some second })
 second-again params key leaf message second k l s =
     let c = second.c in
     let tag = second.tag in
@@ -195,15 +195,15 @@ second-again params key leaf message second k l s =
     let c-is : c ≡ bytes_at head 20 params.n = sym (ap (λ h. bytes_at h 20 params.n) two ∙ mid (key ++ u32str leaf) c tag 20 params.n twenty s.c) in
     let tag-is : tag ≡ bytes_at head (20 + params.n) 32 = sym (ap (λ h. bytes_at h (20 + params.n) 32) three ∙ mid ((key ++ u32str leaf) ++ c) tag [] (20 + params.n) 32 four s.tag) in
     let is : second_ask params (head ++ message) ≡ ask = ask-split params head message long
-        ∙ sym (ask-is params head message key leaf c tag (message_id message) second.digest key-is leaf-is c-is tag-is refl s.digest) in
+    ∙ sym (ask-is params head message key leaf c tag (message_id message) second.digest key-is leaf-is c-is tag-is refl s.digest) in
     let n = small-hash params in
     let m = s.message_length in
     let a = s.c in
     let front = header_bytes 2 (52 + length c + length message) in
     again-as (asks params) ask (frame 2 (head ++ message)) ((front ++ key ++ u32str leaf ++ c ++ tag) ++ message)
-      (ap (λ size. header_bytes 2 size ++ (head ++ message)) all ∙ sym (append_assoc front head message) ∙ ap (λ x. x ++ message) (to-the-left front key (u32str leaf) c tag))
-      (reads-back (asks params) 2 (head ++ message) ask (omega (arith, all, n, m, a)) refl (omega (arith, all, n, m, a))
-        (le-leb (52 + params.n) (length (head ++ message)) (omega (arith, all, a))) (ap (λ x. Ok x) is))
+    (ap (λ size. header_bytes 2 size ++ (head ++ message)) all ∙ sym (append_assoc front head message) ∙ ap (λ x. x ++ message) (to-the-left front key (u32str leaf) c tag))
+    (reads-back (asks params) 2 (head ++ message) ask (omega (arith, all, n, m, a)) refl (omega (arith, all, n, m, a))
+    (le-leb (52 + params.n) (length (head ++ message)) (omega (arith, all, a))) (ap (λ x. Ok x) is))
 
 by-second : (params : Params) (key : List ℕ) (leaf : ℕ) (id : MessageId) (second : Option Second) (message : List ℕ)
     → IsAsk params (record { key = key; leaf = leaf; message = id; second = second }) message
@@ -213,9 +213,9 @@ by-second params key leaf id (Some second) message is =
     let s = is.second in
     let e : id ≡ message_id message = s.id in
     let same : IsSecond params (record { key = key; leaf = leaf; message = message_id message; second = Some second }) message second =
-        record { message_length = s.message_length; id = refl; c = s.c; tag = s.tag; digest = s.digest } in
+    record { message_length = s.message_length; id = refl; c = s.c; tag = s.tag; digest = s.digest } in
     subst (λ i. ReadsBack (asks params) ((header_bytes 2 (52 + length second.c + length message) ++ key ++ u32str leaf ++ second.c ++ second.tag) ++ message)
-        (record { key = key; leaf = leaf; message = i; second = Some second })) (sym e) (second-again params key leaf message second is.key is.leaf same)
+    (record { key = key; leaf = leaf; message = i; second = Some second })) (sym e) (second-again params key leaf message second is.key is.leaf same)
 
 pub ask-again : (params : Params) (ask : Ask) (message : List ℕ) → IsAsk params ask message → ReadsBack (asks params) (ask_frame ask message) ask
 ask-again params ask message is = by-second params ask.key ask.leaf ask.message ask.second message is

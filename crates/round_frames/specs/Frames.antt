@@ -1,6 +1,5 @@
--- This project's profile: frames, and what a string of bytes says to a reader of frames. A frame is the magic 54 4C 01,
--- a
--- byte of kind, the length of the payload as u32str, and the payload.
+-- This project's profile: frames, and what a string of bytes says to a reader of frames. A frame is the magic
+-- 54 4C 01, a byte of kind, the length of the payload as u32str, and the payload.
 use Rattle.std.specs.Prelude.{◌≡◌, ◌+◌, ◌==◌, ℕ, List, [], ◌∷◌, ◌++◌, length, take, drop, min, slice_index, Bool}
 use Rattle.std.specs.Prelude.{nat_lt, Option, Some, None, Result, Ok, Err, if◌then◌else◌}
 use Rattle.lms_bytes.specs.Bytes.{bytes_at, str_to_u32, u32str}

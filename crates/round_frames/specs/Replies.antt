@@ -1,7 +1,7 @@
--- This project's profile: replies. A payload is a head and a body: I || u32str(q) || u8str(t) || message id, of 57
--- bytes, then
--- by kind what follows.
-use Rattle.std.specs.Prelude.{◌≡◌, ◌⊎◌, ◌≤◌, ◌+◌, ◌*◌, ◌==◌, ◌||◌, ◌&&◌, ◌++◌, ℕ, Bool, List, [], ◌∷◌, length, take}
+-- This project's profile: replies. A payload is a head and a body. A head is I || u32str(q) || u8str(t) || message id,
+-- of 57 bytes, and by kind what follows.
+use Rattle.std.specs.Prelude.{◌≡◌, ◌⊎◌, ◌≤◌, ◌<◌, ◌^◌, ◌+◌, ◌*◌, ◌==◌, ◌||◌, ◌&&◌, ◌++◌, ℕ, Bool, List, [], ◌∷◌, length}
+use Rattle.std.specs.Prelude.{take}
 use Rattle.std.specs.Prelude.{drop}
 use Rattle.std.specs.Prelude.{replicate, slice_index, nat_le, Result, Ok, Err, if◌then◌else◌}
 use Rattle.std.specs.List.{list_all}
@@ -123,3 +123,10 @@ pub record IsHead (params : Params) (head : ReplyHead) : Type 0 where
   pub code : head.code ≤ 12
   pub c : length head.c ≡ params.n
   pub zero : head.round ≡ 1 → head.c ≡ replicate params.n 0
+
+-- the parts of a head have their lengths
+pub record HasParts (head : ReplyHead) : Type 0 where
+  pub key : length head.key ≡ 16
+  pub leaf : head.leaf < 2 ^ 32
+  pub message_length : head.message.length < 2 ^ 32
+  pub hash : length head.message.hash ≡ 32

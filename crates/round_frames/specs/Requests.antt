@@ -1,5 +1,5 @@
--- This project's profile: requests. Kind 6: u16str(members) || message, where bit t - 1 of members stands for trustee
--- t.
+-- This project's profile: requests. Kind 6: u16str(members) || message, where bit t - 1 of the members stands for
+-- trustee t.
 use Rattle.std.specs.Prelude.{◌+◌, ◌==◌, ◌++◌, ℕ, List, take, drop, nat_le, Result, Ok, Err}
 use Rattle.std.specs.Int.{w16, from_be_bytes}
 use Rattle.std.specs.declared.alloc.Global.{Global}

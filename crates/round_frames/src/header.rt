@@ -63,9 +63,8 @@ fn header_of(bytes: &[u8]) -> Result<Header, FrameFault>
     }
 }
 
-/// The first fault of a header: by whether its kind is read, the greatest length that is read, and whether the length
-/// is
-/// one of its kind's.
+/// The first fault of a header: by whether its kind is read, the greatest length that is read, and whether its length
+/// is one of its kind's.
 pub(crate) fn fault_of(header: &Header, reads: bool, most: u32, fits: bool) -> Option<FrameFault>
     ensures fault { result ≡ first_fault ((if reads then None else Some (Kind header.now.kind))
         ∷ (if nat_lt most header.now.length then Some (TooLong header.now.length) else None)
