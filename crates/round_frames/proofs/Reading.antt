@@ -1,9 +1,8 @@
 -- What was read, step by step.
-use Rattle.std.proofs.Common.{◌≡◌, ◌≢◌, ◌⊎◌, inl, inr, ◌-◌, ◌+◌, ◌++◌, ◌≤◌, ◌<◌, ℕ, Bool, true, false, List, Option, Some, None, Result, Ok, Err, take, drop, length, min, refl, ap, sym, ◌∙◌, subst, arith, length-drop, length-take-le, take-add, drop-drop, append_assoc, append-nil, take_at, drop_at, nat_lt, le-ltb, if◌then◌else◌}
+use Rattle.std.proofs.Common.{◌≡◌, ◌⊎◌, inl, inr, ◌-◌, ◌+◌, ◌++◌, ◌≤◌, ◌<◌, ℕ, Bool, true, false, List, Some, None, Result, Ok, Err, take, drop, length, min, refl, ap, sym, ◌∙◌, subst, arith, length-drop, length-take-le, take-add, drop-drop, append_assoc, append-nil, take_at, drop_at, nat_lt, le-ltb, if◌then◌else◌}
 use Rattle.std.proofs.lemmas.Bool.Decides.{nat_tests}
 use Rattle.lms_bytes.specs.Bytes.{bytes_at, str_to_u32}
 use Rattle.lms_bytes.specs.MessageId.{message_id}
-use Rattle.lms_bytes.specs.declared.ask.Ask.{Ask}
 use Rattle.lms_bytes.specs.declared.message.MessageId.{MessageId}
 use Rattle.lms_bytes.specs.declared.params.Params.{Params}
 use Rattle.ots_chain.specs.MessageHash.{message_digest}
@@ -11,7 +10,7 @@ use Rattle.round_frames.specs.Asks.{ask_of, second_ask}
 use Rattle.round_frames.specs.Replies.{Reply, head_length, replies, reply_in}
 use Rattle.stream_io.specs.Talk.{OnlyRead, Talk, Took}
 use Rattle.round_frames.specs.Frames.{Reader, Says, after_header, after_tests, behind, frame_of, header_fault, header_in, payload_in, whole}
-use Rattle.round_frames.specs.Reads.{Broke, Gave, Passed, Reads}
+use Rattle.round_frames.specs.Reads.{Broke, Passed, Reads}
 use Rattle.round_frames.specs.declared.fault.FrameFault.{FrameFault}
 use Rattle.round_frames.specs.declared.fault.FrameFault.TheVariants.{Cut, NoMemory, ReadFault}
 use Rattle.round_frames.specs.declared.header.Header.{Header}

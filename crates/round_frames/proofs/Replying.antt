@@ -1,5 +1,5 @@
 -- A reply that is written is read.
-use Rattle.std.proofs.Common.{◌≡◌, ◌≤◌, ◌<◌, ◌^◌, ◌*◌, ◌+◌, ◌++◌, ◌==◌, ◌||◌, ◌&&◌, ◌⊎◌, if◌then◌else◌, inl, inr, ℕ, zero, suc, Bool, List, [], ◌∷◌, Result, Ok, Err, true, false, length, take, drop, replicate, refl, ap, sym, ◌∙◌, subst, arith, append_assoc, append-nil, length-append, take_at, nat_lt, nat_le}
+use Rattle.std.proofs.Common.{◌≡◌, ◌≤◌, ◌*◌, ◌+◌, ◌++◌, ◌==◌, ◌||◌, ◌&&◌, ◌⊎◌, if◌then◌else◌, inl, inr, ℕ, zero, suc, Bool, List, [], ◌∷◌, Ok, true, false, length, replicate, refl, ap, sym, ◌∙◌, arith, append_assoc, append-nil, length-append, take_at, nat_le}
 use Rattle.std.proofs.Math.Seq.{get_or-append_seam}
 use Rattle.std.proofs.lemmas.Bool.{eq-eqb, eqb-true, le-leb}
 use Rattle.std.proofs.lemmas.Bool.Decides.{nat_tests}
@@ -8,12 +8,9 @@ use Rattle.std.specs.Prelude.{slice_index}
 use Rattle.lms_bytes.specs.Bytes.{bytes_at, str_to_u32, u32str}
 use Rattle.lms_bytes.specs.MessageId.{message_id_bytes}
 use Rattle.lms_bytes.specs.declared.ask.ReplyHead.{ReplyHead}
-use Rattle.lms_bytes.specs.declared.message.MessageId.{MessageId}
 use Rattle.lms_bytes.specs.declared.params.Params.{Params}
-use Rattle.round_frames.specs.Frames.{ReadsBack, Reader, frame, header_bytes}
-use Rattle.round_frames.specs.Replies.{HasParts, IsHead, Reply, body_length, head_bytes, head_length, head_of, head_parts, is_refusal, is_reply_length, kept_length, kind_of, payload_length, replies, reply_front, reply_in}
-use Rattle.round_frames.specs.declared.fault.FrameFault.{FrameFault}
-use Rattle.round_frames.specs.declared.header.Header.{Header}
+use Rattle.round_frames.specs.Frames.{ReadsBack, frame, header_bytes}
+use Rattle.round_frames.specs.Replies.{HasParts, IsHead, Reply, body_length, head_length, head_of, head_parts, is_refusal, is_reply_length, kept_length, replies, reply_front, reply_in}
 use Rattle.round_frames.proofs.Reading.{reply-split}
 use Rattle.round_frames.proofs.Writing.{again-as, mid, number-again, reads-back, small-hash}
 
@@ -212,17 +209,17 @@ refusal-again params head body has is low size =
     let code-is : slice_index front (58 + n) ≡ head.code = ap (λ t. slice_index t (58 + n)) three ∙ byte-at ((parts ++ c) ++ (head.round ∷ [])) [] head.code (58 + n) long-r in
     let c-is : bytes_at front 57 n ≡ c = mid parts c tail 57 n first wide in
     let passes : is_refusal n front body ≡ true = ap (λ r. refusal-test n r (slice_index front (58 + n)) (bytes_at front 57 n) body) round-is
-        ∙ ap (λ k. refusal-test n head.round k (bytes_at front 57 n) body) code-is ∙ ap (λ x. refusal-test n head.round head.code x body) c-is
-        ∙ test-true n head.round head.code c body is.round low is.code size is.zero in
+    ∙ ap (λ k. refusal-test n head.round k (bytes_at front 57 n) body) code-is ∙ ap (λ x. refusal-test n head.round head.code x body) c-is
+    ∙ test-true n head.round head.code c body is.round low is.code size is.zero in
     let reply : reply_in n 5 front body ≡ Ok (head, body) = read-refusal n front body passes
-        ∙ ap (λ r. Ok (head_of front (bytes_at front 57 n) r (slice_index front (58 + n)), body)) round-is
-        ∙ ap (λ k. Ok (head_of front (bytes_at front 57 n) head.round k, body)) code-is
-        ∙ ap (λ x. Ok (head_of front x head.round head.code, body)) c-is
-        ∙ ap (λ h. Ok (h, body)) (head-again params head (c ++ tail) c head.round head.code has ∙ by-fields head c head.round head.code refl refl refl) in
+    ∙ ap (λ r. Ok (head_of front (bytes_at front 57 n) r (slice_index front (58 + n)), body)) round-is
+    ∙ ap (λ k. Ok (head_of front (bytes_at front 57 n) head.round k, body)) code-is
+    ∙ ap (λ x. Ok (head_of front x head.round head.code, body)) c-is
+    ∙ ap (λ h. Ok (h, body)) (head-again params head (c ++ tail) c head.round head.code has ∙ by-fields head c head.round head.code refl refl refl) in
     let small = small-hash params in
     let kept = kept-small n head.code small in
     front-then params 5 (59 + n + kept_length n head.code) front body (head, body) all
-      (reply-back params 5 front body (head, body) refl long (omega (arith, all, small, kept)) (kept-fits n (length (front ++ body)) (head.code == 7) (head.code == 9) (head.code == 10) all) reply)
+    (reply-back params 5 front body (head, body) refl long (omega (arith, all, small, kept)) (kept-fits n (length (front ++ body)) (head.code == 7) (head.code == 9) (head.code == 10) all) reply)
 
 other-round : (round : ℕ) → (round ≡ 1) ⊎ (round ≡ 2) → (round == 1) ≡ false → round ≡ 2
 other-round round (inl one) other = absurd (let same : (round == 1) ≡ true = eq-eqb round 1 one in cc)

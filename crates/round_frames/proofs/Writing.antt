@@ -1,5 +1,5 @@
 -- What is written is read.
-use Rattle.std.proofs.Common.{◌≡◌, ◌≢◌, ◌≤◌, ◌<◌, ◌^◌, ◌-◌, ◌+◌, ◌*◌, ◌++◌, ◌==◌, ℕ, Bool, List, [], ◌∷◌, Option, Some, None, Result, Ok, Err, true, false, length, take, drop, refl, ap, sym, ◌∙◌, subst, arith, append_assoc, append-nil, length-append, take_at, drop_at, nat_lt, nat_le, le-ltb, MatchResult}
+use Rattle.std.proofs.Common.{◌≡◌, ◌≤◌, ◌<◌, ◌^◌, ◌+◌, ◌*◌, ◌++◌, ◌==◌, ℕ, List, [], ◌∷◌, Option, Some, None, Result, Ok, Err, true, false, length, take, drop, refl, ap, sym, ◌∙◌, subst, arith, append_assoc, append-nil, length-append, take_at, drop_at, nat_lt, le-ltb, MatchResult}
 use Rattle.std.proofs.Math.Seq.{take-append-add}
 use Rattle.std.proofs.lemmas.Bool.{eq-eqb, le-leb}
 use Rattle.std.proofs.lemmas.Nat.{from_be_bytes-to_be_bytes_2, from_be_bytes-to_be_bytes_4}
@@ -13,13 +13,12 @@ use Rattle.lms_bytes.specs.declared.ask.Second.{Second}
 use Rattle.lms_bytes.specs.declared.ask.Ask.{Ask}
 use Rattle.lms_bytes.specs.declared.message.MessageId.{MessageId}
 use Rattle.lms_bytes.specs.declared.params.Params.{Params}
-use Rattle.ots_chain.specs.MessageHash.{message_digest}
-use Rattle.round_frames.specs.Asks.{IsAsk, IsSecond, ask_frame, ask_of, asks, second_ask}
+use Rattle.round_frames.specs.Asks.{IsAsk, IsSecond, ask_frame, asks, second_ask}
 use Rattle.round_frames.specs.Requests.{request_frame, requests}
-use Rattle.round_frames.specs.Results.{Failed, Said, Signature, failure_frame, results, signature_frame}
+use Rattle.round_frames.specs.Results.{Failed, Signature, failure_frame, results, signature_frame}
 use Rattle.round_frames.specs.declared.outcome.Failure.{Failure}
 use Rattle.stream_io.specs.Talk.{Talk, WrotePart}
-use Rattle.round_frames.specs.Frames.{Reader, ReadsBack, Says, after_header, after_tests, behind, frame, frame_of, header_bytes, header_fault, header_in, payload_in, whole}
+use Rattle.round_frames.specs.Frames.{Reader, ReadsBack, after_header, behind, frame, frame_of, header_bytes, header_fault, header_in, payload_in}
 use Rattle.round_frames.specs.declared.fault.FrameFault.{FrameFault}
 use Rattle.round_frames.specs.declared.header.Header.{Header}
 use Rattle.round_frames.proofs.Reading.{ask-is, ask-split, payload-whole, whole-there}

@@ -1,6 +1,6 @@
 -- This project's profile: asks.
 use Rattle.std.specs.Prelude.{◌≡◌, ◌≤◌, ◌<◌, ◌^◌, ⊤, ◌+◌, ◌==◌, ◌||◌, ◌++◌, ℕ, List, length, take, drop, nat_le}
-use Rattle.std.specs.Prelude.{Option, MatchOption, Some, None, Ok, if◌then◌else◌}
+use Rattle.std.specs.Prelude.{MatchOption, Some, None, Ok, if◌then◌else◌}
 use Rattle.lms_bytes.specs.Bytes.{bytes_at, str_to_u32, u32str}
 use Rattle.lms_bytes.specs.MessageId.{message_id, message_id_bytes}
 use Rattle.lms_bytes.specs.declared.ask.Ask.{Ask}

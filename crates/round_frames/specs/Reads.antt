@@ -1,5 +1,5 @@
 -- What a reader of frames answers, and what it has read of its source.
-use Rattle.std.specs.Prelude.{◌≡◌, ◌⊎◌, ◌<◌, ℕ, List, length, Result, Ok, Err}
+use Rattle.std.specs.Prelude.{◌≡◌, ◌⊎◌, ◌<◌, ℕ, length, Result, Ok, Err}
 use Rattle.stream_io.specs.Talk.{Talk, Took}
 use Rattle.round_frames.specs.Frames.{Says}
 use Rattle.round_frames.specs.declared.fault.FrameFault.{FrameFault}

@@ -1,6 +1,6 @@
 -- This project's profile: results. Kind 7: an LMS signature. Kind 8: u8str(status) || u8str(member) || u8str(round) ||
 -- u32str(leaf), of a session that failed.
-use Rattle.std.specs.Prelude.{◌+◌, ◌==◌, ◌||◌, ◌++◌, ◌∷◌, ℕ, List, slice_index, Result, Ok, Err}
+use Rattle.std.specs.Prelude.{◌+◌, ◌==◌, ◌||◌, ◌∷◌, ℕ, List, slice_index, Result, Ok, Err}
 use Rattle.std.specs.Prelude.{if◌then◌else◌}
 use Rattle.lms_bytes.specs.Bytes.{bytes_at, str_to_u32, u32str}
 use Rattle.lms_bytes.specs.Signature.{signature_length}

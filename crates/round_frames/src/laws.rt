@@ -24,8 +24,7 @@ pub fn replies_are_read()
     ensures { (params : Params) (head : ReplyHead) (body : List ℕ) → HasParts head → IsHead params head
         → length body ≡ body_length params head
         → ReadsBack (replies params) (reply_front params head ++ body) (head, body) }
-{
-}
+{}
 
 /// A request is read back. The bits stand for its trustees.
 pub fn requests_are_read()

@@ -1,4 +1,4 @@
-use Rattle.std.proofs.Common.{◌≡◌, ◌≤◌, ◌∙◌, Ok, ap, arith, take}
+use Rattle.std.proofs.Common.{◌∙◌, Ok, ap, arith, take}
 use Rattle.std.proofs.lemmas.Result.{err_from_is_err_and}
 use Rattle.round_frames.specs.Asks.{ask_of}
 use Rattle.round_frames.proofs.Reading.{all-there, ask-is, part-missing}

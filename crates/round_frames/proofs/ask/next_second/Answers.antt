@@ -1,4 +1,4 @@
-use Rattle.std.proofs.Common.{◌≡◌, List, ℕ, ◌+◌, ◌-◌, ◌≤◌, ◌∙◌, Ok, ap, arith, length, length-take-le, refl, replicate, subst, take}
+use Rattle.std.proofs.Common.{◌≡◌, List, ℕ, ◌+◌, ◌≤◌, ◌∙◌, Ok, ap, arith, length, length-take-le, replicate, subst, take}
 use Rattle.std.proofs.lemmas.Result.{err_from_is_err_and}
 use Rattle.stream_io.specs.Talk.{Took}
 use Rattle.round_frames.specs.Asks.{ask_of, second_ask}

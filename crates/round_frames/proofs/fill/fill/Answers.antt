@@ -1,4 +1,4 @@
-use Rattle.std.proofs.Common.{◌≡◌, ◌+◌, ◌<◌, ◌≤◌, length, min, inl, inr, refl, subst, arith, ap, ◌∙◌}
+use Rattle.std.proofs.Common.{◌≡◌, length, inl, inr, refl, subst, arith}
 use Rattle.stream_io.specs.Talk.{Took}
 use Rattle.round_frames.proofs.fill.fill.Goals as goal
 

@@ -1,4 +1,4 @@
-use Rattle.std.proofs.Common.{◌≡◌, ◌+◌, ◌++◌, ◌≤◌, ap, ◌∙◌, sym, subst, arith, length, take}
+use Rattle.std.proofs.Common.{◌++◌, ap, ◌∙◌, sym, subst, arith, length, take}
 use Rattle.std.proofs.lemmas.Result.{err_from_is_err_and}
 use Rattle.stream_io.specs.Talk.{Took}
 use Rattle.round_frames.specs.declared.fault.FrameFault.TheVariants.{NoMemory}

@@ -1,4 +1,4 @@
-use Rattle.std.proofs.Common.{rules, ◌≡◌, ◌+◌, ◌++◌, ap, ◌∙◌, sym, subst, arith, length, length-take-le, length-append, length-drop, take}
+use Rattle.std.proofs.Common.{◌≡◌, ◌++◌, ◌∙◌, subst, arith, length, length-take-le, length-append, length-drop, take}
 use Rattle.std.proofs.lemmas.Result.{err_from_is_err_and}
 use Rattle.lms_bytes.specs.IdHash.{HasTaken as IdTaken}
 use Rattle.ots_chain.specs.MessageHash.{HasTaken}

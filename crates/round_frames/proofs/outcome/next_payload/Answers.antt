@@ -1,4 +1,4 @@
-use Rattle.std.proofs.Common.{◌≡◌, ◌+◌, ◌==◌, ◌≤◌, ◌∙◌, ℕ, List, Ok, false, ap, arith, inr, ne_eqb, refl}
+use Rattle.std.proofs.Common.{◌≡◌, ◌==◌, ◌∙◌, Ok, false, ap, arith, inr, ne_eqb, refl}
 use Rattle.std.proofs.lemmas.Result.{err_from_is_err_and}
 use Rattle.round_frames.specs.Results.{Failed, Signature, failure_of, results}
 use Rattle.round_frames.specs.declared.fault.FrameFault.TheVariants.{NoMemory}

@@ -1,4 +1,4 @@
-use Rattle.std.proofs.Common.{◌≡◌, ◌+◌, ◌-◌, ◌++◌, ◌≤◌, ◌∙◌, ℕ, List, Ok, Err, ap, sym, arith, drop, take, take_at, length, length-take-le, refl, replicate, subst}
+use Rattle.std.proofs.Common.{◌≡◌, ◌-◌, ◌++◌, ◌∙◌, ℕ, List, Ok, Err, ap, sym, arith, drop, take, take_at, length, length-take-le, refl, replicate, subst}
 use Rattle.std.proofs.lemmas.Result.{err_from_is_err_and}
 use Rattle.stream_io.specs.Talk.{Took}
 use Rattle.round_frames.specs.Frames.{payload_in}

@@ -1,4 +1,4 @@
-use Rattle.std.proofs.Common.{◌≡◌, ◌+◌, ◌-◌, ◌++◌, ◌≤◌, ◌∙◌, ℕ, List, Result, Ok, ap, arith, drop, take, take_at, drop_at, inr, length, length-take-le, refl}
+use Rattle.std.proofs.Common.{◌≡◌, ◌-◌, ◌++◌, ◌∙◌, ℕ, List, Result, Ok, ap, arith, drop, take, take_at, drop_at, inr, length, length-take-le, refl}
 use Rattle.std.proofs.lemmas.Result.{err_from_is_err_and}
 use Rattle.std.specs.Int.{w16, from_be_bytes}
 use Rattle.coalition_map.specs.Members.{member_numbers}
