@@ -1,4 +1,4 @@
-//! Reads an ask with a message of 16 MiB from memory, or takes the two hashes of such a message at once, some times over,
+//! Reads an ask with a message of 16 MiB from memory, or takes the two hashes of such a message at once, some times,
 //! and prints the exclusive or of the first bytes. `bench/frames` times both.
 #![tactic(auto)]
 
