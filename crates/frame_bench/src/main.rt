@@ -1,0 +1,71 @@
+//! Reads an ask with a message of 16 MiB from memory, or takes the two hashes of such a message at once, some times,
+//! and prints the exclusive or of the first bytes. `bench/frames` times both.
+#![tactic(auto)]
+
+use lms_bytes::{IdHash, Params, Val};
+use ots_chain::MessageHash;
+use round_frames::next_ask;
+use std::alloc::{AllocError, Global};
+use std::process::ExitCode;
+use std::{env, io};
+use stream_io::MemSource;
+
+/// The length of the message, 16 MiB.
+const MESSAGE: usize = 16_777_216;
+
+/// What stands before the message: the header of a frame of kind 2, and zeros in the place of the ask's head.
+const HEADER: [u8; 8] = [0x54, 0x4C, 1, 2, 1, 0, 0, 84];
+
+/// The frame of an ask whose message is all zeros.
+fn frame(alloc: Global) -> Result<Vec<u8>, AllocError> {
+    let mut bytes = Vec::from_slice(alloc, &HEADER)?;
+    bytes.resize(92 + MESSAGE, 0)?;
+    Ok(bytes)
+}
+
+/// The first byte of the digest, by reading the frame.
+fn read(alloc: Global, params: &Params, bytes: Vec<u8>) -> u8 {
+    let mut source = MemSource::new(bytes, Vec::new(alloc), Vec::new(alloc));
+    match next_ask(params, &mut source) {
+        Ok(ask) => ask.second.map_or(0, |second| first_byte(second.digest.bytes())),
+        Err(_) => 0,
+    }
+}
+
+/// The first byte of the digest, by hashing the message at once.
+fn hash(params: &Params, bytes: &[u8]) -> u8 {
+    let (_, message) = bytes.split_at(92.min(bytes.len()));
+    let mut id = IdHash::new();
+    let c = [0; 32];
+    let mut digest = MessageHash::new(params, &[0; 16], 0, &Val::of(&c[..params.n as usize]));
+    if message.len() < 1 << 31 {
+        id.update(message);
+    }
+    digest.update(message);
+    first_byte(&id.finish().hash) ^ first_byte(digest.finish().bytes())
+}
+
+fn first_byte(bytes: &[u8]) -> u8 {
+    bytes.first().copied().unwrap_or(0)
+}
+
+fn main(rt: HostRuntime) -> io::Result<ExitCode> {
+    let mut words = env::args(&rt)?.skip(1);
+    let way = words.next();
+    let times = words.next().and_then(|word| word.parse::<u32>().ok());
+    let (Some(way), Some(times), Ok(params)) = (way, times, Params::of_codes(5, 3)) else {
+        println!(rt; "wanted: read or hash, and how often")?;
+        return Ok(ExitCode::from(2));
+    };
+    let mut all = 0;
+    for _ in 0..times {
+        let bytes = frame(rt.alloc())?;
+        all ^= if way.as_str() == "read" {
+            read(rt.alloc(), &params, bytes)
+        } else {
+            hash(&params, bytes.as_slice())
+        };
+    }
+    println!(rt; "{times} messages: {all}")?;
+    Ok(ExitCode::SUCCESS)
+}

@@ -1,0 +1,76 @@
+//! Reads frames that another implementation read as well, from a table with a row for each reading: the typecodes, the
+//! reader, the bytes, and what was read. Each is read twice, from one piece and from pieces of one byte. It prints the
+//! number of each row that was read otherwise, and how many were not.
+#![tactic(auto)]
+
+mod reading;
+
+use lms_bytes::Params;
+use reading::reading;
+use std::alloc::{AllocError, Global};
+use std::io::{self, ErrorKind};
+use std::str;
+use stream_io::{FileStore, MemSource, Store};
+
+/// A row of the table.
+#[derive(Clone, Copy)]
+struct Row<'a> {
+    params: Params,
+    reader: &'a str,
+    bytes: &'a str,
+    want: &'a str,
+}
+
+/// The row that a line is.
+fn row_of(line: &str) -> Option<Row<'_>> {
+    let (lms, rest) = line.split_once('\t')?;
+    let (ots, rest) = rest.split_once('\t')?;
+    let (reader, rest) = rest.split_once('\t')?;
+    let (bytes, want) = rest.split_once('\t')?;
+    let params = Params::of_codes(lms.parse().ok()?, ots.parse().ok()?).ok()?;
+    Some(Row {
+        params,
+        reader,
+        bytes,
+        want,
+    })
+}
+
+/// Whether the row's bytes, in pieces of at most so many, are read as the row says.
+fn agrees(alloc: Global, row: &Row, piece: usize) -> Result<bool, AllocError> {
+    let text = if row.bytes == "-" { "" } else { row.bytes };
+    let Ok(bytes) = hex::decode(alloc, text) else {
+        return Ok(false);
+    };
+    let length = bytes.len();
+    let mut pieces = Vec::new(alloc);
+    if piece > 0 {
+        pieces.resize(length, piece)?;
+    }
+    let mut source = MemSource::new(bytes, pieces, Vec::new(alloc));
+    let got = reading(alloc, &row.params, row.reader, &mut source, length)?;
+    Ok(got.as_str() == row.want)
+}
+
+fn main(rt: HostRuntime) -> io::Result<()> {
+    let mut store = FileStore::new(rt);
+    let Ok(bytes) = store.read_all(rt.alloc(), "frames.tsv", 1 << 20) else {
+        return Err(io::Error::from(ErrorKind::NotFound));
+    };
+    let Ok(table) = str::from_utf8(&bytes) else {
+        return Err(io::Error::from(ErrorKind::InvalidData));
+    };
+    let mut agreed: u32 = 0;
+    for (number, line) in table.lines().enumerate().skip(1) {
+        let same = match row_of(line) {
+            Some(row) => agrees(rt.alloc(), &row, 0)? && agrees(rt.alloc(), &row, 1)?,
+            None => false,
+        };
+        if same {
+            agreed = agreed.saturating_add(1);
+        } else {
+            println!(rt; "row {number} is read otherwise")?;
+        }
+    }
+    println!(rt; "{agreed} rows are read as the table says")
+}

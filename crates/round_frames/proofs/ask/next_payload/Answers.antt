@@ -1,0 +1,22 @@
+use Rattle.std.proofs.Common.{◌≡◌, ◌==◌, Ok, false, ne_eqb, refl}
+use Rattle.round_frames.specs.Asks.{asks, first_ask, second_ask}
+use Rattle.round_frames.proofs.Reading.{in-payload, payload-fault}
+use Rattle.round_frames.proofs.ask.next_payload.Goals as goal
+
+pub returns-in-Some-clause-told : goal.returns-in-Some-clause-told
+returns-in-Some-clause-told g c told = payload-fault (asks c.args.params.now) c.args.header.now (g.S.Stream.talk c.args.source.now) c.in-Some.fault c.in-Some.ensures.fault
+
+pub returns-then-header-eq1-clause-told : goal.returns-then-header-eq1-clause-told
+returns-then-header-eq1-clause-told g c told =
+    let talk = g.S.Stream.talk in
+    let one = c.if-header-eq1.true in
+    in-payload (asks c.args.params.now) c.args.header.now (talk c.args.source.now) (talk c.next_first.new.source) c.next_first.result 56 (λ payload. Ok (first_ask payload))
+    c.in_default.ensures.fault (c.in_default.ensures.first refl one) (λ payload. rw one refl) (c.next_first.ensures.told told)
+
+pub returns-else-header-eq1-clause-told : goal.returns-else-header-eq1-clause-told
+returns-else-header-eq1-clause-told g c told =
+    let talk = g.S.Stream.talk in
+    let header = c.args.header.now in
+    let test : (header.kind == 1) ≡ false = ne_eqb header.kind 1 c.if-header-eq1.false in
+    in-payload (asks c.args.params.now) header (talk c.args.source.now) (talk c.next_second.new.source) c.next_second.result header.length (λ payload. Ok (second_ask c.args.params.now payload))
+    c.in_default.ensures.fault refl (λ payload. rw test refl) (c.next_second.ensures.told told)

@@ -1,0 +1,18 @@
+use Rattle.std.proofs.Common.{◌∙◌, inr}
+use Rattle.std.proofs.lemmas.Result.{err_from_is_err_and}
+use Rattle.round_frames.specs.Requests.{request_seen, requests}
+use Rattle.round_frames.proofs.Reading.{either, header-then, no-header}
+use Rattle.round_frames.proofs.request.next_request.Goals as goal
+
+pub returns-in_err-header-clause-told : goal.returns-in_err-header-clause-told
+returns-in_err-header-clause-told g c told =
+    let talk = g.S.Stream.talk in
+    let p = err_from_is_err_and c.from_residual.result c.from_residual.ensures.1 in
+    rw (p.1, p.2) (inr (no-header requests (talk c.args.source.now) (talk c.next_header.new.source) c.in_err-header.field-0.0 (c.in_err-header.ensures.told told)))
+
+pub returns-clause-told : goal.returns-clause-told
+returns-clause-told g c told =
+    let talk = g.S.Stream.talk in
+    let h = c.in_ok-header.ensures in
+    either (header-then requests c.in_ok-header.header (talk c.args.source.now) (talk c.next_header.new.source) (talk c.next_payload.new.source) (request_seen c.next_payload.result)
+    (h.told told) (h.whole told)) (c.next_payload.ensures.told (h.only.told ∙ told))

@@ -1,0 +1,6 @@
+pub mod Frames
+pub mod Asks
+pub mod Replies
+pub mod Requests
+pub mod Results
+pub mod Reads

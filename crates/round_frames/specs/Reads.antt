@@ -1,0 +1,27 @@
+-- What a reader of frames answers, and what it has read of its source.
+use Rattle.std.specs.Prelude.{◌≡◌, ◌⊎◌, ◌<◌, ℕ, length, Result, Ok, Err}
+use Rattle.stream_io.specs.Talk.{Talk, Took}
+use Rattle.round_frames.specs.Frames.{Says}
+use Rattle.round_frames.specs.declared.fault.FrameFault.{FrameFault}
+use Rattle.round_frames.specs.declared.fault.FrameFault.TheVariants.{Cut, ReadFault}
+
+-- a read failed, and some bytes had been read
+pub record Broke {V : Type 0} (old new : Talk) (result : Result V FrameFault) : Type 0 where
+  pub is : result ≡ Err ReadFault
+  pub size : ℕ
+  pub took : Took old new size
+
+-- the answer is what the bytes say, and just the bytes that say it were read
+pub record Gave {V : Type 0} (old new : Talk) (result : Result V FrameFault) (says : Says V) : Type 0 where
+  pub is : result ≡ says.result
+  pub took : Took old new says.size
+
+abbrev pub Reads : {V : Type 0} → Talk → Talk → Result V FrameFault → Says V → Type 0
+Reads old new result says = Gave old new result says ⊎ Broke old new result
+
+-- So many bytes were there, and just these were read; or all that were there, and they were fewer; or a read failed.
+abbrev pub Passed : {V : Type 0} → Talk → Talk → Result V FrameFault → ℕ → Type 0
+Passed old new (Ok value) size = Took old new size
+Passed {V = V} old new (Err fault) size =
+    ((fault ≡ Cut) × (length old.left < size) × Took old new (length old.left))
+    ⊎ Broke {V = V} old new (Err fault)
