@@ -1,11 +1,12 @@
 -- The entries of a leaf table, and what they make of each leaf.
-use Rattle.std.specs.Prelude.{◌==◌, ◌≡◌, ◌<◌, ℕ, Bool, true, false, List, length, take, fold, slice_index_or, if◌then◌else◌}
+use Rattle.std.specs.Prelude.{◌==◌, ◌≡◌, ◌<◌, ℕ, Bool, true, false, List, length, take, fold, slice_index_or}
+use Rattle.std.specs.Prelude.{if◌then◌else◌}
 use Rattle.lms_bytes.specs.MessageId.{message_id_bytes}
 use Rattle.leaf_table.specs.declared.lease.Lease.{Lease}
 use Rattle.leaf_table.specs.declared.lease.Lease.TheVariants.{Leased, Burnt}
 
--- A leaf is free, leased for a message by its id of 36 bytes, or burnt. A slot whose gate B is open and gate A is not is
--- torn.
+-- A leaf is free, leased for a message by its id of 36 bytes, or burnt. A slot whose gate B is open and gate A is not
+-- is torn.
 pub data LeafUse : Type 0 where
   IsFree : LeafUse
   IsLeased : (message : List ℕ) → LeafUse
@@ -45,8 +46,8 @@ may_follow (Burnt leaf) IsTorn = false
 abbrev pub Follows : List Lease → Lease → Type 0
 Follows entries entry = may_follow entry (map_of entries (leaf_of entry)) ≡ true
 
--- One leaf, one message: each entry is a lease of a leaf that was never leased before, or the first burning of a leaf that
--- was leased before.
+-- One leaf, one message: each entry is a lease of a leaf that was never leased before, or the first burning of a leaf
+-- that was leased before.
 abbrev pub OneLease : List Lease → Type 0
 OneLease entries = (place : ℕ) (none : Lease) → place < length entries
     → Follows (take place entries) (slice_index_or entries place none)

@@ -1,4 +1,5 @@
--- What leasing and burning do: the doubt is settled first, the tests follow in their order, and at most one entry is made.
+-- What leasing and burning do: the doubt is settled first, the tests follow in their order, and at most one entry is
+-- made.
 use Rattle.std.specs.Prelude.{◌≡◌, ◌≢◌, ◌⊎◌, ◌≤◌, ◌<◌, ℕ, List, None, Some, Option, Contains, Result, Ok, Err, IsSome}
 use Rattle.coalition_map.specs.Coalitions.{IsLeafAfter, PlanNumbers, coalition, coalitions, count_of}
 use Rattle.lms_bytes.specs.MessageId.{message_id_bytes}
@@ -25,8 +26,8 @@ pub record IsLeast (plan : PlanNumbers) (c : ℕ) (map : ℕ → LeafUse) (wante
 abbrev pub HasNone : PlanNumbers → ℕ → (ℕ → LeafUse) → LeafUse → Type 0
 HasNone plan c map wanted = (leaf : ℕ) → IsLeafAfter plan c None leaf → map leaf ≢ wanted
 
--- The leaf of coalition c for a message: its least leaf that is leased for the message and not burnt; else its least leaf
--- that is neither leased nor burnt; else none.
+-- The leaf of coalition c for a message: its least leaf that is leased for the message and not burnt; else its least
+-- leaf that is neither leased nor burnt; else none.
 pub data LeaseOf (plan : PlanNumbers) (entries : List Lease) (c : ℕ) (message : List ℕ) : Option ℕ → Type 0 where
   kept : (leaf : ℕ) → IsLeast plan c (map_of entries) (IsLeased message) leaf
       → LeaseOf plan entries c message (Some leaf)

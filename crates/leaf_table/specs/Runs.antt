@@ -7,8 +7,8 @@ use Rattle.leaf_table.specs.Leasing.{Burns, Leases}
 use Rattle.leaf_table.specs.State.{SettlesTo, TableState}
 use Rattle.leaf_table.specs.declared.faults.TableFault.{TableFault}
 
--- Events from one state of a table to another. A crash may fall on any call: the entry that it was about to make was made or
--- was not. Loading gives a sound table that makes of each leaf what was kept of it.
+-- Events from one state of a table to another. A crash may fall on any call: the entry that it was about to make was
+-- made or was not. Loading gives a sound table that makes of each leaf what was kept of it.
 pub data TableRun (plan : PlanNumbers) : TableState → TableState → Type 0 where
   ended : (state : TableState) → TableRun plan state state
   leased : (before after last : TableState) (members : List ℕ) (message : MessageId) (answer : Result ℕ TableFault)

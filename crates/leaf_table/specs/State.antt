@@ -63,4 +63,5 @@ pub record IsSound (state : TableState) : Type 0 where
   pub within : (doubted : Doubted) → state.doubt ≡ Some doubted → doubted.slot < length state.slots
   pub next : (doubted : Doubted) → state.doubt ≡ Some doubted
       → may_become (slot_in state.slots doubted.slot) doubted.after ≡ true
-  pub makes : (doubted : Doubted) → state.doubt ≡ Some doubted → use_after (lease_of doubted) ≡ use_of_slot doubted.after
+  pub makes : (doubted : Doubted) → state.doubt ≡ Some doubted
+      → use_after (lease_of doubted) ≡ use_of_slot doubted.after

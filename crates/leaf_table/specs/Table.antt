@@ -43,8 +43,8 @@ module _ {D : Type 0} {p : pages.Ghosts D} {f : faults.Ghosts D} where
     pub loads : IsTableFile (header_of table) (2 ^ (plan_of table).h) file
     pub stands : StandsFor file (state_of table)
 
-  -- What holds of every table: what a read gives and each image that a crash may leave is a file that loads and stands for
-  -- it, an entry is in doubt only where a call of the disk has failed, and each entry may follow those before it.
+  -- What holds of every table: what a read gives and each image that a crash may leave is a file that loads and stands
+  -- for it, an entry is in doubt only where a call of the disk has failed, and each entry may follow those before it.
   pub record Holds (table : Table D p f) : Type 0 where
     pub reads : IsTold table → Keeps table (p.reads (disk_of table))
     pub images : IsTold table → IsHonest table → (image : List ℕ) → p.may_leave (disk_of table) image
@@ -58,8 +58,8 @@ module _ {D : Type 0} {p : pages.Ghosts D} {f : faults.Ghosts D} where
     pub header : header_of new ≡ header_of old
     pub disk : SameDisk p f (disk_of old) (disk_of new)
 
-  -- What leasing and burning say of the disk: no slot is found damaged where the disk tells its content, a steady disk that
-  -- tells it does not fail, and the count rises where the answer is Device and nowhere else.
+  -- What leasing and burning say of the disk: no slot is found damaged where the disk tells its content, a steady disk
+  -- that tells it does not fail, and the count rises where the answer is Device and nowhere else.
   pub record Enters {R : Type 0} (old new : Table D p f) (result : Result R TableFault) : Type 0 where
     pub told : IsTold old → (leaf a b : ℕ) → result ≢ Err (Damaged leaf a b)
     pub succeeds : IsSteady old → IsTold old → result ≢ Err Device

@@ -1,6 +1,7 @@
 //! The leaf table.
 
-ghost use Rattle.std.specs.Prelude.{◌≡◌, ◌≢◌, ◌^◌, ◌+◌, ◌<◌, ◌≤◌, ℕ, length, vec_capacity, IsTrue, IfOk, IfErr, IfNone, IfSome, OnOk, None, Ok, Err};
+ghost use Rattle.std.specs.Prelude.{◌≡◌, ◌≢◌, ◌^◌, ◌+◌, ◌<◌, ◌≤◌, ℕ, length, vec_capacity, IsTrue, IfOk, IfErr, IfNone};
+ghost use Rattle.std.specs.Prelude.{IfSome, OnOk, None, Ok, Err};
 ghost use Rattle.coalition_map.specs.Coalitions.{count_of as coalition_count};
 ghost use Rattle.lms_bytes.specs.MessageId.{message_id_bytes};
 ghost use Rattle.leaf_table.specs.Entries.{IsBurnt, IsFree, IsLeased, IsTorn, map_of};
@@ -39,7 +40,8 @@ pub struct Table<D: Disk> {
 
 impl<D: Disk> Table<D> {
     ghost use Rattle.leaf_table.specs.Loaded.{IsLoaded};
-    ghost use Rattle.leaf_table.specs.Table.{Enters, Holds, Stays, disk_of, faults_of, IsSteady, IsTold, plan_of, state_of};
+    ghost use Rattle.leaf_table.specs.Table.{Enters, Holds, Stays, disk_of, faults_of, IsSteady, IsTold, plan_of};
+    ghost use Rattle.leaf_table.specs.Table.{state_of};
     ghost use Rattle.slot_cache.specs.Loading.{LoadRefused};
 
     /// Loads a table: reads every slot, and takes the memory for all entries that can be made. A refusal gives the disk
@@ -149,8 +151,8 @@ impl<D: Disk> Table<D> {
         }
     }
 
-    /// Burns a leaf that was leased for this message, with the member that reported it spent. A leaf that is burnt stays
-    /// as it is. An entry in doubt is settled first. It takes no memory.
+    /// Burns a leaf that was leased for this message, with the member that reported it spent. A leaf that is burnt
+    /// stays as it is. An entry in doubt is settled first. It takes no memory.
     pub fn burn(&mut self, leaf: u32, message: &MessageId, by: u8) -> Result<(), TableFault>
         requires within { leaf < 2 ^ (plan_of self.old).h }
         requires leased { WasLeasedFor (message_id_bytes message.now) (map_of (state_of self.old).entries leaf) }
