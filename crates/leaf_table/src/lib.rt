@@ -3,6 +3,7 @@
 
 mod bodies;
 mod faults;
+mod index;
 pub mod laws;
 mod lease;
 mod listing;
