@@ -93,23 +93,29 @@ impl LeaseIndex {
         }
     }
 
-    /// The least free leaf of coalition `c`, from which the next search begins.
+    /// The least free leaf of coalition `c`.
     pub(crate) fn free<D: Disk>(
-        &mut self,
+        &self,
         plan: &Plan,
         slots: &CachedSlots<D>,
         c: u32,
     ) -> Option<u32>
         requires count { count_of slots.now ≡ 2 ^ plan.now.h }
         requires coalition { c < coalition_count plan.now }
-        requires index { IsIndex plan.now (cache_state slots.now).slots self.old }
-        ensures found { IsFound plan.now (cache_state slots.now).slots c IsFree result }
-        ensures index { IsIndex plan.now (cache_state slots.now).slots self.new }
-        ensures same { IfNone result (self.new ≡ self.old) }
+        requires index { IsIndex plan.now (cache_state slots.now).slots self.now }
+        ensures { IsFound plan.now (cache_state slots.now).slots c IsFree result }
     {
-        let leaf = free_leaf(slots, plan, c, self.first[c as usize])?;
+        free_leaf(slots, plan, c, self.first[c as usize])
+    }
+
+    /// Lets the next search for a free leaf of coalition `c` begin at this leaf.
+    pub(crate) fn begin_at(&mut self, c: u32, leaf: u32)
+        requires { c < length self.old.first.items }
+        ensures { (plan : PlanNumbers) (slots : List SlotValue)
+            → ((other : ℕ) → IsLeafAfter plan c None other → other < leaf → slot_in slots other ≢ Slot.Free)
+            → IsIndex plan slots self.old → IsIndex plan slots self.new }
+    {
         self.first[c as usize] = leaf;
-        Some(leaf)
     }
 
     /// Lists the lease that was made of a free leaf of coalition `c`.

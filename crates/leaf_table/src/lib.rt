@@ -7,7 +7,6 @@ mod index;
 pub mod laws;
 mod lease;
 mod listing;
-mod searching;
 mod table;
 
 pub use faults::TableFault;
