@@ -14,6 +14,7 @@ use slot_file::{Header, prepare};
 use std::alloc::Global;
 use std::process::Abort;
 use std::test::Fail;
+use turn_lock::Kept;
 
 /// The bytes of a file of 32 slots.
 const ROOM: usize = 4224;
@@ -142,11 +143,7 @@ fn a_coalition_runs_out_of_leaves(rt: HostRuntime) -> Result<(), Fail> {
     let alloc = rt.alloc();
     let mut table = loaded(&rt, alloc, prepared(&rt, alloc)?);
     for i in 0..11u32 {
-        let message = MessageId {
-            length: i,
-            hash: [0x33; 32],
-        };
-        let leaf = table.lease(Members::of_bits(0b11), &message);
+        let leaf = table.lease(Members::of_bits(0b11), &numbered(i));
         assert_eq!(rt; leaf, Ok(i.wrapping_mul(3)), "lease {i}");
     }
     let none = TableFault::NoLeaf { coalition: 0 };
@@ -178,7 +175,7 @@ fn lease_stopped(
 fn a_lease_is_before_or_after(rt: HostRuntime) -> Result<(), Fail> {
     let alloc = rt.alloc();
     for call in 0..5 {
-        for pick in [0, 1] {
+        for pick in [0, 1, 5] {
             let table = lease_stopped(&rt, alloc, call, pick)?;
             let is_made = call == 4 || call == 3 && pick == 1;
             let want = [leased(1, ONE)];
@@ -186,6 +183,140 @@ fn a_lease_is_before_or_after(rt: HostRuntime) -> Result<(), Fail> {
             assert_eq!(rt; table.entries(), want, "call {call} pick {pick}");
         }
     }
+    Ok(())
+}
+
+/// Leases leaf 1 and burns it, stopped at a call of the burning, and loads what a crash leaves.
+fn burn_stopped(
+    rt: &impl Abort,
+    alloc: Global,
+    call: u8,
+    pick: u64,
+) -> Result<Table<MemDisk>, NoMemory> {
+    let mut disk = prepared(rt, alloc)?;
+    disk.stop_at(LOAD_CALLS + 4 + u64::from(call));
+    let mut table = loaded(rt, alloc, disk);
+    let want = if call < 4 {
+        Err(TableFault::Device)
+    } else {
+        Ok(1)
+    };
+    assert_eq!(rt; lease_and_burn(&mut table, &ONE, 3), want, "call {call}");
+    Ok(crashed(rt, alloc, table, pick))
+}
+
+#[test]
+fn a_burning_is_before_or_after(rt: HostRuntime) -> Result<(), Fail> {
+    let alloc = rt.alloc();
+    let want = [leased(1, ONE), Lease::Burnt { leaf: 1 }];
+    for call in 0..5 {
+        for pick in [0, 1, 5] {
+            let table = burn_stopped(&rt, alloc, call, pick)?;
+            let is_made = call == 4 || call == 3 && pick == 1;
+            let count = if is_made { 2 } else { 1 };
+            assert_eq!(rt; table.entries(), &want[..count], "call {call} pick {pick}");
+        }
+    }
+    Ok(())
+}
+
+/// Leases for one message, which fails at a call, and then for another and for the first again.
+fn lease_again(rt: &impl Abort, alloc: Global, call: u8) -> Result<(), NoMemory> {
+    let mut disk = prepared(rt, alloc)?;
+    disk.fail_once(LOAD_CALLS + u64::from(call));
+    let mut table = loaded(rt, alloc, disk);
+    let members = first_and_third();
+    assert_eq!(rt; table.lease(members, &ONE), Err(TableFault::Device));
+    let (two, one) = if call == 3 { (4, 1) } else { (1, 4) };
+    assert_eq!(rt; table.lease(members, &TWO), Ok(two), "call {call}");
+    assert_eq!(rt; table.lease(members, &ONE), Ok(one), "call {call}");
+    Ok(())
+}
+
+#[test]
+fn a_doubtful_lease_is_settled(rt: HostRuntime) -> Result<(), Fail> {
+    for call in 0..4 {
+        lease_again(&rt, rt.alloc(), call)?;
+    }
+    Ok(())
+}
+
+/// Burns leaf 1 as reported by member 3, which fails at a call, and then the leaf of the message as reported by member 5.
+fn burn_again(rt: &impl Abort, alloc: Global, call: u8) -> Result<(), NoMemory> {
+    let mut disk = prepared(rt, alloc)?;
+    disk.fail_once(LOAD_CALLS + 4 + u64::from(call));
+    let mut table = loaded(rt, alloc, disk);
+    let device = Err(TableFault::Device);
+    assert_eq!(rt; lease_and_burn(&mut table, &ONE, 3), device);
+    let (leaf, reporter) = if call == 3 { (4, 3) } else { (1, 5) };
+    assert_eq!(rt;
+        lease_and_burn(&mut table, &ONE, 5),
+        Ok(leaf),
+        "call {call}"
+    );
+    let disk = table.end();
+    assert_eq!(rt; disk.bytes().get(336), Some(&reporter), "call {call}");
+    Ok(())
+}
+
+#[test]
+fn a_doubtful_burning_is_settled(rt: HostRuntime) -> Result<(), Fail> {
+    for call in 0..4 {
+        burn_again(&rt, rt.alloc(), call)?;
+    }
+    Ok(())
+}
+
+/// A message by its length.
+fn numbered(length: u32) -> MessageId {
+    MessageId {
+        length,
+        hash: [0x33; 32],
+    }
+}
+
+/// A table with no entry, for coalitions of `k` of `n` trustees.
+fn fresh(rt: &impl Abort, alloc: Global, n: u8, k: u8) -> Result<(Plan, Table<MemDisk>), NoMemory> {
+    let plan = Plan::new(n, k, 5).expect(rt, "a plan");
+    match Table::load(alloc, prepared(rt, alloc)?, &header(), &plan) {
+        Ok(table) => Ok((plan, table)),
+        Err((_, fault)) => panic!(rt; "load: {fault:?}"),
+    }
+}
+
+#[test]
+fn trustees_3_4_and_5_of_5_have_three_leaves(rt: HostRuntime) -> Result<(), Fail> {
+    let (_, mut table) = fresh(&rt, rt.alloc(), 5, 3)?;
+    let none = Err(TableFault::NoLeaf { coalition: 9 });
+    let leases = [
+        (0, Ok(9)),
+        (1, Ok(19)),
+        (2, Ok(29)),
+        (3, none),
+        (4, none),
+        (0, Ok(9)),
+    ];
+    for (message, want) in leases {
+        let leaf = table.lease(Members::of_bits(0b11100), &numbered(message));
+        assert_eq!(rt; leaf, want, "message {message}");
+    }
+    Ok(())
+}
+
+/// Hands a value on that may stand under a lock.
+fn handed_on<K: Kept>(kept: K) -> K
+    ensures { K.entries result ≡ K.entries kept }
+{
+    kept
+}
+
+#[test]
+fn a_table_may_stand_under_a_lock(rt: HostRuntime) -> Result<(), Fail> {
+    let alloc = rt.alloc();
+    let mut table = loaded(&rt, alloc, prepared(&rt, alloc)?);
+    assert_eq!(rt; table.lease(first_and_third(), &ONE), Ok(1));
+    let table = handed_on(table);
+    assert_eq!(rt; table.entries(), [leased(1, ONE)].as_slice());
     Ok(())
 }
 
