@@ -13,3 +13,6 @@ mod step;
 pub use faults::{KeptValue, SessionFault};
 pub use session::Session;
 pub use step::Step;
+
+#[cfg(test)]
+mod tests;
