@@ -5,7 +5,7 @@ ghost use Rattle.lms_bytes.specs.MessageId.{message_id};
 ghost use Rattle.session_core.specs.State.{SameAsk};
 ghost use Rattle.share_files.specs.Reference.{leaves_length};
 
-use crate::{Session, Step};
+use crate::{KeptValue, Session, SessionFault, Step};
 use coalition_map::Plan;
 use lms_bytes::bytes::put;
 use lms_bytes::{KeyId, MessageId, Params, PublicKey, ReplyHead, Val, digit};
@@ -196,6 +196,64 @@ fn a_session_signs_as_another_implementation_does(rt: HostRuntime) -> Result<(),
         let params = Params::of_codes(lms, ots).expect(&rt, "typecodes");
         assert_eq!(rt; params.h, 5);
         assert!(rt; sign(rt.alloc(), &rt, &params)? == want, "{lms} {ots}");
+    }
+    Ok(())
+}
+
+/// What `turn` says of a session in which trustee 1 alone has answered, by a refusal.
+fn fault_of_refusal(
+    alloc: Global,
+    rt: &impl Abort,
+    code: u8,
+    body: &[u8],
+) -> Result<Option<SessionFault>, Fail> {
+    let params = Params::of_codes(10, 7).expect(rt, "typecodes");
+    assert_eq!(rt; params.h, 5);
+    assert_eq!(rt; params.n, 24);
+    let plan = Plan::new(5, 3, 5).expect(rt, "a plan");
+    let key = PublicKey {
+        params,
+        id: ID,
+        root: Val::cut(&[0; 32], 24),
+    };
+    let leaves = vec![in alloc; 0; leaf_bytes(&params, plan.k()) * 32]?;
+    let mut cells = Whole::new(&params, &plan, &leaves);
+    let mut session = Session::start(alloc, &key, &plan, 0, &MessageId::of(MESSAGE))?;
+    let mut head = head_of(1, &Val::cut(&[0; 32], 24), 1);
+    head.code = code;
+    session.take(&head, body);
+    Ok(session.turn(&mut cells).err())
+}
+
+#[test]
+fn refusals_are_told_apart(rt: HostRuntime) -> Result<(), Fail> {
+    let member = 1;
+    let own = MessageId::of(MESSAGE);
+    let mut body = [0; 36];
+    put(&mut body, 0, &own.length.to_be_bytes());
+    put(&mut body, 4, &own.hash);
+    let mut other = body;
+    other[35] ^= 1;
+    let mut hash = own.hash;
+    hash[31] ^= 1;
+    let kept = MessageId {
+        length: own.length,
+        hash,
+    };
+    let spent = SessionFault::SpentLeaf {
+        leaf: 0,
+        member,
+        kept: KeptValue::Message(kept),
+    };
+    let cases: [(u8, &[u8], SessionFault); 4] = [
+        (12, &[], SessionFault::MemberRefused { member, code: 12 }),
+        (12, &[0], SessionFault::Missing { member, round: 1 }),
+        (9, &body, SessionFault::MemberRefused { member, code: 9 }),
+        (9, &other, spent),
+    ];
+    for (code, body, want) in cases {
+        let fault = fault_of_refusal(rt.alloc(), &rt, code, body)?;
+        assert_eq!(rt; fault, Some(want), "code {code}");
     }
     Ok(())
 }
