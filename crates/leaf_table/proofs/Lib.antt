@@ -9,3 +9,6 @@ mod Events
 mod Entering
 mod Running
 mod Once
+mod Orders
+mod Indexing
+mod Looking

@@ -8,3 +8,4 @@ pub mod Loaded
 pub mod Runs
 pub mod Faults
 pub mod Steps
+pub mod Index

@@ -3,10 +3,10 @@
 
 mod bodies;
 mod faults;
+mod index;
 pub mod laws;
 mod lease;
 mod listing;
-mod searching;
 mod table;
 
 pub use faults::TableFault;

@@ -4,9 +4,10 @@ ghost use Rattle.std.specs.Prelude.{◌≡◌, ◌≢◌, ◌^◌, ◌+◌, ◌<
 ghost use Rattle.std.specs.Prelude.{IfSome, OnOk, None, Ok, Err};
 ghost use Rattle.coalition_map.specs.Coalitions.{count_of as coalition_count};
 ghost use Rattle.lms_bytes.specs.MessageId.{message_id_bytes};
-ghost use Rattle.leaf_table.specs.Entries.{IsBurnt, IsFree, IsLeased, IsTorn, map_of};
+ghost use Rattle.leaf_table.specs.Entries.{IsFree, IsLeased, map_of};
 ghost use Rattle.leaf_table.specs.Leasing.{Burns, HasNone, IsLeast, Leases, WasLeasedFor};
-ghost use Rattle.leaf_table.specs.Slots.{report_body, room_in, use_of_slot};
+ghost use Rattle.leaf_table.specs.Index.{IsIndex};
+ghost use Rattle.leaf_table.specs.Slots.{report_body, room_in};
 ghost use Rattle.leaf_table.specs.State.{IsSound, state_with};
 ghost use Rattle.leaf_table.specs.Steps.{LeasesIn, Makes, Settles};
 ghost use Rattle.slot_cache.specs.Cache.{count_of, header_of as cache_header, state_of as cache_state};
@@ -14,9 +15,9 @@ ghost use Rattle.slot_file.specs.Disks.{RisesAt, Unwritten};
 
 use crate::bodies::report_bytes;
 use crate::faults::TableFault;
+use crate::index::LeaseIndex;
 use crate::lease::{Lease, lease_of_slot};
 use crate::listing::{add, entries_of};
-use crate::searching::least_leaf;
 use coalition_map::{Members, Plan};
 use disk_trait::{Disk, DiskFault};
 use lms_bytes::MessageId;
@@ -32,10 +33,12 @@ pub struct Table<D: Disk> {
     slots: CachedSlots<D>,
     plan: Plan,
     entries: Vec<Lease>,
+    index: LeaseIndex,
     ghost version: { (cache_header slots).version ≡ 1 },
     ghost count: { count_of slots ≡ 2 ^ plan.h },
     ghost sound: { IsSound (state_with (cache_state slots) entries.items) },
     ghost room: { length entries.items + room_in (cache_state slots).slots ≤ vec_capacity entries },
+    ghost indexed: { IsIndex plan (cache_state slots).slots index },
 }
 
 impl<D: Disk> Table<D> {
@@ -65,13 +68,15 @@ impl<D: Disk> Table<D> {
             Ok(slots) => slots,
             Err(refused) => return Err(refused),
         };
-        match entries_of(alloc, &slots) {
-            Ok(entries) => Ok(Table {
+        let index = LeaseIndex::of_slots(alloc, plan, &slots);
+        match (entries_of(alloc, &slots), index) {
+            (Ok(entries), Ok(index)) => Ok(Table {
                 slots,
                 plan: *plan,
                 entries,
+                index,
             }),
-            Err(NoMemory) => Err((slots.end(), CacheLoad::NoMemory)),
+            _ => Err((slots.end(), CacheLoad::NoMemory)),
         }
     }
 
@@ -98,6 +103,7 @@ impl<D: Disk> Table<D> {
 
     // The leaf of coalition `c` for this message, where nothing is in doubt.
     fn lease_of(&mut self, c: u32, message: &MessageId) -> Result<u32, TableFault>
+        requires coalition { c < coalition_count (plan_of self.old) }
         requires settled { (state_of self.old).doubt ≡ None }
         ensures event { LeasesIn (plan_of self.old) (state_of self.old) c message.now result (state_of self.new) }
         ensures within { IfOk result (λ leaf. leaf < 2 ^ (plan_of self.new).h) }
@@ -107,32 +113,43 @@ impl<D: Disk> Table<D> {
             → result ≢ Err TableFault.Device → self.new ≡ self.old }
         ensures enters { Enters self.old self.new result }
     {
-        if let Some(leaf) = self.least_leaf(c, &Slot::Half(message.to_bytes())) {
+        if let Some(leaf) = self.leased_leaf(c, message) {
             return Ok(leaf);
         }
-        let Some(leaf) = self.least_leaf(c, &Slot::Free) else {
+        let Some(leaf) = self.free_leaf(c) else {
             return Err(TableFault::NoLeaf { coalition: c });
         };
-        self.put_lease(leaf, message)
+        self.put_lease(c, leaf, message)
     }
 
-    // The least leaf of coalition `c` whose slot is this, which is free or half.
-    fn least_leaf(&self, c: u32, wanted: &Slot) -> Option<u32>
-        requires not_burnt { use_of_slot wanted.now ≢ IsBurnt }
-        requires not_torn { use_of_slot wanted.now ≢ IsTorn }
-        ensures least { IfSome result
-            (IsLeast (plan_of self.now) c (map_of (state_of self.now).entries) (use_of_slot wanted.now)) }
-        ensures none { IfNone result
-            (HasNone (plan_of self.now) c (map_of (state_of self.now).entries) (use_of_slot wanted.now)) }
+    // The least leaf of coalition `c` that is leased for this message and not burnt.
+    fn leased_leaf(&self, c: u32, message: &MessageId) -> Option<u32>
+        ensures least { IfSome result (IsLeast (plan_of self.now) c
+            (map_of (state_of self.now).entries) (IsLeased (message_id_bytes message.now))) }
+        ensures none { IfNone result (HasNone (plan_of self.now) c
+            (map_of (state_of self.now).entries) (IsLeased (message_id_bytes message.now))) }
     {
-        least_leaf(&self.slots, &self.plan, c, wanted)
+        self.index.leased(c, &message.to_bytes())
     }
 
-    // Leases a free leaf, where nothing is in doubt.
-    fn put_lease(&mut self, leaf: u32, message: &MessageId) -> Result<u32, TableFault>
+    // The least free leaf of coalition `c`.
+    fn free_leaf(&self, c: u32) -> Option<u32>
+        requires { c < coalition_count (plan_of self.now) }
+        ensures least { IfSome result
+            (IsLeast (plan_of self.now) c (map_of (state_of self.now).entries) IsFree) }
+        ensures none { IfNone result
+            (HasNone (plan_of self.now) c (map_of (state_of self.now).entries) IsFree) }
+    {
+        self.index.free(&self.plan, &self.slots, c)
+    }
+
+    // Leases the least free leaf of coalition `c`, where nothing is in doubt.
+    fn put_lease(&mut self, c: u32, leaf: u32, message: &MessageId) -> Result<u32, TableFault>
         requires settled { (state_of self.old).doubt ≡ None }
         requires within { leaf < 2 ^ (plan_of self.old).h }
         requires free { map_of (state_of self.old).entries leaf ≡ IsFree }
+        requires coalition { c < coalition_count (plan_of self.old) }
+        requires least { IsLeast (plan_of self.old) c (map_of (state_of self.old).entries) IsFree leaf }
         ensures event { Makes (state_of self.old) (Lease.Leased leaf message.now) leaf
             (Slot.Half (message_id_bytes message.now)) result (state_of self.new) }
         ensures leaf { IfOk result (λ got. got ≡ leaf) }
@@ -141,10 +158,13 @@ impl<D: Disk> Table<D> {
         ensures new { OnOk result ((state_of self.new).entries ≢ (state_of self.old).entries) }
         ensures enters { Enters self.old self.new result }
     {
-        match self.slots.put_a(leaf, &message.to_bytes()) {
+        let id = message.to_bytes();
+        match self.slots.put_a(leaf, &id) {
             Ok(()) => {
                 let message = *message;
                 add(&mut self.entries, &Lease::Leased { leaf, message });
+                self.index.begin_at(c, leaf);
+                self.index.list(c, leaf, &id);
                 Ok(leaf)
             }
             Err(DiskFault) => Err(TableFault::Device),
@@ -184,6 +204,8 @@ impl<D: Disk> Table<D> {
         match self.slots.put_b(leaf, &report_bytes(message, by), 0) {
             Ok(()) => {
                 add(&mut self.entries, &Lease::Burnt { leaf });
+                let c = self.plan.coalition_of(leaf);
+                self.index.unlist(c, leaf, &message.to_bytes());
                 Ok(())
             }
             Err(DiskFault) => Err(TableFault::Device),
@@ -199,12 +221,16 @@ impl<D: Disk> Table<D> {
         let Some(doubted) = self.slots.doubt() else {
             return Ok(());
         };
+        let before = *self.slots.slot(doubted.slot);
         match self.slots.settle() {
             Ok(Settled::Made) => {
                 add(
                     &mut self.entries,
                     &lease_of_slot(doubted.slot, &doubted.after),
                 );
+                let c = self.plan.coalition_of(doubted.slot);
+                self.index
+                    .enter(c, doubted.slot, &before, &doubted.after);
                 Ok(())
             }
             Ok(Settled::NotMade | Settled::Nothing) => Ok(()),

@@ -7,19 +7,19 @@ use Rattle.leaf_table.proofs.table.Table.lease_of.Goals as goal
 
 pub returns-in-Some-clause-event : goal.returns-in-Some-clause-event
 returns-in-Some-clause-event g c =
-    let found = rw c.to_bytes.ensures at c.in-Some.ensures.least in
+    let found = c.in-Some.ensures.least in
     (kept c.in-Some.leaf found, steps.kept found.used)
 
-pub returns-in_default-least_leaf-clause-event : goal.returns-in_default-least_leaf-clause-event
-returns-in_default-least_leaf-clause-event g c =
-    (refl, refl, none (rw c.to_bytes.ensures at c.in_default.ensures.none) c.in_default-least_leaf.ensures.none)
+pub returns-in_default-free_leaf-clause-event : goal.returns-in_default-free_leaf-clause-event
+returns-in_default-free_leaf-clause-event g c =
+    (refl, refl, none (c.in_default.ensures.none) c.in_default-free_leaf.ensures.none)
 
 pub returns-clause-event : goal.returns-clause-event
 returns-clause-event g c =
     let self = c.args.self.now in
-    let leaf = c.in-Some-least_leaf.leaf in
-    let leased = rw c.to_bytes.ensures at c.in_default.ensures.none in
-    let found = c.in-Some-least_leaf.ensures.least in
+    let leaf = c.in-Some-free_leaf.leaf in
+    let leased = c.in_default.ensures.none in
+    let found = c.in-Some-free_leaf.ensures.least in
     leased-in (plan_of self) (state_of self) (state_of c.put_lease.new.self) c.args.message.now c.args.c leaf c.put_lease.result
     (free leaf leased found) found.used c.put_lease.ensures.event c.put_lease.ensures.leaf
 
@@ -27,4 +27,4 @@ pub returns-in-Some-clause-within : goal.returns-in-Some-clause-within
 returns-in-Some-clause-within g c = c.in-Some.ensures.least.own.leaf
 
 pub returns-in-Some-clause-leased : goal.returns-in-Some-clause-leased
-returns-in-Some-clause-leased g c = let found = rw c.to_bytes.ensures at c.in-Some.ensures.least in found.used
+returns-in-Some-clause-leased g c = let found = c.in-Some.ensures.least in found.used

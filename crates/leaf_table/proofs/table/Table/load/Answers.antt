@@ -5,8 +5,8 @@ use Rattle.slot_cache.specs.Cache.{state_of}
 use Rattle.slot_file.specs.Layout.{load_fault}
 use Rattle.leaf_table.proofs.table.Table.load.Goals as goal
 
-pub returns-in-Err-entries_of-clause-refused : goal.returns-in-Err-entries_of-clause-refused
-returns-in-Err-entries_of-clause-refused g c = λ told.
+pub returns-in_default-clause-refused : goal.returns-in_default-clause-refused
+returns-in_default-clause-refused g c = λ told.
     let header = c.args.header.now in
     let file = g.D.Pages.reads c.args.disk in
     let loaded = c.in-Ok.ensures.loaded in

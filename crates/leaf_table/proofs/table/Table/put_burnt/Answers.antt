@@ -4,13 +4,14 @@ use Rattle.lms_bytes.specs.MessageId.{message_id_bytes}
 use Rattle.leaf_table.specs.Slots.{may_become, report_body, room_in}
 use Rattle.leaf_table.specs.State.{IsSound, state_with, with_doubt, with_lease}
 use Rattle.leaf_table.specs.declared.lease.Lease.TheVariants.{Burnt}
+use Rattle.leaf_table.specs.Index.{IsIndex}
 use Rattle.leaf_table.proofs.Found.{leased-use}
 use Rattle.leaf_table.proofs.Sound.{room-put, sound-doubt, sound-made}
 use Rattle.slot_cache.specs.Cache.{state_of}
 use Rattle.slot_cache.specs.State.{CacheState, slot_in}
 use Rattle.slot_file.specs.Files.{with_b}
 use Rattle.slot_file.specs.declared.slot.Slot.{Slot}
-use Rattle.slot_file.specs.declared.slot.Slot.TheVariants.{Full}
+use Rattle.slot_file.specs.declared.slot.Slot.TheVariants.{Full, Half}
 use Rattle.leaf_table.proofs.table.Table.put_burnt.Goals as goal
 
 pub invariant_of-self : goal.invariant_of-self
@@ -36,6 +37,9 @@ invariant_of-self g c =
       count = call.stays.count ∙ self.count;
       sound = subst IsSound (sym same) sound;
       room = omega (arith, self.room, c.add.ensures.room, ap length c.add.ensures.items, length-append items (lease ∷ []), room-put cache.slots leaf slot within may, ap (λ (s : CacheState). room_in s.slots) event);
+      indexed = subst (λ (s : CacheState). IsIndex self.plan s.slots c.unlist.new.self) (sym event)
+          (c.unlist.ensures id (report_body id c.args.by) 0 self.plan cache.slots (sym c.coalition_of-c.ensures.number) within
+          (half ∙ ap Half (sym c.to_bytes.ensures)) self.indexed);
     }
 
 pub add-requires : goal.add-requires
@@ -71,6 +75,7 @@ invariant_of-self-in-Err g c =
       count = call.stays.count ∙ self.count;
       sound = subst IsSound (sym same) sound;
       room = omega (arith, self.room, ap (λ (s : CacheState). room_in s.slots) event);
+      indexed = subst (λ (s : CacheState). IsIndex self.plan s.slots self.index) (sym event) self.indexed;
     }
 
 pub returns-in-Ok-clause-new : goal.returns-in-Ok-clause-new

@@ -7,6 +7,9 @@ use Rattle.leaf_table.specs.State.{IsSound, state_with, with_doubt, with_lease}
 use Rattle.leaf_table.specs.declared.lease.Lease.{Lease}
 use Rattle.leaf_table.specs.declared.lease.Lease.TheVariants.{Leased}
 use Rattle.leaf_table.proofs.BodyBytes.{back}
+use Rattle.leaf_table.specs.Index.{IsIndex}
+use Rattle.leaf_table.proofs.Indexing.{taken-less}
+use Rattle.leaf_table.proofs.Events.{passed-least}
 use Rattle.leaf_table.proofs.Found.{free-use}
 use Rattle.leaf_table.proofs.Maps.{map_of-same}
 use Rattle.leaf_table.proofs.Sound.{room-put, sound-doubt, sound-made}
@@ -34,6 +37,19 @@ add-requires g c =
     let may : may_become (slot_in cache.slots leaf) slot ≡ true = ap (λ (s : Slot). may_become s slot) free in
     omega (arith, self.room, room-put cache.slots leaf slot within may)
 
+pub list-requires : goal.list-requires
+list-requires g c =
+    let self = c.args.self.now in
+    let leaf = c.args.leaf in
+    let cache = state_of self.slots in
+    let within : leaf < length cache.slots = omega (arith, c.requires.within, self.count) in
+    let free = free-use (slot_in cache.slots leaf) (self.sound.slots leaf within ∙ c.requires.free) in
+    let index = c.begin_at.ensures self.plan cache.slots (passed-least self.plan c.args.c cache.slots self.entries.items self.count self.sound.slots leaf c.requires.least) self.indexed in
+    omega (arith, index.leases.few, index.room, taken-less cache.slots leaf within free)
+
+pub begin_at-requires : goal.begin_at-requires
+begin_at-requires g c = omega (arith, c.requires.coalition, c.args.self.now.indexed.count)
+
 pub invariant_of-self : goal.invariant_of-self
 invariant_of-self g c =
     let self = c.args.self.now in
@@ -47,7 +63,7 @@ invariant_of-self g c =
     let lease = Leased leaf c.args.message.now in
     let may : may_become (slot_in cache.slots leaf) slot ≡ true = ap (λ (s : Slot). may_become s slot) free in
     let call = c.put_a.ensures in
-    let event = c.in-Ok.ensures.event ∙ ap (λ (b : List ℕ). record { slots = slice_set cache.slots leaf (Half b); doubt = None }) c.to_bytes.ensures in
+    let event = c.in-Ok.ensures.event ∙ ap (λ (b : List ℕ). record { slots = slice_set cache.slots leaf (Half b); doubt = None }) c.to_bytes-id.ensures in
     let sound = sound-made (state_with cache items) lease leaf slot within self.sound may refl refl in
     let same : state_with (state_of c.put_a.new.self) c.add.new.entries.items ≡ with_lease (state_with cache items) lease leaf slot =
     λ i. state_with (event i) (c.add.ensures.items i) in
@@ -56,6 +72,9 @@ invariant_of-self g c =
       count = call.stays.count ∙ self.count;
       sound = subst IsSound (sym same) sound;
       room = omega (arith, self.room, c.add.ensures.room, ap length c.add.ensures.items, length-append items (lease ∷ []), room-put cache.slots leaf slot within may, ap (λ (s : CacheState). room_in s.slots) event);
+      indexed = subst (λ (s : CacheState). IsIndex self.plan s.slots c.list.new.self) (sym c.in-Ok.ensures.event)
+          (c.list.ensures self.plan cache.slots c.requires.least.own.own within free
+          (c.begin_at.ensures self.plan cache.slots (passed-least self.plan c.args.c cache.slots items self.count self.sound.slots leaf c.requires.least) self.indexed));
     }
 
 pub invariant_of-self-in-Err : goal.invariant_of-self-in-Err
@@ -73,7 +92,7 @@ invariant_of-self-in-Err g c =
     let size : length message.hash ≡ 32 = search rules in
     let makes : use_after (lease_of_slot leaf slot) ≡ use_of_slot slot = ap IsLeased (back message.length message.hash size) in
     let call = c.put_a.ensures in
-    let event = c.in-Err.ensures.event ∙ ap (λ (b : List ℕ). record { slots = cache.slots; doubt = Some (record { slot = leaf; after = Half b }) }) c.to_bytes.ensures in
+    let event = c.in-Err.ensures.event ∙ ap (λ (b : List ℕ). record { slots = cache.slots; doubt = Some (record { slot = leaf; after = Half b }) }) c.to_bytes-id.ensures in
     let sound = sound-doubt (state_with cache items) leaf slot within self.sound may makes in
     let same : state_with (state_of c.put_a.new.self) items ≡ with_doubt (state_with cache items) leaf slot = λ i. state_with (event i) items in
     record {
@@ -81,6 +100,7 @@ invariant_of-self-in-Err g c =
       count = call.stays.count ∙ self.count;
       sound = subst IsSound (sym same) sound;
       room = omega (arith, self.room, ap (λ (s : CacheState). room_in s.slots) event);
+      indexed = subst (λ (s : CacheState). IsIndex self.plan s.slots self.index) (sym c.in-Err.ensures.event) self.indexed;
     }
 
 pub returns-in-Ok-clause-new : goal.returns-in-Ok-clause-new

@@ -1,5 +1,8 @@
 use Rattle.std.proofs.Common.{◌≡◌, ◌∷◌, ◌++◌, [], Option, Some, Ok, length, sym, ◌∙◌, ap, subst, arith, length-append}
-use Rattle.leaf_table.specs.Slots.{room_in}
+use Rattle.leaf_table.specs.Index.{IsIndex}
+use Rattle.leaf_table.proofs.Indexing.{taken-less}
+use Rattle.leaf_table.specs.Slots.{may_become, room_in}
+use Rattle.slot_file.specs.declared.slot.Slot.{Slot}
 use Rattle.leaf_table.specs.State.{IsSound, lease_of, state_with, with_lease}
 use Rattle.leaf_table.specs.declared.lease.Lease.{Lease}
 use Rattle.leaf_table.proofs.Sound.{room-put, sound-with_made}
@@ -43,4 +46,35 @@ invariant_of-self g c =
       count = call.stays.count ∙ self.count;
       sound = subst IsSound (sym whole) sound;
       room = omega (arith, self.room, c.add.ensures.room, ap length listed, length-append items (lease ∷ []), room-put cache.slots d.slot d.after (self.sound.within d is) (self.sound.next d is), ap (λ (s : CacheState). room_in s.slots) made);
+      indexed = subst (λ (s : CacheState). IsIndex self.plan s.slots c.enter.new.self) (sym made)
+          (c.enter.ensures self.plan cache.slots (sym c.coalition_of-c.ensures.number) (self.sound.within d is) (sym c.slot.ensures) self.indexed);
     }
+
+pub slot-requires : goal.slot-requires
+slot-requires g c =
+    let self = c.args.self.now in
+    let d = c.in-Some.doubted in
+    let is : (state_of self.slots).doubt ≡ Some d = sym c.in-Some.ensures in
+    self.sound.within d is
+
+pub coalition_of-c-requires : goal.coalition_of-c-requires
+coalition_of-c-requires g c =
+    let self = c.args.self.now in
+    let d = c.in-Some.doubted in
+    let is : (state_of self.slots).doubt ≡ Some d = sym c.in-Some.ensures in
+    omega (arith, self.sound.within d is, self.count)
+
+pub enter-requires-clause-room : goal.enter-requires-clause-room
+enter-requires-clause-room g c = λ free.
+    let self = c.args.self.now in
+    let cache = state_of self.slots in
+    let d = c.in-Some.doubted in
+    let is : cache.doubt ≡ Some d = sym c.in-Some.ensures in
+    omega (arith, self.indexed.leases.few, self.indexed.room, taken-less cache.slots d.slot (self.sound.within d is) (sym c.slot.ensures ∙ free))
+
+pub enter-requires-clause-next : goal.enter-requires-clause-next
+enter-requires-clause-next g c =
+    let self = c.args.self.now in
+    let d = c.in-Some.doubted in
+    let is : (state_of self.slots).doubt ≡ Some d = sym c.in-Some.ensures in
+    ap (λ (s : Slot). may_become s d.after) c.slot.ensures ∙ self.sound.next d is
