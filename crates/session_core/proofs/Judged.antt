@@ -35,7 +35,7 @@ fault-here f seats i d fault inside some = rw (drop_more seats i d inside) (firs
 pub fault-end : (f : Seat → Option SessionFault) (seats : List Seat) (i : ℕ) → length seats ≤ i → first_fault (map f (drop i seats)) ≡ None
 fault-end f seats i all = rw (drop_all i seats all) first-nil
 
-first-cons : (rest : List (Option SessionFault)) (o : Option SessionFault) → first_fault (o ∷ rest) ≡ None → (o ≡ None) × (first_fault rest ≡ None)
+pub first-cons : (rest : List (Option SessionFault)) (o : Option SessionFault) → first_fault (o ∷ rest) ≡ None → (o ≡ None) × (first_fault rest ≡ None)
 unfolding first_fault
 first-cons rest None e = (refl, e)
 first-cons rest (Some fault) e = absurd (cc)

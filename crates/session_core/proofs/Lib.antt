@@ -3,6 +3,7 @@ pub mod Dealt
 pub mod Delivered
 pub mod Delivering
 pub mod Judged
+pub mod Judgement
 pub mod Keeping
 pub mod Outcome
 pub mod Places

@@ -144,8 +144,14 @@ fn give_second(rt: &impl Abort, session: &mut Session, params: &Params, c: &Val)
     assert_eq!(rt; give_masks(session, params, c, &digest, 3), Step::Kept);
 }
 
-/// A whole session of leaf 0 with trustees 1, 2 and 3, and SHA-256 of its signature.
-fn sign(alloc: Global, rt: &impl Abort, params: &Params) -> Result<[u8; 32], Fail>
+/// What a whole session of leaf 0 with trustees 1, 2 and 3 gives, where `spoil` is added to the first byte of the value
+/// of chain 0 before round two is joined.
+fn sign(
+    alloc: Global,
+    rt: &impl Abort,
+    params: &Params,
+    spoil: u8,
+) -> Result<Result<Vec<u8>, SessionFault>, Fail>
     requires { params.now.h ≡ 5 }
 {
     let plan = Plan::new(5, 3, 5).expect(rt, "a plan");
@@ -156,17 +162,22 @@ fn sign(alloc: Global, rt: &impl Abort, params: &Params) -> Result<[u8; 32], Fai
         id: ID,
         root: tree.root(),
     };
-    let leaves = leaves_of(alloc, params, &plan, &seed)?;
-    let mut cells = Whole::new(params, &plan, &leaves);
+    let mut leaves = leaves_of(alloc, params, &plan, &seed)?;
     let mut session = Session::start(alloc, &key, &plan, 0, &MessageId::of(MESSAGE))?;
     give_first(rt, &mut session, params);
+    let mut cells = Whole::new(params, &plan, &leaves);
     session.turn(&mut cells).expect(rt, "a randomizer");
     let c = session.randomizer().expect(rt, "a randomizer");
     give_second(rt, &mut session, params, &c);
-    let signature = session
-        .finish(alloc, &mut cells, &tree, MESSAGE)
-        .expect(rt, "a signature");
-    Ok(Sha256::digest(&signature))
+
+    // Behind the randomizer and three tags lie the values of chain 0.
+    let digest = MessageHash::of(params, &ID, 0, &c, MESSAGE);
+    let n = params.n as usize;
+    let place = n + 96 + n * digit(params, &digest, 0) as usize;
+    assert!(rt; place < leaves.len());
+    leaves[place] ^= spoil;
+    let mut cells = Whole::new(params, &plan, &leaves);
+    Ok(session.finish(alloc, &mut cells, &tree, MESSAGE))
 }
 
 #[test]
@@ -195,8 +206,28 @@ fn a_session_signs_as_another_implementation_does(rt: HostRuntime) -> Result<(),
     for (lms, ots, want) in sets {
         let params = Params::of_codes(lms, ots).expect(&rt, "typecodes");
         assert_eq!(rt; params.h, 5);
-        assert!(rt; sign(rt.alloc(), &rt, &params)? == want, "{lms} {ots}");
+        let signature = sign(rt.alloc(), &rt, &params, 0)?.expect(&rt, "a signature");
+        assert!(rt; Sha256::digest(&signature) == want, "{lms} {ots}");
     }
+    Ok(())
+}
+
+#[test]
+fn a_changed_reference_gives_no_signature(rt: HostRuntime) -> Result<(), Fail> {
+    // The root to which the signature of another implementation leads with the first byte of value 0 changed.
+    let got =
+        b"\x67\x94\xb7\x60\xd2\xbb\xdd\xab\xbe\xe4\x4e\xa0\x0e\xfa\x89\xa2\xbb\x14\x93\x79\x87\xcc\x54\x43";
+    let want =
+        b"\x6c\x65\xc3\xa9\xb0\xc3\xab\x09\x47\x78\xe6\x9c\x0d\xbc\x07\xf5\xec\xc5\x3b\x94\x61\x5f\x19\x90";
+    let params = Params::of_codes(10, 7).expect(&rt, "typecodes");
+    assert_eq!(rt; params.h, 5);
+    let fault = SessionFault::WrongRoot {
+        leaf: 0,
+        got: Val::of(got),
+        want: Val::of(want),
+    };
+    let signed = sign(rt.alloc(), &rt, &params, 1)?;
+    assert_eq!(rt; signed.err(), Some(fault));
     Ok(())
 }
 
@@ -253,6 +284,78 @@ fn refusals_are_told_apart(rt: HostRuntime) -> Result<(), Fail> {
     ];
     for (code, body, want) in cases {
         let fault = fault_of_refusal(rt.alloc(), &rt, code, body)?;
+        assert_eq!(rt; fault, Some(want), "code {code}");
+    }
+    Ok(())
+}
+
+/// Trustee `member` answers round one with zeros.
+fn give_zeros(session: &mut Session, member: u8)
+    ensures { SameAsk session.old session.new }
+{
+    let zeros = Val::cut(&[0; 32], 24);
+    session.take(&head_of(1, &zeros, member), zeros.bytes());
+}
+
+/// What `finish` says of a session over a reference of zeros in which trustees 1, 2 and 3 have answered round one with
+/// zeros, and trustee 1 round two by a refusal.
+fn fault_of_later_refusal(
+    alloc: Global,
+    rt: &impl Abort,
+    code: u8,
+    body: &[u8],
+) -> Result<Option<SessionFault>, Fail> {
+    let params = Params::of_codes(10, 7).expect(rt, "typecodes");
+    assert_eq!(rt; params.h, 5);
+    assert_eq!(rt; params.n, 24);
+    let plan = Plan::new(5, 3, 5).expect(rt, "a plan");
+    let tree = tree_of(alloc, &params, &Val::cut(&[0; 32], 24))?;
+    let key = PublicKey {
+        params,
+        id: ID,
+        root: tree.root(),
+    };
+    let leaves = vec![in alloc; 0; leaf_bytes(&params, plan.k()) * 32]?;
+    let mut cells = Whole::new(&params, &plan, &leaves);
+    let mut session = Session::start(alloc, &key, &plan, 0, &MessageId::of(MESSAGE))?;
+    give_zeros(&mut session, 1);
+    give_zeros(&mut session, 2);
+    give_zeros(&mut session, 3);
+    session.turn(&mut cells).expect(rt, "a randomizer");
+    let c = session.randomizer().expect(rt, "a randomizer");
+    let mut head = head_of(2, &c, 1);
+    head.code = code;
+    session.take(&head, body);
+    let signed = session.finish(alloc, &mut cells, &tree, MESSAGE);
+    Ok(signed.err())
+}
+
+#[test]
+fn refusals_of_round_two_are_told_apart(rt: HostRuntime) -> Result<(), Fail> {
+    let member = 1;
+    // A randomizer of zeros, and the message's digest under it, which another implementation hashed.
+    let digest =
+        b"\x1f\xb3\xd6\x31\xf1\xc7\x65\x3d\x73\xf8\xe1\x57\x19\x5f\x98\x1a\xe3\x20\x0e\x73\x5f\xd6\x7f\x66";
+    let mut body = [0; 48];
+    put(&mut body, 24, digest);
+    let mut other = body;
+    other[47] ^= 1;
+    let spent = SessionFault::SpentLeaf {
+        leaf: 0,
+        member,
+        kept: KeptValue::Digest {
+            c: Val::of(&other[..24]),
+            digest: Val::of(&other[24..]),
+        },
+    };
+    let cases: [(u8, &[u8], SessionFault); 4] = [
+        (5, &[], SessionFault::WrongCheck { leaf: 0, member }),
+        (8, &[], SessionFault::MemberRefused { member, code: 8 }),
+        (10, &body, SessionFault::MemberRefused { member, code: 10 }),
+        (10, &other, spent),
+    ];
+    for (code, body, want) in cases {
+        let fault = fault_of_later_refusal(rt.alloc(), &rt, code, body)?;
         assert_eq!(rt; fault, Some(want), "code {code}");
     }
     Ok(())
