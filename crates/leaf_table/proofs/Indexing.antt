@@ -101,9 +101,9 @@ module _ (plan : PlanNumbers) (slots : List Slot) (leaf : ℕ) (within : leaf < 
       let slot = Half id in
       let made = set slots leaf slot in
       let ours : IsListed plan made item = record {
-      within = omega (arith, within, size plan slots leaf within slot);
-      own = refl;
-      half = here plan slots leaf within slot;
+        within = omega (arith, within, size plan slots leaf within slot);
+        own = refl;
+        half = here plan slots leaf within slot;
       } in
       record {
         listed = λ lease inside. elim ((has lease).0 inside) [

@@ -94,12 +94,7 @@ impl LeaseIndex {
     }
 
     /// The least free leaf of coalition `c`.
-    pub(crate) fn free<D: Disk>(
-        &self,
-        plan: &Plan,
-        slots: &CachedSlots<D>,
-        c: u32,
-    ) -> Option<u32>
+    pub(crate) fn free<D: Disk>(&self, plan: &Plan, slots: &CachedSlots<D>, c: u32) -> Option<u32>
         requires count { count_of slots.now ≡ 2 ^ plan.now.h }
         requires coalition { c < coalition_count plan.now }
         requires index { IsIndex plan.now (cache_state slots.now).slots self.now }

@@ -229,8 +229,7 @@ impl<D: Disk> Table<D> {
                     &lease_of_slot(doubted.slot, &doubted.after),
                 );
                 let c = self.plan.coalition_of(doubted.slot);
-                self.index
-                    .enter(c, doubted.slot, &before, &doubted.after);
+                self.index.enter(c, doubted.slot, &before, &doubted.after);
                 Ok(())
             }
             Ok(Settled::NotMade | Settled::Nothing) => Ok(()),

@@ -1,4 +1,4 @@
-use Rattle.std.proofs.Common.{◌∙◌, ℕ, List, Option, None, Some, ap, subst, sym}
+use Rattle.std.proofs.Common.{ℕ, List, subst}
 use Rattle.leaf_table.specs.Entries.{IsLeased}
 use Rattle.leaf_table.specs.Index.{IsFound}
 use Rattle.leaf_table.specs.Table.{plan_of}
