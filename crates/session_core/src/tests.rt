@@ -7,12 +7,13 @@ ghost use Rattle.share_files.specs.Reference.{leaves_length};
 
 use crate::{KeptValue, Session, SessionFault, Step};
 use coalition_map::Plan;
+use disk_trait::MemDisk;
 use lms_bytes::bytes::put;
-use lms_bytes::{KeyId, MessageId, Params, PublicKey, ReplyHead, Val, digit};
+use lms_bytes::{Ask, KeyId, MessageId, Params, PublicKey, ReplyHead, Second, Val, digit};
 use mask_prf::{chain_mask, random_mask};
 use merkle_path::Tree;
 use ots_chain::{MessageHash, leaf_key_of};
-use reference_value::{Whole, build_leaf, leaf_bytes};
+use reference_value::{Paged, Whole, build_leaf, leaf_bytes};
 use sha2::{Digest, Sha256};
 use std::alloc::Global;
 use std::process::Abort;
@@ -358,5 +359,131 @@ fn refusals_of_round_two_are_told_apart(rt: HostRuntime) -> Result<(), Fail> {
         let fault = fault_of_later_refusal(rt.alloc(), &rt, code, body)?;
         assert_eq!(rt; fault, Some(want), "code {code}");
     }
+    Ok(())
+}
+
+/// The ask of leaf 0, by what round two adds.
+fn ask_with(second: Option<Second>) -> Ask {
+    Ask {
+        key: ID,
+        leaf: 0,
+        message: MessageId::of(MESSAGE),
+        second,
+    }
+}
+
+#[test]
+fn round_one_tells_what_it_asks_and_keeps(rt: HostRuntime) -> Result<(), Fail> {
+    // The mask that another implementation had of trustee 2.
+    let mask =
+        b"\x2e\x88\xf5\x5e\xc3\xf9\x50\xe6\xba\x46\xf4\x98\xb8\x94\x4c\x4b\x48\xe0\x8e\x73\x94\x2a\x5b\xfe";
+    let params = Params::of_codes(10, 7).expect(&rt, "typecodes");
+    assert_eq!(rt; params.h, 5);
+    assert_eq!(rt; params.n, 24);
+    let plan = Plan::new(5, 3, 5).expect(&rt, "a plan");
+    let zeros = Val::cut(&[0; 32], 24);
+    let key = PublicKey {
+        params,
+        id: ID,
+        root: zeros,
+    };
+    let leaves = vec![in rt.alloc(); 0; leaf_bytes(&params, plan.k()) * 32]?;
+    let mut cells = Whole::new(&params, &plan, &leaves);
+    let mut session = Session::start(rt.alloc(), &key, &plan, 0, &MessageId::of(MESSAGE))?;
+    assert!(rt; session.members().has(2));
+    assert_eq!(rt; session.ask(&mut cells, 2, &zeros), Ok(ask_with(None)));
+    assert!(rt; session.kept_reply(1, 2).is_none());
+    give_first(&rt, &mut session, &params);
+    assert!(rt; session.kept_reply(1, 2).expect(&rt, "a mask") == mask.as_slice());
+    assert!(rt; session.kept_reply(1, 4).is_none());
+    assert!(rt; session.kept_reply(2, 2).is_none());
+    Ok(())
+}
+
+/// A session of leaf 0 that trustees 1, 2 and 3 have answered, in round two.
+fn turned(
+    alloc: Global,
+    rt: &impl Abort,
+    params: &Params,
+    plan: &Plan,
+    leaves: &[u8],
+) -> Result<Session, Fail>
+    requires height { (params.now.h ≡ 5) × (plan.now.h ≡ 5) }
+    requires leaves { length leaves.now ≡ leaves_length params.now plan.now }
+    ensures params { IfOk result (λ session. session.key.params ≡ params.now) }
+    ensures plan { IfOk result (λ session. session.plan ≡ plan.now) }
+    ensures leaf { IfOk result (λ session. session.leaf ≡ 0) }
+{
+    let key = PublicKey {
+        params: *params,
+        id: ID,
+        root: Val::cut(&[0; 32], params.n),
+    };
+    let mut cells = Whole::new(params, plan, leaves);
+    let mut session = Session::start(alloc, &key, plan, 0, &MessageId::of(MESSAGE))?;
+    give_first(rt, &mut session, params);
+    session.turn(&mut cells).expect(rt, "a randomizer");
+    Ok(session)
+}
+
+#[test]
+fn round_two_tells_what_it_asks_and_keeps(rt: HostRuntime) -> Result<(), Fail> {
+    // What another implementation asked of trustee 2 and had of it: randomizer, tag, digest, and SHA-256 of the masks.
+    let c =
+        b"\x44\xeb\xb5\xe6\xe3\x18\x9c\xe4\x3e\xf1\x3b\xeb\xc0\x51\xdb\x04\xcd\xba\x90\xf2\x6f\x2e\x38\x63";
+    let tag = b"\xc1\x13\xa8\xd5\xef\x68\xfb\xb0\xb3\xbe\x33\x32\xff\xfe\xa7\xac\
+        \xd9\xda\x27\xdf\xbc\xe1\x00\xf3\x86\xe3\x63\x2d\x77\xb7\xcc\xfb";
+    let digest =
+        b"\x4e\xa0\x13\x64\x44\xdb\xcf\x0f\x14\x5a\xc7\x7a\xc6\x78\x39\x13\x09\xf5\x1a\x89\xb9\xdf\xef\x40";
+    let masks = b"\x63\xa9\x60\x4f\x1a\x73\xa8\x5a\x41\xb1\xfb\x1a\x0a\x96\x5e\x91\
+        \x17\x44\xde\x23\x28\xb9\xcc\xbc\x98\xe0\x9a\xeb\x95\xdd\xf1\xcb";
+    let second = Second {
+        c: Val::of(c),
+        tag: *tag,
+        digest: Val::of(digest),
+    };
+    let params = Params::of_codes(10, 7).expect(&rt, "typecodes");
+    assert_eq!(rt; params.h, 5);
+    assert_eq!(rt; params.n, 24);
+    let plan = Plan::new(5, 3, 5).expect(&rt, "a plan");
+    let leaves = leaves_of(rt.alloc(), &params, &plan, &Val::cut(&key_from(16), 24))?;
+    let mut session = turned(rt.alloc(), &rt, &params, &plan, &leaves)?;
+    let mut cells = Whole::new(&params, &plan, &leaves);
+    assert!(rt; session.members().has(2));
+    let ask = session.ask(&mut cells, 2, &second.digest);
+    assert_eq!(rt; ask, Ok(ask_with(Some(second))));
+    assert_eq!(rt;
+        give_masks(&mut session, &params, &second.c, &second.digest, 2),
+        Step::Kept
+    );
+    assert!(rt; Sha256::digest(session.kept_reply(2, 2).expect(&rt, "masks")) == *masks);
+    assert!(rt; session.kept_reply(2, 1).is_none());
+    assert!(rt; session.kept_reply(3, 2).is_none());
+    Ok(())
+}
+
+#[test]
+fn a_read_that_fails_leaves_the_session(rt: HostRuntime) -> Result<(), Fail> {
+    let params = Params::of_codes(10, 7).expect(&rt, "typecodes");
+    assert_eq!(rt; params.h, 5);
+    assert_eq!(rt; params.n, 24);
+    let plan = Plan::new(5, 3, 5).expect(&rt, "a plan");
+    let key = PublicKey {
+        params,
+        id: ID,
+        root: Val::cut(&[0; 32], 24),
+    };
+    let file = vec![in rt.alloc(); 0; 32 + leaf_bytes(&params, plan.k()) * 32]?;
+    let mut disk = MemDisk::of_bytes(rt.alloc(), &file, file.len(), usize::MAX)?;
+    disk.fail_once(0);
+    let mut cells = Paged::new(&params, &plan, disk);
+    let mut session = Session::start(rt.alloc(), &key, &plan, 0, &MessageId::of(MESSAGE))?;
+    give_first(&rt, &mut session, &params);
+    assert_eq!(rt;
+        session.turn(&mut cells).err(),
+        Some(SessionFault::Reference)
+    );
+    assert!(rt; session.randomizer().is_none());
+    assert!(rt; session.kept_reply(1, 2).is_some());
     Ok(())
 }
