@@ -3,7 +3,7 @@
 //! over files in memory, whose calls can fail.
 #![tactic(auto)]
 
-mod memory;
+mod in_memory;
 
 use sha2::{Digest, Sha256};
 use share_files::{read_reference, read_share, read_tree};
@@ -163,5 +163,5 @@ fn main(rt: HostRuntime) -> io::Result<()> {
         }
     }
     print_readings(rt, &mut store)?;
-    memory::print_runs(&rt, rt)
+    in_memory::print_runs(&rt, rt)
 }

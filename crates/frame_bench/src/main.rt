@@ -1,5 +1,5 @@
-//! Reads an ask with a message of 16 MiB from memory, or takes the two hashes of such a message at once, some times,
-//! and prints the exclusive or of the first bytes. `bench/frames` times both.
+//! Reads an ask with a message of 16 MiB from memory, or takes the two hashes of such a message at once, a number of
+//! times, and prints the exclusive or of the first bytes. `bench/frames` times both.
 #![tactic(auto)]
 
 use lms_bytes::{IdHash, Params, Val};
@@ -23,16 +23,20 @@ fn frame(alloc: Global) -> Result<Vec<u8>, AllocError> {
     Ok(bytes)
 }
 
-/// The first byte of the digest, by reading the frame.
+/// The first bytes of both hashes, by reading the frame.
 fn read(alloc: Global, params: &Params, bytes: Vec<u8>) -> u8 {
     let mut source = MemSource::new(bytes, Vec::new(alloc), Vec::new(alloc));
-    match next_ask(params, &mut source) {
-        Ok(ask) => ask.second.map_or(0, |second| first_byte(second.digest.bytes())),
-        Err(_) => 0,
-    }
+    let Ok(ask) = next_ask(params, &mut source) else {
+        return 0;
+    };
+    let digest = match &ask.second {
+        Some(second) => first_byte(second.digest.bytes()),
+        None => 0,
+    };
+    first_byte(&ask.message.hash) ^ digest
 }
 
-/// The first byte of the digest, by hashing the message at once.
+/// The first bytes of both hashes, by hashing the message at once.
 fn hash(params: &Params, bytes: &[u8]) -> u8 {
     let (_, message) = bytes.split_at(92.min(bytes.len()));
     let mut id = IdHash::new();

@@ -1,5 +1,6 @@
 -- The index of a table, which holds nothing that the slots do not say. Only contracts inside the crate speak of it.
-use Rattle.std.specs.Prelude.{◌≡◌, ◌≢◌, ◌≤◌, ◌<◌, ◌%◌, ℕ, List, length, slice_index_or, slice_set, None, Option, Contains}
+use Rattle.std.specs.Prelude.{◌≡◌, ◌≢◌, ◌≤◌, ◌<◌, ◌%◌, ℕ, List, length, slice_index_or, slice_set, None, Option}
+use Rattle.std.specs.Prelude.{Contains}
 use Rattle.coalition_map.specs.Coalitions.{IsLeafAfter, PlanNumbers, count_of}
 use Rattle.leaf_table.specs.Entries.{LeafUse}
 use Rattle.leaf_table.specs.Leasing.{HasNone, IsLeast}

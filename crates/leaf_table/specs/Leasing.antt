@@ -72,7 +72,8 @@ pub data Burns (before : TableState) (leaf : ℕ) (message : List ℕ) (by : ℕ
   kept : (settled : TableState) → SettlesTo before settled → map_of settled.entries leaf ≡ IsBurnt
       → Burns before leaf message by (Ok tt) settled
   made : (settled : TableState) → SettlesTo before settled → map_of settled.entries leaf ≡ IsLeased message
-      → Burns before leaf message by (Ok tt) (with_lease settled (Burnt leaf) leaf (Full message (report_body message by) 0))
+      → Burns before leaf message by (Ok tt)
+      (with_lease settled (Burnt leaf) leaf (Full message (report_body message by) 0))
   unsettled : IsSome before.doubt → Burns before leaf message by (Err Device) before
   unwritten : (settled : TableState) → SettlesTo before settled → map_of settled.entries leaf ≡ IsLeased message
       → Burns before leaf message by (Err Device) (with_doubt settled leaf (Full message (report_body message by) 0))

@@ -15,7 +15,7 @@ pub enum TableFault {
     #[error("a call of the table's disk failed")]
     Device,
     /// The slot of a leaf is neither as before its entry nor as after it: its two gates.
-    #[error("the slot of leaf {leaf} is neither as before its entry nor as after it: its gates are {a:#04x} and {b:#04x}")]
+    #[error("the slot of leaf {leaf} is neither as before its entry nor as after it: gates {a:#04x} and {b:#04x}")]
     Damaged {
         /// The leaf.
         leaf: u32,

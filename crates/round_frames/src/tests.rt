@@ -1,5 +1,8 @@
 //! Tests of what no contract says: that calls succeed where there is memory and no call fails.
 
+ghost use Rattle.std.specs.Prelude.{◌≡◌, None};
+ghost use Rattle.round_frames.specs.Replies.{IsHead};
+
 use crate::{
     Failure, FrameFault, Outcome, next_ask, next_reply, next_request, next_result, write_ask,
     write_failure, write_reply_head, write_request, write_signature,
@@ -19,7 +22,10 @@ const FAILURE: Failure = Failure {
 };
 
 /// The ask of round one for a message on leaf 7.
-fn ask(message: &MessageId) -> Ask {
+fn ask(message: &MessageId) -> Ask
+    ensures message { result.message ≡ message.now }
+    ensures first { result.second ≡ None }
+{
     Ask {
         key: [0x1d; 16],
         leaf: 7,
@@ -35,11 +41,6 @@ fn writes<K: Sink>(params: &Params, sink: &mut K) -> bool {
         && write_ask(params, &ask(&MessageId::of(b"abc")), b"abc", sink).is_ok()
 }
 
-/// A sink with much room, that takes seven bytes at a time.
-fn sink(rt: HostRuntime) -> MemSink {
-    MemSink::new(rt.alloc(), 10_000, 7, Vec::new(rt.alloc())).expect(&rt, "room for a sink")
-}
-
 /// A source of these bytes, five at a time. The listed calls fail.
 fn source(alloc: Global, bytes: &[u8], failing: &[u64]) -> Result<MemSource, AllocError> {
     let mut pieces = Vec::new(alloc);
@@ -51,24 +52,27 @@ fn source(alloc: Global, bytes: &[u8], failing: &[u64]) -> Result<MemSource, All
 #[test]
 fn requests_failures_and_asks_are_read(rt: HostRuntime) -> Result<(), AllocError> {
     let params = Params::of_codes(5, 3).ok().expect(&rt, "a set");
-    let mut sink = sink(rt);
+    let made = MemSink::new(rt.alloc(), 10_000, 7, Vec::new(rt.alloc()));
+    let mut sink = made.expect(&rt, "room for a sink");
     assert!(rt; writes(&params, &mut sink));
     let mut source = source(rt.alloc(), sink.written(), &[])?;
     let request = next_request(rt.alloc(), &mut source);
     assert!(rt;
-        matches!(request, Ok((members, message))
+        matches!(&request, Ok((members, message))
         if members.bits() == 0b1011 && message.as_slice() == b"abc".as_slice())
     );
     let failure = next_result(rt.alloc(), &params, &mut source);
-    assert!(rt; matches!(failure, Ok(Outcome::Failure(failure)) if failure == FAILURE));
+    assert!(rt; matches!(&failure, Ok(Outcome::Failure(found)) if *found == FAILURE));
     let found = next_ask(&params, &mut source);
-    assert!(rt; matches!(found, Ok(found) if found == ask(&MessageId::of(b"abc"))));
+    assert!(rt; found == Ok(ask(&MessageId::of(b"abc"))));
     assert_eq!(rt; next_ask(&params, &mut source), Err(FrameFault::End));
     Ok(())
 }
 
 /// The head of a reply of round two.
-fn head(params: &Params) -> ReplyHead {
+fn head(params: &Params) -> ReplyHead
+    ensures { IsHead params.now result }
+{
     let c = [5; 32];
     ReplyHead {
         key: [0x1d; 16],
@@ -84,7 +88,8 @@ fn head(params: &Params) -> ReplyHead {
 #[test]
 fn replies_are_read(rt: HostRuntime) -> Result<(), AllocError> {
     let params = Params::of_codes(5, 3).ok().expect(&rt, "a set");
-    let mut sink = sink(rt);
+    let made = MemSink::new(rt.alloc(), 10_000, 7, Vec::new(rt.alloc()));
+    let mut sink = made.expect(&rt, "room for a sink");
     let head = head(&params);
     assert!(rt; write_reply_head(&params, &head, &mut sink).is_ok());
     assert!(rt; write_whole(&mut sink, &[9; 2144]).is_ok());
@@ -92,26 +97,28 @@ fn replies_are_read(rt: HostRuntime) -> Result<(), AllocError> {
     let mut room = [0; 8480];
     let reply = next_reply(&params, &mut source, &mut room);
     assert!(rt; reply == Ok((head, 2144)));
-    assert!(rt; room[..2144] == [9; 2144][..]);
+    assert!(rt; room.iter().take(2144).all(|byte| *byte == 9));
     Ok(())
 }
 
 #[test]
 fn signatures_are_read(rt: HostRuntime) -> Result<(), AllocError> {
     let params = Params::of_codes(5, 3).ok().expect(&rt, "a set");
-    let mut sink = sink(rt);
+    let made = MemSink::new(rt.alloc(), 10_000, 7, Vec::new(rt.alloc()));
+    let mut sink = made.expect(&rt, "room for a sink");
     assert!(rt; write_signature(&[3; 2348], &mut sink).is_ok());
     let mut source = source(rt.alloc(), sink.written(), &[])?;
     let result = next_result(rt.alloc(), &params, &mut source);
     assert!(rt;
-        matches!(result, Ok(Outcome::Signature(bytes)) if bytes.as_slice() == [3; 2348].as_slice())
+        matches!(&result, Ok(Outcome::Signature(bytes)) if bytes.as_slice() == [3; 2348].as_slice())
     );
     Ok(())
 }
 
 #[test]
 fn each_read_that_fails_ends_a_request(rt: HostRuntime) -> Result<(), AllocError> {
-    let mut sink = sink(rt);
+    let made = MemSink::new(rt.alloc(), 10_000, 7, Vec::new(rt.alloc()));
+    let mut sink = made.expect(&rt, "room for a sink");
     assert!(rt; write_request(Members::of_bits(3), b"abc", &mut sink).is_ok());
     // Two reads of the header, one of the members and one of the message.
     for call in 0..4 {

@@ -7,7 +7,7 @@ use Rattle.byteorder.specs.Numbers.{big_number-reads_back}
 use Rattle.disk_trait.specs.Images.{written, Torn}
 use Rattle.slot_file.specs.declared.header.Header.{Header}
 use Rattle.slot_file.specs.declared.slot.Slot.TheVariants.{Free}
-use Rattle.slot_file.specs.Fresh.{HasFields, IsBlank, IsUnready}
+use Rattle.slot_file.specs.Fresh.{HasFields, IsBlank, IsNew, IsUnready}
 use Rattle.slot_file.specs.Files.{IsFile}
 use Rattle.slot_file.specs.Layout.{part, slot_size, slot_start, header_in, header_block, blank_file, slot_at}
 use Rattle.slot_file.proofs.Loads.{opens_file}
@@ -95,9 +95,6 @@ closed-shut header slots = refl
 pub closed_unready : (header : Header) (slots file : List ℕ) → file ≡ header_block 0 header ++ slots → IsUnready file
 closed_unready header slots file is = shut_unready file (ap (λ (l : List ℕ). get_or l 0 0) is ∙ closed-shut header slots)
 
--- what a torn gate leaves of the blank file
-pub blank-torn : (header : Header) (count : ℕ) (closed image : List ℕ) → HasFields header → closed ≡ header_block 0 header ++ replicate (slot_size header.version * count) 0 → Torn 0 1 closed image → IsUnready image ⊎ IsBlank header count image
-blank-torn header count closed image fields is torn =
-    let zeros = replicate (slot_size header.version * count) 0 in
-    let blank : IsBlank header count (header_block 0xA7 header ++ zeros) = is_blank header fields count in
-    ⊎_elim inl (λ whole. inr (subst (IsBlank header count) (sym whole) blank)) (any-gate header zeros image (subst (λ (l : List ℕ). Torn 0 1 l image) is torn))
+-- the blank file is new
+pub is_new : (header : Header) → HasFields header → (count : ℕ) (file : List ℕ) → file ≡ blank_file header count → IsNew header count file
+is_new header fields count file is = (is, subst (IsBlank header count) (sym is) (is_blank header fields count))

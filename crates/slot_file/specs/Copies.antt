@@ -1,5 +1,6 @@
 -- A file that is made from the slots of another.
-use Rattle.std.specs.Prelude.{◌≡◌, ◌<◌, ℕ, zero, suc, ◌+◌, Bool, true, false, not, List, [], ◌∷◌, ◌++◌, replicate, count_by, None}
+use Rattle.std.specs.Prelude.{◌≡◌, ◌<◌, ℕ, zero, suc, ◌+◌, Bool, true, false, not, List, [], ◌∷◌, ◌++◌, replicate}
+use Rattle.std.specs.Prelude.{count_by, None}
 use Rattle.disk_trait.specs.Images.{written}
 use Rattle.slot_file.specs.declared.header.Header.{Header}
 use Rattle.slot_file.specs.declared.slot.Slot.{Slot}

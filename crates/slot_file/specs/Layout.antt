@@ -1,6 +1,7 @@
 -- The layout of a slot file: a header block of 128 bytes, and slots of equal length after it. A number has its highest
 -- byte first. A gate is open at one value alone, and closed at every other.
-use Rattle.std.specs.Prelude.{◌≡◌, ◌==◌, ◌&&◌, ℕ, ◌+◌, ◌*◌, Bool, not, List, ◌∷◌, ◌++◌, length, take, drop, replicate, slice_index, Option, None, Some, if◌then◌else◌, nat_lt, is_some}
+use Rattle.std.specs.Prelude.{◌≡◌, ◌==◌, ◌&&◌, ℕ, ◌+◌, ◌*◌, Bool, not, List, ◌∷◌, ◌++◌, length, take, drop, replicate}
+use Rattle.std.specs.Prelude.{slice_index, Option, None, Some, if◌then◌else◌, nat_lt, is_some}
 use Rattle.std.specs.Cmp.Lexicographic.{pointwise}
 use Rattle.byteorder.specs.Endian.{big_number, big_bytes}
 use Rattle.slot_file.specs.declared.header.Header.{Header}
@@ -53,7 +54,8 @@ header_fault header file =
     else (if not (slice_index file 4 == header.version) then Some (Version (slice_index file 4))
     else (if not (same_header (header_in file) header) then Some (Foreign (header_in file)) else None))
 
--- The first test that fails where a file is opened: too few bytes for a header, the tests of the header, another length.
+-- The first test that fails where a file is opened: too few bytes for a header, the tests of the header, another
+-- length.
 unfoldable pub load_fault : Header → ℕ → List ℕ → Option LoadFault
 load_fault header count file =
     let other_length = Some (Length (length file) (file_size header.version count)) in
@@ -61,8 +63,8 @@ load_fault header count file =
     else (if is_some (header_fault header file) then header_fault header file
     else (if not (length file == file_size header.version count) then other_length else None))
 
--- Slot: gate A at 0, open at 0xB1; body A, of 36 bytes, at 4; gate B at 40, open at 0xC2; body B, of 64 bytes, at 44; in
--- slots of 160 bytes the moment at 108, in 8 bytes. All else is zeros.
+-- Slot: gate A at 0, open at 0xB1; body A, of 36 bytes, at 4; gate B at 40, open at 0xC2; body B, of 64 bytes, at 44;
+-- in slots of 160 bytes the moment at 108, in 8 bytes. All else is zeros.
 unfoldable pub moment_bytes : ℕ → List ℕ
 moment_bytes moment = big_bytes 8 moment
 
@@ -73,7 +75,8 @@ unfoldable pub slot_of : ℕ → List ℕ → Slot
 slot_of version bytes =
     let a = slice_index bytes 0 in
     let b = slice_index bytes 40 in
-    if a == 0xB1 then (if b == 0xC2 then Full (part 4 36 bytes) (part 44 64 bytes) (moment_of version bytes) else Half (part 4 36 bytes))
+    if a == 0xB1 then
+    (if b == 0xC2 then Full (part 4 36 bytes) (part 44 64 bytes) (moment_of version bytes) else Half (part 4 36 bytes))
     else (if b == 0xC2 then Damaged a b else Free)
 
 -- some bytes show this slot

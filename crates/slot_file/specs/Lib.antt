@@ -1,4 +1,5 @@
 pub mod Copies
+pub mod Copying
 pub mod Disks
 pub mod Doubts
 pub mod Files

@@ -1,11 +1,12 @@
 -- The parts of a file of slots that is open, and what its calls leave.
-use Rattle.std.specs.Prelude.{◌≡◌, ℕ, List, IsTrue}
+use Rattle.std.specs.Prelude.{◌≡◌, ◌↔◌, ℕ, List, IsTrue}
 use Rattle.disk_trait.specs.Images.{Only}
 use Rattle.disk_trait.specs.declared.disk.Pages as pages
 use Rattle.disk_trait.specs.declared.faults.Faults as faults
 use Rattle.slot_file.specs.declared.header.Header.{Header}
 use Rattle.slot_file.specs.declared.slot.Slot.{Slot}
 use Rattle.slot_file.specs.declared.slots.Doubt.{Doubt}
+use Rattle.slot_file.specs.declared.slots.Doubt.TheVariants.{Nowhere}
 use Rattle.slot_file.specs.declared.slots.Slots.{Slots}
 use Rattle.slot_file.specs.Disks.{SameDisk}
 use Rattle.slot_file.specs.Layout.{slot_at}
@@ -55,3 +56,10 @@ module _ {D : Type 0} {p : pages.Ghosts D} {f : faults.Ghosts D} where
     pub header : new.header ≡ old.header
     pub count : new.count ≡ old.count
     pub disk : SameDisk p f old.disk new.disk
+
+  -- a file that was only looked at
+  pub record OnlyLooked (old new : Slots D p f) : Type 0 where
+    pub same : IsTold old → file_of new ≡ file_of old
+    pub images : IsHonest old → (image : List ℕ) → MayLeave new image ↔ MayLeave old image
+    pub doubt : doubt_of old ≡ Nowhere → doubt_of new ≡ Nowhere
+    pub stays : Stays old new

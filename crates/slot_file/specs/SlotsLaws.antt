@@ -13,7 +13,8 @@ module _ {D : Type 0} {p : pages.Ghosts D} {f : faults.Ghosts D} (slots : Slots 
   opens told = (slots.whole told).opens
 
   -- and so does all that a crash may leave of it
-  pub images_open : IsTold slots → IsHonest slots → (image : List ℕ) → MayLeave slots image → load_fault (header_of slots) (count_of slots) image ≡ None
+  pub images_open : IsTold slots → IsHonest slots → (image : List ℕ) → MayLeave slots image
+      → load_fault (header_of slots) (count_of slots) image ≡ None
   images_open told honest image leaves = (slots.images_whole told honest image leaves).opens
 
   -- a crash leaves what a read gives, unless a put was refused since the last settle

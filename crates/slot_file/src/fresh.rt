@@ -1,10 +1,10 @@
 //! The steps by which a file is made. Its header's gate is closed until all else is stable.
 
-ghost use Rattle.std.specs.Prelude.{◌≡◌, ◌⊎◌, ◌≤◌, ◌+◌, ℕ, List, [], ◌∷◌, ◌++◌, length, IsTrue, IsOk, OnOk, OnErr};
-ghost use Rattle.disk_trait.specs.Faults.{Rose};
+ghost use Rattle.std.specs.Prelude.{◌≡◌, ◌⊎◌, ◌≤◌, ◌+◌, ℕ, List, [], ◌∷◌, ◌++◌, length, IsTrue, IsOk, OnOk};
+ghost use Rattle.disk_trait.specs.Faults.{HasCause};
 ghost use Rattle.disk_trait.specs.Images.{Only, Torn, written};
 ghost use Rattle.slot_file.specs.Disks.{SameDisk};
-ghost use Rattle.slot_file.specs.Fresh.{IsShut, IsUnready, AllBut};
+ghost use Rattle.slot_file.specs.Fresh.{AllBut, AreUnready, IsShut, StaysShut};
 
 use crate::header::OPEN;
 use disk_trait::{Disk, DiskFault};
@@ -14,15 +14,13 @@ pub(crate) fn write_shut<D: Disk>(disk: &mut D, block: &[u8; 128]) -> Result<(),
     requires empty { IsTrue (D.told disk.old) → D.reads disk.old ≡ [] }
     requires shut { IsShut block.now }
     ensures bytes { IsTrue (D.told disk.old) → OnOk result (D.reads disk.new ≡ block.now) }
-    ensures file { IsTrue (D.told disk.old) → IsUnready (D.reads disk.new) }
-    ensures images { IsTrue (D.told disk.old) → IsTrue (D.honest disk.old)
-        → (image : List ℕ) → D.may_leave disk.new image → IsUnready image }
+    ensures unready { AreUnready D.Pages.own disk.old disk.new }
     ensures shut { IsTrue (D.told disk.old) → IsTrue (D.honest disk.old)
         → OnOk result ((image : List ℕ) → D.may_leave disk.new image → IsShut image) }
 
     ensures succeeds { IsTrue (D.steady disk.old) → IsTrue (D.told disk.old)
         → 128 ≤ D.room disk.old → IsOk result }
-    ensures cause { OnErr result (Rose (D.count disk.old) (D.count disk.new)) }
+    ensures cause { HasCause (D.count disk.old) (D.count disk.new) result }
     ensures stays { SameDisk D.Pages.own D.Faults disk.old disk.new }
 {
     disk.write_at(0, &[0])?;
@@ -36,14 +34,11 @@ pub(crate) fn append<D: Disk>(disk: &mut D, at: u64, bytes: &[u8]) -> Result<(),
     requires behind { 1 ≤ at }
     ensures bytes { IsTrue (D.told disk.old)
         → OnOk result (D.reads disk.new ≡ D.reads disk.old ++ bytes.now) }
-    ensures shut { IsTrue (D.told disk.old) → IsShut (D.reads disk.old) → IsShut (D.reads disk.new) }
-    ensures images { IsTrue (D.honest disk.old)
-        → ((image : List ℕ) → D.may_leave disk.old image → IsShut image)
-        → (image : List ℕ) → D.may_leave disk.new image → IsShut image }
+    ensures shut { StaysShut D.Pages.own disk.old disk.new }
 
     ensures succeeds { IsTrue (D.steady disk.old) → IsTrue (D.told disk.old)
         → at + length bytes.now ≤ D.room disk.old → IsOk result }
-    ensures cause { OnErr result (Rose (D.count disk.old) (D.count disk.new)) }
+    ensures cause { HasCause (D.count disk.old) (D.count disk.new) result }
     ensures stays { SameDisk D.Pages.own D.Faults disk.old disk.new }
 {
     disk.write_at(at, bytes)
@@ -64,7 +59,7 @@ pub(crate) fn open_gate<D: Disk>(disk: &mut D) -> Result<(), DiskFault>
 
     ensures succeeds { IsTrue (D.steady disk.old) → IsTrue (D.told disk.old)
         → 1 ≤ D.room disk.old → IsOk result }
-    ensures cause { OnErr result (Rose (D.count disk.old) (D.count disk.new)) }
+    ensures cause { HasCause (D.count disk.old) (D.count disk.new) result }
     ensures stays { SameDisk D.Pages.own D.Faults disk.old disk.new }
 {
     disk.sync()?;

@@ -51,7 +51,7 @@ pub enum LoadFault {
         got: u8,
     },
     /// The header is another.
-    #[error("the file is of another key or trustee: its number is {}, its codes are {} and {}", kept.number, kept.lms, kept.ots)]
+    #[error("the file is of another key or trustee: its number is {}, its LMS code {}", kept.number, kept.lms)]
     Foreign {
         /// The file's.
         kept: Header,

@@ -1,11 +1,12 @@
 //! Making an empty file of slots.
 
-ghost use Rattle.std.specs.Prelude.{◌≡◌, ◌≢◌, ◌⊎◌, ◌≤◌, ◌<◌, ◌+◌, ◌↔◌, ◌*◌, ◌++◌, replicate, ℕ, List, [], length, drop, None, Err, IsTrue, IsOk, OnOk, OnErr};
-ghost use Rattle.disk_trait.specs.Faults.{Rose};
+ghost use Rattle.std.specs.Prelude.{◌≡◌, ◌≢◌, ◌⊎◌, ◌≤◌, ◌<◌, ◌+◌, ◌↔◌, ◌*◌, ◌++◌, replicate, ℕ, List, [], length, drop};
+ghost use Rattle.std.specs.Prelude.{None, Err, IsTrue, IsOk, OnOk, OnErr};
+ghost use Rattle.disk_trait.specs.Faults.{HasCause};
 ghost use Rattle.disk_trait.specs.Images.{Only};
-ghost use Rattle.slot_file.specs.Disks.{SameDisk};
-ghost use Rattle.slot_file.specs.Fresh.{IsBlank, IsShut, IsUnready};
-ghost use Rattle.slot_file.specs.Layout.{blank_file, file_size, slot_size};
+ghost use Rattle.slot_file.specs.Disks.{RisesAt, SameDisk};
+ghost use Rattle.slot_file.specs.Fresh.{IsNew, NeverHalf, RefusesFull, StaysShut};
+ghost use Rattle.slot_file.specs.Layout.{file_size, slot_size};
 
 use crate::Header;
 use crate::fresh::{append, open_gate, write_shut};
@@ -40,37 +41,16 @@ impl From<DiskFault> for PrepareFault {
 /// Makes an empty file of `count` free slots on an empty disk. Its header's gate is opened last, so
 /// no crash leaves a file that opens and is not whole.
 pub fn prepare<D: Disk>(disk: &mut D, header: &Header, count: u32) -> Result<(), PrepareFault>
-    ensures bytes { IsTrue (D.told disk.old)
-        → OnOk result (D.reads disk.new ≡ blank_file header.now count) }
+    ensures new { IsTrue (D.told disk.old) → OnOk result (IsNew header.now count (D.reads disk.new)) }
     ensures stable { IsTrue (D.told disk.old) → IsTrue (D.honest disk.old)
         → OnOk result (Only (D.reads disk.new) (D.may_leave disk.new)) }
-    ensures blank { IsTrue (D.told disk.old)
-        → OnOk result (IsBlank header.now count (D.reads disk.new)) }
-
-    // A crash within the call leaves what doesn't open, or the whole file.
-    ensures images { IsTrue (D.told disk.old) → IsTrue (D.honest disk.old) → D.reads disk.old ≡ []
-        → (image : List ℕ) → D.may_leave disk.new image
-        → IsUnready image ⊎ IsBlank header.now count image }
-    // A read shows an open gate only where all else is stable.
-    ensures shows { IsTrue (D.told disk.old) → IsTrue (D.honest disk.old) → D.reads disk.old ≡ []
-        → IsUnready (D.reads disk.new)
-        ⊎ ((image : List ℕ) → D.may_leave disk.new image → drop 1 image ≡ drop 1 (blank_file header.now count)) }
-
-    ensures not_empty { IsTrue (D.told disk.old) → (held : ℕ)
-        → result ≡ Err (PrepareFault.NotEmpty held)
-        → (held ≡ length (D.reads disk.old)) × (0 < held) }
-    ensures empty { IsTrue (D.told disk.old) → 0 < length (D.reads disk.old)
-        → (result ≡ Err PrepareFault.Device)
-        ⊎ (result ≡ Err (PrepareFault.NotEmpty (length (D.reads disk.old)))) }
-    ensures unchanged { IsTrue (D.told disk.old) → 0 < length (D.reads disk.old)
-        → D.reads disk.new ≡ D.reads disk.old }
-    ensures same_images { IsTrue (D.told disk.old) → IsTrue (D.honest disk.old)
-        → 0 < length (D.reads disk.old)
-        → (image : List ℕ) → D.may_leave disk.new image ↔ D.may_leave disk.old image }
-
+    ensures half { (IsTrue (D.told disk.old) → D.reads disk.old ≡ [])
+        → NeverHalf D.Pages.own (IsNew header.now count) disk.old disk.new }
+    ensures full { RefusesFull D.Pages.own (λ held. Err (PrepareFault.NotEmpty held)) (Err PrepareFault.Device)
+        disk.old disk.new result }
     ensures succeeds { IsTrue (D.steady disk.old) → IsTrue (D.told disk.old)
         → file_size header.now.version count ≤ D.room disk.old → result ≢ Err PrepareFault.Device }
-    ensures cause { result ≡ Err PrepareFault.Device → Rose (D.count disk.old) (D.count disk.new) }
+    ensures cause { RisesAt (D.count disk.old) (D.count disk.new) result (Err PrepareFault.Device) }
     ensures stays { SameDisk D.Pages.own D.Faults disk.old disk.new }
 {
     let length = disk.len()?;
@@ -84,22 +64,13 @@ pub fn prepare<D: Disk>(disk: &mut D, header: &Header, count: u32) -> Result<(),
 // Makes the file on an empty disk.
 fn make_blank<D: Disk>(disk: &mut D, header: &Header, count: u32) -> Result<(), DiskFault>
     requires { IsTrue (D.told disk.old) → D.reads disk.old ≡ [] }
-    ensures bytes { IsTrue (D.told disk.old)
-        → OnOk result (D.reads disk.new ≡ blank_file header.now count) }
-    ensures blank { IsTrue (D.told disk.old)
-        → OnOk result (IsBlank header.now count (D.reads disk.new)) }
+    ensures new { IsTrue (D.told disk.old) → OnOk result (IsNew header.now count (D.reads disk.new)) }
     ensures stable { IsTrue (D.told disk.old) → IsTrue (D.honest disk.old)
         → OnOk result (Only (D.reads disk.new) (D.may_leave disk.new)) }
-    ensures images { IsTrue (D.told disk.old) → IsTrue (D.honest disk.old)
-        → (image : List ℕ) → D.may_leave disk.new image
-        → IsUnready image ⊎ IsBlank header.now count image }
-    ensures shows { IsTrue (D.told disk.old) → IsTrue (D.honest disk.old)
-        → IsUnready (D.reads disk.new)
-        ⊎ ((image : List ℕ) → D.may_leave disk.new image → drop 1 image ≡ drop 1 (blank_file header.now count)) }
-
+    ensures half { NeverHalf D.Pages.own (IsNew header.now count) disk.old disk.new }
     ensures succeeds { IsTrue (D.steady disk.old) → IsTrue (D.told disk.old)
         → file_size header.now.version count ≤ D.room disk.old → IsOk result }
-    ensures cause { OnErr result (Rose (D.count disk.old) (D.count disk.new)) }
+    ensures cause { HasCause (D.count disk.old) (D.count disk.new) result }
     ensures stays { SameDisk D.Pages.own D.Faults disk.old disk.new }
 {
     let block = header.block(0);
@@ -113,14 +84,10 @@ fn write_free<D: Disk>(disk: &mut D, version: u8, count: u32) -> Result<(), Disk
     requires { IsTrue (D.told disk.old) → length (D.reads disk.old) ≡ 128 }
     ensures bytes { IsTrue (D.told disk.old)
         → OnOk result (D.reads disk.new ≡ D.reads disk.old ++ replicate (slot_size version * count) 0) }
-    ensures shut { IsTrue (D.told disk.old) → IsShut (D.reads disk.old) → IsShut (D.reads disk.new) }
-    ensures images { IsTrue (D.honest disk.old)
-        → ((image : List ℕ) → D.may_leave disk.old image → IsShut image)
-        → (image : List ℕ) → D.may_leave disk.new image → IsShut image }
-
+    ensures shut { StaysShut D.Pages.own disk.old disk.new }
     ensures succeeds { IsTrue (D.steady disk.old) → IsTrue (D.told disk.old)
         → file_size version count ≤ D.room disk.old → IsOk result }
-    ensures cause { OnErr result (Rose (D.count disk.old) (D.count disk.new)) }
+    ensures cause { HasCause (D.count disk.old) (D.count disk.new) result }
     ensures stays { SameDisk D.Pages.own D.Faults disk.old disk.new }
 {
     let zeros = [0; 160];

@@ -1,6 +1,7 @@
 //! A file of slots that is open.
 
-ghost use Rattle.std.specs.Prelude.{◌≡◌, ◌≢◌, ◌⊎◌, ◌≤◌, ◌<◌, ◌↔◌, ◌+◌, ◌^◌, ℕ, List, length, take, IsTrue, None, Some, IsOk, IfOk, IfErr, OnOk, OnErr, Ok, Err, if◌then◌else◌, is_ok};
+ghost use Rattle.std.specs.Prelude.{◌≡◌, ◌≢◌, ◌⊎◌, ◌≤◌, ◌<◌, ◌↔◌, ◌+◌, ◌^◌, ℕ, List, length, take, IsTrue, None, Some};
+ghost use Rattle.std.specs.Prelude.{IsOk, IfOk, IfErr, OnOk, OnErr, Ok, Err, if◌then◌else◌, is_ok};
 ghost use Rattle.disk_trait.specs.Faults.{HasCause};
 ghost use Rattle.slot_file.specs.Doubts.{IsSure};
 ghost use Rattle.disk_trait.specs.Images.{Only, Follows};
@@ -99,7 +100,8 @@ fn check_file<D: Disk>(disk: &mut D, header: &Header, count: u32) -> Result<(), 
 
 impl<D: Disk> Slots<D> {
     ghost use Rattle.slot_file.specs.Opened.{IsOpened};
-    ghost use Rattle.slot_file.specs.Slots.{disk_of, header_of, count_of, doubt_of, faults_of, file_of, slot_now, IsTold, IsHonest, IsSteady, MayLeave, IsStable, Stays};
+    ghost use Rattle.slot_file.specs.Slots.{disk_of, header_of, count_of, doubt_of, faults_of, file_of, slot_now};
+    ghost use Rattle.slot_file.specs.Slots.{IsTold, IsHonest, IsSteady, MayLeave, IsStable, Stays};
     ghost use Rattle.slot_file.specs.Doubts.{settled, looked};
 
     /// Opens a file: syncs, and tests its length and its header. A refusal gives the disk back.
@@ -175,7 +177,8 @@ impl<D: Disk> Slots<D> {
         ensures file { IsTold self.old
             → IsPut (header_of self.old).version slot (Slot.Half body.now) (file_of self.old) (file_of self.new) }
         ensures images { IsTold self.old → IsHonest self.old
-            → Follows (IsPut (header_of self.old).version slot (Slot.Half body.now)) (MayLeave self.old) (MayLeave self.new) }
+            → Follows (IsPut (header_of self.old).version slot (Slot.Half body.now))
+            (MayLeave self.old) (MayLeave self.new) }
         ensures stable { OnOk result (IsStable self.new) }
         ensures doubt { doubt_of self.new ≡ (if is_ok result then doubt_of self.old else Doubt.Refused slot) }
 

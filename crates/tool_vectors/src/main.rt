@@ -3,7 +3,7 @@
 //! status behind each line.
 #![tactic(auto)]
 
-mod memory;
+mod in_memory;
 
 use std::alloc::{AllocError, Global};
 use std::io;
@@ -91,5 +91,5 @@ fn main(rt: HostRuntime) -> io::Result<()> {
         );
         println!(rt; "status {status}")?;
     }
-    memory::print_runs(&rt, rt)
+    in_memory::print_runs(&rt, rt)
 }

@@ -22,6 +22,6 @@ loop-slot-preserved g c =
           here ∙ ap (λ (l : List ℕ). l ++ take size (replicate 160 0)) (so_far.bytes told)
           ∙ one_more (g.D.Pages.reads c.args.disk.now) (slot_size c.args.version) c.loop-slot.slot size c.slot_len-size.ensures (most_size c.args.version);
       shut = search rules;
-      images = search rules;
+      count = search rules;
       stays = search rules;
     }

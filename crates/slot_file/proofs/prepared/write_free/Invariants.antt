@@ -1,13 +1,13 @@
 use Rattle.std.proofs.Common.{◌≡◌, ◌*◌, ◌++◌, ℕ, List, replicate, IsTrue}
 use Rattle.slot_file.specs.Disks.{SameDisk}
-use Rattle.slot_file.specs.Fresh.{IsShut}
+use Rattle.slot_file.specs.Fresh.{StaysShut}
 use Rattle.slot_file.specs.Layout.{slot_size}
 use Rattle.slot_file.proofs.prepared.write_free.Given as goal
 
 abbrev pub invariant-loop-slot : goal.invariant-loop-slot
 invariant-loop-slot g l = record {
   bytes : IsTrue (g.D.Pages.told l.initial.disk) → g.D.Pages.reads l.disk ≡ g.D.Pages.reads l.initial.disk ++ replicate (slot_size l.version * l.slot) 0;
-  shut : IsTrue (g.D.Pages.told l.initial.disk) → IsShut (g.D.Pages.reads l.initial.disk) → IsShut (g.D.Pages.reads l.disk);
-  images : IsTrue (g.D.Pages.honest l.initial.disk) → ((image : List ℕ) → g.D.Pages.may_leave l.initial.disk image → IsShut image) → (image : List ℕ) → g.D.Pages.may_leave l.disk image → IsShut image;
+  shut : StaysShut g.D.Pages l.initial.disk l.disk;
+  count : g.D.Faults.count l.disk ≡ g.D.Faults.count l.initial.disk;
   stays : SameDisk g.D.Pages g.D.Faults l.initial.disk l.disk;
 }

@@ -1,0 +1,12 @@
+pub mod Adding
+pub mod Dealt
+pub mod Delivered
+pub mod Delivering
+pub mod Judged
+pub mod Judgement
+pub mod Keeping
+pub mod Outcome
+pub mod Places
+pub mod Starting
+pub mod Sums
+pub mod Taking

@@ -1,0 +1,10 @@
+pub mod Asks
+pub mod Dealing
+pub mod Deliveries
+pub mod Judging
+pub mod Replies
+pub mod SeatInside
+pub mod Seats
+pub mod SessionInside
+pub mod State
+pub mod Verdicts

@@ -1,0 +1,227 @@
+//! The ends of the rounds.
+
+ghost use Rattle.std.specs.Prelude.{◌≡◌, ◌≢◌, ◌⊎◌, [], ◌+◌, ◌*◌, ◌<◌, ◌≤◌, ◌^◌, None, Some};
+ghost use Rattle.std.specs.Prelude.{Err, IfErr, IfOk, IsOk, IsSome, IsTrue, MatchResult, OnErr, OnOk, length};
+ghost use Rattle.coalition_map.specs.Coalitions.{leaf_members};
+ghost use Rattle.disk_trait.specs.Faults.{Rose};
+ghost use Rattle.lms_bytes.specs.MessageId.{message_id};
+ghost use Rattle.lms_bytes.specs.Signature.{signature_bytes};
+ghost use Rattle.lms_verify.specs.Accepts.{AcceptsAt};
+ghost use Rattle.lms_verify.specs.UndividedKey.{UndividedKey, rfc_signature};
+ghost use Rattle.merkle_path.specs.Tree.{path_at};
+ghost use Rattle.reference_value.specs.Dealing.{Dealing, leaf_randomizer, reference};
+ghost use Rattle.reference_value.specs.Stay.{CellsStay};
+ghost use Rattle.session_core.specs.Dealing.{FirstMasks, IsAnswered, IsOfDealing};
+ghost use Rattle.session_core.specs.Judging.{round_fault};
+ghost use Rattle.session_core.specs.State.{IsSession, asked_c, turned};
+ghost use Rattle.session_core.specs.Verdicts.{AreMasks, FinishFails, JoinFails, LaysOut, LeadsAstray, Turned};
+ghost use Rattle.session_core.specs.Verdicts.{Unread, bodies_of, digest_of, joined_bytes, joined_c, joined_values};
+ghost use Rattle.session_core.specs.declared.faults.SessionFault.{SessionFault};
+ghost use Rattle.session_core.specs.declared.faults.SessionFault.TheVariants.{NoMemory};
+ghost use Rattle.share_files.specs.Reference.{leaves_length};
+
+use crate::faults::SessionFault;
+use crate::joining::{add_bodies, sum_of_values};
+use crate::session::Session;
+use lms_bytes::{Val, write_layout};
+use lms_verify::{Verdict, verify};
+use merkle_path::Tree;
+use ots_chain::MessageHash;
+use reference_value::{Cells, join_chains, join_randomizer};
+use std::alloc::Global;
+
+impl Session {
+    /// Goes from round one to round two, where every member's masks are kept. The randomizer is the reference's, XOR
+    /// the masks. After a refusal the session is as before.
+    pub fn turn<R: Cells>(&mut self, cells: &mut R) -> Result<(), SessionFault>
+        requires round { self.old.c ≡ None }
+        requires set { R.set cells.old ≡ self.old.key.params }
+        requires plan { R.plan cells.old ≡ self.old.plan }
+        ensures fault { (fault : SessionFault) → round_fault self.old [] ≡ Some fault → result ≡ Err fault }
+        ensures cause { IfErr result (λ fault. (round_fault self.old [] ≡ Some fault)
+            ⊎ Unread self.old [] (R.count cells.old) (R.count cells.new) fault) }
+        ensures turned { OnOk result (Turned self.old self.new) }
+        ensures joined { IsTrue (R.told cells.old)
+            → OnOk result (self.new ≡ turned self.old (joined_c self.old (R.leaves cells.old))) }
+        ensures dealt { (d : Dealing) (key : UndividedKey) → IsTrue (R.told cells.old)
+            → R.leaves cells.old ≡ reference d → IsOfDealing d key self.old → FirstMasks d self.old
+            → OnOk result (self.new ≡ turned self.old (leaf_randomizer d self.old.leaf)) }
+        ensures same { OnErr result (self.new ≡ self.old) }
+        ensures succeeds { IsTrue (R.steady cells.old) → IsTrue (R.told cells.old)
+            → length (R.leaves cells.old) ≡ leaves_length self.old.key.params self.old.plan
+            → round_fault self.old [] ≡ None → IsOk result }
+        ensures count { R.count cells.old ≤ R.count cells.new }
+        ensures stays { CellsStay R.Cells.own R.Faults cells.old cells.new }
+    {
+        let zeros = self.asked_c();
+        if let Some(fault) = self.round_fault(&zeros) {
+            return Err(fault);
+        }
+        let c = self.join_c(cells)?;
+        self.c = Some(c);
+        Ok(())
+    }
+
+    /// The randomizer that the masks of round one lay open.
+    fn join_c<R: Cells>(&self, cells: &mut R) -> Result<Val, SessionFault>
+        requires masks { AreMasks self.now.first }
+        requires set { R.set cells.old ≡ self.now.key.params }
+        requires plan { R.plan cells.old ≡ self.now.plan }
+        ensures c { IsTrue (R.told cells.old) → IfOk result (λ c. c ≡ joined_c self.now (R.leaves cells.old)) }
+        ensures length { IfOk result (λ c. length c ≡ self.now.key.params.n) }
+        ensures cause { IfErr result (λ fault. (fault ≡ SessionFault.Reference)
+            × Rose (R.count cells.old) (R.count cells.new)) }
+        ensures succeeds { IsTrue (R.steady cells.old) → IsTrue (R.told cells.old)
+            → length (R.leaves cells.old) ≡ leaves_length self.now.key.params self.now.plan → IsOk result }
+        ensures count { R.count cells.old ≤ R.count cells.new }
+        ensures stays { CellsStay R.Cells.own R.Faults cells.old cells.new }
+    {
+        let sum = sum_of_values(&self.first, self.key.params.n);
+        Ok(join_randomizer(cells, self.leaf, &sum)?)
+    }
+
+    /// Joins round two to a signature (RFC 8554 section 5.4.1), and gives it only where it is accepted under the key.
+    /// Over the dealer's reference and tree, and with the members' own masks, it is the undivided key's.
+    pub fn finish<R: Cells>(
+        &self,
+        alloc: Global,
+        cells: &mut R,
+        tree: &Tree,
+        message: &[u8],
+    ) -> Result<Vec<u8>, SessionFault>
+        requires round { IsSome self.now.c }
+        requires message { message_id message.now ≡ self.now.message }
+        requires cells { (R.set cells.old ≡ self.now.key.params) × (R.plan cells.old ≡ self.now.plan) }
+        requires tree { (tree.now.n ≡ self.now.key.params.n) × (tree.now.h ≡ self.now.key.params.h) }
+        ensures accepted { IfOk result (λ bytes. AcceptsAt self.now.key message.now bytes.items self.now.leaf) }
+        ensures joined { IsTrue (R.told cells.old) → IfOk result (λ bytes. bytes.items
+            ≡ joined_bytes self.now (R.leaves cells.old) tree.now message.now) }
+        ensures fault { (fault : SessionFault)
+            → round_fault self.now (digest_of self.now message.now) ≡ Some fault → result ≡ Err fault }
+        ensures cause { IfErr result (FinishFails self.now message.now (R.told cells.old)
+            (joined_bytes self.now (R.leaves cells.old) tree.now message.now)
+            (R.count cells.old) (R.count cells.new)) }
+        ensures read { IsTrue (R.steady cells.old) → IsTrue (R.told cells.old)
+            → length (R.leaves cells.old) ≡ leaves_length self.now.key.params self.now.plan
+            → round_fault self.now (digest_of self.now message.now) ≡ None
+            → IfErr result (λ fault. fault ≢ SessionFault.Reference) }
+        ensures count { R.count cells.old ≤ R.count cells.new }
+        ensures stays { CellsStay R.Cells.own R.Faults cells.old cells.new }
+        ensures dealt { (d : Dealing) (key : UndividedKey) → IsTrue (R.told cells.old)
+            → IsAnswered d key self.now (digest_of self.now message.now) (R.leaves cells.old) tree.now
+            → MatchResult result
+            (λ bytes. bytes.items ≡ rfc_signature key self.now.leaf (leaf_randomizer d self.now.leaf) message.now)
+            (JoinFails (R.count cells.old) (R.count cells.new)) }
+    {
+        self.join_signature(alloc, cells, tree, message)
+    }
+
+    /// Joins round two, as `finish` does.
+    fn join_signature<R: Cells>(
+        &self,
+        alloc: Global,
+        cells: &mut R,
+        tree: &Tree,
+        message: &[u8],
+    ) -> Result<Vec<u8>, SessionFault>
+        requires round { IsSome self.now.c }
+        requires message { message_id message.now ≡ self.now.message }
+        requires cells { (R.set cells.old ≡ self.now.key.params) × (R.plan cells.old ≡ self.now.plan) }
+        requires tree { (tree.now.n ≡ self.now.key.params.n) × (tree.now.h ≡ self.now.key.params.h) }
+        ensures session { IsSession self.now }
+        ensures accepted { IfOk result (λ bytes. AcceptsAt self.now.key message.now bytes.items self.now.leaf) }
+        ensures joined { IsTrue (R.told cells.old) → IfOk result (λ bytes. bytes.items
+            ≡ joined_bytes self.now (R.leaves cells.old) tree.now message.now) }
+        ensures fault { (fault : SessionFault)
+            → round_fault self.now (digest_of self.now message.now) ≡ Some fault → result ≡ Err fault }
+        ensures cause { IfErr result (FinishFails self.now message.now (R.told cells.old)
+            (joined_bytes self.now (R.leaves cells.old) tree.now message.now)
+            (R.count cells.old) (R.count cells.new)) }
+        ensures read { IsTrue (R.steady cells.old) → IsTrue (R.told cells.old)
+            → length (R.leaves cells.old) ≡ leaves_length self.now.key.params self.now.plan
+            → round_fault self.now (digest_of self.now message.now) ≡ None
+            → IfErr result (λ fault. fault ≢ SessionFault.Reference) }
+        ensures count { R.count cells.old ≤ R.count cells.new }
+        ensures stays { CellsStay R.Cells.own R.Faults cells.old cells.new }
+    {
+        let c = self.asked_c();
+        let digest = MessageHash::of(&self.key.params, &self.key.id, self.leaf, &c, message);
+        if let Some(fault) = self.round_fault(&digest) {
+            return Err(fault);
+        }
+        let values = self.join_values(alloc, cells, &digest)?;
+        let bytes = self.lay_out(alloc, tree, &c, &values)?;
+        self.if_accepted(message, bytes)
+    }
+
+    /// The values of the chains that the masks of round two lay open, `p` values of `n` bytes.
+    fn join_values<R: Cells>(
+        &self,
+        alloc: Global,
+        cells: &mut R,
+        digest: &Val,
+    ) -> Result<Vec<u8>, SessionFault>
+        requires digest { length digest.now ≡ self.now.key.params.n }
+        requires masks { AreMasks self.now.second }
+        requires cells { (R.set cells.old ≡ self.now.key.params) × (R.plan cells.old ≡ self.now.plan) }
+        ensures values { IsTrue (R.told cells.old) → IfOk result (λ values. values.items
+            ≡ joined_values self.now (R.leaves cells.old) digest.now) }
+        ensures length { IfOk result (λ values. length values.items ≡ self.now.key.params.n * self.now.key.params.p) }
+        ensures cause { IfErr result (JoinFails (R.count cells.old) (R.count cells.new)) }
+        ensures read { IsTrue (R.steady cells.old) → IsTrue (R.told cells.old)
+            → length (R.leaves cells.old) ≡ leaves_length self.now.key.params self.now.plan
+            → IfErr result (λ fault. fault ≢ SessionFault.Reference) }
+        ensures count { R.count cells.old ≤ R.count cells.new }
+        ensures stays { CellsStay R.Cells.own R.Faults cells.old cells.new }
+    {
+        let params = &self.key.params;
+        let length = params.n as usize * params.p as usize;
+        let mut sums = vec![in alloc; 0; length]?;
+        add_bodies(&self.second, &mut sums);
+        let mut values = vec![in alloc; 0; length]?;
+        join_chains(params, cells, self.leaf, digest, &sums, &mut values)?;
+        Ok(values)
+    }
+
+    /// The signature with this randomizer and these values of the chains, and with the path of the tree.
+    fn lay_out(
+        &self,
+        alloc: Global,
+        tree: &Tree,
+        c: &Val,
+        values: &[u8],
+    ) -> Result<Vec<u8>, SessionFault>
+        requires tree { (tree.now.n ≡ self.now.key.params.n) × (tree.now.h ≡ self.now.key.params.h) }
+        requires c { length c.now ≡ self.now.key.params.n }
+        requires values { length values.now ≡ self.now.key.params.n * self.now.key.params.p }
+        ensures bytes { IfOk result (λ bytes. bytes.items
+            ≡ signature_bytes self.now.key.params self.now.leaf c.now values.now (path_at tree.now self.now.leaf)) }
+        ensures layout { IfOk result (λ bytes. LaysOut self.now.key.params bytes.items self.now.leaf) }
+        ensures cause { IfErr result (λ fault. fault ≡ SessionFault.NoMemory) }
+    {
+        let params = &self.key.params;
+        let mut path = vec![in alloc; 0; params.n as usize * params.h as usize]?;
+        tree.write_path(self.leaf, &mut path);
+        let mut bytes = vec![in alloc; 0; 12 + c.bytes().len() + values.len() + path.len()]?;
+        write_layout(params, self.leaf, c, values, &path, &mut bytes);
+        Ok(bytes)
+    }
+
+    /// The bytes of a signature where it is accepted under the key.
+    fn if_accepted(&self, message: &[u8], bytes: Vec<u8>) -> Result<Vec<u8>, SessionFault>
+        requires { LaysOut self.now.key.params bytes.items self.now.leaf }
+        ensures same { IfOk result (λ same. same.items ≡ bytes.items) }
+        ensures accepted { IfOk result (λ same. AcceptsAt self.now.key message.now same.items self.now.leaf) }
+        ensures refused { IfErr result (LeadsAstray self.now message.now bytes.items) }
+    {
+        match verify(&self.key, message, &bytes) {
+            Verdict::Accepted { .. } => Ok(bytes),
+            Verdict::OtherRoot { got, want } => Err(SessionFault::WrongRoot {
+                leaf: self.leaf,
+                got,
+                want,
+            }),
+            Verdict::Malformed(_) => unreachable!(),
+        }
+    }
+}
