@@ -241,7 +241,8 @@ fn a_doubtful_lease_is_settled(rt: HostRuntime) -> Result<(), Fail> {
     Ok(())
 }
 
-/// Burns leaf 1 as reported by member 3, which fails at a call, and then the leaf of the message as reported by member 5.
+/// Burns leaf 1 as reported by member 3, which fails at a call, and then the leaf of the message as reported by
+/// member 5.
 fn burn_again(rt: &impl Abort, alloc: Global, call: u8) -> Result<(), NoMemory> {
     let mut disk = prepared(rt, alloc)?;
     disk.fail_once(LOAD_CALLS + 4 + u64::from(call));
