@@ -1,6 +1,10 @@
 use super::*;
 use memory::NoMemory;
-use std::fs::{OpenOptions, remove_file};
+use std::cell::Cell;
+use std::fs::{Metadata, OpenFile, OpenOptions, remove_file};
+use std::io;
+use std::io::ErrorKind;
+use std::os::unix::fs::FileExt;
 use std::process::Abort;
 use std::test::Fail;
 
@@ -122,5 +126,146 @@ fn a_file_is_a_disk(rt: HostRuntime) -> Result<(), Fail> {
     assert_eq!(rt; pages.read_at(5, &mut out), Err(DiskFault));
     assert_eq!(rt; pages.faults(), 1);
     remove_file(&rt, name)?;
+    Ok(())
+}
+
+// What a fake file holds, and what was asked of it.
+#[derive(Drop)]
+struct Record {
+    bytes: Cell<[u8; 8]>,
+    length: Cell<usize>,
+    // how many calls there were of `sync_all` and of `sync_data`
+    syncs: Cell<(u8, u8)>,
+    sync_fails: Cell<bool>,
+}
+
+impl Record {
+    fn of_length(length: usize) -> Record {
+        Record {
+            bytes: Cell::new([b'.'; 8]),
+            length: Cell::new(length),
+            syncs: Cell::new((0, 0)),
+            sync_fails: Cell::new(false),
+        }
+    }
+
+    fn sync_answer(&self) -> io::Result<()> {
+        if self.sync_fails.get() {
+            return Err(io::Error::from(ErrorKind::Other));
+        }
+        Ok(())
+    }
+}
+
+// A file with room for eight bytes, which reads and writes one byte at a time.
+#[derive(Drop)]
+struct FakeFile<'a>(&'a Record);
+
+impl FileExt for FakeFile<'_> {
+    fn read_at(&self, buf: &mut [u8], offset: u64) -> io::Result<usize> {
+        let at = usize::try_from(offset).unwrap_or(usize::MAX);
+        let bytes = self.0.bytes.get();
+        if buf.is_empty() || at >= self.0.length.get() || at >= bytes.len() {
+            return Ok(0);
+        }
+        buf[0] = bytes[at];
+        Ok(1)
+    }
+
+    fn write_at(&self, buf: &[u8], offset: u64) -> io::Result<usize> {
+        let at = usize::try_from(offset).unwrap_or(usize::MAX);
+        let mut bytes = self.0.bytes.get();
+        if buf.is_empty() || at >= bytes.len() {
+            return Ok(0);
+        }
+        bytes[at] = buf[0];
+        self.0.bytes.set(bytes);
+        self.0.length.set(self.0.length.get().max(at + 1));
+        Ok(1)
+    }
+}
+
+impl OpenFile for FakeFile<'_> {
+    fn metadata(&self) -> io::Result<Metadata> {
+        Ok(Metadata::of_file(self.0.length.get() as u64))
+    }
+
+    fn set_len(&self, _size: u64) -> io::Result<()> {
+        Err(io::Error::from(ErrorKind::Unsupported))
+    }
+
+    fn sync_all(&self) -> io::Result<()> {
+        let (all, data) = self.0.syncs.get();
+        self.0.syncs.set((all.saturating_add(1), data));
+        self.0.sync_answer()
+    }
+
+    fn sync_data(&self) -> io::Result<()> {
+        let (all, data) = self.0.syncs.get();
+        self.0.syncs.set((all, data.saturating_add(1)));
+        self.0.sync_answer()
+    }
+}
+
+#[test]
+fn short_reads_and_writes_go_on(rt: HostRuntime) -> Result<(), Fail> {
+    let record = Record::of_length(0);
+    let mut disk = FileDisk::unlocked(FakeFile(&record));
+    disk.write_at(0, b"abcdef")?;
+    assert_eq!(rt; record.bytes.get(), *b"abcdef..");
+    reads(&rt, &mut disk, 2, b"cde");
+
+    let mut out = [0; 3];
+    assert_eq!(rt; disk.read_at(4, &mut out), Err(DiskFault));
+    assert_eq!(rt; disk.write_at(6, b"xyz"), Err(DiskFault));
+    assert_eq!(rt; disk.faults(), 2);
+    Ok(())
+}
+
+#[test]
+fn a_sync_is_of_all_after_growth(rt: HostRuntime) -> Result<(), Fail> {
+    let record = Record::of_length(2);
+    let mut disk = FileDisk::unlocked(FakeFile(&record));
+    assert_eq!(rt; disk.len()?, 2);
+    // a write, whether it succeeds, and the calls of `sync_all` and `sync_data` that one sync then makes
+    let writes: [(u64, &[u8], bool, (u8, u8)); 9] = [
+        (0, b"a", true, (1, 0)),
+        (1, b"b", true, (0, 1)),
+        (2, b"c", true, (1, 0)),
+        (2, b"d", true, (0, 1)),
+        (7, b"", true, (0, 1)),
+        (3, b"e", true, (1, 0)),
+        (8, b"x", false, (1, 0)),
+        (4, b"f", true, (1, 0)),
+        (6, b"ghi", false, (1, 0)),
+    ];
+    for (at, bytes, succeeds, want) in writes {
+        record.syncs.set((0, 0));
+        assert_eq!(rt; disk.write_at(at, bytes).is_ok(), succeeds, "write at {at}");
+        disk.sync()?;
+        assert_eq!(rt; record.syncs.get(), want, "write at {at}");
+    }
+    assert_eq!(rt; disk.faults(), 2);
+    Ok(())
+}
+
+#[test]
+fn a_failed_sync_is_never_forgotten(rt: HostRuntime) -> Result<(), Fail> {
+    for good_syncs in [0, 1] {
+        let record = Record::of_length(2);
+        let mut disk = FileDisk::unlocked(FakeFile(&record));
+        for _ in 0..good_syncs {
+            disk.sync()?;
+        }
+        record.sync_fails.set(true);
+        assert_eq!(rt; disk.sync(), Err(DiskFault));
+        record.sync_fails.set(false);
+        let asked = record.syncs.get();
+        assert_eq!(rt; disk.sync(), Err(DiskFault));
+        disk.write_at(0, b"abc")?;
+        assert_eq!(rt; disk.sync(), Err(DiskFault));
+        assert_eq!(rt; disk.faults(), 3);
+        assert_eq!(rt; record.syncs.get(), asked);
+    }
     Ok(())
 }
