@@ -134,6 +134,21 @@ impl MemDisk {
         self.stops = Some(call);
     }
 
+    /// Whether no call is listed to fail and no bound on calls is set.
+    pub fn is_steady(&self) -> bool
+        ensures { result ≡ is_steady self.now }
+    {
+        self.fails.is_none() && self.stops.is_none() && self.bound == usize::MAX
+    }
+
+    /// How many bytes it has room for, no fewer than are there.
+    pub fn capacity(&self) -> usize
+        ensures value { result ≡ self.now.capacity }
+        ensures has_room { length self.now.bytes ≤ self.now.capacity }
+    {
+        self.bytes.len()
+    }
+
     /// What a read gives.
     pub fn bytes(&self) -> &[u8]
         ensures { result.now ≡ self.now.bytes }

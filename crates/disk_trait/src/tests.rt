@@ -31,6 +31,7 @@ fn memory_reads_what_was_written(rt: HostRuntime) -> Result<(), Fail> {
     assert_eq!(rt; disk.len()?, 7);
     reads(&rt, &mut disk, 4, b"XYZ");
     assert_eq!(rt; disk.bytes(), b"abcdXYZ".as_slice());
+    assert_eq!(rt; disk.capacity(), 8);
     assert_eq!(rt; disk.faults(), 0);
 
     // past the end, beyond it, and past the room
@@ -72,9 +73,11 @@ fn listed_calls_fail(rt: HostRuntime) -> Result<(), Fail> {
     for call in 0..4 {
         let mut once = MemDisk::of_bytes(alloc, b"abc", 3, usize::MAX)?;
         let mut stopped = MemDisk::of_bytes(alloc, b"abc", 3, usize::MAX)?;
+        assert!(rt; once.is_steady());
         once.fail_once(9);
         once.fail_once(call);
         stopped.stop_at(call);
+        assert!(rt; !once.is_steady() && !stopped.is_steady());
         for i in 0..4 {
             assert_eq!(rt; once.write_at(1, b"x").is_err(), i == call, "call {i}");
             assert_eq!(rt; stopped.write_at(1, b"x").is_err(), i >= call, "call {i}");
