@@ -16,7 +16,7 @@ use Rattle.tool_run.specs.Ending.{Ending}
 use Rattle.tool_run.specs.Naming.{named_files}
 use Rattle.tool_run.specs.Outputs.{AreDifferent, Output}
 use Rattle.tool_run.specs.Undealt.{end_of_fault}
-use Rattle.tool_run.specs.Words.{DealWords}
+use Rattle.tool_words.specs.Words.{DealWords}
 use Rattle.tool_run.proofs.Names.{deal_differ}
 use Rattle.tool_run.proofs.Naming.{named_all}
 

@@ -16,7 +16,7 @@ use Rattle.tool_run.specs.Ending as ending
 use Rattle.tool_run.specs.Ending.{Ending}
 use Rattle.tool_run.specs.Outputs.{FirstNotNew, IsNew, Output, StopsAfter}
 use Rattle.tool_run.specs.Undealt.{end_of_fault}
-use Rattle.tool_run.specs.Words.{DealWords}
+use Rattle.tool_words.specs.Words.{DealWords}
 use Rattle.tool_run.specs.Reads.{FailsToRead}
 use Rattle.tool_run.specs.World.{StoreRun, Bytes, IsRead}
 use Rattle.tool_run.specs.declared.undealt.Undealt.TheVariants.{Code, Threshold, Coalitions}

@@ -6,9 +6,7 @@ pub mod OutputOf
 pub mod Outputs
 pub mod Reads
 pub mod Rehearse
-pub mod Rows
 pub mod ToolRun
 pub mod Undealt
 pub mod Verify
-pub mod Words
 pub mod World

@@ -8,7 +8,7 @@ use Rattle.tool_run.specs.Deal.{DealEnds}
 use Rattle.tool_run.specs.Outputs.{EndsWith, Output}
 use Rattle.tool_run.specs.Rehearse.{RehearseEnds}
 use Rattle.tool_run.specs.Verify.{VerifyEnds}
-use Rattle.tool_run.specs.Words.{Row, Verify, Rehearse, Deal, command_of}
+use Rattle.tool_words.specs.Words.{Row, Verify, Rehearse, Deal, command_of}
 use Rattle.tool_run.specs.World.{World, OutputRun, StoreRun}
 
 -- the ends that a command may have and the files that it wrote then, by the rules of that command

@@ -12,7 +12,7 @@ ghost use Rattle.tool_run.specs.Deal.{DealEnds, IsDealtTo, IsNotDealt, IsSet, pl
 ghost use Rattle.tool_run.specs.Endings.{ending};
 ghost use Rattle.tool_run.specs.OutputOf.{output_of};
 ghost use Rattle.tool_run.specs.Outputs.{EndsWith};
-ghost use Rattle.tool_run.specs.Rows.{deal_words};
+ghost use Rattle.tool_words.specs.Rows.{deal_words};
 ghost use Rattle.tool_run.specs.Undealt.{end_of_fault};
 ghost use Rattle.tool_run.specs.World.{store_run};
 
@@ -20,13 +20,13 @@ use crate::ending::Ending;
 use crate::outputs::{Output, test_all_new, write_all};
 use crate::reading::read_file;
 use crate::undealt::Undealt;
-use crate::words::DealWords;
 use coalition_map::{Plan, PlanFault};
 use dealer::{DealFault, DealingFiles, deal};
 use lms_bytes::Params;
 use memory::NoMemory;
 use std::alloc::{AllocError, Global};
 use stream_io::Store;
+use tool_words::DealWords;
 
 /// Deals a key, and writes its files.
 pub(crate) fn deal_files<S: Store>(alloc: Global, store: &mut S, words: &DealWords) -> Ending

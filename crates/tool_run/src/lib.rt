@@ -7,11 +7,9 @@ mod ending;
 mod outputs;
 mod reading;
 mod rehearse;
-mod split;
 mod tool;
 mod undealt;
 mod verify;
-mod words;
 
 pub use clocks::{Clocks, MemClock, MemClocks, SystemClock, SystemClocks};
 pub use tool::run_tool;

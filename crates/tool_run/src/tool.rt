@@ -5,8 +5,8 @@ ghost use Rattle.tool_run.specs.Ending as spec;
 ghost use Rattle.tool_run.specs.Endings.{ending};
 ghost use Rattle.tool_run.specs.ToolRun.{CommandEnds, MayEnd, ToolRun, IsAnswered, IsPrinted, IsCutShort, EndsSo};
 ghost use Rattle.tool_run.specs.Outputs.{EndsWith};
-ghost use Rattle.tool_run.specs.Rows.{row};
-ghost use Rattle.tool_run.specs.Words.{OutputsDiffer, command_of};
+ghost use Rattle.tool_words.specs.Rows.{row};
+ghost use Rattle.tool_words.specs.Words.{OutputsDiffer, command_of};
 ghost use Rattle.tool_run.specs.World.{store_run, output_run};
 
 use crate::clocks::Clocks;
@@ -14,11 +14,11 @@ use crate::deal::deal_files;
 use crate::ending::Ending;
 use crate::rehearse::rehearse_files;
 use crate::verify::verify_files;
-use crate::words::{Command, command_of};
 use std::alloc::Global;
 use std::sync::Wait;
 use std::thread::Threads;
 use stream_io::{Failed, Net, Sink, Store, write_whole};
+use tool_words::{Command, command_of};
 
 /// Does what the words ask for, and answers the status. The words begin with the command.
 pub fn run_tool<R: Threads + Wait + Sync, S: Store, N: Net, T: Clocks, O: Sink>(

@@ -4,7 +4,7 @@ use Rattle.tool_run.specs.Deal.{DealEnds, dealt, not_dealt, not_new, not_read, s
 use Rattle.tool_run.specs.Endings.{ending}
 use Rattle.tool_run.specs.OutputOf.{output_of}
 use Rattle.tool_run.specs.Outputs.{IsNew}
-use Rattle.tool_run.specs.Rows.{deal_words}
+use Rattle.tool_words.specs.Rows.{deal_words}
 use Rattle.tool_run.specs.World.{store_run, Bytes}
 use Rattle.tool_run.proofs.Dealing.{dealt_differ}
 use Rattle.tool_run.proofs.Runs.{Comes, comes_on, grows_on, read_within, run_before, run_behind, run_within, stays}

@@ -1,6 +1,6 @@
 use Rattle.std.proofs.Common.{refl}
 use Rattle.tool_run.specs.ToolRun.{CommandEnds}
-use Rattle.tool_run.specs.Words as words
+use Rattle.tool_words.specs.Words as words
 use Rattle.tool_run.specs.World.{store_run}
 use Rattle.tool_run.proofs.Writing.{ends_untouched}
 use Rattle.tool_run.proofs.tool.run_command.Goals as goal

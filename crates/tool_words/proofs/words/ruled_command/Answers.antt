@@ -1,6 +1,6 @@
-use Rattle.tool_run.specs.Words.{command_of}
-use Rattle.tool_run.proofs.Options.{list_any-map}
-use Rattle.tool_run.proofs.words.ruled_command.Goals as goal
+use Rattle.tool_words.specs.Words.{command_of}
+use Rattle.tool_words.proofs.Options.{list_any-map}
+use Rattle.tool_words.proofs.words.ruled_command.Goals as goal
 
 pub returns-then-has_option : goal.returns-then-has_option
 unfolding command_of

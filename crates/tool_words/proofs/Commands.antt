@@ -4,7 +4,7 @@ use Rattle.std.specs.List.{list_any}
 use Rattle.std.specs.Prelude.{codes}
 use Rattle.std.specs.Str.{bytes_eq}
 use Rattle.std.proofs.lemmas.Slice.Eq.{bytes_eq-Decides}
-use Rattle.tool_run.specs.Words.{Deal, DealWords, OutputsDiffer, Rehearse, Row, Verify, command_of, deal_of, is_option, number_of, rehearse_of, row_of, verify_of}
+use Rattle.tool_words.specs.Words.{Deal, DealWords, OutputsDiffer, Rehearse, Row, Verify, command_of, deal_of, is_option, number_of, rehearse_of, row_of, verify_of}
 
 -- of two rows the one that the test takes
 taken : (test : Bool) (a b : Option Row) (row : Row) → ((r : Row) → a ≡ Some r → OutputsDiffer r) → ((r : Row) → b ≡ Some r → OutputsDiffer r)

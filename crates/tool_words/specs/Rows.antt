@@ -1,9 +1,9 @@
 -- The commands of the program as rows.
-use Rattle.tool_run.specs.Words.{Row}
-use Rattle.tool_run.specs.Words as words
-use Rattle.tool_run.specs.declared.words.Command.{Command}
-use Rattle.tool_run.specs.declared.words.Command.TheVariants.{Verify, Rehearse, Deal}
-use Rattle.tool_run.specs.declared.words.DealWords.{DealWords}
+use Rattle.tool_words.specs.Words.{Row}
+use Rattle.tool_words.specs.Words as words
+use Rattle.tool_words.specs.declared.words.Command.{Command}
+use Rattle.tool_words.specs.declared.words.Command.TheVariants.{Verify, Rehearse, Deal}
+use Rattle.tool_words.specs.declared.words.DealWords.{DealWords}
 
 -- the words of `deal`, each as its bytes
 abbrev pub deal_words : DealWords → words.DealWords

@@ -7,7 +7,7 @@ use Rattle.std.specs.Result.{result_ok}
 use Rattle.std.specs.Str.{all_ascii_digits}
 use Rattle.std.specs.Str.Parse.{ParsesUnsigned, digits_value}
 use Rattle.std.proofs.lemmas.Str.Parse.{numerals_by_value, parse_digits, tells_all_ascii_digits}
-use Rattle.tool_run.specs.Words.{number_of}
+use Rattle.tool_words.specs.Words.{number_of}
 
 pub all_digits : (word : List ℕ) → all_ascii_digits word ≡ list_all is_ascii_digit word
 all_digits [] = refl

@@ -3,32 +3,32 @@
 ghost use Rattle.std.specs.Prelude.{◌≡◌, map, option_map, string_bytes};
 ghost use Rattle.std.specs.Char.{is_ascii_digit};
 ghost use Rattle.std.specs.List.{list_all, list_any};
-ghost use Rattle.tool_run.specs.Words.{command_of, deal_of, is_option, number_of, rehearse_of, row_of, verify_of};
-ghost use Rattle.tool_run.specs.Rows.{row};
+ghost use Rattle.tool_words.specs.Words.{command_of, deal_of, is_option, number_of, rehearse_of, row_of, verify_of};
+ghost use Rattle.tool_words.specs.Rows.{row};
 
 use crate::split::split;
 use std::alloc::Global;
 
 /// The words after `deal`.
 #[derive(Clone, Copy, Debug, PartialEq, Eq)]
-pub(crate) struct DealWords<'a> {
+pub struct DealWords<'a> {
     /// The name of the entropy's file.
-    pub(crate) entropy: &'a str,
+    pub entropy: &'a str,
     /// The LMS typecode.
-    pub(crate) lms: u32,
+    pub lms: u32,
     /// The LM-OTS typecode.
-    pub(crate) ots: u32,
+    pub ots: u32,
     /// The number of trustees.
-    pub(crate) n: u32,
+    pub n: u32,
     /// How many of them sign together.
-    pub(crate) k: u32,
+    pub k: u32,
     /// What the names of the outputs begin with.
-    pub(crate) prefix: &'a str,
+    pub prefix: &'a str,
 }
 
 /// A command with its words.
 #[derive(Clone, Copy, Debug, PartialEq, Eq)]
-pub(crate) enum Command<'a> {
+pub enum Command<'a> {
     /// Verifies a signature of a message under a key.
     Verify {
         /// The name of the key's file.
@@ -55,7 +55,7 @@ pub(crate) enum Command<'a> {
 
 /// The command that the words are, if they are one. The rule of the words decides, and `clap` splits them: its split
 /// is taken where it is the rule's.
-pub(crate) fn command_of(alloc: Global, words: &[String]) -> Option<Command<'_>>
+pub fn command_of(alloc: Global, words: &[String]) -> Option<Command<'_>>
     ensures { option_map row result ≡ command_of (map string_bytes words.now) }
 {
     let ruled = ruled_command(words)?;
