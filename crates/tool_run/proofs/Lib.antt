@@ -3,5 +3,4 @@ pub mod Names
 pub mod Naming
 pub mod Plans
 pub mod Rehearsing
-pub mod Runs
-pub mod Writing
+pub mod Verifying

@@ -1,8 +1,8 @@
 use Rattle.std.proofs.Common.{All, map, take, string_bytes}
-use Rattle.tool_run.specs.Outputs.{IsNew}
-use Rattle.tool_run.specs.World.{store_run}
-use Rattle.tool_run.proofs.Runs.{Comes}
-use Rattle.tool_run.proofs.outputs.test_all_new.Given as goal
+use Rattle.tool_base.specs.Outputs.{IsNew}
+use Rattle.tool_base.specs.World.{store_run}
+use Rattle.tool_base.proofs.Runs.{Comes}
+use Rattle.tool_base.proofs.outputs.test_all_new.Given as goal
 
 -- the names so far are new
 abbrev pub invariant-outputs : goal.invariant-outputs

@@ -1,9 +1,9 @@
 use Rattle.std.proofs.Common.{string_bytes, arith}
 use Rattle.std.proofs.lemmas.List.{take_all}
 use Rattle.std.proofs.lemmas.Result.{err_from_is_err_and}
-use Rattle.tool_run.proofs.Runs.{run_within, stays}
-use Rattle.tool_run.proofs.Writing.{first_not_new, not_new_within}
-use Rattle.tool_run.proofs.outputs.test_all_new.Goals as goal
+use Rattle.tool_base.proofs.Runs.{run_within, stays}
+use Rattle.tool_base.proofs.Writing.{first_not_new, not_new_within}
+use Rattle.tool_base.proofs.outputs.test_all_new.Goals as goal
 
 pub returns-in_err-test_new-clause-refused : goal.returns-in_err-test_new-clause-refused
 returns-in_err-test_new-clause-refused g c =

@@ -1,8 +1,8 @@
 -- What a file that could not be read leads to.
 use Rattle.std.specs.Prelude.{ℕ, List}
-use Rattle.tool_run.specs.Ending as ending
-use Rattle.tool_run.specs.Ending.{Ending}
-use Rattle.tool_run.specs.World.{StoreRun, Failed, TooLong, IsRead}
+use Rattle.tool_base.specs.Ending as ending
+use Rattle.tool_base.specs.Ending.{Ending}
+use Rattle.tool_base.specs.World.{StoreRun, Failed, TooLong, IsRead}
 
 -- the end where the file of this name could not be read
 pub data FailsToRead (store : StoreRun) (name : List ℕ) : Ending → Type 0 where

@@ -1,9 +1,9 @@
 -- The ends of the program's calls as ends.
 use Rattle.std.specs.Prelude.{string_bytes}
-use Rattle.tool_run.specs.Ending as spec
-use Rattle.tool_run.specs.declared.ending.Ending.{Ending}
-use Rattle.tool_run.specs.declared.ending.Ending.TheVariants.{Verified, Rehearsed, Dealt, Usage, StoreFailed}
-use Rattle.tool_run.specs.declared.ending.Ending.TheVariants.{Unreadable, NotDealt, TooLong, NoMemory, Exists}
+use Rattle.tool_base.specs.Ending as spec
+use Rattle.tool_base.specs.declared.ending.Ending.{Ending}
+use Rattle.tool_base.specs.declared.ending.Ending.TheVariants.{Verified, Rehearsed, Dealt, Usage, StoreFailed}
+use Rattle.tool_base.specs.declared.ending.Ending.TheVariants.{Unreadable, NotDealt, TooLong, NoMemory, Exists}
 
 -- the end, with the bytes of the names in it
 abbrev pub ending : Ending → spec.Ending

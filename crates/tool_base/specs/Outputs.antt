@@ -2,9 +2,9 @@
 use Rattle.std.specs.Prelude.{◌≡◌, ◌≢◌, ⊤, ℕ, List, [], ◌∷◌, ◌++◌, None, Option, is_some, IsTrue, All}
 use Rattle.disk_trait.specs.Faults.{Rose}
 use Rattle.stream_io.specs.Store.{added}
-use Rattle.tool_run.specs.Ending as ending
-use Rattle.tool_run.specs.Ending.{Ending}
-use Rattle.tool_run.specs.World.{StoreRun}
+use Rattle.tool_base.specs.Ending as ending
+use Rattle.tool_base.specs.Ending.{Ending}
+use Rattle.tool_base.specs.World.{StoreRun}
 
 -- a file to be written
 pub record Output : Type 0 where

@@ -1,5 +1,5 @@
-use Rattle.tool_run.specs.Reads.{failed, too_long, no_memory}
-use Rattle.tool_run.proofs.reading.read_file.Goals as goal
+use Rattle.tool_base.specs.Reads.{failed, too_long, no_memory}
+use Rattle.tool_base.proofs.reading.read_file.Goals as goal
 
 pub returns-in-Err-Failed-clause-refused : goal.returns-in-Err-Failed-clause-refused
 returns-in-Err-Failed-clause-refused g c =

@@ -1,7 +1,7 @@
 use Rattle.std.proofs.Common.{◌≡◌, ◌≤◌, ℕ, List, map, take, IsTrue}
-use Rattle.tool_run.specs.OutputOf.{output_of}
-use Rattle.tool_run.specs.Outputs.{all_added}
-use Rattle.tool_run.proofs.outputs.write_all.Given as goal
+use Rattle.tool_base.specs.OutputOf.{output_of}
+use Rattle.tool_base.specs.Outputs.{all_added}
+use Rattle.tool_base.proofs.outputs.write_all.Given as goal
 
 -- the files so far are written
 abbrev pub invariant-outputs : goal.invariant-outputs

@@ -5,9 +5,9 @@ use Rattle.hex.specs.Hex.{encode_lower}
 use Rattle.lms_bytes.specs.FaultNumbers.{signature_fault_number}
 use Rattle.lms_verify.specs.declared.verification.Verdict.{Verdict}
 use Rattle.lms_verify.specs.declared.verification.Verdict.TheVariants.{Accepted, Malformed, OtherRoot}
-use Rattle.tool_run.specs.declared.undealt.Undealt.{Undealt}
-use Rattle.tool_run.specs.declared.undealt.Undealt.TheVariants.{Code, Threshold, Coalitions, Height, Width}
-use Rattle.tool_run.specs.declared.undealt.Undealt.TheVariants.{Entropy, Keys}
+use Rattle.tool_base.specs.declared.undealt.Undealt.{Undealt}
+use Rattle.tool_base.specs.declared.undealt.Undealt.TheVariants.{Code, Threshold, Coalitions, Height, Width}
+use Rattle.tool_base.specs.declared.undealt.Undealt.TheVariants.{Entropy, Keys}
 
 -- an end, with what its line names
 pub data Ending : Type 0 where

@@ -1,10 +1,10 @@
 //! Files that a command reads whole.
 
 ghost use Rattle.std.specs.Prelude.{◌≡◌, ◌≤◌, ◌⊎◌, IfOk, IfErr};
-ghost use Rattle.tool_run.specs.Ending as spec;
-ghost use Rattle.tool_run.specs.Endings.{ending};
-ghost use Rattle.tool_run.specs.Reads.{FailsToRead};
-ghost use Rattle.tool_run.specs.World.{Bytes, IsRead, store_run};
+ghost use Rattle.tool_base.specs.Ending as spec;
+ghost use Rattle.tool_base.specs.Endings.{ending};
+ghost use Rattle.tool_base.specs.Reads.{FailsToRead};
+ghost use Rattle.tool_base.specs.World.{Bytes, IsRead, store_run};
 
 use crate::FILE_LIMIT;
 use crate::ending::Ending;
@@ -12,7 +12,7 @@ use std::alloc::{AllocError, Global};
 use stream_io::{ReadAllFault, Store};
 
 /// The end where the file of this name is not in its grammar.
-pub(crate) fn unreadable(alloc: Global, name: &str, fault: u8) -> Ending
+pub fn unreadable(alloc: Global, name: &str, fault: u8) -> Ending
     ensures { (ending result ≡ spec.NoMemory) ⊎ (ending result ≡ spec.Unreadable name.now fault) }
 {
     match String::from_str(alloc, name) {
@@ -22,11 +22,7 @@ pub(crate) fn unreadable(alloc: Global, name: &str, fault: u8) -> Ending
 }
 
 /// Reads a file whole.
-pub(crate) fn read_file<S: Store>(
-    alloc: Global,
-    store: &mut S,
-    name: &str,
-) -> Result<Vec<u8>, Ending>
+pub fn read_file<S: Store>(alloc: Global, store: &mut S, name: &str) -> Result<Vec<u8>, Ending>
     ensures bytes { let run = store_run S.told S.steady S.file S.count store.old store.new in
         IfOk result (λ bytes. IsRead run name.now (Bytes bytes.items)) }
     ensures refused { let run = store_run S.told S.steady S.file S.count store.old store.new in

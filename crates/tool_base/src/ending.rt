@@ -1,18 +1,21 @@
 //! How a call ends, and the line that says so.
 
 ghost use Rattle.std.specs.Prelude.{◌≡◌, IfOk, string_bytes};
-ghost use Rattle.tool_run.specs.Ending.{line_of};
+ghost use Rattle.tool_base.specs.Ending.{line_of};
 ghost use Rattle.lms_verify.specs.declared.verification.Verdict.TheVariants as verdict;
-ghost use Rattle.tool_run.specs.Ending as spec;
+ghost use Rattle.tool_base.specs.Ending as spec;
+ghost use Rattle.tool_base.specs.Endings.{ending};
+ghost use Rattle.tool_base.specs.Undealt.{end_of_fault};
 
 use crate::undealt::Undealt;
+use dealer::DealFault;
 use lms_bytes::Val;
 use lms_verify::Verdict;
 use std::alloc::{AllocError, Global};
 
 /// How a call of the tool ends.
 #[derive(Debug, Drop)]
-pub(crate) enum Ending {
+pub enum Ending {
     /// A signature was verified.
     Verified(Verdict),
     /// A signature was made in a rehearsal, and written with its key.
@@ -36,11 +39,10 @@ pub(crate) enum Ending {
 }
 
 impl Ending {
-    ghost use Rattle.tool_run.specs.Ending.{status_of};
-    ghost use Rattle.tool_run.specs.Endings.{ending};
+    ghost use Rattle.tool_base.specs.Ending.{status_of};
 
     /// The status that the tool answers.
-    pub(crate) fn status(&self) -> u8
+    pub fn status(&self) -> u8
         ensures { result ≡ status_of (ending self.now) }
     {
         match self {
@@ -58,7 +60,7 @@ impl Ending {
     }
 
     /// The line that the tool prints.
-    pub(crate) fn line(&self, alloc: Global) -> Result<String, AllocError>
+    pub fn line(&self, alloc: Global) -> Result<String, AllocError>
         ensures { IfOk result (λ line. string_bytes line ≡ line_of (ending self.now)) }
     {
         match self {
@@ -118,4 +120,17 @@ fn exists_line(alloc: Global, name: &str) -> Result<String, AllocError>
     ensures { IfOk result (λ line. string_bytes line ≡ line_of (spec.Exists name.now)) }
 {
     format!(in alloc; "error 15 exists {name}\n")
+}
+
+/// The end for a fault of a dealing.
+pub fn end_of_fault(fault: DealFault) -> Ending
+    ensures { ending result ≡ end_of_fault fault }
+{
+    match fault {
+        DealFault::TooHigh { h } => Ending::NotDealt(Undealt::Height { h }),
+        DealFault::TooWide => Ending::NotDealt(Undealt::Width),
+        DealFault::BadEntropy { got, want } => Ending::NotDealt(Undealt::Entropy { got, want }),
+        DealFault::SameKeys { t, u } => Ending::NotDealt(Undealt::Keys { t, u }),
+        DealFault::NoMemory => Ending::NoMemory,
+    }
 }

@@ -1,14 +1,8 @@
 -- What a reading says of a longer run of the store.
-use Rattle.std.proofs.Common.{◌≡◌, ◌≤◌, ◌⊎◌, ℕ, Bool, List, Option, Some, refl, inl, inr, ◌∙◌, arith}
-use Rattle.lms_bytes.specs.FaultNumbers.{key_fault_number}
-use Rattle.lms_bytes.specs.PublicKey.{public_bytes, public_fault}
-use Rattle.lms_bytes.specs.declared.faults.KeyFault.{KeyFault}
-use Rattle.lms_bytes.specs.declared.public_key.PublicKey.{PublicKey}
-use Rattle.tool_run.specs.Ending as spec
-use Rattle.tool_run.specs.Ending.{Ending}
-use Rattle.tool_run.specs.Reads.{FailsToRead, failed, too_long, no_memory}
-use Rattle.tool_run.specs.Verify.{VerifyEnds, key_failed, key_refused, key_too_long, message_failed, message_too_long, signature_failed, signature_too_long}
-use Rattle.tool_run.specs.World.{StoreRun, store_run, Reading, Failed, TooLong, Bytes, IsRead}
+use Rattle.std.proofs.Common.{◌≡◌, ◌≤◌, ℕ, Bool, List, Option, refl, ◌∙◌, arith}
+use Rattle.tool_base.specs.Ending.{Ending}
+use Rattle.tool_base.specs.Reads.{FailsToRead, failed, too_long, no_memory}
+use Rattle.tool_base.specs.World.{StoreRun, store_run, Reading, Failed, TooLong, Bytes, IsRead}
 
 -- the run a lies within the run b
 pub record LiesWithin (a b : StoreRun) : Type 0 where
@@ -30,33 +24,6 @@ pub fails_within : (a b : StoreRun) → LiesWithin a b → (name : List ℕ) (en
 fails_within a b w name _ (failed r) = failed (read_within a b w name Failed r)
 fails_within a b w name _ (too_long got r) = too_long got (read_within a b w name (TooLong got) r)
 fails_within a b w name _ no_memory = no_memory
-
-pub key_not_read : (run : StoreRun) (key : List ℕ) (end : Ending) → FailsToRead run key end
-    → (end ≡ spec.NoMemory) ⊎ ((message signature : List ℕ) → VerifyEnds run key message signature end)
-key_not_read run key _ (failed r) = inr (λ message signature. key_failed r)
-key_not_read run key _ (too_long got r) = inr (λ message signature. key_too_long got r)
-key_not_read run key _ no_memory = inl refl
-
-pub message_not_read : (run : StoreRun) (key message signature : List ℕ) (public : PublicKey) (end : Ending)
-    → IsRead run key (Bytes (public_bytes public)) → FailsToRead run message end
-    → (end ≡ spec.NoMemory) ⊎ VerifyEnds run key message signature end
-message_not_read run key message signature public _ k (failed r) = inr (message_failed public k r)
-message_not_read run key message signature public _ k (too_long got r) = inr (message_too_long public got k r)
-message_not_read run key message signature public _ k no_memory = inl refl
-
-pub signature_not_read : (run : StoreRun) (key message signature : List ℕ) (public : PublicKey) (text : List ℕ) (end : Ending)
-    → IsRead run key (Bytes (public_bytes public)) → IsRead run message (Bytes text) → FailsToRead run signature end
-    → (end ≡ spec.NoMemory) ⊎ VerifyEnds run key message signature end
-signature_not_read run key message signature public text _ k m (failed r) = inr (signature_failed public text k m r)
-signature_not_read run key message signature public text _ k m (too_long got r) = inr (signature_too_long public text got k m r)
-signature_not_read run key message signature public text _ k m no_memory = inl refl
-
-pub refusal_told : (run : StoreRun) (key bytes : List ℕ) (fault : KeyFault) (end : Ending) (number : ℕ) → IsRead run key (Bytes bytes)
-    → public_fault bytes ≡ Some fault → number ≡ key_fault_number fault → (end ≡ spec.NoMemory) ⊎ (end ≡ spec.Unreadable key number)
-    → (end ≡ spec.NoMemory) ⊎ ((message signature : List ℕ) → VerifyEnds run key message signature end)
-refusal_told run key bytes fault end number r refused counted (inl e) = inl e
-refusal_told run key bytes fault end number r refused counted (inr e) =
-    inr (λ message signature. rw (e, counted) (key_refused bytes fault r refused))
 
 -- how a store came from one state to a later one
 pub record Comes {S : Type 0} (told steady : S → Bool) (file : S → List ℕ → Option (List ℕ)) (count : S → ℕ) (before after : S) : Type 0 where

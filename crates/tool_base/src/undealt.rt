@@ -6,7 +6,7 @@ use std::alloc::{AllocError, Global};
 
 /// Why a key is not dealt.
 #[derive(Clone, Copy, Debug, PartialEq, Eq)]
-pub(crate) enum Undealt {
+pub enum Undealt {
     /// No parameter set has these typecodes.
     Code,
     /// Not `2 <= k <= n <= 12`.
@@ -24,7 +24,7 @@ pub(crate) enum Undealt {
 }
 
 impl Undealt {
-    ghost use Rattle.tool_run.specs.Ending.{undealt_line};
+    ghost use Rattle.tool_base.specs.Ending.{undealt_line};
 
     /// The line that says so.
     pub(crate) fn line(&self, alloc: Global) -> Result<String, AllocError>

@@ -6,11 +6,11 @@ use Rattle.std.proofs.lemmas.List.Elements.{All-append, All-cons, All-get_or, Al
 use Rattle.std.proofs.lemmas.Slice.Eq.{bytes_eq-Decides}
 use Rattle.std.specs.Str.{bytes_eq}
 use Rattle.stream_io.specs.Store.{added}
-use Rattle.tool_run.specs.Ending as spec
-use Rattle.tool_run.specs.Ending.{Ending}
-use Rattle.tool_run.specs.Outputs.{CallFailed, EndsWith, FirstNotNew, IsLeft, IsNew, IsNotNew, test_failed, is_there, no_memory_to_name, IsNotWritten, write_failed, was_there, no_memory_to_write, Output, StopsAfter, all_added}
-use Rattle.tool_run.specs.World.{StoreRun}
-use Rattle.tool_run.proofs.Runs.{LiesWithin}
+use Rattle.tool_base.specs.Ending as spec
+use Rattle.tool_base.specs.Ending.{Ending}
+use Rattle.tool_base.specs.Outputs.{CallFailed, EndsWith, FirstNotNew, IsLeft, IsNew, IsNotNew, test_failed, is_there, no_memory_to_name, IsNotWritten, write_failed, was_there, no_memory_to_write, Output, StopsAfter, all_added}
+use Rattle.tool_base.specs.World.{StoreRun}
+use Rattle.tool_base.proofs.Runs.{LiesWithin}
 
 -- ---- within longer runs
 pub failed_within : (a b : StoreRun) → LiesWithin a b → CallFailed a → CallFailed b

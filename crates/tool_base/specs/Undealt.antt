@@ -1,9 +1,9 @@
 -- Faults of a dealing as ends.
 use Rattle.dealer.specs.declared.faults.DealFault.{DealFault}
 use Rattle.dealer.specs.declared.faults.DealFault.TheVariants.{TooHigh, TooWide, BadEntropy, SameKeys, NoMemory}
-use Rattle.tool_run.specs.Ending as ending
-use Rattle.tool_run.specs.Ending.{Ending}
-use Rattle.tool_run.specs.declared.undealt.Undealt.TheVariants.{Height, Width, Entropy, Keys}
+use Rattle.tool_base.specs.Ending as ending
+use Rattle.tool_base.specs.Ending.{Ending}
+use Rattle.tool_base.specs.declared.undealt.Undealt.TheVariants.{Height, Width, Entropy, Keys}
 
 abbrev pub end_of_fault : DealFault → Ending
 end_of_fault (TooHigh h) = ending.NotDealt (Height h)

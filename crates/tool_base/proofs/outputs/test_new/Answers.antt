@@ -1,6 +1,6 @@
-use Rattle.tool_run.specs.Outputs.{test_failed}
-use Rattle.tool_run.proofs.Writing.{there_or_no_memory}
-use Rattle.tool_run.proofs.outputs.test_new.Goals as goal
+use Rattle.tool_base.specs.Outputs.{test_failed}
+use Rattle.tool_base.proofs.Writing.{there_or_no_memory}
+use Rattle.tool_base.proofs.outputs.test_new.Goals as goal
 
 pub returns-in-Ok-true-clause-refused : goal.returns-in-Ok-true-clause-refused
 returns-in-Ok-true-clause-refused g c =

@@ -2,11 +2,11 @@ use Rattle.std.proofs.Common.{IsTrue, ◌≡◌, ◌≢◌, ◌<◌, [], All, No
 use Rattle.std.proofs.lemmas.List.{get_or-map, length-map, take-map}
 use Rattle.std.proofs.lemmas.List.Elements.{All-get_or}
 use Rattle.std.proofs.lemmas.Result.{err_from_is_err_and}
-use Rattle.tool_run.specs.OutputOf.{output_of}
-use Rattle.tool_run.specs.Outputs.{all_added}
-use Rattle.tool_run.proofs.Names.{before_differ}
-use Rattle.tool_run.proofs.Writing.{added_more, added_none, names_of, not_added, stops_after, stops_behind}
-use Rattle.tool_run.proofs.outputs.write_all.Goals as goal
+use Rattle.tool_base.specs.OutputOf.{output_of}
+use Rattle.tool_base.specs.Outputs.{all_added}
+use Rattle.tool_base.proofs.Names.{before_differ}
+use Rattle.tool_base.proofs.Writing.{added_more, added_none, names_of, not_added, stops_after, stops_behind}
+use Rattle.tool_base.proofs.outputs.write_all.Goals as goal
 
 pub outputs-init : goal.outputs-init
 outputs-init g c = (refl, refl, omega arith, λ told name. added_none _ name)

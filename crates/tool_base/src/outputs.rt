@@ -2,12 +2,12 @@
 
 ghost use Rattle.std.specs.Prelude.{◌≡◌, ◌≤◌, ◌⊎◌, ℕ, List, [], ◌∷◌, All, map, string_bytes, None, IsTrue};
 ghost use Rattle.std.specs.Prelude.{IfErr, OnOk, OnErr};
-ghost use Rattle.tool_run.specs.Ending as spec;
-ghost use Rattle.tool_run.specs.Endings.{ending};
-ghost use Rattle.tool_run.specs.OutputOf.{output_of};
-ghost use Rattle.tool_run.specs.Outputs.{AreDifferent, EndsWith, FirstNotNew, IsLeft, IsNew, IsNotNew};
-ghost use Rattle.tool_run.specs.Outputs.{StopsAfter, all_added};
-ghost use Rattle.tool_run.specs.World.{store_run};
+ghost use Rattle.tool_base.specs.Ending as spec;
+ghost use Rattle.tool_base.specs.Endings.{ending};
+ghost use Rattle.tool_base.specs.OutputOf.{output_of};
+ghost use Rattle.tool_base.specs.Outputs.{AreDifferent, EndsWith, FirstNotNew, IsLeft, IsNew, IsNotNew};
+ghost use Rattle.tool_base.specs.Outputs.{StopsAfter, all_added};
+ghost use Rattle.tool_base.specs.World.{store_run};
 
 use crate::ending::Ending;
 use std::alloc::{AllocError, Global};
@@ -15,9 +15,11 @@ use stream_io::{Failed, NewFault, Store};
 
 /// A file to be written.
 #[derive(Drop)]
-pub(crate) struct Output {
-    pub(crate) name: String,
-    pub(crate) bytes: Vec<u8>,
+pub struct Output {
+    /// The name that it is written under.
+    pub name: String,
+    /// Its bytes.
+    pub bytes: Vec<u8>,
 }
 
 /// The end where an output of this name is in the store.
@@ -31,7 +33,7 @@ fn exists(alloc: Global, name: &str) -> Ending
 }
 
 /// Tests that a name is not in the store.
-pub(crate) fn test_new<S: Store>(alloc: Global, store: &mut S, name: &str) -> Result<(), Ending>
+pub fn test_new<S: Store>(alloc: Global, store: &mut S, name: &str) -> Result<(), Ending>
     ensures new { let run = store_run S.told S.steady S.file S.count store.old store.new in
         OnOk result (IsNew run name.now) }
     ensures refused { let run = store_run S.told S.steady S.file S.count store.old store.new in
@@ -49,7 +51,7 @@ pub(crate) fn test_new<S: Store>(alloc: Global, store: &mut S, name: &str) -> Re
 }
 
 /// Tests that the names of all outputs are not in the store, in their order.
-pub(crate) fn test_all_new<S: Store>(
+pub fn test_all_new<S: Store>(
     alloc: Global,
     store: &mut S,
     outputs: &[Output],
@@ -90,11 +92,7 @@ fn write_output<S: Store>(alloc: Global, store: &mut S, output: &Output) -> Resu
 }
 
 /// Writes files under names that differ and were found new, in their order.
-pub(crate) fn write_all<S: Store>(
-    alloc: Global,
-    store: &mut S,
-    outputs: &[Output],
-) -> Result<(), Ending>
+pub fn write_all<S: Store>(alloc: Global, store: &mut S, outputs: &[Output]) -> Result<(), Ending>
     requires differ { AreDifferent (map (λ output. string_bytes output.name) outputs.now) }
     requires new { IsTrue (S.told store.old)
         → All (λ name. S.file store.old name ≡ None) (map (λ output. string_bytes output.name) outputs.now) }

@@ -1,6 +1,6 @@
-use Rattle.tool_run.specs.Outputs.{all_added, test_failed, no_memory_to_name}
-use Rattle.tool_run.proofs.Writing.{there_or_no_memory}
-use Rattle.tool_run.proofs.outputs.write_output.Goals as goal
+use Rattle.tool_base.specs.Outputs.{all_added, test_failed, no_memory_to_name}
+use Rattle.tool_base.proofs.Writing.{there_or_no_memory}
+use Rattle.tool_base.proofs.outputs.write_output.Goals as goal
 
 pub returns-in-Ok-clause-written : goal.returns-in-Ok-clause-written
 unfolding all_added
