@@ -11,12 +11,12 @@ use Rattle.dealer.specs.declared.files.DealingFiles.{DealingFiles}
 use Rattle.lms_bytes.specs.declared.params.Params.{Params}
 use Rattle.reference_value.specs.Dealing.{Dealing}
 use Rattle.tool_run.specs.Deal.{IsDealtTo, IsNotDealt, IsSet, faulty, no_memory, outputs_of, plan_of}
-use Rattle.tool_run.specs.Ending as ending
-use Rattle.tool_run.specs.Ending.{Ending}
+use Rattle.tool_base.specs.Ending as ending
+use Rattle.tool_base.specs.Ending.{Ending}
 use Rattle.tool_run.specs.Naming.{named_files}
-use Rattle.tool_run.specs.Outputs.{AreDifferent, Output}
-use Rattle.tool_run.specs.Undealt.{end_of_fault}
-use Rattle.tool_run.specs.Words.{DealWords}
+use Rattle.tool_base.specs.Outputs.{AreDifferent, Output}
+use Rattle.tool_base.specs.Undealt.{end_of_fault}
+use Rattle.tool_words.specs.Words.{DealWords}
 use Rattle.tool_run.proofs.Names.{deal_differ}
 use Rattle.tool_run.proofs.Naming.{named_all}
 

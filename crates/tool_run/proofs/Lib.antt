@@ -1,10 +1,6 @@
-pub mod Commands
 pub mod Dealing
 pub mod Names
 pub mod Naming
-pub mod Numbers
-pub mod Options
 pub mod Plans
 pub mod Rehearsing
-pub mod Runs
-pub mod Writing
+pub mod Verifying

@@ -1,23 +1,15 @@
--- Names that are all different.
-use Rattle.std.proofs.Common.{◌≢◌, ◌≤◌, ◌<◌, ◌+◌, ◌^◌, ℕ, zero, suc, List, [], ◌∷◌, ◌++◌, length, take, map, get_or, All, ap, arith}
+-- The names of the files of a dealing are all different.
+use Rattle.std.proofs.Common.{◌≢◌, ◌≤◌, ◌<◌, ◌+◌, ◌^◌, ℕ, zero, suc, List, ◌∷◌, ◌++◌, map, get_or, All, ap, arith}
 use Rattle.std.specs.Prelude.{codes}
 use Rattle.std.specs.Fmt.{decimal}
 use Rattle.std.specs.List.{range_with_len}
 use Rattle.std.proofs.lemmas.Fmt.{decimal_injective}
 use Rattle.std.proofs.lemmas.List.{append_cancel_left}
-use Rattle.std.proofs.lemmas.List.Elements.{All-cons, All-nil, All-get_or}
+use Rattle.std.proofs.lemmas.List.Elements.{All-cons, All-nil}
 use Rattle.reference_value.specs.Dealing.{Dealing}
 use Rattle.tool_run.specs.Deal.{outputs_of, share_output}
-use Rattle.tool_run.specs.Outputs.{AreDifferent}
-use Rattle.tool_run.proofs.Writing.{names_of}
-
--- each name differs from those before it
-pub before_differ : (names : List (List ℕ)) (i : ℕ) → i < length names → AreDifferent names → All (λ name. name ≢ get_or names i []) (take i names)
-before_differ [] i h d = absurd (omega arith)
-before_differ (name ∷ names) zero h d = All-nil (λ other. other ≢ name)
-before_differ (name ∷ names) (suc i) h d =
-    All-cons (λ other. other ≢ get_or names i []) name (take i names) (All-get_or (λ other. name ≢ other) names i [] (omega arith) d.0)
-    (before_differ names i (omega arith) d.1)
+use Rattle.tool_base.specs.Outputs.{AreDifferent}
+use Rattle.tool_base.proofs.Writing.{names_of}
 
 -- a test that holds of each number from a on, as many as n
 all_range : (P : List ℕ → Type 0) (f : ℕ → List ℕ) (a n : ℕ) → ((t : ℕ) → a ≤ t → t < a + n → P (f t)) → All P (map f (range_with_len a n))

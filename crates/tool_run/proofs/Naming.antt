@@ -5,7 +5,7 @@ use Rattle.std.specs.Fmt.{decimal}
 use Rattle.std.specs.List.{range_with_len}
 use Rattle.std.proofs.lemmas.List.{append_assoc, append-nil, length-map, map-append}
 use Rattle.tool_run.specs.Naming.{named_shares}
-use Rattle.tool_run.specs.Outputs.{Output}
+use Rattle.tool_base.specs.Outputs.{Output}
 
 -- the share of trustee t
 abbrev pub named_share : List ℕ → ℕ → List ℕ → Output

@@ -3,9 +3,9 @@ use Rattle.std.proofs.Common.{◌≡◌, ◌<◌, ◌^◌, ℕ, List, length, mi
 use Rattle.coalition_map.specs.Coalitions.{IsThreshold, coalitions}
 use Rattle.lms_bytes.specs.declared.params.Params.{Params}
 use Rattle.tool_run.specs.Deal.{IsNotDealt, IsSet, too_many_coalitions}
-use Rattle.tool_run.specs.Ending as ending
-use Rattle.tool_run.specs.Words.{DealWords}
-use Rattle.tool_run.specs.declared.undealt.Undealt.TheVariants.{Coalitions}
+use Rattle.tool_base.specs.Ending as ending
+use Rattle.tool_words.specs.Words.{DealWords}
+use Rattle.tool_base.specs.declared.undealt.Undealt.TheVariants.{Coalitions}
 
 pub threshold_byte : (n k : ℕ) → IsThreshold n k → IsThreshold (min n 255) (min k 255)
 threshold_byte n k t =

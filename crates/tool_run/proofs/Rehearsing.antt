@@ -5,8 +5,8 @@ use Rattle.dealer.specs.declared.faults.DealFault.TheVariants.{NoMemory}
 use Rattle.rehearsal.specs.Rehearsal.{CanRehearse, RehearsalFault}
 use Rattle.tool_run.specs.Rehearse.{IsNotRehearsed, IsRehearsedTo, faulty, no_memory}
 use Rattle.std.proofs.lemmas.List.Elements.{All-cons, All-nil}
-use Rattle.tool_run.specs.Outputs.{AreDifferent, Output}
-use Rattle.tool_run.specs.Undealt.{end_of_fault}
+use Rattle.tool_base.specs.Outputs.{AreDifferent, Output}
+use Rattle.tool_base.specs.Undealt.{end_of_fault}
 
 pub rehearsal_refused : (entropy : List ℕ) (fault : DealFault) → ((fault ≡ NoMemory) × CanRehearse entropy) ⊎ RehearsalFault entropy fault
     → IsNotRehearsed entropy (end_of_fault fault)

@@ -12,14 +12,14 @@ use Rattle.lms_bytes.specs.Params.{codes_fault}
 use Rattle.lms_bytes.specs.declared.faults.KeyFault.{KeyFault}
 use Rattle.lms_bytes.specs.declared.params.Params.{Params}
 use Rattle.reference_value.specs.Dealing.{Dealing}
-use Rattle.tool_run.specs.Ending as ending
-use Rattle.tool_run.specs.Ending.{Ending}
-use Rattle.tool_run.specs.Outputs.{FirstNotNew, IsNew, Output, StopsAfter}
-use Rattle.tool_run.specs.Undealt.{end_of_fault}
-use Rattle.tool_run.specs.Words.{DealWords}
-use Rattle.tool_run.specs.Reads.{FailsToRead}
-use Rattle.tool_run.specs.World.{StoreRun, Bytes, IsRead}
-use Rattle.tool_run.specs.declared.undealt.Undealt.TheVariants.{Code, Threshold, Coalitions}
+use Rattle.tool_base.specs.Ending as ending
+use Rattle.tool_base.specs.Ending.{Ending}
+use Rattle.tool_base.specs.Outputs.{FirstNotNew, IsNew, Output, StopsAfter}
+use Rattle.tool_base.specs.Undealt.{end_of_fault}
+use Rattle.tool_words.specs.Words.{DealWords}
+use Rattle.tool_base.specs.Reads.{FailsToRead}
+use Rattle.tool_base.specs.World.{StoreRun, Bytes, IsRead}
+use Rattle.tool_base.specs.declared.undealt.Undealt.TheVariants.{Code, Threshold, Coalitions}
 
 -- the parameter set of the words
 pub record IsSet (words : DealWords) (params : Params) : Type 0 where

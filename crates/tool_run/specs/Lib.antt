@@ -1,14 +1,5 @@
 pub mod Deal
-pub mod Ending
-pub mod Endings
 pub mod Naming
-pub mod OutputOf
-pub mod Outputs
-pub mod Reads
 pub mod Rehearse
-pub mod Rows
 pub mod ToolRun
-pub mod Undealt
 pub mod Verify
-pub mod Words
-pub mod World

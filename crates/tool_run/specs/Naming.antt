@@ -2,7 +2,7 @@
 use Rattle.std.specs.Prelude.{ℕ, ◌+◌, List, [], ◌∷◌, ◌++◌, codes, map}
 use Rattle.std.specs.Fmt.{decimal}
 use Rattle.dealer.specs.declared.files.DealingFiles.{DealingFiles}
-use Rattle.tool_run.specs.Outputs.{Output}
+use Rattle.tool_base.specs.Outputs.{Output}
 
 -- shares from that of trustee t on
 unfoldable pub named_shares : List ℕ → ℕ → List (List ℕ) → List Output

@@ -5,12 +5,12 @@ use Rattle.dealer.specs.declared.faults.DealFault.{DealFault}
 use Rattle.lms_bytes.specs.PublicKey.{public_bytes}
 use Rattle.lms_bytes.specs.declared.public_key.PublicKey.{PublicKey}
 use Rattle.rehearsal.specs.Rehearsal.{CanRehearse, IsRehearsed, RehearsalFault}
-use Rattle.tool_run.specs.Ending as ending
-use Rattle.tool_run.specs.Ending.{Ending}
-use Rattle.tool_run.specs.Outputs.{FirstNotNew, IsNew, Output, StopsAfter}
-use Rattle.tool_run.specs.Undealt.{end_of_fault}
-use Rattle.tool_run.specs.Reads.{FailsToRead}
-use Rattle.tool_run.specs.World.{StoreRun, Bytes, IsRead}
+use Rattle.tool_base.specs.Ending as ending
+use Rattle.tool_base.specs.Ending.{Ending}
+use Rattle.tool_base.specs.Outputs.{FirstNotNew, IsNew, Output, StopsAfter}
+use Rattle.tool_base.specs.Undealt.{end_of_fault}
+use Rattle.tool_base.specs.Reads.{FailsToRead}
+use Rattle.tool_base.specs.World.{StoreRun, Bytes, IsRead}
 
 -- the rehearsal gives these outputs: the public key, and then the signature
 pub record IsRehearsedTo (entropy message key_out signature_out : List ℕ) (outputs : List Output) : Type 0 where

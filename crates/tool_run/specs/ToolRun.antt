@@ -3,13 +3,13 @@ use Rattle.std.specs.Prelude.{◌≡◌, ◌⊎◌, ◌<◌, ℕ, List, [], Opti
 use Rattle.std.specs.Prelude.{if◌then◌else◌}
 use Rattle.disk_trait.specs.Faults.{Rose}
 use Rattle.stream_io.specs.Talk.{WrotePart}
-use Rattle.tool_run.specs.Ending.{Ending, Usage, NoMemory, status_of, line_of}
+use Rattle.tool_base.specs.Ending.{Ending, Usage, NoMemory, status_of, line_of}
 use Rattle.tool_run.specs.Deal.{DealEnds}
-use Rattle.tool_run.specs.Outputs.{EndsWith, Output}
+use Rattle.tool_base.specs.Outputs.{EndsWith, Output}
 use Rattle.tool_run.specs.Rehearse.{RehearseEnds}
 use Rattle.tool_run.specs.Verify.{VerifyEnds}
-use Rattle.tool_run.specs.Words.{Row, Verify, Rehearse, Deal, command_of}
-use Rattle.tool_run.specs.World.{World, OutputRun, StoreRun}
+use Rattle.tool_words.specs.Words.{Row, Verify, Rehearse, Deal, command_of}
+use Rattle.tool_base.specs.World.{World, OutputRun, StoreRun}
 
 -- the ends that a command may have and the files that it wrote then, by the rules of that command
 abbrev pub CommandEnds : Row → StoreRun → Ending → List Output → Type 0

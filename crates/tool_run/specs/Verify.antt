@@ -7,9 +7,9 @@ use Rattle.lms_bytes.specs.declared.faults.KeyFault.{KeyFault}
 use Rattle.lms_bytes.specs.declared.public_key.PublicKey.{PublicKey}
 use Rattle.lms_verify.specs.Verdict.{IsVerdict}
 use Rattle.lms_verify.specs.declared.verification.Verdict.{Verdict}
-use Rattle.tool_run.specs.Ending as ending
-use Rattle.tool_run.specs.Ending.{Ending}
-use Rattle.tool_run.specs.World.{StoreRun, Failed, TooLong, Bytes, IsRead}
+use Rattle.tool_base.specs.Ending as ending
+use Rattle.tool_base.specs.Ending.{Ending}
+use Rattle.tool_base.specs.World.{StoreRun, Failed, TooLong, Bytes, IsRead}
 
 -- what became of the key's file, the message's and the signature's
 pub data VerifyEnds (store : StoreRun) (key message signature : List ℕ) : Ending → Type 0 where

@@ -6,27 +6,24 @@ ghost use Rattle.dealer.specs.Files.{AreFiles};
 ghost use Rattle.dealer.specs.Entropy.{dealing_of};
 ghost use Rattle.dealer.specs.Faults.{HasFault, IsDealable};
 ghost use Rattle.dealer.specs.declared.faults.DealFault.{DealFault};
-ghost use Rattle.tool_run.specs.Ending as spec;
+ghost use Rattle.tool_base.specs.Ending as spec;
 ghost use Rattle.tool_run.specs.Naming.{named_files, named_shares};
 ghost use Rattle.tool_run.specs.Deal.{DealEnds, IsDealtTo, IsNotDealt, IsSet, plan_of};
-ghost use Rattle.tool_run.specs.Endings.{ending};
-ghost use Rattle.tool_run.specs.OutputOf.{output_of};
-ghost use Rattle.tool_run.specs.Outputs.{EndsWith};
-ghost use Rattle.tool_run.specs.Rows.{deal_words};
-ghost use Rattle.tool_run.specs.Undealt.{end_of_fault};
-ghost use Rattle.tool_run.specs.World.{store_run};
+ghost use Rattle.tool_base.specs.Endings.{ending};
+ghost use Rattle.tool_base.specs.OutputOf.{output_of};
+ghost use Rattle.tool_base.specs.Outputs.{EndsWith};
+ghost use Rattle.tool_words.specs.Rows.{deal_words};
+ghost use Rattle.tool_base.specs.Undealt.{end_of_fault};
+ghost use Rattle.tool_base.specs.World.{store_run};
 
-use crate::ending::Ending;
-use crate::outputs::{Output, test_all_new, write_all};
-use crate::reading::read_file;
-use crate::undealt::Undealt;
-use crate::words::DealWords;
 use coalition_map::{Plan, PlanFault};
-use dealer::{DealFault, DealingFiles, deal};
+use dealer::{DealingFiles, deal};
 use lms_bytes::Params;
 use memory::NoMemory;
 use std::alloc::{AllocError, Global};
 use stream_io::Store;
+use tool_base::{Ending, Output, Undealt, end_of_fault, read_file, test_all_new, write_all};
+use tool_words::DealWords;
 
 /// Deals a key, and writes its files.
 pub(crate) fn deal_files<S: Store>(alloc: Global, store: &mut S, words: &DealWords) -> Ending
@@ -187,17 +184,4 @@ fn byte_of(number: u32) -> u8
     ensures { result ≡ min number 255 }
 {
     u8::try_from(number).unwrap_or(u8::MAX)
-}
-
-/// The end for a fault of a dealing.
-pub(crate) fn end_of_fault(fault: DealFault) -> Ending
-    ensures { ending result ≡ end_of_fault fault }
-{
-    match fault {
-        DealFault::TooHigh { h } => Ending::NotDealt(Undealt::Height { h }),
-        DealFault::TooWide => Ending::NotDealt(Undealt::Width),
-        DealFault::BadEntropy { got, want } => Ending::NotDealt(Undealt::Entropy { got, want }),
-        DealFault::SameKeys { t, u } => Ending::NotDealt(Undealt::Keys { t, u }),
-        DealFault::NoMemory => Ending::NoMemory,
-    }
 }

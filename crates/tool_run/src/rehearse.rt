@@ -2,22 +2,19 @@
 
 ghost use Rattle.std.specs.Prelude.{◌≡◌, ◌≢◌, [], ◌∷◌, map, IfOk, IfErr, OnOk};
 ghost use Rattle.lms_bytes.specs.PublicKey.{public_bytes};
-ghost use Rattle.tool_run.specs.Ending as spec;
-ghost use Rattle.tool_run.specs.Endings.{ending};
-ghost use Rattle.tool_run.specs.OutputOf.{output_of};
-ghost use Rattle.tool_run.specs.Outputs.{EndsWith};
+ghost use Rattle.tool_base.specs.Ending as spec;
+ghost use Rattle.tool_base.specs.Endings.{ending};
+ghost use Rattle.tool_base.specs.OutputOf.{output_of};
+ghost use Rattle.tool_base.specs.Outputs.{EndsWith};
 ghost use Rattle.tool_run.specs.Rehearse.{IsNotRehearsed, IsRehearsedTo, RehearseEnds};
-ghost use Rattle.tool_run.specs.World.{store_run};
+ghost use Rattle.tool_base.specs.World.{store_run};
 
-use crate::deal::end_of_fault;
-use crate::ending::Ending;
-use crate::outputs::{Output, test_new, write_all};
-use crate::reading::read_file;
 use dealer::public_file;
 use memory::NoMemory;
 use rehearsal::{Rehearsed, rehearse};
 use std::alloc::Global;
 use stream_io::Store;
+use tool_base::{Ending, Output, end_of_fault, read_file, test_new, write_all};
 
 /// Deals a key and signs a message with its first leaf in memory, and writes the public key and the signature.
 pub(crate) fn rehearse_files<S: Store>(

@@ -1,24 +1,23 @@
 //! The top call.
 
 ghost use Rattle.std.specs.Prelude.{◌≡◌, ◌⊎◌, map, string_bytes, ◌==◌, if◌then◌else◌};
-ghost use Rattle.tool_run.specs.Ending as spec;
-ghost use Rattle.tool_run.specs.Endings.{ending};
+ghost use Rattle.tool_base.specs.Ending as spec;
+ghost use Rattle.tool_base.specs.Endings.{ending};
 ghost use Rattle.tool_run.specs.ToolRun.{CommandEnds, MayEnd, ToolRun, IsAnswered, IsPrinted, IsCutShort, EndsSo};
-ghost use Rattle.tool_run.specs.Outputs.{EndsWith};
-ghost use Rattle.tool_run.specs.Rows.{row};
-ghost use Rattle.tool_run.specs.Words.{OutputsDiffer, command_of};
-ghost use Rattle.tool_run.specs.World.{store_run, output_run};
+ghost use Rattle.tool_base.specs.Outputs.{EndsWith};
+ghost use Rattle.tool_words.specs.Rows.{row};
+ghost use Rattle.tool_words.specs.Words.{OutputsDiffer, command_of};
+ghost use Rattle.tool_base.specs.World.{store_run, output_run};
 
-use crate::clocks::Clocks;
 use crate::deal::deal_files;
-use crate::ending::Ending;
 use crate::rehearse::rehearse_files;
 use crate::verify::verify_files;
-use crate::words::{Command, command_of};
 use std::alloc::Global;
 use std::sync::Wait;
 use std::thread::Threads;
 use stream_io::{Failed, Net, Sink, Store, write_whole};
+use tool_base::{Clocks, Ending};
+use tool_words::{Command, command_of};
 
 /// Does what the words ask for, and answers the status. The words begin with the command.
 pub fn run_tool<R: Threads + Wait + Sync, S: Store, N: Net, T: Clocks, O: Sink>(

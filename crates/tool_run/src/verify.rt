@@ -2,17 +2,16 @@
 
 ghost use Rattle.std.specs.Prelude.{◌≡◌, ◌≤◌, ◌⊎◌, List, ℕ, IfOk, IfErr};
 ghost use Rattle.lms_bytes.specs.PublicKey.{public_bytes};
-ghost use Rattle.tool_run.specs.Ending as spec;
-ghost use Rattle.tool_run.specs.Endings.{ending};
+ghost use Rattle.tool_base.specs.Ending as spec;
+ghost use Rattle.tool_base.specs.Endings.{ending};
 ghost use Rattle.tool_run.specs.Verify.{VerifyEnds};
-ghost use Rattle.tool_run.specs.World.{Bytes, IsRead, store_run};
+ghost use Rattle.tool_base.specs.World.{Bytes, IsRead, store_run};
 
-use crate::ending::Ending;
-use crate::reading::{read_file, unreadable};
 use lms_bytes::{PublicKey, read_public};
 use lms_verify::{Verdict, verify};
 use std::alloc::Global;
 use stream_io::Store;
+use tool_base::{Ending, read_file, unreadable};
 
 /// Verifies a signature of a message under a key, all three by the names of their files.
 pub(crate) fn verify_files<S: Store>(

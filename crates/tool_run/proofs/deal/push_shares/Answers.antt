@@ -1,6 +1,6 @@
 use Rattle.std.proofs.Common.{◌∙◌, refl, arith}
 use Rattle.std.proofs.lemmas.List.{length_push}
-use Rattle.tool_run.specs.OutputOf.{output_of}
+use Rattle.tool_base.specs.OutputOf.{output_of}
 use Rattle.tool_run.proofs.Naming.{named_none, pushed}
 use Rattle.tool_run.proofs.deal.push_shares.Goals as goal
 

@@ -1,6 +1,6 @@
 use Rattle.std.proofs.Common.{◌≡◌, ◌+◌, ◌++◌, length, map}
 use Rattle.tool_run.specs.Naming.{named_shares}
-use Rattle.tool_run.specs.OutputOf.{output_of}
+use Rattle.tool_base.specs.OutputOf.{output_of}
 use Rattle.tool_run.proofs.deal.push_shares.Given as goal
 
 -- the shares so far are added

@@ -1,14 +1,14 @@
 use Rattle.std.proofs.Common.{◌∙◌, All, map, refl}
 use Rattle.std.proofs.lemmas.Result.{err_from_is_err_and}
 use Rattle.tool_run.specs.Deal.{DealEnds, dealt, not_dealt, not_new, not_read, stopped}
-use Rattle.tool_run.specs.Endings.{ending}
-use Rattle.tool_run.specs.OutputOf.{output_of}
-use Rattle.tool_run.specs.Outputs.{IsNew}
-use Rattle.tool_run.specs.Rows.{deal_words}
-use Rattle.tool_run.specs.World.{store_run, Bytes}
+use Rattle.tool_base.specs.Endings.{ending}
+use Rattle.tool_base.specs.OutputOf.{output_of}
+use Rattle.tool_base.specs.Outputs.{IsNew}
+use Rattle.tool_words.specs.Rows.{deal_words}
+use Rattle.tool_base.specs.World.{store_run, Bytes}
 use Rattle.tool_run.proofs.Dealing.{dealt_differ}
-use Rattle.tool_run.proofs.Runs.{Comes, comes_on, grows_on, read_within, run_before, run_behind, run_within, stays}
-use Rattle.tool_run.proofs.Writing.{all_new_within, ends_stopped, ends_untouched, first_within, left_within, names_of}
+use Rattle.tool_base.proofs.Runs.{Comes, comes_on, grows_on, read_within, run_before, run_behind, run_within, stays}
+use Rattle.tool_base.proofs.Writing.{all_new_within, ends_stopped, ends_untouched, first_within, left_within, names_of}
 use Rattle.tool_run.proofs.deal.try_deal.Goals as goal
 
 pub returns-in_err-entropy-clause-refused : goal.returns-in_err-entropy-clause-refused

@@ -1,13 +1,13 @@
 use Rattle.std.proofs.Common.{◌≡◌, None, IsTrue, ◌∙◌, [], ◌∷◌, map, refl}
 use Rattle.std.proofs.lemmas.List.Elements.{All-cons, All-nil}
 use Rattle.std.proofs.lemmas.Result.{err_from_is_err_and, IfErr-weaker, on_ok_weaker}
-use Rattle.tool_run.specs.OutputOf.{output_of}
-use Rattle.tool_run.specs.Outputs.{IsNew}
+use Rattle.tool_base.specs.OutputOf.{output_of}
+use Rattle.tool_base.specs.Outputs.{IsNew}
 use Rattle.tool_run.specs.Rehearse.{RehearseEnds, entropy_not_read, message_not_read, not_new, not_rehearsed, rehearsed, stopped}
-use Rattle.tool_run.specs.World.{store_run, Bytes}
+use Rattle.tool_base.specs.World.{store_run, Bytes}
 use Rattle.tool_run.proofs.Rehearsing.{rehearsed_names, two_differ, two_hold}
-use Rattle.tool_run.proofs.Runs.{came, comes_on, fails_within, grows_on, read_within, run_before, run_behind, run_within, stays}
-use Rattle.tool_run.proofs.Writing.{ends_stopped, ends_untouched, left_within, names_of, new_within, not_new_within}
+use Rattle.tool_base.proofs.Runs.{came, comes_on, fails_within, grows_on, read_within, run_before, run_behind, run_within, stays}
+use Rattle.tool_base.proofs.Writing.{ends_stopped, ends_untouched, left_within, names_of, new_within, not_new_within}
 use Rattle.tool_run.proofs.rehearse.try_rehearse.Goals as goal
 
 pub returns-in_err-test_new-clause-refused : goal.returns-in_err-test_new-clause-refused

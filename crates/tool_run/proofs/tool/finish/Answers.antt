@@ -1,5 +1,5 @@
 use Rattle.std.proofs.Common.{inl, refl}
-use Rattle.tool_run.specs.Ending as spec
+use Rattle.tool_base.specs.Ending as spec
 use Rattle.tool_run.proofs.tool.finish.Goals as goal
 
 pub returns-in-Err : goal.returns-in-Err

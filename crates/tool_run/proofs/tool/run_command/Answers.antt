@@ -1,8 +1,8 @@
 use Rattle.std.proofs.Common.{refl}
 use Rattle.tool_run.specs.ToolRun.{CommandEnds}
-use Rattle.tool_run.specs.Words as words
-use Rattle.tool_run.specs.World.{store_run}
-use Rattle.tool_run.proofs.Writing.{ends_untouched}
+use Rattle.tool_words.specs.Words as words
+use Rattle.tool_base.specs.World.{store_run}
+use Rattle.tool_base.proofs.Writing.{ends_untouched}
 use Rattle.tool_run.proofs.tool.run_command.Goals as goal
 
 pub returns-in-Verify : goal.returns-in-Verify

@@ -1,10 +1,10 @@
-use Rattle.tool_run.specs.Rows.{row}
-use Rattle.tool_run.specs.Words.{command_of}
+use Rattle.tool_words.specs.Rows.{row}
+use Rattle.tool_words.specs.Words.{command_of}
 use Rattle.std.proofs.Common.{◌≡◌, Some, map, string_bytes, None, refl}
 use Rattle.tool_run.specs.ToolRun.{MayEnd}
-use Rattle.tool_run.specs.World.{store_run}
-use Rattle.tool_run.proofs.Commands.{outputs_differ}
-use Rattle.tool_run.proofs.Writing.{ends_untouched}
+use Rattle.tool_base.specs.World.{store_run}
+use Rattle.tool_words.proofs.Commands.{outputs_differ}
+use Rattle.tool_base.proofs.Writing.{ends_untouched}
 use Rattle.tool_run.proofs.tool.run_words.Goals as goal
 
 pub returns-in-None : goal.returns-in-None

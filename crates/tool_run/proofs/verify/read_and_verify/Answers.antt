@@ -1,8 +1,9 @@
 use Rattle.std.proofs.lemmas.Result.{err_from_is_err_and}
 use Rattle.lms_bytes.specs.PublicKey.{public_bytes}
 use Rattle.tool_run.specs.Verify.{verified}
-use Rattle.tool_run.specs.World.{Bytes}
-use Rattle.tool_run.proofs.Runs.{Comes, comes_on, run_within, stays, read_within, fails_within, message_not_read, signature_not_read}
+use Rattle.tool_base.specs.World.{Bytes}
+use Rattle.tool_base.proofs.Runs.{Comes, comes_on, run_within, stays, read_within, fails_within}
+use Rattle.tool_run.proofs.Verifying.{message_not_read, signature_not_read}
 use Rattle.tool_run.proofs.verify.read_and_verify.Goals as goal
 
 pub returns-in_err-text-clause-refused : goal.returns-in_err-text-clause-refused

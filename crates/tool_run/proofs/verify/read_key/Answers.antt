@@ -1,5 +1,5 @@
 use Rattle.std.proofs.lemmas.Result.{err_from_is_err_and}
-use Rattle.tool_run.proofs.Runs.{key_not_read, refusal_told}
+use Rattle.tool_run.proofs.Verifying.{key_not_read, refusal_told}
 use Rattle.tool_run.proofs.verify.read_key.Goals as goal
 
 pub returns-in_err-bytes-clause-refused : goal.returns-in_err-bytes-clause-refused

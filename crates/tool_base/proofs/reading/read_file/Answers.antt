@@ -1,0 +1,18 @@
+use Rattle.tool_base.specs.Reads.{failed, too_long, no_memory}
+use Rattle.tool_base.proofs.reading.read_file.Goals as goal
+
+pub returns-in-Err-Failed-clause-refused : goal.returns-in-Err-Failed-clause-refused
+returns-in-Err-Failed-clause-refused g c =
+    let read = c.in-Err-Failed.ensures in
+    let is = c.in-Err-Failed.field-0-is in
+    failed (read.cause.rose (cc), λ told steady. read.absent told steady (cc))
+
+pub returns-in-Err-TooLong-clause-refused : goal.returns-in-Err-TooLong-clause-refused
+returns-in-Err-TooLong-clause-refused g c =
+    let read = c.in-Err-TooLong.ensures in
+    let is = c.in-Err-TooLong.field-0-is in
+    let got = c.in-Err-TooLong.got-is in
+    too_long c.in-Err-TooLong.got (read.above c.in-Err-TooLong.got (cc))
+
+pub returns-in-Err-NoMemory-clause-refused : goal.returns-in-Err-NoMemory-clause-refused
+returns-in-Err-NoMemory-clause-refused g c = no_memory

@@ -1,0 +1,70 @@
+-- The files that a command writes, each under a new name.
+use Rattle.std.specs.Prelude.{◌≡◌, ◌≢◌, ⊤, ℕ, List, [], ◌∷◌, ◌++◌, None, Option, is_some, IsTrue, All}
+use Rattle.disk_trait.specs.Faults.{Rose}
+use Rattle.stream_io.specs.Store.{added}
+use Rattle.tool_base.specs.Ending as ending
+use Rattle.tool_base.specs.Ending.{Ending}
+use Rattle.tool_base.specs.World.{StoreRun}
+
+-- a file to be written
+pub record Output : Type 0 where
+  pub name : List ℕ
+  pub bytes : List ℕ
+
+-- what each name is read with once these files are written, in this order
+unfoldable pub all_added : (List ℕ → Option (List ℕ)) → List Output → List ℕ → Option (List ℕ)
+all_added file [] = file
+all_added file (output ∷ outputs) = all_added (added file output.name output.bytes) outputs
+
+-- the store has what it had and these files
+abbrev pub IsLeft : StoreRun → List Output → Type 0
+IsLeft store written = IsTrue store.told → (name : List ℕ) → store.file_after name ≡ all_added store.file written name
+
+-- the name is not in the store
+abbrev pub IsNew : StoreRun → List ℕ → Type 0
+IsNew store name = IsTrue store.told → store.file name ≡ None
+
+-- a call of the store failed: the count of faults rose, and the store is not steady
+pub record CallFailed (store : StoreRun) : Type 0 where
+  pub rose : Rose store.count store.count_after
+  pub unsteady : IsTrue store.steady → ⊥
+
+-- the end where this name was not found new
+pub data IsNotNew (store : StoreRun) (name : List ℕ) : Ending → Type 0 where
+  test_failed : CallFailed store → IsNotNew store name ending.StoreFailed
+  is_there : (IsTrue store.told → IsTrue (is_some (store.file name))) → IsNotNew store name (ending.Exists name)
+  no_memory_to_name : IsNotNew store name ending.NoMemory
+
+-- the end where one of these names was not found new, the first such
+pub record FirstNotNew (store : StoreRun) (names : List (List ℕ)) (end : Ending) : Type 0 where
+  pub before : List (List ℕ)
+  pub name : List ℕ
+  pub after : List (List ℕ)
+  pub is : names ≡ before ++ (name ∷ after)
+  pub new : All (IsNew store) before
+  pub cause : IsNotNew store name end
+
+-- no two of these names are the same
+abbrev pub AreDifferent : List (List ℕ) → Type 0
+AreDifferent [] = ⊤
+AreDifferent (name ∷ names) = All (λ other. name ≢ other) names × AreDifferent names
+
+-- The end where a file could not be written under this name behind those that were written. A name that was new when it
+-- was tested is there now only in a store that does not tell its content.
+pub data IsNotWritten (store : StoreRun) (written : List Output) (name : List ℕ) : Ending → Type 0 where
+  write_failed : CallFailed store → IsNotWritten store written name ending.StoreFailed
+  was_there : (IsTrue store.told → ⊥) → IsNotWritten store written name (ending.Exists name)
+  no_memory_to_write : IsNotWritten store written name ending.NoMemory
+
+-- the end where these of the files were written, and the next one was not
+pub record StopsAfter (store : StoreRun) (outputs written : List Output) (end : Ending) : Type 0 where
+  pub output : Output
+  pub rest : List Output
+  pub is : outputs ≡ written ++ (output ∷ rest)
+  pub cause : IsNotWritten store written output.name end
+
+-- An end of a command that wrote these files: one that the command's rules allow, and the store has these files.
+pub record EndsWith (ends : Ending → List Output → Type 0) (store : StoreRun) (end : Ending) : Type 0 where
+  pub written : List Output
+  pub cause : ends end written
+  pub left : IsLeft store written

@@ -1,0 +1,136 @@
+//! How a call ends, and the line that says so.
+
+ghost use Rattle.std.specs.Prelude.{◌≡◌, IfOk, string_bytes};
+ghost use Rattle.tool_base.specs.Ending.{line_of};
+ghost use Rattle.lms_verify.specs.declared.verification.Verdict.TheVariants as verdict;
+ghost use Rattle.tool_base.specs.Ending as spec;
+ghost use Rattle.tool_base.specs.Endings.{ending};
+ghost use Rattle.tool_base.specs.Undealt.{end_of_fault};
+
+use crate::undealt::Undealt;
+use dealer::DealFault;
+use lms_bytes::Val;
+use lms_verify::Verdict;
+use std::alloc::{AllocError, Global};
+
+/// How a call of the tool ends.
+#[derive(Debug, Drop)]
+pub enum Ending {
+    /// A signature was verified.
+    Verified(Verdict),
+    /// A signature was made in a rehearsal, and written with its key.
+    Rehearsed,
+    /// A key was dealt, and its files were written.
+    Dealt { leaves: u32, coalitions: u32 },
+    /// The words are no command.
+    Usage,
+    /// A call of the store failed, or a name is not in it.
+    StoreFailed,
+    /// The file of this name is not in its grammar, by the fault of this number.
+    Unreadable { name: String, fault: u8 },
+    /// A key is not dealt.
+    NotDealt(Undealt),
+    /// A file is longer than its limit.
+    TooLong { got: u64 },
+    /// Want of memory.
+    NoMemory,
+    /// An output of this name is in the store.
+    Exists { name: String },
+}
+
+impl Ending {
+    ghost use Rattle.tool_base.specs.Ending.{status_of};
+
+    /// The status that the tool answers.
+    pub fn status(&self) -> u8
+        ensures { result ≡ status_of (ending self.now) }
+    {
+        match self {
+            Ending::Verified(Verdict::Accepted { .. }) => 0,
+            Ending::Verified(_) => 1,
+            Ending::Rehearsed | Ending::Dealt { .. } => 0,
+            Ending::Usage => 2,
+            Ending::StoreFailed => 3,
+            Ending::Unreadable { .. } => 4,
+            Ending::NotDealt(_) => 5,
+            Ending::TooLong { .. } => 12,
+            Ending::NoMemory => 14,
+            Ending::Exists { .. } => 15,
+        }
+    }
+
+    /// The line that the tool prints.
+    pub fn line(&self, alloc: Global) -> Result<String, AllocError>
+        ensures { IfOk result (λ line. string_bytes line ≡ line_of (ending self.now)) }
+    {
+        match self {
+            Ending::Verified(verdict) => verdict_line(alloc, verdict),
+            Ending::Rehearsed => format!(in alloc; "rehearsed leaf 0\n"),
+            Ending::Dealt { leaves, coalitions } => dealt_line(alloc, *leaves, *coalitions),
+            Ending::Usage => format!(in alloc; "error 2 usage\n"),
+            Ending::StoreFailed => format!(in alloc; "error 3 store\n"),
+            Ending::Unreadable { name, fault } => file_line(alloc, name.as_str(), *fault),
+            Ending::NotDealt(why) => why.line(alloc),
+            Ending::TooLong { got } => format!(in alloc; "error 12 too long {got}\n"),
+            Ending::NoMemory => format!(in alloc; "error 14 memory\n"),
+            Ending::Exists { name } => exists_line(alloc, name.as_str()),
+        }
+    }
+}
+
+/// The line of a verdict.
+fn verdict_line(alloc: Global, verdict: &Verdict) -> Result<String, AllocError>
+    ensures { IfOk result (λ line. string_bytes line ≡ line_of (spec.Verified verdict.now)) }
+{
+    match verdict {
+        Verdict::Accepted { leaf } => format!(in alloc; "accepted leaf {leaf}\n"),
+        Verdict::Malformed(fault) => {
+            let number = fault.number();
+            format!(in alloc; "not accepted: malformed {number}\n")
+        }
+        Verdict::OtherRoot { got, want } => roots_line(alloc, got, want),
+    }
+}
+
+/// The line of a signature that leads to another root than the key's.
+fn roots_line(alloc: Global, got: &Val, want: &Val) -> Result<String, AllocError>
+    ensures { IfOk result (λ line. string_bytes line ≡ line_of (spec.Verified (verdict.OtherRoot got.now want.now))) }
+{
+    let got = hex::encode(alloc, got.bytes())?;
+    let want = hex::encode(alloc, want.bytes())?;
+    format!(in alloc; "not accepted: root {got} key {want}\n")
+}
+
+/// The line of a file that is not in its grammar.
+fn file_line(alloc: Global, name: &str, fault: u8) -> Result<String, AllocError>
+    ensures { IfOk result (λ line. string_bytes line ≡ line_of (spec.Unreadable name.now fault)) }
+{
+    format!(in alloc; "error 4 file {name} fault {fault}\n")
+}
+
+/// The line of a dealing.
+fn dealt_line(alloc: Global, leaves: u32, coalitions: u32) -> Result<String, AllocError>
+    ensures { IfOk result (λ line. string_bytes line ≡ line_of (spec.Dealt leaves coalitions)) }
+{
+    format!(in alloc; "dealt {leaves} leaves to {coalitions} coalitions\n")
+}
+
+/// The line of an output that is in the store.
+fn exists_line(alloc: Global, name: &str) -> Result<String, AllocError>
+    ensures { IfOk result (λ line. string_bytes line ≡ line_of (spec.Exists name.now)) }
+{
+    format!(in alloc; "error 15 exists {name}\n")
+}
+
+/// The end for a fault of a dealing.
+pub fn end_of_fault(fault: DealFault) -> Ending
+    ensures { ending result ≡ end_of_fault fault }
+{
+    match fault {
+        DealFault::TooHigh { h } => Ending::NotDealt(Undealt::Height { h }),
+        DealFault::TooWide => Ending::NotDealt(Undealt::Width),
+        DealFault::BadEntropy { got, want } => Ending::NotDealt(Undealt::Entropy { got, want }),
+        DealFault::SameKeys { t, u } => Ending::NotDealt(Undealt::Keys { t, u }),
+        DealFault::NoMemory => Ending::NoMemory,
+    }
+}

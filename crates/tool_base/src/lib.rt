@@ -1,0 +1,20 @@
+//! What the commands of the tool share: how a call ends, files that are read and written, and clocks.
+#![tactic(auto)]
+
+mod clocks;
+mod ending;
+mod outputs;
+mod reading;
+mod undealt;
+
+pub use clocks::{Clocks, MemClock, MemClocks, SystemClock, SystemClocks};
+pub use ending::{Ending, end_of_fault};
+pub use outputs::{Output, test_all_new, test_new, write_all};
+pub use reading::{read_file, unreadable};
+pub use undealt::Undealt;
+
+/// The longest file that is read whole, in bytes.
+pub const FILE_LIMIT: u64 = 67_108_864;
+
+#[cfg(test)]
+mod tests;

@@ -1,8 +1,0 @@
--- The files that the program writes as outputs.
-use Rattle.std.specs.Prelude.{string_bytes}
-use Rattle.tool_run.specs.Outputs as spec
-use Rattle.tool_run.specs.declared.outputs.Output.{Output}
-
--- the bytes of the name and of the file
-abbrev pub output_of : Output → spec.Output
-output_of output = record { name = string_bytes output.name; bytes = output.bytes.items }

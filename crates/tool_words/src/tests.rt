@@ -1,0 +1,66 @@
+//! Tests of what no contract says: that `clap` splits the words.
+
+use crate::split::split;
+use crate::words::{Command, DealWords};
+use std::alloc::{AllocError, Global};
+
+/// A list of words.
+fn words_of(alloc: Global, texts: &[&str]) -> Result<Vec<String>, AllocError> {
+    let mut words = Vec::new(alloc);
+    for text in texts {
+        words.push(String::from_str(alloc, text)?)?;
+    }
+    Ok(words)
+}
+
+#[test]
+fn clap_splits_the_words(rt: HostRuntime) -> Result<(), AllocError> {
+    let words = words_of(rt.alloc(), &["verify", "a.pub", "a", "a.sig"])?;
+    let command = Command::Verify {
+        key: "a.pub",
+        message: "a",
+        signature: "a.sig",
+    };
+    let found = split(rt.alloc(), words.as_slice());
+    assert!(rt; matches!(found, Ok(Some(split)) if split == command));
+    let lists: [&'static [&'static str]; 4] = [
+        &[],
+        &["verify", "a", "b"],
+        &["verify", "a", "b", "c", "d"],
+        &["help"],
+    ];
+    for texts in lists {
+        let words = words_of(rt.alloc(), texts)?;
+        let found = split(rt.alloc(), words.as_slice());
+        assert!(rt; found.is_err(), "{} words", texts.len());
+    }
+    Ok(())
+}
+
+#[test]
+fn clap_splits_the_words_of_a_dealing(rt: HostRuntime) -> Result<(), AllocError> {
+    let words = words_of(
+        rt.alloc(),
+        &["deal", "e", "5", "03", "12", "4294967295", "a"],
+    )?;
+    let command = Command::Deal(DealWords {
+        entropy: "e",
+        lms: 5,
+        ots: 3,
+        n: 12,
+        k: u32::MAX,
+        prefix: "a",
+    });
+    let found = split(rt.alloc(), words.as_slice());
+    assert!(rt; matches!(found, Ok(Some(split)) if split == command));
+    let words = words_of(rt.alloc(), &["rehearse", "e", "m", "k", "s"])?;
+    let command = Command::Rehearse {
+        entropy: "e",
+        message: "m",
+        key_out: "k",
+        signature_out: "s",
+    };
+    let found = split(rt.alloc(), words.as_slice());
+    assert!(rt; matches!(found, Ok(Some(split)) if split == command));
+    Ok(())
+}

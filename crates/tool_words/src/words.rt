@@ -1,0 +1,172 @@
+//! The words of a command.
+
+ghost use Rattle.std.specs.Prelude.{◌≡◌, map, option_map, string_bytes};
+ghost use Rattle.std.specs.Char.{is_ascii_digit};
+ghost use Rattle.std.specs.List.{list_all, list_any};
+ghost use Rattle.tool_words.specs.Words.{command_of, deal_of, is_option, number_of, rehearse_of, row_of, verify_of};
+ghost use Rattle.tool_words.specs.Rows.{row};
+
+use crate::split::split;
+use std::alloc::Global;
+
+/// The words after `deal`.
+#[derive(Clone, Copy, Debug, PartialEq, Eq)]
+pub struct DealWords<'a> {
+    /// The name of the entropy's file.
+    pub entropy: &'a str,
+    /// The LMS typecode.
+    pub lms: u32,
+    /// The LM-OTS typecode.
+    pub ots: u32,
+    /// The number of trustees.
+    pub n: u32,
+    /// How many of them sign together.
+    pub k: u32,
+    /// What the names of the outputs begin with.
+    pub prefix: &'a str,
+}
+
+/// A command with its words.
+#[derive(Clone, Copy, Debug, PartialEq, Eq)]
+pub enum Command<'a> {
+    /// Verifies a signature of a message under a key.
+    Verify {
+        /// The name of the key's file.
+        key: &'a str,
+        /// The name of the message's file.
+        message: &'a str,
+        /// The name of the signature's file.
+        signature: &'a str,
+    },
+    /// Deals a key to two trustees and signs with its first leaf, in memory.
+    Rehearse {
+        /// The name of the entropy's file.
+        entropy: &'a str,
+        /// The name of the message's file.
+        message: &'a str,
+        /// The name that the public key is written under.
+        key_out: &'a str,
+        /// The name that the signature is written under, another one.
+        signature_out: &'a str,
+    },
+    /// Deals a key.
+    Deal(DealWords<'a>),
+}
+
+/// The command that the words are, if they are one. The rule of the words decides, and `clap` splits them: its split
+/// is taken where it is the rule's.
+pub fn command_of(alloc: Global, words: &[String]) -> Option<Command<'_>>
+    ensures { option_map row result ≡ command_of (map string_bytes words.now) }
+{
+    let ruled = ruled_command(words)?;
+    match split(alloc, words) {
+        Ok(Some(command)) if command == ruled => Some(command),
+        _ => Some(ruled),
+    }
+}
+
+/// The command that the words are by the rule, if they are one.
+fn ruled_command(words: &[String]) -> Option<Command<'_>>
+    ensures { option_map row result ≡ command_of (map string_bytes words.now) }
+{
+    if has_option(words) {
+        return None;
+    }
+    row_of(words)
+}
+
+/// Whether a word begins with `-`.
+fn has_option(words: &[String]) -> bool
+    ensures { result ≡ list_any (λ word. is_option (string_bytes word)) words.now }
+{
+    words.iter().any(|word| is_option(word.as_str()))
+}
+
+/// Whether the word begins with `-`.
+fn is_option(word: &str) -> bool
+    ensures { result ≡ is_option word.now }
+{
+    matches!(word.as_bytes(), [b'-', ..])
+}
+
+/// The words of a command, its name first.
+fn row_of(words: &[String]) -> Option<Command<'_>>
+    ensures { option_map row result ≡ row_of (map string_bytes words.now) }
+{
+    let (name, rest) = words.split_first()?;
+    match name.as_str() {
+        "verify" => verify_of(rest),
+        "rehearse" => rehearse_of(rest),
+        "deal" => deal_of(rest),
+        _ => None,
+    }
+}
+
+/// The words after `verify`.
+fn verify_of(words: &[String]) -> Option<Command<'_>>
+    ensures { option_map row result ≡ verify_of (map string_bytes words.now) }
+{
+    let [key, message, signature] = words else {
+        return None;
+    };
+    Some(Command::Verify {
+        key: key.as_str(),
+        message: message.as_str(),
+        signature: signature.as_str(),
+    })
+}
+
+/// The words after `rehearse`.
+fn rehearse_of(words: &[String]) -> Option<Command<'_>>
+    ensures { option_map row result ≡ rehearse_of (map string_bytes words.now) }
+{
+    let [entropy, message, key_out, signature_out] = words else {
+        return None;
+    };
+    if key_out.as_str() == signature_out.as_str() {
+        return None;
+    }
+    Some(Command::Rehearse {
+        entropy: entropy.as_str(),
+        message: message.as_str(),
+        key_out: key_out.as_str(),
+        signature_out: signature_out.as_str(),
+    })
+}
+
+/// The words after `deal`. What the names of the outputs begin with is not empty.
+fn deal_of(words: &[String]) -> Option<Command<'_>>
+    ensures { option_map row result ≡ deal_of (map string_bytes words.now) }
+{
+    let [entropy, lms, ots, n, k, prefix] = words else {
+        return None;
+    };
+    if prefix.as_str().is_empty() {
+        return None;
+    }
+    Some(Command::Deal(DealWords {
+        entropy: entropy.as_str(),
+        lms: number_of(lms.as_str())?,
+        ots: number_of(ots.as_str())?,
+        n: number_of(n.as_str())?,
+        k: number_of(k.as_str())?,
+        prefix: prefix.as_str(),
+    }))
+}
+
+/// The number that a word is: one to ten decimal digits of a number below 2^32.
+pub(crate) fn number_of(word: &str) -> Option<u32>
+    ensures { result ≡ number_of word.now }
+{
+    if word.len() > 10 || !is_decimal(word) {
+        return None;
+    }
+    word.parse().ok()
+}
+
+/// Whether the word has decimal digits alone.
+fn is_decimal(word: &str) -> bool
+    ensures { result ≡ list_all is_ascii_digit word.now }
+{
+    word.as_bytes().iter().all(|digit| digit.is_ascii_digit())
+}
