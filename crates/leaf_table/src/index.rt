@@ -1,8 +1,7 @@
 //! The index of a table: the leases that are not burnt, in order, and the least free leaf of each coalition.
 
-ghost use Rattle.std.specs.Prelude.{◌≡◌, ◌≢◌, ◌^◌, ◌%◌, ◌<◌, ◌≤◌, ℕ, List, length, slice_index_or, IfOk, IfSome, IfNone};
-ghost use Rattle.std.specs.Prelude.{MatchOption, true};
-ghost use Rattle.std.specs.Prelude.{None};
+ghost use Rattle.std.specs.Prelude.{◌≡◌, ◌≢◌, ◌^◌, ◌%◌, ◌<◌, ◌≤◌, ℕ, List, length, slice_index_or, true, None, IfOk};
+ghost use Rattle.std.specs.Prelude.{IfSome};
 ghost use Rattle.coalition_map.specs.Coalitions.{IsLeafAfter, PlanNumbers, count_of as coalition_count};
 ghost use Rattle.leaf_table.specs.Entries.{IsFree, IsLeased};
 ghost use Rattle.leaf_table.specs.Index.{AreFree, IsFound, IsIndex, IsPassed, Lists, WasIndex};

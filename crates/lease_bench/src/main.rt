@@ -1,9 +1,8 @@
-//! Leases the leaves of a table over a disk in memory, and then asks for them again, or makes the calls of the disk alone
-//! that leasing makes. `bench/leases` times both.
+//! Leases the leaves of a table over a disk in memory and asks for them again, or makes just the calls of the disk that
+//! leasing makes. `bench/leases` times both.
 #![tactic(auto)]
 
-ghost use Rattle.std.specs.Prelude.{◌≡◌, ◌<◌, IfSome};
-ghost use Rattle.leaf_table.specs.Table.{plan_of};
+ghost use Rattle.std.specs.Prelude.{◌≡◌};
 
 use coalition_map::Plan;
 use disk_trait::{Disk, DiskFault, MemDisk};

@@ -2,7 +2,6 @@
 
 ghost use Rattle.std.specs.Prelude.{◌≡◌, ◌<◌, IfSome};
 ghost use Rattle.coalition_map.specs.Coalitions.{count_of};
-ghost use Rattle.leaf_table.specs.Table.{plan_of};
 
 use super::{fresh, numbered};
 use crate::{Table, TableFault};
