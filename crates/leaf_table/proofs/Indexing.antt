@@ -34,8 +34,11 @@ taken-less slots leaf within free =
     let most = count_by-le-length (λ (slot : Slot). not (is_free slot)) (set slots leaf (Half [])) in
     omega (arith, sums, old, most, length-set slots leaf (Half []))
 
-pub free≢half : (a : List ℕ) → ◌≡◌ {A = Slot} Free (Half a) → ⊥
+free≢half : (a : List ℕ) → ◌≡◌ {A = Slot} Free (Half a) → ⊥
 free≢half a is = cc
+
+pub half≢free : (a : List ℕ) → Half a ≢ Free
+half≢free a is = free≢half a (sym is)
 
 pub full≢half : (a b c : List ℕ) (moment : ℕ) → ◌≡◌ {A = Slot} (Full a b moment) (Half c) → ⊥
 full≢half a b c moment is = cc
@@ -82,13 +85,6 @@ module _ (plan : PlanNumbers) (slots : List Slot) (leaf : ℕ) (within : leaf < 
     own = is.own;
     half = there lease.1 differs ∙ is.half;
   }
-
-  -- no leaf of a coalition before the one from which the search begins becomes free
-  pub stays-passed : slot ≢ Free → (other : ℕ) → slot_in slots other ≢ Free → slot_in made other ≢ Free
-  stays-passed taken other before free = elim (cases_eq other leaf) [
-    | inl same ↦ taken (sym here ∙ (ap (slot_in made) (sym same) ∙ free))
-    | inr differs ↦ before (sym (there other differs) ∙ free)
-  ]
 
 module _ (plan : PlanNumbers) (slots : List Slot) (leaf : ℕ) (within : leaf < length slots) (id : List ℕ) (old new : List Listed) (lists : Lists plan slots old) where
   abbrev item : Listed

@@ -12,3 +12,4 @@ mod Once
 mod Orders
 mod Indexing
 mod Looking
+mod Walking

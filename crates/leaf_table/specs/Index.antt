@@ -1,8 +1,8 @@
 -- The index of a table, which holds nothing that the slots do not say. Only contracts inside the crate speak of it.
-use Rattle.std.specs.Prelude.{◌≡◌, ◌≢◌, ◌≤◌, ◌<◌, ◌%◌, ℕ, List, length, slice_index_or, slice_set, None, Option}
+use Rattle.std.specs.Prelude.{◌≡◌, ◌≢◌, ◌≤◌, ◌<◌, ◌%◌, ℕ, List, length, slice_index_or, slice_set, None, Some, Option}
 use Rattle.std.specs.Prelude.{Contains}
 use Rattle.coalition_map.specs.Coalitions.{IsLeafAfter, PlanNumbers, count_of}
-use Rattle.leaf_table.specs.Entries.{LeafUse}
+use Rattle.leaf_table.specs.Entries.{IsFree, LeafUse}
 use Rattle.leaf_table.specs.Leasing.{HasNone, IsLeast}
 use Rattle.leaf_table.specs.Slots.{use_of_slot}
 use Rattle.leaf_table.specs.declared.index.LeaseIndex.{LeaseIndex}
@@ -33,23 +33,34 @@ pub record Lists (plan : PlanNumbers) (slots : List Slot) (leases : List Listed)
       → IsThere leases ((leaf % count_of plan, id), leaf)
   pub few : length leases ≤ taken_count slots
 
--- the index says what the slots say, with room for a lease of each leaf; no leaf of a coalition is free before the one
--- from which the next search for a free one begins
-pub record IsIndex (plan : PlanNumbers) (slots : List Slot) (index : LeaseIndex) : Type 0 where
-  pub leases : Lists plan slots index.leases.items
-  pub room : length slots ≤ index.leases.room
-  pub count : length index.first.items ≡ count_of plan
-  pub passed : (c leaf : ℕ) → c < count_of plan → IsLeafAfter plan c None leaf
-      → leaf < slice_index_or index.first.items c 0 → slot_in slots leaf ≢ Free
-
 -- the least leaf of coalition c whose slot has this use, or none where there is none
 abbrev pub IsFound : PlanNumbers → List Slot → ℕ → LeafUse → Option ℕ → Type 0
 IsFound plan slots c wanted found =
     MatchOption found (HasNone plan c (λ leaf. use_of_slot (slot_in slots leaf)) wanted)
     (IsLeast plan c (λ leaf. use_of_slot (slot_in slots leaf)) wanted)
 
--- an index of slots is one still once the slot of a leaf of coalition c went from one to another
-abbrev pub GoesOn : LeaseIndex → ℕ → ℕ → Slot → Slot → LeaseIndex → Type 0
-GoesOn old c leaf before after new =
-    (plan : PlanNumbers) (slots : List Slot) → leaf % count_of plan ≡ c → leaf < length slots
-    → slot_in slots leaf ≡ before → IsIndex plan slots old → IsIndex plan (slice_set slots leaf after) new
+-- by number, the least free leaf of each of the first coalitions, or none where there is none
+pub record AreFree (plan : PlanNumbers) (slots : List Slot) (count : ℕ) (free : List (Option ℕ)) : Type 0 where
+  pub least : (c leaf : ℕ) → c < count → slice_index_or free c None ≡ Some leaf
+      → IsFound plan slots c IsFree (Some leaf)
+  pub none : (c : ℕ) → c < count → slice_index_or free c None ≡ None → IsFound plan slots c IsFree None
+
+-- no leaf of coalition c up to this one is free
+abbrev pub IsPassed : PlanNumbers → List Slot → ℕ → ℕ → Type 0
+IsPassed plan slots c last = (leaf : ℕ) → IsLeafAfter plan c None leaf → leaf ≤ last → slot_in slots leaf ≢ Free
+
+-- the index says what the slots say, with room for a lease of each leaf
+pub record IsIndex (plan : PlanNumbers) (slots : List Slot) (index : LeaseIndex) : Type 0 where
+  pub leases : Lists plan slots index.leases.items
+  pub room : length slots ≤ index.leases.room
+  pub count : length index.free.items ≡ count_of plan
+  pub free : AreFree plan slots (count_of plan) index.free.items
+
+-- since the index was one of the slots, that of one leaf has gone from one to another
+pub record WasIndex (plan : PlanNumbers) (index : LeaseIndex) (leaf : ℕ) (before after : Slot) (slots : List Slot)
+    : Type 0 where
+  pub earlier : List Slot
+  pub within : leaf < length earlier
+  pub was : slot_in earlier leaf ≡ before
+  pub is : slots ≡ slice_set earlier leaf after
+  pub indexed : IsIndex plan earlier index

@@ -1,11 +1,10 @@
-//! The index of a table: the leases that are not burnt, in order, and where the search for a free leaf begins.
+//! The index of a table: the leases that are not burnt, in order, and the least free leaf of each coalition.
 
-ghost use Rattle.std.specs.Prelude.{◌≡◌, ◌≢◌, ◌^◌, ◌<◌, ◌≤◌, ℕ, List, length, slice_index_or, IfOk, IfSome, IfNone};
-ghost use Rattle.std.specs.Prelude.{MatchOption, true};
-ghost use Rattle.std.specs.Prelude.{None};
+ghost use Rattle.std.specs.Prelude.{◌≡◌, ◌≢◌, ◌^◌, ◌%◌, ◌<◌, ◌≤◌, ℕ, List, length, slice_index_or, true, None, IfOk};
+ghost use Rattle.std.specs.Prelude.{IfSome};
 ghost use Rattle.coalition_map.specs.Coalitions.{IsLeafAfter, PlanNumbers, count_of as coalition_count};
 ghost use Rattle.leaf_table.specs.Entries.{IsFree, IsLeased};
-ghost use Rattle.leaf_table.specs.Index.{GoesOn, IsFound, IsIndex, Lists};
+ghost use Rattle.leaf_table.specs.Index.{AreFree, IsFound, IsIndex, IsPassed, Lists, WasIndex};
 ghost use Rattle.leaf_table.specs.Slots.{may_become};
 ghost use Rattle.slot_cache.specs.Cache.{count_of, state_of as cache_state};
 ghost use Rattle.slot_cache.specs.State.{slot_in};
@@ -27,8 +26,8 @@ type Listed = ((u32, [u8; 36]), u32);
 pub(crate) struct LeaseIndex {
     /// The leases that are not burnt.
     leases: SortedList<Listed>,
-    /// By coalition, the leaf from which the next search for a free one begins: none of its leaves before it is free.
-    first: Vec<u32>,
+    /// By coalition, its least free leaf.
+    free: Vec<Option<u32>>,
 }
 
 /// The leases that are not burnt, with room for one of each leaf.
@@ -51,19 +50,46 @@ fn leases_of<D: Disk>(
     Ok(leases)
 }
 
-/// The least free leaf of coalition `c` from this leaf on.
-fn free_leaf<D: Disk>(slots: &CachedSlots<D>, plan: &Plan, c: u32, from: u32) -> Option<u32>
+/// The least free leaf of coalition `c`, by a walk over its leaves above `after`, up to which none is free. A leaf that
+/// is taken is never free again, and each walk begins behind the leaf where the last one of its coalition ended: so all
+/// walks of a table's life in memory look at each leaf at most once.
+fn next_free<D: Disk>(
+    plan: &Plan,
+    slots: &CachedSlots<D>,
+    c: u32,
+    after: Option<u32>,
+) -> Option<u32>
     requires count { count_of slots.now ≡ 2 ^ plan.now.h }
-    requires passed { (leaf : ℕ) → IsLeafAfter plan.now c None leaf → leaf < from
-        → slot_in (cache_state slots.now).slots leaf ≢ Slot.Free }
+    requires coalition { c < coalition_count plan.now }
+    requires passed { IfSome after (IsPassed plan.now (cache_state slots.now).slots c) }
     ensures { IsFound plan.now (cache_state slots.now).slots c IsFree result }
 {
-    'leaves: for leaf in from..slots.count() {
-        if plan.coalition_of(leaf) == c && slots.slot(leaf).is_free() {
-            return Some(leaf);
+    let mut next = plan.next_leaf(c, after);
+    'leaves: while let Some(leaf) = next {
+        if slots.slot(leaf).is_free() {
+            return next;
         }
+        next = plan.next_leaf(c, next);
     }
     None
+}
+
+/// The least free leaf of each coalition.
+fn free_leaves<D: Disk>(
+    alloc: Global,
+    plan: &Plan,
+    slots: &CachedSlots<D>,
+) -> Result<Vec<Option<u32>>, NoMemory>
+    requires { count_of slots.now ≡ 2 ^ plan.now.h }
+    ensures count { IfOk result (λ free. length free.items ≡ coalition_count plan.now) }
+    ensures free { IfOk result (λ free.
+        AreFree plan.now (cache_state slots.now).slots (coalition_count plan.now) free.items) }
+{
+    let mut free = vec![in alloc; None; plan.count() as usize]?;
+    'coalitions: for c in 0..plan.count() {
+        free[c as usize] = next_free(plan, slots, c, None);
+    }
+    Ok(free)
 }
 
 impl LeaseIndex {
@@ -76,9 +102,9 @@ impl LeaseIndex {
         requires { count_of slots.now ≡ 2 ^ plan.now.h }
         ensures { IfOk result (IsIndex plan.now (cache_state slots.now).slots) }
     {
-        let first = vec![in alloc; 0; plan.count() as usize]?;
+        let free = free_leaves(alloc, plan, slots)?;
         let leases = leases_of(alloc, plan, slots)?;
-        Ok(LeaseIndex { leases, first })
+        Ok(LeaseIndex { leases, free })
     }
 
     /// The least leaf of coalition `c` that is leased for this message and not burnt.
@@ -95,52 +121,76 @@ impl LeaseIndex {
     }
 
     /// The least free leaf of coalition `c`.
-    pub(crate) fn free<D: Disk>(&self, plan: &Plan, slots: &CachedSlots<D>, c: u32) -> Option<u32>
+    pub(crate) fn free(&self, c: u32) -> Option<u32>
+        requires { c < length self.now.free.items }
+        ensures { result ≡ slice_index_or self.now.free.items c None }
+    {
+        self.free[c as usize]
+    }
+
+    /// The least free leaf of the coalition of this one, which was leased just now. Where this was the least, the walk
+    /// goes on to the next.
+    fn free_after<D: Disk>(&self, plan: &Plan, slots: &CachedSlots<D>, leaf: u32) -> Option<u32>
         requires count { count_of slots.now ≡ 2 ^ plan.now.h }
-        requires coalition { c < coalition_count plan.now }
-        requires index { IsIndex plan.now (cache_state slots.now).slots self.now }
-        ensures { IsFound plan.now (cache_state slots.now).slots c IsFree result }
+        requires index { (id : List ℕ)
+            × WasIndex plan.now self.now leaf Slot.Free (Slot.Half id) (cache_state slots.now).slots }
+        ensures { IsFound plan.now (cache_state slots.now).slots (leaf % coalition_count plan.now) IsFree result }
     {
-        free_leaf(slots, plan, c, self.first[c as usize])
+        let c = plan.coalition_of(leaf);
+        let least = self.free(c);
+        if least == Some(leaf) {
+            return next_free(plan, slots, c, least);
+        }
+        least
     }
 
-    /// Lets the next search for a free leaf of coalition `c` begin at this leaf.
-    pub(crate) fn begin_at(&mut self, c: u32, leaf: u32)
-        requires { c < length self.old.first.items }
-        ensures { (plan : PlanNumbers) (slots : List SlotValue)
-            → ((other : ℕ) → IsLeafAfter plan c None other → other < leaf → slot_in slots other ≢ Slot.Free)
-            → IsIndex plan slots self.old → IsIndex plan slots self.new }
+    /// Lists the lease that was made of a free leaf.
+    pub(crate) fn list<D: Disk>(
+        &mut self,
+        plan: &Plan,
+        slots: &CachedSlots<D>,
+        leaf: u32,
+        id: &[u8; 36],
+    )
+        requires count { count_of slots.now ≡ 2 ^ plan.now.h }
+        requires index { WasIndex plan.now self.old leaf Slot.Free (Slot.Half id.now) (cache_state slots.now).slots }
+        ensures { IsIndex plan.now (cache_state slots.now).slots self.new }
     {
-        self.first[c as usize] = leaf;
-    }
-
-    /// Lists the lease that was made of a free leaf of coalition `c`.
-    pub(crate) fn list(&mut self, c: u32, leaf: u32, id: &[u8; 36])
-        requires { length self.old.leases.items < self.old.leases.room }
-        ensures { GoesOn self.old c leaf Slot.Free (Slot.Half id.now) self.new }
-    {
+        let c = plan.coalition_of(leaf);
+        let free = self.free_after(plan, slots, leaf);
+        self.free[c as usize] = free;
         self.leases.insert(((c, *id), leaf));
     }
 
-    /// Takes out the lease of a leaf of coalition `c` that was burnt.
-    pub(crate) fn unlist(&mut self, c: u32, leaf: u32, id: &[u8; 36])
-        ensures { (a b : List ℕ) (moment : ℕ)
-            → GoesOn self.old c leaf (Slot.Half id.now) (Slot.Full a b moment) self.new }
+    /// Takes out the lease of a leaf that was burnt.
+    pub(crate) fn unlist(&mut self, plan: &Plan, leaf: u32, id: &[u8; 36])
+        requires { leaf < 2 ^ plan.now.h }
+        ensures { (a b : List ℕ) (moment : ℕ) (slots : List SlotValue)
+            → WasIndex plan.now self.old leaf (Slot.Half id.now) (Slot.Full a b moment) slots
+            → IsIndex plan.now slots self.new }
     {
         // They ascend, so that no lease stands twice.
         let _leases = self.leases.items();
-        self.leases.remove(&((c, *id), leaf));
+        self.leases.remove(&((plan.coalition_of(leaf), *id), leaf));
     }
 
-    /// Takes in what the slot of a leaf of coalition `c` has become.
-    pub(crate) fn enter(&mut self, c: u32, leaf: u32, before: &Slot, after: &Slot)
-        requires room { before.now ≡ Slot.Free → length self.old.leases.items < self.old.leases.room }
+    /// Takes in what the slot of a leaf has become.
+    pub(crate) fn enter<D: Disk>(
+        &mut self,
+        plan: &Plan,
+        slots: &CachedSlots<D>,
+        leaf: u32,
+        before: &Slot,
+        after: &Slot,
+    )
+        requires count { count_of slots.now ≡ 2 ^ plan.now.h }
         requires next { may_become before.now after.now ≡ true }
-        ensures { GoesOn self.old c leaf before.now after.now self.new }
+        requires index { WasIndex plan.now self.old leaf before.now after.now (cache_state slots.now).slots }
+        ensures { IsIndex plan.now (cache_state slots.now).slots self.new }
     {
         match (before, after) {
-            (Slot::Free, Slot::Half(id)) => self.list(c, leaf, id),
-            (Slot::Half(id), Slot::Full(..)) => self.unlist(c, leaf, id),
+            (Slot::Free, Slot::Half(id)) => self.list(plan, slots, leaf, id),
+            (Slot::Half(id), Slot::Full(..)) => self.unlist(plan, leaf, id),
             _ => {}
         }
     }

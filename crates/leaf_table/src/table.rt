@@ -1,7 +1,7 @@
 //! The leaf table.
 
 ghost use Rattle.std.specs.Prelude.{◌≡◌, ◌≢◌, ◌^◌, ◌+◌, ◌<◌, ◌≤◌, ℕ, length, vec_capacity, IsTrue, IfOk, IfErr, IfNone};
-ghost use Rattle.std.specs.Prelude.{IfSome, OnOk, None, Ok, Err};
+ghost use Rattle.std.specs.Prelude.{IfSome, OnOk, None, Some, Ok, Err};
 ghost use Rattle.coalition_map.specs.Coalitions.{count_of as coalition_count};
 ghost use Rattle.lms_bytes.specs.MessageId.{message_id_bytes};
 ghost use Rattle.leaf_table.specs.Entries.{IsFree, IsLeased, map_of};
@@ -22,7 +22,7 @@ use coalition_map::{Members, Plan};
 use disk_trait::{Disk, DiskFault};
 use lms_bytes::MessageId;
 use memory::NoMemory;
-use slot_cache::{CacheLoad, CachedSlots, Settled};
+use slot_cache::{CacheLoad, CachedSlots, Doubted, Settled};
 use slot_file::{Header, Slot};
 use std::alloc::Global;
 use turn_lock::Kept;
@@ -119,7 +119,7 @@ impl<D: Disk> Table<D> {
         let Some(leaf) = self.free_leaf(c) else {
             return Err(TableFault::NoLeaf { coalition: c });
         };
-        self.put_lease(c, leaf, message)
+        self.put_lease(leaf, message)
     }
 
     // The least leaf of coalition `c` that is leased for this message and not burnt.
@@ -140,16 +140,14 @@ impl<D: Disk> Table<D> {
         ensures none { IfNone result
             (HasNone (plan_of self.now) c (map_of (state_of self.now).entries) IsFree) }
     {
-        self.index.free(&self.plan, &self.slots, c)
+        self.index.free(c)
     }
 
-    // Leases the least free leaf of coalition `c`, where nothing is in doubt.
-    fn put_lease(&mut self, c: u32, leaf: u32, message: &MessageId) -> Result<u32, TableFault>
+    // Leases a free leaf, where nothing is in doubt.
+    fn put_lease(&mut self, leaf: u32, message: &MessageId) -> Result<u32, TableFault>
         requires settled { (state_of self.old).doubt ≡ None }
         requires within { leaf < 2 ^ (plan_of self.old).h }
         requires free { map_of (state_of self.old).entries leaf ≡ IsFree }
-        requires coalition { c < coalition_count (plan_of self.old) }
-        requires least { IsLeast (plan_of self.old) c (map_of (state_of self.old).entries) IsFree leaf }
         ensures event { Makes (state_of self.old) (Lease.Leased leaf message.now) leaf
             (Slot.Half (message_id_bytes message.now)) result (state_of self.new) }
         ensures leaf { IfOk result (λ got. got ≡ leaf) }
@@ -163,8 +161,7 @@ impl<D: Disk> Table<D> {
             Ok(()) => {
                 let message = *message;
                 add(&mut self.entries, &Lease::Leased { leaf, message });
-                self.index.begin_at(c, leaf);
-                self.index.list(c, leaf, &id);
+                self.index.list(&self.plan, &self.slots, leaf, &id);
                 Ok(leaf)
             }
             Err(DiskFault) => Err(TableFault::Device),
@@ -204,8 +201,7 @@ impl<D: Disk> Table<D> {
         match self.slots.put_b(leaf, &report_bytes(message, by), 0) {
             Ok(()) => {
                 add(&mut self.entries, &Lease::Burnt { leaf });
-                let c = self.plan.coalition_of(leaf);
-                self.index.unlist(c, leaf, &message.to_bytes());
+                self.index.unlist(&self.plan, leaf, &message.to_bytes());
                 Ok(())
             }
             Err(DiskFault) => Err(TableFault::Device),
@@ -218,18 +214,25 @@ impl<D: Disk> Table<D> {
         ensures idle { (state_of self.old).doubt ≡ None → self.new ≡ self.old }
         ensures enters { Enters self.old self.new result }
     {
-        let Some(doubted) = self.slots.doubt() else {
-            return Ok(());
-        };
-        let before = *self.slots.slot(doubted.slot);
+        match self.slots.doubt() {
+            None => Ok(()),
+            Some(doubted) => self.settle_entry(&doubted),
+        }
+    }
+
+    // Finds out whether this entry, which is in doubt, was made.
+    fn settle_entry(&mut self, doubted: &Doubted) -> Result<(), TableFault>
+        requires { (state_of self.old).doubt ≡ Some doubted.now }
+        ensures event { Settles (state_of self.old) result (state_of self.new) }
+        ensures enters { Enters self.old self.new result }
+    {
+        let (leaf, after) = (doubted.slot, &doubted.after);
+        let before = *self.slots.slot(leaf);
         match self.slots.settle() {
             Ok(Settled::Made) => {
-                add(
-                    &mut self.entries,
-                    &lease_of_slot(doubted.slot, &doubted.after),
-                );
-                let c = self.plan.coalition_of(doubted.slot);
-                self.index.enter(c, doubted.slot, &before, &doubted.after);
+                add(&mut self.entries, &lease_of_slot(leaf, after));
+                self.index
+                    .enter(&self.plan, &self.slots, leaf, &before, after);
                 Ok(())
             }
             Ok(Settled::NotMade | Settled::Nothing) => Ok(()),

@@ -4,6 +4,9 @@
 ghost use Rattle.std.specs.Prelude.{◌≡◌};
 ghost use Rattle.leaf_table.specs.Table.{plan_of};
 
+mod plain;
+mod rotten;
+
 use super::*;
 use coalition_map::{Members, Plan};
 use disk_trait::{Disk, MemDisk};
@@ -18,6 +21,9 @@ use turn_lock::Kept;
 
 /// The bytes of a file of 32 slots.
 const ROOM: usize = 4224;
+
+/// The bytes of a file of 1,024 slots.
+const LARGE_ROOM: usize = 131_200;
 
 /// How many calls of the disk a load of 32 slots makes.
 const LOAD_CALLS: u64 = 35;
@@ -62,7 +68,7 @@ fn prepared(rt: &impl Abort, alloc: Global) -> Result<MemDisk, NoMemory> {
     MemDisk::of_bytes(alloc, bytes, ROOM, usize::MAX)
 }
 
-fn loaded(rt: &impl Abort, alloc: Global, disk: MemDisk) -> Table<MemDisk>
+fn loaded<D: Disk + Drop>(rt: &impl Abort, alloc: Global, disk: D) -> Table<D>
     ensures { (plan_of result).h ≡ 5 }
 {
     match Table::load(alloc, disk, &header(), &plan(rt)) {
@@ -107,8 +113,8 @@ fn a_leaf_is_leased_for_one_message(rt: HostRuntime) -> Result<(), Fail> {
 }
 
 /// Leases a leaf of trustees 1 and 3 for a message, and burns it.
-fn lease_and_burn(
-    table: &mut Table<MemDisk>,
+fn lease_and_burn<D: Disk>(
+    table: &mut Table<D>,
     message: &MessageId,
     by: u8,
 ) -> Result<u32, TableFault> {
@@ -283,6 +289,32 @@ fn fresh(rt: &impl Abort, alloc: Global, n: u8, k: u8) -> Result<(Plan, Table<Me
         Ok(table) => Ok((plan, table)),
         Err((_, fault)) => panic!(rt; "load: {fault:?}"),
     }
+}
+
+/// A table of 1,024 leaves for six of twelve trustees, of whom there are 924 coalitions.
+fn large(rt: &impl Abort, alloc: Global) -> Result<(Plan, Table<MemDisk>), NoMemory> {
+    let mut disk = MemDisk::new(alloc, LARGE_ROOM, usize::MAX)?;
+    assert_eq!(rt; prepare(&mut disk, &header(), 1024), Ok(()));
+    let plan = Plan::new(12, 6, 10).expect(rt, "a plan");
+    match Table::load(alloc, disk, &header(), &plan) {
+        Ok(table) => Ok((plan, table)),
+        Err((_, fault)) => panic!(rt; "load: {fault:?}"),
+    }
+}
+
+#[test]
+fn a_hundred_of_924_coalitions_have_two_leaves(rt: HostRuntime) -> Result<(), Fail> {
+    let (plan, mut table) = large(&rt, rt.alloc())?;
+    for (coalition, leaves) in [(99, [99, 1023].as_slice()), (100, &[100]), (923, &[923])] {
+        assert!(rt; coalition < plan.count());
+        let members = plan.members(coalition);
+        for leaf in leaves {
+            assert_eq!(rt; table.lease(members, &numbered(*leaf)), Ok(*leaf));
+        }
+        let none = TableFault::NoLeaf { coalition };
+        assert_eq!(rt; table.lease(members, &ONE), Err(none));
+    }
+    Ok(())
 }
 
 #[test]

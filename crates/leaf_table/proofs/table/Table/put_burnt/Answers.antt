@@ -37,9 +37,14 @@ invariant_of-self g c =
       count = call.stays.count ∙ self.count;
       sound = subst IsSound (sym same) sound;
       room = omega (arith, self.room, c.add.ensures.room, ap length c.add.ensures.items, length-append items (lease ∷ []), room-put cache.slots leaf slot within may, ap (λ (s : CacheState). room_in s.slots) event);
-      indexed = subst (λ (s : CacheState). IsIndex self.plan s.slots c.unlist.new.self) (sym event)
-          (c.unlist.ensures id (report_body id c.args.by) 0 self.plan cache.slots (sym c.coalition_of-c.ensures.number) within
-          (half ∙ ap Half (sym c.to_bytes.ensures)) self.indexed);
+      indexed = c.unlist.ensures id (report_body id c.args.by) 0 (state_of c.put_b.new.self).slots
+          (record {
+            earlier = cache.slots;
+            within = within;
+            was = half ∙ ap Half (sym c.to_bytes.ensures);
+            is = ap (λ (s : CacheState). s.slots) event;
+            indexed = self.indexed;
+          });
     }
 
 pub add-requires : goal.add-requires

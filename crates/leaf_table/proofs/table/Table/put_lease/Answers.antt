@@ -8,8 +8,6 @@ use Rattle.leaf_table.specs.declared.lease.Lease.{Lease}
 use Rattle.leaf_table.specs.declared.lease.Lease.TheVariants.{Leased}
 use Rattle.leaf_table.proofs.BodyBytes.{back}
 use Rattle.leaf_table.specs.Index.{IsIndex}
-use Rattle.leaf_table.proofs.Indexing.{taken-less}
-use Rattle.leaf_table.proofs.Events.{passed-least}
 use Rattle.leaf_table.proofs.Found.{free-use}
 use Rattle.leaf_table.proofs.Maps.{map_of-same}
 use Rattle.leaf_table.proofs.Sound.{room-put, sound-doubt, sound-made}
@@ -37,18 +35,22 @@ add-requires g c =
     let may : may_become (slot_in cache.slots leaf) slot ≡ true = ap (λ (s : Slot). may_become s slot) free in
     omega (arith, self.room, room-put cache.slots leaf slot within may)
 
-pub list-requires : goal.list-requires
-list-requires g c =
+pub list-requires-clause-count : goal.list-requires-clause-count
+list-requires-clause-count g c = c.put_a.ensures.stays.count ∙ c.args.self.now.count
+
+pub list-requires-clause-index : goal.list-requires-clause-index
+list-requires-clause-index g c =
     let self = c.args.self.now in
     let leaf = c.args.leaf in
     let cache = state_of self.slots in
     let within : leaf < length cache.slots = omega (arith, c.requires.within, self.count) in
-    let free = free-use (slot_in cache.slots leaf) (self.sound.slots leaf within ∙ c.requires.free) in
-    let index = c.begin_at.ensures self.plan cache.slots (passed-least self.plan c.args.c cache.slots self.entries.items self.count self.sound.slots leaf c.requires.least) self.indexed in
-    omega (arith, index.leases.few, index.room, taken-less cache.slots leaf within free)
-
-pub begin_at-requires : goal.begin_at-requires
-begin_at-requires g c = omega (arith, c.requires.coalition, c.args.self.now.indexed.count)
+    record {
+      earlier = cache.slots;
+      within = within;
+      was = free-use (slot_in cache.slots leaf) (self.sound.slots leaf within ∙ c.requires.free);
+      is = ap (λ (s : CacheState). s.slots) c.in-Ok.ensures.event;
+      indexed = self.indexed;
+    }
 
 pub invariant_of-self : goal.invariant_of-self
 invariant_of-self g c =
@@ -72,9 +74,7 @@ invariant_of-self g c =
       count = call.stays.count ∙ self.count;
       sound = subst IsSound (sym same) sound;
       room = omega (arith, self.room, c.add.ensures.room, ap length c.add.ensures.items, length-append items (lease ∷ []), room-put cache.slots leaf slot within may, ap (λ (s : CacheState). room_in s.slots) event);
-      indexed = subst (λ (s : CacheState). IsIndex self.plan s.slots c.list.new.self) (sym c.in-Ok.ensures.event)
-          (c.list.ensures self.plan cache.slots c.requires.least.own.own within free
-          (c.begin_at.ensures self.plan cache.slots (passed-least self.plan c.args.c cache.slots items self.count self.sound.slots leaf c.requires.least) self.indexed));
+      indexed = c.list.ensures;
     }
 
 pub invariant_of-self-in-Err : goal.invariant_of-self-in-Err

@@ -1,6 +1,4 @@
 use Rattle.std.proofs.Common.{◌≡◌, ◌∷◌, ◌++◌, [], Option, Some, Ok, length, sym, ◌∙◌, ap, subst, arith, length-append}
-use Rattle.leaf_table.specs.Index.{IsIndex}
-use Rattle.leaf_table.proofs.Indexing.{taken-less}
 use Rattle.leaf_table.specs.Slots.{may_become, room_in}
 use Rattle.slot_file.specs.declared.slot.Slot.{Slot}
 use Rattle.leaf_table.specs.State.{IsSound, lease_of, state_with, with_lease}
@@ -11,7 +9,7 @@ use Rattle.slot_cache.specs.Calls.{Settles}
 use Rattle.slot_cache.specs.State.{CacheState, settled_with, with_made}
 use Rattle.slot_cache.specs.declared.doubted.Doubted.{Doubted}
 use Rattle.slot_cache.specs.declared.faults.Settled.{Settled}
-use Rattle.leaf_table.proofs.table.Table.settle.Goals as goal
+use Rattle.leaf_table.proofs.table.Table.settle_entry.Goals as goal
 
 only-some : {A : Type 0} {x y : A} → ◌≡◌ {A = Option A} (Some x) (Some y) → x ≡ y
 only-some e = cc
@@ -20,8 +18,8 @@ pub add-requires : goal.add-requires
 add-requires g c =
     let self = c.args.self.now in
     let cache = state_of self.slots in
-    let d = c.in-Some.doubted in
-    let is : cache.doubt ≡ Some d = sym c.in-Some.ensures in
+    let d = c.args.doubted.now in
+    let is : cache.doubt ≡ Some d = c.requires in
     omega (arith, self.room, room-put cache.slots d.slot d.after (self.sound.within d is) (self.sound.next d is))
 
 pub invariant_of-self : goal.invariant_of-self
@@ -31,8 +29,8 @@ invariant_of-self g c =
     let items = self.entries.items in
     let new = state_of c.settle.new.self in
     let call = c.settle.ensures in
-    let d = c.in-Some.doubted in
-    let is : cache.doubt ≡ Some d = sym c.in-Some.ensures in
+    let d = c.args.doubted.now in
+    let is : cache.doubt ≡ Some d = c.requires in
     let version = (header_of self.slots).version in
     let event = subst (λ (s : Settled). Settles version cache (Ok s) new) c.in-Ok-Made.field-0-is c.in-Ok-Made.ensures.event in
     let same : event.0 ≡ d = only-some (sym event.1 ∙ is) in
@@ -46,35 +44,40 @@ invariant_of-self g c =
       count = call.stays.count ∙ self.count;
       sound = subst IsSound (sym whole) sound;
       room = omega (arith, self.room, c.add.ensures.room, ap length listed, length-append items (lease ∷ []), room-put cache.slots d.slot d.after (self.sound.within d is) (self.sound.next d is), ap (λ (s : CacheState). room_in s.slots) made);
-      indexed = subst (λ (s : CacheState). IsIndex self.plan s.slots c.enter.new.self) (sym made)
-          (c.enter.ensures self.plan cache.slots (sym c.coalition_of-c.ensures.number) (self.sound.within d is) (sym c.slot.ensures) self.indexed);
+      indexed = c.enter.ensures;
     }
 
 pub slot-requires : goal.slot-requires
 slot-requires g c =
     let self = c.args.self.now in
-    let d = c.in-Some.doubted in
-    let is : (state_of self.slots).doubt ≡ Some d = sym c.in-Some.ensures in
+    let d = c.args.doubted.now in
+    let is : (state_of self.slots).doubt ≡ Some d = c.requires in
     self.sound.within d is
 
-pub coalition_of-c-requires : goal.coalition_of-c-requires
-coalition_of-c-requires g c =
-    let self = c.args.self.now in
-    let d = c.in-Some.doubted in
-    let is : (state_of self.slots).doubt ≡ Some d = sym c.in-Some.ensures in
-    omega (arith, self.sound.within d is, self.count)
+pub enter-requires-clause-count : goal.enter-requires-clause-count
+enter-requires-clause-count g c = c.settle.ensures.stays.count ∙ c.args.self.now.count
 
-pub enter-requires-clause-room : goal.enter-requires-clause-room
-enter-requires-clause-room g c = λ free.
+pub enter-requires-clause-index : goal.enter-requires-clause-index
+enter-requires-clause-index g c =
     let self = c.args.self.now in
     let cache = state_of self.slots in
-    let d = c.in-Some.doubted in
-    let is : cache.doubt ≡ Some d = sym c.in-Some.ensures in
-    omega (arith, self.indexed.leases.few, self.indexed.room, taken-less cache.slots d.slot (self.sound.within d is) (sym c.slot.ensures ∙ free))
+    let new = state_of c.settle.new.self in
+    let d = c.args.doubted.now in
+    let is : cache.doubt ≡ Some d = c.requires in
+    let version = (header_of self.slots).version in
+    let event = subst (λ (s : Settled). Settles version cache (Ok s) new) c.in-Ok-Made.field-0-is c.in-Ok-Made.ensures.event in
+    let same : event.0 ≡ d = only-some (sym event.1 ∙ is) in
+    record {
+      earlier = cache.slots;
+      within = self.sound.within d is;
+      was = sym c.slot.ensures;
+      is = ap (λ (s : CacheState). s.slots) event.2 ∙ ap (λ (x : Doubted). with_made cache.slots x) same;
+      indexed = self.indexed;
+    }
 
 pub enter-requires-clause-next : goal.enter-requires-clause-next
 enter-requires-clause-next g c =
     let self = c.args.self.now in
-    let d = c.in-Some.doubted in
-    let is : (state_of self.slots).doubt ≡ Some d = sym c.in-Some.ensures in
+    let d = c.args.doubted.now in
+    let is : (state_of self.slots).doubt ≡ Some d = c.requires in
     ap (λ (s : Slot). may_become s d.after) c.slot.ensures ∙ self.sound.next d is
