@@ -1,10 +1,12 @@
 //! Runs over files in memory: what stands after each failed call, and each refusal of a dealing with its line.
 
-use std::alloc::AllocError;
+use host_io::StdoutSink;
+use memory_io::{MemNet, MemSink};
+use memory_store::MemStore;
 use std::io::{self, ErrorKind};
 use std::sync::Wait;
 use std::thread::Threads;
-use stream_io::{MemNet, MemSink, MemStore, StdoutSink, Store, write_whole};
+use stream_io::{Store, write_whole};
 use tool_run::{MemClocks, run_tool};
 
 /// Names that a run may write.
@@ -25,7 +27,7 @@ const REFUSED: &[(&str, usize)] = &[
 ];
 
 /// A store with the file `e` of so many bytes, which count up from 0, and the empty file `m`. The listed calls fail.
-fn dealing_store(rt: HostRuntime, length: usize, failing: &[u64]) -> Result<MemStore, AllocError> {
+fn dealing_store(rt: HostRuntime, length: usize, failing: &[u64]) -> io::Result<MemStore> {
     let mut entropy = Vec::new(rt.alloc());
     for i in 0..length {
         entropy.push((i % 256) as u8)?;
@@ -33,7 +35,8 @@ fn dealing_store(rt: HostRuntime, length: usize, failing: &[u64]) -> Result<MemS
     let mut files = Vec::new(rt.alloc());
     files.push((String::from_str(rt.alloc(), "e")?, entropy))?;
     files.push((String::from_str(rt.alloc(), "m")?, Vec::new(rt.alloc())))?;
-    Ok(MemStore::new(files, Vec::from_slice(rt.alloc(), failing)?))
+    let failing = Vec::from_slice(rt.alloc(), failing)?;
+    MemStore::of_files(rt.alloc(), files, failing).map_err(|_| io::Error::from(ErrorKind::OutOfMemory))
 }
 
 /// Runs the words over a store. It prints what was printed, the status, and the outputs that are in the store.
@@ -48,12 +51,17 @@ fn print_run<R: Threads + Wait + Sync>(
     let Ok(mut out) = MemSink::new(rt.alloc(), room, 7, Vec::new(rt.alloc())) else {
         return Err(io::Error::from(ErrorKind::OutOfMemory));
     };
+    let mut net = MemNet::new(
+        Vec::new(rt.alloc()),
+        Vec::new(rt.alloc()),
+        Vec::new(rt.alloc()),
+    );
     let status = run_tool(
         threads,
         rt.alloc(),
         words.as_slice(),
         &mut store,
-        &mut MemNet::new(Vec::new(rt.alloc())),
+        &mut net,
         &mut MemClocks::new(0),
         &mut out,
     );

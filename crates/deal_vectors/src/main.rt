@@ -5,11 +5,12 @@
 
 mod in_memory;
 
+use host_io::{FileStore, StdoutSink, TcpNet};
 use sha2::{Digest, Sha256};
 use share_files::{read_reference, read_share, read_tree};
 use std::alloc::{AllocError, Global};
 use std::io::{self, ErrorKind};
-use stream_io::{FileStore, StdoutSink, Store, TcpNet};
+use stream_io::Store;
 use tool_run::{SystemClocks, run_tool};
 
 /// No file here is longer.
@@ -141,7 +142,7 @@ fn print_readings(rt: HostRuntime, store: &mut FileStore<HostRuntime>) -> io::Re
 
 fn main(rt: HostRuntime) -> io::Result<()> {
     let mut store = FileStore::new(rt);
-    let mut net = TcpNet::new();
+    let mut net = TcpNet::new(rt);
     let mut time = SystemClocks::new(rt);
     let mut out = StdoutSink::new(rt);
     for cases in [REHEARSALS, DEALINGS, REFUSED] {

@@ -8,7 +8,7 @@ use round_frames::next_ask;
 use std::alloc::{AllocError, Global};
 use std::process::ExitCode;
 use std::{env, io};
-use stream_io::MemSource;
+use memory_io::MemSource;
 
 /// The length of the message, 16 MiB.
 const MESSAGE: usize = 16_777_216;

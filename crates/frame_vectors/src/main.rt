@@ -10,7 +10,9 @@ use reading::reading;
 use std::alloc::{AllocError, Global};
 use std::io::{self, ErrorKind};
 use std::str;
-use stream_io::{FileStore, MemSource, Store};
+use host_io::FileStore;
+use memory_io::MemSource;
+use stream_io::Store;
 
 /// A row of the table.
 #[derive(Clone, Copy)]

@@ -11,7 +11,8 @@ use coalition_map::Members;
 use disk_trait::Faults;
 use lms_bytes::{Ask, MessageId, Params, ReplyHead, Val};
 use std::alloc::{AllocError, Global};
-use stream_io::{MemSink, MemSource, Sink, write_whole};
+use memory_io::{MemSink, MemSource};
+use stream_io::{Sink, write_whole};
 
 /// A failure of round two.
 const FAILURE: Failure = Failure {

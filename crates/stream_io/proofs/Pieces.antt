@@ -1,9 +1,9 @@
 -- One more piece of the bytes is read or written.
-use Rattle.std.proofs.Common.{◌≡◌, ◌+◌, ◌<◌, ◌≤◌, ◌++◌, ℕ, List, Result, Ok, Err, IfOk, MatchResult, length, take, drop, refl, ap, sym, ◌∙◌, arith, append_assoc, append-nil, take-add, take-take, drop-drop, length-drop, length-take-le}
+use Rattle.std.proofs.Common.{◌≡◌, ◌+◌, ◌≤◌, ◌++◌, ℕ, List, Result, Ok, Err, IfOk, length, take, drop, refl, ap, sym, ◌∙◌, arith, append_assoc, append-nil, take-add, take-take, drop-drop, length-drop, length-take-le}
 use Rattle.std.proofs.Math.Seq.{take-append-add}
 use Rattle.std.proofs.lemmas.Slice.{take-put_mid}
 use borrow.Rule.Slice.PartMut.{put_mid}
-use Rattle.stream_io.specs.Talk.{OnlyRead, OnlyWrote, Talk, Took, TookPart, WrotePart}
+use Rattle.stream_io.specs.Talk.{OnlyRead, OnlyWrote, Talk, Took}
 
 pub grown : (xs was now bs piece : List ℕ) (at n : ℕ) → was ≡ xs ++ take at bs → piece ≡ drop at bs → now ≡ was ++ take n piece → now ≡ xs ++ take (at + n) bs
 grown xs was now bs piece at n w e h =

@@ -1,4 +1,3 @@
-pub mod Calls
-pub mod MemStore
+pub mod Net
 pub mod Store
 pub mod Talk

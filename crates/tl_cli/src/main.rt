@@ -1,11 +1,15 @@
 //! The program: the tool over files, sockets, the machine's clock and standard output.
 #![tactic(auto)]
 
+mod standard;
+
 use memory::NoMemory;
+use standard::hold_standard;
 use std::env;
 use std::io::ErrorKind;
 use std::process::ExitCode;
-use stream_io::{FileStore, StdoutSink, TcpNet, write_whole};
+use host_io::{FileStore, StdoutSink, TcpNet};
+use stream_io::write_whole;
 use tool_run::{SystemClocks, run_tool};
 
 /// The words after the program's name. Where one of them is no text there are none, which is a faulty command line too.
@@ -18,13 +22,14 @@ fn words(rt: &HostRuntime) -> Result<Vec<String>, NoMemory> {
 }
 
 fn main(rt: HostRuntime) -> ExitCode {
+    let _standard = hold_standard(&rt);
     let mut out = StdoutSink::new(rt);
     let Ok(words) = words(&rt) else {
         let _ = write_whole(&mut out, b"error 14 memory\n");
         return ExitCode::from(14);
     };
     let mut store = FileStore::new(rt);
-    let mut net = TcpNet::new();
+    let mut net = TcpNet::new(rt);
     let mut time = SystemClocks::new(rt);
     ExitCode::from(run_tool(
         &rt,

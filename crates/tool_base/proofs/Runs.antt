@@ -1,83 +1,91 @@
--- What a reading says of a longer run of the store.
-use Rattle.std.proofs.Common.{◌≡◌, ◌≤◌, ℕ, Bool, List, Option, refl, ◌∙◌, arith}
+-- What a part of a run says of the whole.
+use Rattle.std.proofs.Common.{ℕ, List, refl, ◌∙◌, arith}
+use Rattle.stream_io.specs.Store.{SameStore, StoreOnward, StoreState, Written}
 use Rattle.tool_base.specs.Ending.{Ending}
-use Rattle.tool_base.specs.Reads.{FailsToRead, failed, too_long, no_memory}
-use Rattle.tool_base.specs.World.{StoreRun, store_run, Reading, Failed, TooLong, Bytes, IsRead}
+use Rattle.tool_base.specs.Reads.{FailsUpTo, failed, too_long, no_memory}
+use Rattle.tool_base.specs.World.{IsBack, IsCalm, IsPart, from_to, Reading, Failed, TooLong, Bytes, IsReadUpTo}
 
--- the run a lies within the run b
-pub record LiesWithin (a b : StoreRun) : Type 0 where
-  pub told : a.told ≡ b.told
-  pub steady : a.steady ≡ b.steady
-  pub file : a.file ≡ b.file
-  pub begins : b.count ≤ a.count
-  pub ends : a.count_after ≤ b.count_after
+-- ---- states, one after another
+pub onward_none : (a : StoreState) → StoreOnward a a
+onward_none a = record { told = refl; steady = refl; disks = λ name. refl; count = omega arith; disk_count = omega arith }
 
-pub read_within : (a b : StoreRun) → LiesWithin a b → (name : List ℕ) (reading : Reading) → IsRead a name reading → IsRead b name reading
-read_within a b w name Failed r = (
-  let rose = r.0 in let begins = w.begins in let ends = w.ends in omega arith,
-  λ told steady. rw (← w.file) (r.1 (rw w.told told) (rw w.steady steady)),
+pub onward_on : (a b c : StoreState) → StoreOnward a b → StoreOnward b c → StoreOnward a c
+onward_on a b c one two = record {
+  told = two.told ∙ one.told;
+  steady = two.steady ∙ one.steady;
+  disks = λ name. two.disks name ∙ one.disks name;
+  count = let x = one.count in let y = two.count in omega arith;
+  disk_count = let x = one.disk_count in let y = two.disk_count in omega arith;
+}
+
+pub calm_none : (a : StoreState) → IsCalm a a
+calm_none a = record {
+  same = record {
+    names = record { file = refl; leaves = λ name image. (λ x. x, λ x. x); out = refl };
+    loans = record { disk_count = refl; views = refl };
+  };
+  onward = onward_none a;
+}
+
+pub calm_on : (a b c : StoreState) → IsCalm a b → IsCalm b c → IsCalm a c
+calm_on a b c one two = record {
+  same = record {
+    names = record {
+      file = two.same.names.file ∙ one.same.names.file;
+      leaves = λ name image. let x = one.same.names.leaves name image in let y = two.same.names.leaves name image in (λ z. x.0 (y.0 z), λ z. y.1 (x.1 z));
+      out = two.same.names.out ∙ one.same.names.out;
+    };
+    loans = record {
+      disk_count = two.same.loans.disk_count ∙ one.same.loans.disk_count;
+      views = two.same.loans.views ∙ one.same.loans.views;
+    };
+  };
+  onward = onward_on a b c one.onward two.onward;
+}
+
+pub back_calm : (a b : StoreState) → IsCalm a b → IsBack a b
+back_calm a b calm = record {
+  onward = calm.onward;
+  out = λ told name. rw calm.same.names.out refl;
+  views = λ told. calm.same.loans.views;
+}
+
+pub back_on : (a b c : StoreState) → IsCalm a b → IsBack b c → IsBack a c
+back_on a b c one two = record {
+  onward = onward_on a b c one.onward two.onward;
+  out = λ told name. rw (← one.same.names.out) (two.out (rw one.onward.told told) name);
+  views = λ told. two.views (rw one.onward.told told) ∙ one.same.loans.views;
+}
+
+pub back_written : (first now after : StoreState) (name bytes : List ℕ) → IsBack first now → Written now name bytes after → StoreOnward now after → IsBack first after
+back_written first now after name bytes back step onward = record {
+  onward = onward_on first now after back.onward onward;
+  out = λ told other. step.out other ∙ back.out told other;
+  views = λ told. step.loans.views ∙ back.views told;
+}
+
+pub back_same : (first now after : StoreState) → IsBack first now → SameStore now after → StoreOnward now after → IsBack first after
+back_same first now after back same onward = record {
+  onward = onward_on first now after back.onward onward;
+  out = λ told other. rw same.names.out (back.out told other);
+  views = λ told. same.loans.views ∙ back.views told;
+}
+
+-- ---- a part of a run, and the whole
+pub part_of : (first before after last : StoreState) → IsCalm first before → StoreOnward after last → IsPart first before after last
+part_of first before after last earlier later = record { earlier = earlier; later = later }
+
+pub read_part : (first before after last : StoreState) → IsPart first before after last → (limit : ℕ) (name : List ℕ) (reading : Reading)
+    → IsReadUpTo limit (from_to before after) name reading → IsReadUpTo limit (from_to first last) name reading
+read_part first before after last p limit name Failed r = (
+  let rose = r.0 in let begins = p.earlier.onward.count in let ends = p.later.count in omega arith,
+  λ told steady. rw (← p.earlier.same.names.file) (r.1 (rw p.earlier.onward.told told) (rw p.earlier.onward.steady steady)),
 )
-read_within a b w name (TooLong got) r = (r.0, λ told. rw (← w.file) (r.1 (rw w.told told)))
-read_within a b w name (Bytes bytes) r = (r.0, λ told. rw (← w.file) (r.1 (rw w.told told)))
+read_part first before after last p limit name (TooLong got) r = (r.0, λ told. rw (← p.earlier.same.names.file) (r.1 (rw p.earlier.onward.told told)))
+read_part first before after last p limit name (Bytes bytes) r = (r.0, λ told. rw (← p.earlier.same.names.file) (r.1 (rw p.earlier.onward.told told)))
 
-pub fails_within : (a b : StoreRun) → LiesWithin a b → (name : List ℕ) (end : Ending) → FailsToRead a name end → FailsToRead b name end
-fails_within a b w name _ (failed r) = failed (read_within a b w name Failed r)
-fails_within a b w name _ (too_long got r) = too_long got (read_within a b w name (TooLong got) r)
-fails_within a b w name _ no_memory = no_memory
-
--- how a store came from one state to a later one
-pub record Comes {S : Type 0} (told steady : S → Bool) (file : S → List ℕ → Option (List ℕ)) (count : S → ℕ) (before after : S) : Type 0 where
-  pub told_stays : told after ≡ told before
-  pub steady_stays : steady after ≡ steady before
-  pub file_stays : file after ≡ file before
-  pub count_grows : count before ≤ count after
-
-pub came : {S : Type 0} (told steady : S → Bool) (file : S → List ℕ → Option (List ℕ)) (count : S → ℕ) (before after : S)
-    → told after ≡ told before → steady after ≡ steady before → file after ≡ file before → count before ≤ count after
-    → Comes told steady file count before after
-came told steady file count before after t s f c = record { told_stays = t; steady_stays = s; file_stays = f; count_grows = c }
-
-pub comes_on : {S : Type 0} (told steady : S → Bool) (file : S → List ℕ → Option (List ℕ)) (count : S → ℕ) (a b c : S)
-    → Comes told steady file count a b → Comes told steady file count b c → Comes told steady file count a c
-comes_on told steady file count a b c one two = record {
-  told_stays = two.told_stays ∙ one.told_stays;
-  steady_stays = two.steady_stays ∙ one.steady_stays;
-  file_stays = two.file_stays ∙ one.file_stays;
-  count_grows = let x = one.count_grows in let y = two.count_grows in omega arith;
-}
-
--- the run from b to c within the run from a to d
-pub run_within : {S : Type 0} (told steady : S → Bool) (file : S → List ℕ → Option (List ℕ)) (count : S → ℕ) (a b c d : S)
-    → Comes told steady file count a b → Comes told steady file count c d
-    → LiesWithin (store_run told steady file count b c) (store_run told steady file count a d)
-run_within told steady file count a b c d one two = record {
-  told = one.told_stays;
-  steady = one.steady_stays;
-  file = one.file_stays;
-  begins = one.count_grows;
-  ends = two.count_grows;
-}
-
-pub stays : {S : Type 0} (told steady : S → Bool) (file : S → List ℕ → Option (List ℕ)) (count : S → ℕ) (a : S)
-    → Comes told steady file count a a
-stays told steady file count a = record { told_stays = refl; steady_stays = refl; file_stays = refl; count_grows = omega arith }
-
--- the run from b to c within the run from a to d, where the calls after c may have written
-pub run_before : {S : Type 0} (told steady : S → Bool) (file : S → List ℕ → Option (List ℕ)) (count : S → ℕ) (a b c d : S)
-    → Comes told steady file count a b → count c ≤ count d
-    → LiesWithin (store_run told steady file count b c) (store_run told steady file count a d)
-run_before told steady file count a b c d one later = record {
-  told = one.told_stays;
-  steady = one.steady_stays;
-  file = one.file_stays;
-  begins = one.count_grows;
-  ends = later;
-}
-
--- the last part of a run
-pub run_behind : {S : Type 0} (told steady : S → Bool) (file : S → List ℕ → Option (List ℕ)) (count : S → ℕ) (a b c : S)
-    → Comes told steady file count a b → LiesWithin (store_run told steady file count b c) (store_run told steady file count a c)
-run_behind told steady file count a b c one = run_before told steady file count a b c c one (omega arith)
-
-pub grows_on : (a b c : ℕ) → a ≤ b → b ≤ c → a ≤ c
-grows_on a b c one two = omega arith
+pub fails_part : (first before after last : StoreState) → IsPart first before after last → (limit : ℕ) (name : List ℕ) (end : Ending)
+    → FailsUpTo limit (from_to before after) name end → FailsUpTo limit (from_to first last) name end
+fails_part first before after last p limit name _ (failed r) = failed (read_part first before after last p limit name Failed r)
+fails_part first before after last p limit name _ (too_long got r) = too_long got (read_part first before after last p limit name (TooLong got) r)
+fails_part first before after last p limit name _ no_memory = no_memory

@@ -1,66 +1,53 @@
 -- Names that are tested and files that are written, one after another.
-use Rattle.std.proofs.Common.{◌≡◌, ◌≢◌, false, true, ◌≤◌, ◌<◌, ◌+◌, ◌⊎◌, ℕ, suc, List, [], ◌∷◌, ◌++◌, Option, length, take, drop, map, get_or, All, IsTrue, is_some, refl, sym, ap, ◌∙◌, inl, inr, arith, Bool, None}
+use Rattle.std.proofs.Common.{◌≡◌, ◌≢◌, ◌||◌, false, true, ◌<◌, ◌+◌, ◌⊎◌, ℕ, suc, List, [], ◌∷◌, ◌++◌, Option, length, take, drop, map, get_or, All, IsTrue, is_some, refl, sym, ap, ◌∙◌, inl, inr, arith, Bool, None, Some}
 use Rattle.std.proofs.Math.Seq.{split_at}
+use Rattle.std.proofs.lemmas.Bool.{false≢true}
 use Rattle.std.proofs.lemmas.List.{take_more, map-append}
-use Rattle.std.proofs.lemmas.List.Elements.{All-append, All-cons, All-get_or, All-nil, All-tail, All-weaker}
+use Rattle.std.proofs.lemmas.List.Elements.{All-append, All-cons, All-get_or, All-head, All-nil, All-tail, All-weaker}
 use Rattle.std.proofs.lemmas.Slice.Eq.{bytes_eq-Decides}
 use Rattle.std.specs.Str.{bytes_eq}
-use Rattle.stream_io.specs.Store.{added}
+use Rattle.disk_trait.specs.Images.{Only}
+use Rattle.stream_io.specs.Store.{OthersLeave, SameStore, StoreOnward, StoreState, Written, added, has_name}
 use Rattle.tool_base.specs.Ending as spec
 use Rattle.tool_base.specs.Ending.{Ending}
-use Rattle.tool_base.specs.Outputs.{CallFailed, EndsWith, FirstNotNew, IsLeft, IsNew, IsNotNew, test_failed, is_there, no_memory_to_name, IsNotWritten, write_failed, was_there, no_memory_to_write, Output, StopsAfter, all_added}
-use Rattle.tool_base.specs.World.{StoreRun}
-use Rattle.tool_base.proofs.Runs.{LiesWithin}
+use Rattle.tool_base.specs.Outputs.{AreStable, CallFailed, EndsWith, IsOther, FirstNotNew, IsLeft, IsNew, IsNotNew, test_failed, is_there, no_memory_to_name, IsNotWritten, write_failed, was_there, no_memory_to_write, Output, StopsAfter, all_added}
+use Rattle.tool_base.specs.World.{IsCalm, IsPart, StoreRun, from_to}
+use Rattle.tool_base.proofs.Runs.{onward_none, part_of}
 
--- ---- within longer runs
-pub failed_within : (a b : StoreRun) → LiesWithin a b → CallFailed a → CallFailed b
-failed_within a b w f = record {
-  rose = let rose = f.rose in let begins = w.begins in let ends = w.ends in omega arith;
-  unsteady = λ steady. f.unsteady (rw w.steady steady);
+-- ---- a part of a run, and the whole
+pub failed_part : (first before after last : StoreState) → IsPart first before after last → CallFailed (from_to before after) → CallFailed (from_to first last)
+failed_part first before after last p f = record {
+  rose = let rose = f.rose in let begins = p.earlier.onward.count in let ends = p.later.count in omega arith;
+  unsteady = λ steady. f.unsteady (rw p.earlier.onward.steady steady);
 }
 
-pub new_within : (a b : StoreRun) → LiesWithin a b → (name : List ℕ) → IsNew a name → IsNew b name
-new_within a b w name new = λ told. rw (← w.file) (new (rw w.told told))
+pub new_part : (first before after last : StoreState) → IsPart first before after last → (name : List ℕ) → IsNew (from_to before after) name → IsNew (from_to first last) name
+new_part first before after last p name new = λ told. rw (← p.earlier.same.names.file, ← p.earlier.same.names.out) (new (rw p.earlier.onward.told told))
 
-pub not_new_within : (a b : StoreRun) → LiesWithin a b → (name : List ℕ) (end : Ending) → IsNotNew a name end → IsNotNew b name end
-not_new_within a b w name _ (test_failed f) = test_failed (failed_within a b w f)
-not_new_within a b w name _ (is_there has) = is_there (λ told. rw (← w.file) (has (rw w.told told)))
-not_new_within a b w name _ no_memory_to_name = no_memory_to_name
+pub not_new_part : (first before after last : StoreState) → IsPart first before after last → (name : List ℕ) (end : Ending)
+    → IsNotNew (from_to before after) name end → IsNotNew (from_to first last) name end
+not_new_part first before after last p name _ (test_failed f) = test_failed (failed_part first before after last p f)
+not_new_part first before after last p name _ (is_there has) =
+    is_there (λ told. rw (← p.earlier.same.names.file, ← p.earlier.same.names.out) (has (rw p.earlier.onward.told told)))
+not_new_part first before after last p name _ no_memory_to_name = no_memory_to_name
 
-pub stops_within : (a b : StoreRun) → LiesWithin a b → (written : List Output) (name : List ℕ) (end : Ending)
-    → IsNotWritten a written name end → IsNotWritten b written name end
-stops_within a b w written name _ (write_failed f) = write_failed (failed_within a b w f)
-stops_within a b w written name _ (was_there untold) = was_there (λ told. untold (rw w.told told))
-stops_within a b w written name _ no_memory_to_write = no_memory_to_write
+pub all_new_part : (first before after last : StoreState) → IsPart first before after last → (names : List (List ℕ))
+    → All (IsNew (from_to before after)) names → All (IsNew (from_to first last)) names
+all_new_part first before after last p names new =
+    All-weaker (IsNew (from_to before after)) (IsNew (from_to first last)) (λ name new. new_part first before after last p name new) names new
 
-pub first_within : (a b : StoreRun) → LiesWithin a b → (names : List (List ℕ)) (end : Ending) → FirstNotNew a names end → FirstNotNew b names end
-first_within a b w names end f = record {
-  before = f.before;
-  name = f.name;
-  after = f.after;
-  is = f.is;
-  new = All-weaker (IsNew a) (IsNew b) (λ name new. new_within a b w name new) f.before f.new;
-  cause = not_new_within a b w f.name end f.cause;
-}
+-- a name that was new is so where nothing was changed since
+pub new_later : (first last now after : StoreState) → IsCalm first now → (name : List ℕ) → IsNew (from_to first last) name → IsNew (from_to now after) name
+new_later first last now after calm name new = λ told. rw (calm.same.names.file, calm.same.names.out) (new (rw (← calm.onward.told) told))
 
-pub all_new_within : (a b : StoreRun) → LiesWithin a b → (names : List (List ℕ)) → All (IsNew a) names → All (IsNew b) names
-all_new_within a b w names new = All-weaker (IsNew a) (IsNew b) (λ name new. new_within a b w name new) names new
-
-pub left_within : (a b : StoreRun) → LiesWithin a b → a.file_after ≡ b.file_after → (written : List Output) → IsLeft a written → IsLeft b written
-left_within a b w after written left = λ told name. rw (← after, ← w.file) (left (rw w.told told) name)
-
-pub stop_within : (a b : StoreRun) → LiesWithin a b → (outputs written : List Output) (end : Ending) → StopsAfter a outputs written end
-    → StopsAfter b outputs written end
-stop_within a b w outputs written end s = record {
-  output = s.output;
-  rest = s.rest;
-  is = s.is;
-  cause = stops_within a b w written s.output.name end s.cause;
-}
+pub all_new_later : (first last now after : StoreState) → IsCalm first now → (names : List (List ℕ))
+    → All (IsNew (from_to first last)) names → All (IsNew (from_to now after)) names
+all_new_later first last now after calm names new =
+    All-weaker (IsNew (from_to first last)) (IsNew (from_to now after)) (λ name new. new_later first last now after calm name new) names new
 
 -- ---- an end that names a name
 pub there_or_no_memory : (run : StoreRun) (name : List ℕ) (end : Ending) → (end ≡ spec.NoMemory) ⊎ (end ≡ spec.Exists name)
-    → (IsTrue run.told → IsTrue (is_some (run.file name))) → IsNotNew run name end
+    → (IsTrue run.before.told → IsTrue (has_name run.before name)) → IsNotNew run name end
 there_or_no_memory run name end (inl e) has = rw e no_memory_to_name
 there_or_no_memory run name end (inr e) has = rw e (is_there has)
 
@@ -107,30 +94,101 @@ added_more file now after f xs i x name h e before step =
     rw (next, map-append, all_added-append)
     (step ∙ all_added-same now (all_added file (map f (take i xs))) (f x) name before)
 
+added_one : (now after : List ℕ → Option (List ℕ)) (output : Output) (name : List ℕ) → after name ≡ added now output.name output.bytes name
+    → after name ≡ all_added now (output ∷ []) name
+unfolding all_added
+added_one now after output name is = is
+
 pub added_none : (file : List ℕ → Option (List ℕ)) (name : List ℕ) → file name ≡ all_added file [] name
 unfolding all_added
 added_none file name = refl
 
+-- ---- what is left
+all_first : {X : Type 0} (P : X → Type 0) (xs ys : List X) → All P (xs ++ ys) → All P xs
+all_first P [] ys all = All-nil P
+all_first P (x ∷ xs) ys all = All-cons P x xs (All-head P x (xs ++ ys) all) (all_first P xs ys (All-tail P x (xs ++ ys) all))
+
+all_last : {X : Type 0} (P : X → Type 0) (xs : List X) (y : X) → All P (xs ++ (y ∷ [])) → P y
+all_last P [] y all = All-head P y [] all
+all_last P (x ∷ xs) y all = all_last P xs y (All-tail P x (xs ++ (y ∷ [])) all)
+
 -- nothing was written
-pub none_left : (run : StoreRun) → run.file_after ≡ run.file → IsLeft run []
-none_left run same = λ told name. rw same (added_none run.file name)
+pub none_left : (first last : StoreState) → IsCalm first last → IsLeft (from_to first last) []
+none_left first last calm = record {
+  file = λ told name. rw calm.same.names.file (added_none first.file name);
+  stable = λ told. All-nil (λ output. Only output.bytes (last.leaves output.name));
+  others = λ told name image other. calm.same.names.leaves name image;
+}
+
+-- what was written in a part is what the whole leaves
+pub left_part : (first before last : StoreState) → IsCalm first before → (written : List Output) → IsLeft (from_to before last) written
+    → IsLeft (from_to first last) written
+left_part first before last calm written left = record {
+  file = λ told name. rw (← calm.same.names.file) (left.file (rw calm.onward.told told) name);
+  stable = λ told. left.stable (rw calm.onward.told told);
+  others = λ told name image other.
+      let x = calm.same.names.leaves name image in
+      let y = left.others (rw calm.onward.told told) name image other in
+      (λ z. x.0 (y.0 z), λ z. y.1 (x.1 z));
+}
+
+-- a call that changed nothing behind what was written
+pub left_same : (first now after : StoreState) → SameStore now after → StoreOnward now after → (written : List Output) → IsLeft (from_to first now) written
+    → IsLeft (from_to first after) written
+left_same first now after same onward written left = record {
+  file = λ told name. rw same.names.file (left.file told name);
+  stable = λ told. All-weaker (λ output. Only output.bytes (now.leaves output.name)) (λ output. Only output.bytes (after.leaves output.name))
+      (λ output only. λ image leaves. only image ((same.names.leaves output.name image).0 leaves)) written (left.stable told);
+  others = λ told name image other.
+      let x = left.others told name image other in
+      let y = same.names.leaves name image in
+      (λ z. x.0 (y.0 z), λ z. y.1 (x.1 z));
+}
+
+false_when : (b : Bool) → (b ≡ true → ⊥) → b ≡ false
+false_when true not = absurd (not refl)
+false_when false not = refl
+
+differ_so : (a b : List ℕ) → a ≢ b → bytes_eq a b ≡ false
+differ_so a b other = false_when (bytes_eq a b) (λ yes. other ((bytes_eq-Decides a b).0 yes))
+
+-- files that were stable are so after another was written
+stable_still : (now after : StoreState) (name : List ℕ) → OthersLeave name now after → (outputs : List Output)
+    → All (λ other. other ≢ name) (map (λ output. output.name) outputs) → AreStable now outputs → AreStable after outputs
+stable_still now after name others [] differ stable = All-nil (λ output. Only output.bytes (after.leaves output.name))
+stable_still now after name others (output ∷ outputs) differ stable =
+    let other : bytes_eq output.name name ≡ false =
+    differ_so output.name name (All-head (λ other. other ≢ name) output.name (map (λ output. output.name) outputs) differ) in
+    let own : Only output.bytes (now.leaves output.name) = All-head (λ output. Only output.bytes (now.leaves output.name)) output outputs stable in
+    All-cons (λ output. Only output.bytes (after.leaves output.name)) output outputs
+    (λ image leaves. own image ((others output.name image other).0 leaves))
+    (stable_still now after name others outputs (All-tail (λ other. other ≢ name) output.name (map (λ output. output.name) outputs) differ)
+    (All-tail (λ output. Only output.bytes (now.leaves output.name)) output outputs stable))
+
+-- one file more was written
+pub left_more : {X : Type 0} (first now after : StoreState) (f : X → Output) (xs : List X) (i : ℕ) (x : X) → i < length xs → x ≡ get_or xs i x
+    → now.told ≡ first.told → All (λ other. other ≢ (f x).name) (map (λ output. output.name) (map f (take i xs)))
+    → IsLeft (from_to first now) (map f (take i xs)) → Written now (f x).name (f x).bytes after
+    → IsLeft (from_to first after) (map f (take (i + 1) xs))
+left_more first now after f xs i x h e same differ left step =
+    let next : take (i + 1) xs ≡ take i xs ++ (x ∷ []) = take_more xs i x h ∙ ap (λ y. take i xs ++ (y ∷ [])) (sym e) in
+    let all : map f (take (i + 1) xs) ≡ map f (take i xs) ++ (f x ∷ []) = ap (map f) next ∙ map-append f (take i xs) (x ∷ []) in
+    record {
+      file = λ told name. added_more first.file now.file after.file f xs i x name h e (left.file told name) (added_one now.file after.file (f x) name (step.file (rw same told) name));
+      stable = λ told. rw all (All-append (λ output. Only output.bytes (after.leaves output.name)) (map f (take i xs)) (f x ∷ [])
+          (stable_still now after (f x).name (step.others (rw same told)) (map f (take i xs)) differ (left.stable told))
+          (All-cons (λ output. Only output.bytes (after.leaves output.name)) (f x) [] (step.stable (rw same told)) (All-nil (λ output. Only output.bytes (after.leaves output.name)))));
+      others = λ told name image other.
+          let parts : IsOther (map f (take i xs) ++ (f x ∷ [])) name = rw all at other in
+          let before = left.others told name image (all_first (λ output. bytes_eq name output.name ≡ false) (map f (take i xs)) (f x ∷ []) parts) in
+          let own = step.others (rw same told) name image (all_last (λ output. bytes_eq name output.name ≡ false) (map f (take i xs)) (f x) parts) in
+          (λ z. before.0 (own.0 z), λ z. own.1 (before.1 z));
+    }
 
 -- the names of outputs
 pub names_of : {X : Type 0} (f : X → Output) (xs : List X) → map (λ output. output.name) (map f xs) ≡ map (λ x. (f x).name) xs
 names_of f [] = refl
 names_of f (x ∷ xs) = ap (λ names. (f x).name ∷ names) (names_of f xs)
-
--- a run that begins where a longer run has written files
-pub record GoesOn (a b : StoreRun) (written : List Output) : Type 0 where
-  pub told : a.told ≡ b.told
-  pub steady : a.steady ≡ b.steady
-  pub begins : b.count ≤ a.count
-  pub ends : a.count_after ≤ b.count_after
-  pub file : IsTrue b.told → (name : List ℕ) → a.file name ≡ all_added b.file written name
-
-false_when : (b : Bool) → (b ≡ true → ⊥) → b ≡ false
-false_when true not = absurd (not refl)
-false_when false not = refl
 
 -- a name that was not in the store, and is none of those that were written
 pub not_added : (file : List ℕ → Option (List ℕ)) (outputs : List Output) (name : List ℕ) → file name ≡ None
@@ -143,18 +201,40 @@ not_added file (output ∷ outputs) name absent differ =
     let first : added file output.name output.bytes name ≡ None = rw no absent in
     not_added (added file output.name output.bytes) outputs name first (All-tail (λ other. other ≢ name) output.name (map (λ output. output.name) outputs) differ)
 
-pub stops_behind : (a b : StoreRun) (written : List Output) → GoesOn a b written → (name : List ℕ) (end : Ending)
-    → (IsTrue b.told → all_added b.file written name ≡ None) → IsNotNew a name end → IsNotWritten b written name end
-stops_behind a b written w name _ absent (test_failed f) = write_failed (record {
-  rose = let rose = f.rose in let begins = w.begins in let ends = w.ends in omega arith;
-  unsteady = λ steady. f.unsteady (rw w.steady steady);
+none_of : {A B : Type 0} (x : Option A) (y : Option B) → (is_some x || is_some y) ≡ false → (x ≡ None) × (y ≡ None)
+none_of None None absent = (refl, refl)
+none_of None (Some y) absent = absurd (false≢true (sym absent))
+none_of (Some x) y absent = absurd (false≢true (sym absent))
+
+no_name : (store : StoreState) (name : List ℕ) → store.file name ≡ None → store.out name ≡ None → IsTrue (has_name store name) → ⊥
+no_name store name file out has = let no : IsTrue false = rw (file, out) at has in absurd (false≢true no)
+
+absent_parts : (store : StoreState) (name : List ℕ) → has_name store name ≡ false → (store.file name ≡ None) × (store.out name ≡ None)
+absent_parts store name absent = none_of (store.file name) (store.out name) absent
+
+pub not_written_part : (first before last : StoreState) → IsCalm first before → (written : List Output) (name : List ℕ) (end : Ending)
+    → IsNotWritten (from_to before last) written name end → IsNotWritten (from_to first last) written name end
+not_written_part first before last calm written name _ (write_failed f) = write_failed (failed_part first before last last (part_of first before last last calm (onward_none last)) f)
+not_written_part first before last calm written name _ (was_there untold) = was_there (λ told. untold (rw calm.onward.told told))
+not_written_part first before last calm written name _ no_memory_to_write = no_memory_to_write
+
+-- a file could not be written behind others that were
+pub stops_behind : (first now after : StoreState) (written : List Output) → StoreOnward first now → ((name : List ℕ) → IsTrue first.told → now.out name ≡ first.out name)
+    → IsLeft (from_to first now) written → (name : List ℕ) (end : Ending) → IsNew (from_to first first) name
+    → All (λ other. other ≢ name) (map (λ output. output.name) written) → IsNotNew (from_to now after) name end
+    → IsNotWritten (from_to first after) written name end
+stops_behind first now after written onward out left name _ new differ (test_failed f) = write_failed (record {
+  rose = let rose = f.rose in let begins = onward.count in omega arith;
+  unsteady = λ steady. f.unsteady (rw onward.steady steady);
 })
-stops_behind a b written w name _ absent (is_there has) =
+stops_behind first now after written onward out left name _ new differ (is_there has) =
     was_there (λ told.
-    let there = has (rw w.told told) in
-    let none : a.file name ≡ None = w.file told name ∙ absent told in
-    cc)
-stops_behind a b written w name _ absent no_memory_to_name = no_memory_to_write
+    let there : IsTrue (has_name now name) = has (rw onward.told told) in
+    let absent = absent_parts first name (new told) in
+    let none : now.file name ≡ None = left.file told name ∙ not_added first.file written name absent.0 differ in
+    let in_store : now.out name ≡ None = out name told ∙ absent.1 in
+    no_name now name none in_store there)
+stops_behind first now after written onward out left name _ new differ no_memory_to_name = no_memory_to_write
 
 pub stops_after : {X : Type 0} (run : StoreRun) (f : X → Output) (xs : List X) (i : ℕ) (x : X) (end : Ending) → i < length xs → x ≡ get_or xs i x
     → IsLeft run (map f (take i xs)) → IsNotWritten run (map f (take i xs)) (f x).name end
@@ -165,16 +245,27 @@ stops_after run f xs i x end h e left cause = record {
   left = left;
 }
 
--- ---- how a command ends
-pub ends_untouched : (run : StoreRun) (ends : Ending → List Output → Type 0) (end : Ending) → run.file_after ≡ run.file → ends end []
-    → EndsWith ends run end
-ends_untouched run ends end same cause = record { written = []; cause = cause; left = none_left run same }
-
-pub ends_stopped : (a b : StoreRun) → LiesWithin a b → a.file_after ≡ b.file_after → (outputs : List Output) (ends : Ending → List Output → Type 0) (end : Ending)
-    → EndsWith (λ end written. StopsAfter a outputs written end) a end → ((written : List Output) → StopsAfter b outputs written end → ends end written)
-    → EndsWith ends b end
-ends_stopped a b w after outputs ends end stop goes = record {
+-- a part in which files were written, and the whole
+pub stopped_part : (first before last : StoreState) → IsCalm first before → (outputs : List Output) (end : Ending)
+    → EndsWith (λ end written. StopsAfter (from_to before last) outputs written end) (from_to before last) end
+    → EndsWith (λ end written. StopsAfter (from_to first last) outputs written end) (from_to first last) end
+stopped_part first before last calm outputs end stop = record {
   written = stop.written;
-  cause = goes stop.written (stop_within a b w outputs stop.written end stop.cause);
-  left = left_within a b w after stop.written stop.left;
+  cause = record {
+    output = stop.cause.output;
+    rest = stop.cause.rest;
+    is = stop.cause.is;
+    cause = not_written_part first before last calm stop.written stop.cause.output.name end stop.cause.cause;
+  };
+  left = left_part first before last calm stop.written stop.left;
 }
+
+-- ---- how a command ends
+pub ends_untouched : (first last : StoreState) → IsCalm first last → (ends : Ending → List Output → Type 0) (end : Ending) → ends end []
+    → EndsWith ends (from_to first last) end
+ends_untouched first last calm ends end cause = record { written = []; cause = cause; left = none_left first last calm }
+
+pub ends_stopped : (run : StoreRun) (outputs : List Output) (ends : Ending → List Output → Type 0) (end : Ending)
+    → EndsWith (λ end written. StopsAfter run outputs written end) run end → ((written : List Output) → StopsAfter run outputs written end → ends end written)
+    → EndsWith ends run end
+ends_stopped run outputs ends end stop goes = record { written = stop.written; cause = goes stop.written stop.cause; left = stop.left }

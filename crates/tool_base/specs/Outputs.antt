@@ -1,7 +1,9 @@
 -- The files that a command writes, each under a new name.
-use Rattle.std.specs.Prelude.{◌≡◌, ◌≢◌, ⊤, ℕ, List, [], ◌∷◌, ◌++◌, None, Option, is_some, IsTrue, All}
+use Rattle.std.specs.Prelude.{◌≡◌, ◌≢◌, ◌↔◌, ⊤, ℕ, false, List, [], ◌∷◌, ◌++◌, Option, IsTrue, All}
+use Rattle.std.specs.Str.{bytes_eq}
 use Rattle.disk_trait.specs.Faults.{Rose}
-use Rattle.stream_io.specs.Store.{added}
+use Rattle.disk_trait.specs.Images.{Only}
+use Rattle.stream_io.specs.Store.{StoreState, added, has_name}
 use Rattle.tool_base.specs.Ending as ending
 use Rattle.tool_base.specs.Ending.{Ending}
 use Rattle.tool_base.specs.World.{StoreRun}
@@ -16,23 +18,36 @@ unfoldable pub all_added : (List ℕ → Option (List ℕ)) → List Output → 
 all_added file [] = file
 all_added file (output ∷ outputs) = all_added (added file output.name output.bytes) outputs
 
--- the store has what it had and these files
-abbrev pub IsLeft : StoreRun → List Output → Type 0
-IsLeft store written = IsTrue store.told → (name : List ℕ) → store.file_after name ≡ all_added store.file written name
+-- a name is none of these outputs'
+abbrev pub IsOther : List Output → List ℕ → Type 0
+IsOther outputs name = All (λ output. bytes_eq name output.name ≡ false) outputs
+
+-- a crash now leaves these files whole
+abbrev pub AreStable : StoreState → List Output → Type 0
+AreStable store outputs = All (λ output. Only output.bytes (store.leaves output.name)) outputs
+
+-- The store has what it had and these files, which are all stable. A crash may leave of every other name what it might
+-- have left before.
+pub record IsLeft (store : StoreRun) (written : List Output) : Type 0 where
+  pub file : IsTrue store.before.told → (name : List ℕ)
+      → store.after.file name ≡ all_added store.before.file written name
+  pub stable : IsTrue store.before.told → AreStable store.after written
+  pub others : IsTrue store.before.told → (name image : List ℕ) → IsOther written name
+      → store.after.leaves name image ↔ store.before.leaves name image
 
 -- the name is not in the store
 abbrev pub IsNew : StoreRun → List ℕ → Type 0
-IsNew store name = IsTrue store.told → store.file name ≡ None
+IsNew store name = IsTrue store.before.told → has_name store.before name ≡ false
 
 -- a call of the store failed: the count of faults rose, and the store is not steady
 pub record CallFailed (store : StoreRun) : Type 0 where
-  pub rose : Rose store.count store.count_after
-  pub unsteady : IsTrue store.steady → ⊥
+  pub rose : Rose store.before.count store.after.count
+  pub unsteady : IsTrue store.before.steady → ⊥
 
 -- the end where this name was not found new
 pub data IsNotNew (store : StoreRun) (name : List ℕ) : Ending → Type 0 where
   test_failed : CallFailed store → IsNotNew store name ending.StoreFailed
-  is_there : (IsTrue store.told → IsTrue (is_some (store.file name))) → IsNotNew store name (ending.Exists name)
+  is_there : (IsTrue store.before.told → IsTrue (has_name store.before name)) → IsNotNew store name (ending.Exists name)
   no_memory_to_name : IsNotNew store name ending.NoMemory
 
 -- the end where one of these names was not found new, the first such
@@ -53,7 +68,7 @@ AreDifferent (name ∷ names) = All (λ other. name ≢ other) names × AreDiffe
 -- was tested is there now only in a store that does not tell its content.
 pub data IsNotWritten (store : StoreRun) (written : List Output) (name : List ℕ) : Ending → Type 0 where
   write_failed : CallFailed store → IsNotWritten store written name ending.StoreFailed
-  was_there : (IsTrue store.told → ⊥) → IsNotWritten store written name (ending.Exists name)
+  was_there : (IsTrue store.before.told → ⊥) → IsNotWritten store written name (ending.Exists name)
   no_memory_to_write : IsNotWritten store written name ending.NoMemory
 
 -- the end where these of the files were written, and the next one was not

@@ -1,28 +1,20 @@
 -- What is known of the outside before and after a call of the tool.
-use Rattle.std.specs.Prelude.{◌≡◌, ◌≤◌, ◌<◌, ℕ, Bool, List, Option, Some, None, length, option_map, IsTrue}
+use Rattle.std.specs.Prelude.{◌≡◌, ◌≤◌, ◌<◌, ℕ, Bool, List, Some, None, length, option_map, IsTrue}
 use Rattle.disk_trait.specs.Faults.{Rose}
+use Rattle.stream_io.specs.Net.{NetOnward, NetState}
+use Rattle.stream_io.specs.Store.{SameStore, StoreOnward, StoreState}
 use Rattle.stream_io.specs.Talk.{Talk}
 
--- a store: whether it tells its content and whether it is steady, what a name is read with, and its count of faults
-pub record StoreRun : Type 0 where
+-- what makes clocks: whether it tells their answers, and what every clock answers, the first answer at 0
+pub record TimeState : Type 0 where
   pub told : Bool
-  pub steady : Bool
-  pub file : List ℕ → Option (List ℕ)
-  pub file_after : List ℕ → Option (List ℕ)
-  pub count : ℕ
-  pub count_after : ℕ
+  pub answers : ℕ → ℕ
 
--- a store from one state to another
-abbrev pub store_run : {S : Type 0} → (S → Bool) → (S → Bool) → (S → List ℕ → Option (List ℕ)) → (S → ℕ) → S → S
-    → StoreRun
-store_run told steady file count before after = record {
-  told = told before;
-  steady = steady before;
-  file = file before;
-  file_after = file after;
-  count = count before;
-  count_after = count after;
-}
+-- all that a call is handed, in one state, but for its output
+pub record Outside : Type 1 where
+  pub store : StoreState
+  pub net : NetState
+  pub time : TimeState
 
 -- an output: whether it is steady, the room that it has, and its talk before and after
 pub record OutputRun : Type 0 where
@@ -40,9 +32,46 @@ output_run steady room talk before after = record {
   after = talk after;
 }
 
-pub record World : Type 0 where
-  pub store : StoreRun
+pub record World : Type 1 where
+  pub before : Outside
+  pub after : Outside
   pub output : OutputRun
+
+-- no object changes its kind, and no count falls
+pub record Onward (old new : Outside) : Type 0 where
+  pub store : StoreOnward old.store new.store
+  pub net : NetOnward old.net new.net
+  pub time : new.time ≡ old.time
+
+-- every disk, view and port that was handed out is back
+pub record AllBack (old new : Outside) : Type 0 where
+  pub disks : IsTrue old.store.told → (name : List ℕ) → new.store.out name ≡ old.store.out name
+  pub views : IsTrue old.store.told → new.store.views ≡ old.store.views
+  pub ports : IsTrue old.net.told → new.net.out ≡ old.net.out
+
+-- a store from one state to a later one
+pub record StoreRun : Type 1 where
+  pub before : StoreState
+  pub after : StoreState
+
+abbrev pub from_to : StoreState → StoreState → StoreRun
+from_to before after = record { before = before; after = after }
+
+-- nothing changed but that counts may have risen
+pub record IsCalm (old new : StoreState) : Type 0 where
+  pub same : SameStore old new
+  pub onward : StoreOnward old new
+
+-- a part of a run from its first state to its last: nothing changed before this part, and no count fell after it
+pub record IsPart (first before after last : StoreState) : Type 0 where
+  pub earlier : IsCalm first before
+  pub later : StoreOnward after last
+
+-- what a command makes of a store: no count fell, and all that was handed out is back
+pub record IsBack (old new : StoreState) : Type 0 where
+  pub onward : StoreOnward old new
+  pub out : IsTrue old.told → (name : List ℕ) → new.out name ≡ old.out name
+  pub views : IsTrue old.told → new.views ≡ old.views
 
 -- how long a file may be that the tool reads whole
 abbrev pub file_limit : ℕ
@@ -54,11 +83,15 @@ pub data Reading : Type 0 where
   TooLong : (got : ℕ) → Reading
   Bytes : (bytes : List ℕ) → Reading
 
--- Reading the file of this name came to this. It fails only where the count of faults rose, and over a steady store
--- that tells its content only where the name is not in the store.
+-- Reading the file of this name up to a limit came to this. It fails only where the count of faults rose, and over a
+-- steady store that tells its content only where nothing is read under the name.
+abbrev pub IsReadUpTo : ℕ → StoreRun → List ℕ → Reading → Type 0
+IsReadUpTo limit store name Failed = Rose store.before.count store.after.count
+    × (IsTrue store.before.told → IsTrue store.before.steady → store.before.file name ≡ None)
+IsReadUpTo limit store name (TooLong got) = (limit < got)
+    × (IsTrue store.before.told → option_map length (store.before.file name) ≡ Some got)
+IsReadUpTo limit store name (Bytes bytes) = (length bytes ≤ limit)
+    × (IsTrue store.before.told → store.before.file name ≡ Some bytes)
+
 abbrev pub IsRead : StoreRun → List ℕ → Reading → Type 0
-IsRead store name Failed =
-    Rose store.count store.count_after × (IsTrue store.told → IsTrue store.steady → store.file name ≡ None)
-IsRead store name (TooLong got) =
-    (file_limit < got) × (IsTrue store.told → option_map length (store.file name) ≡ Some got)
-IsRead store name (Bytes bytes) = (length bytes ≤ file_limit) × (IsTrue store.told → store.file name ≡ Some bytes)
+IsRead = IsReadUpTo file_limit

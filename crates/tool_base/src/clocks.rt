@@ -1,7 +1,8 @@
 //! What makes clocks, in memory and over the machine's clock.
 
-ghost use Rattle.std.specs.Prelude.{◌≡◌, ◌+◌, ◌-◌, ◌^◌, ℕ, Bool, All, min, length, IsTrue, IsFalse, IfOk, true};
+ghost use Rattle.std.specs.Prelude.{◌≡◌, ◌+◌, ◌-◌, ◌^◌, ℕ, All, min, length, IsTrue, IsFalse, IfOk, true};
 ghost use Rattle.std.specs.Prelude.{false};
+ghost use Rattle.tool_base.specs.World.{TimeState};
 
 use memory::NoMemory;
 use std::alloc::Global;
@@ -14,21 +15,17 @@ pub trait Clocks {
     /// The clocks that it makes.
     type Clock: Clock + Drop + Send;
 
-    /// Whether it tells what its clocks answer.
-    ghost told: { Self → Bool };
-
-    /// What every clock that it makes answers, the first answer at 0, where that is told.
-    ghost answers: { Self → ℕ → ℕ };
+    /// What it tells of its clocks.
+    ghost state: { Self → TimeState };
 
     /// Makes that many clocks.
     fn clocks(&mut self, alloc: Global, count: u32) -> Result<Vec<Self::Clock>, NoMemory>
         ensures count { IfOk result (λ clocks. length clocks.items ≡ count) }
-        ensures tell { IsTrue (told self.old) →
+        ensures tell { IsTrue (state self.old).told →
             IfOk result (λ clocks. All (λ clock. IsTrue (Self.Clock.told clock)) clocks.items) }
-        ensures answers { IsTrue (told self.old) → (j : ℕ) →
-            IfOk result (λ clocks. All (λ clock. Self.Clock.answers clock j ≡ answers self.old j) clocks.items) }
-        ensures stays { answers self.new ≡ answers self.old }
-        ensures told { told self.new ≡ told self.old };
+        ensures answers { IsTrue (state self.old).told → (j : ℕ) → IfOk result (λ clocks.
+            All (λ clock. Self.Clock.answers clock j ≡ (state self.old).answers j) clocks.items) }
+        ensures same { state self.new ≡ state self.old };
 }
 
 /// Makes clocks that count up by one from a number, and stay at the greatest.
@@ -40,8 +37,8 @@ pub struct MemClocks {
 impl MemClocks {
     /// Makes clocks that count from this number.
     pub fn new(start: u64) -> MemClocks
-        ensures told { IsTrue (⟦<MemClocks as Clocks>⟧.told result) }
-        ensures answers { (j : ℕ) → ⟦<MemClocks as Clocks>⟧.answers result j ≡ min (start + j) (2 ^ 64 - 1) }
+        ensures told { IsTrue (⟦<MemClocks as Clocks>⟧.state result).told }
+        ensures answers { (j : ℕ) → (⟦<MemClocks as Clocks>⟧.state result).answers j ≡ min (start + j) (2 ^ 64 - 1) }
     {
         MemClocks { start }
     }
@@ -50,9 +47,7 @@ impl MemClocks {
 impl Clocks for MemClocks {
     type Clock = MemClock;
 
-    ghost told = { λ _. true };
-
-    ghost answers = { λ clocks j. min (clocks.start + j) (2 ^ 64 - 1) };
+    ghost state = { λ clocks. record { told = true; answers = λ j. min (clocks.start + j) (2 ^ 64 - 1) } };
 
     fn clocks(&mut self, alloc: Global, count: u32) -> Result<Vec<MemClock>, NoMemory> {
         let clock = MemClock { next: self.start };
@@ -87,7 +82,7 @@ pub struct SystemClocks<R: MachineClock + Copy + Send> {
 impl<R: MachineClock + Copy + Send> SystemClocks<R> {
     /// Makes clocks over the clock of this runtime.
     pub fn new(rt: R) -> SystemClocks<R>
-        ensures { IsFalse (⟦<SystemClocks<R> as Clocks>⟧.told result) }
+        ensures { IsFalse (⟦<SystemClocks<R> as Clocks>⟧.state result).told }
     {
         SystemClocks { rt }
     }
@@ -96,9 +91,7 @@ impl<R: MachineClock + Copy + Send> SystemClocks<R> {
 impl<R: MachineClock + Copy + Send> Clocks for SystemClocks<R> {
     type Clock = SystemClock<R>;
 
-    ghost told = { λ _. false };
-
-    ghost answers = { λ _ _. 0 };
+    ghost state = { λ _. record { told = false; answers = λ _. 0 } };
 
     fn clocks(&mut self, alloc: Global, count: u32) -> Result<Vec<SystemClock<R>>, NoMemory> {
         let clock = SystemClock { rt: self.rt };

@@ -1,17 +1,16 @@
 //! Files that a command writes under new names.
 
-ghost use Rattle.std.specs.Prelude.{◌≡◌, ◌≤◌, ◌⊎◌, ℕ, List, [], ◌∷◌, All, map, string_bytes, None, IsTrue};
-ghost use Rattle.std.specs.Prelude.{IfErr, OnOk, OnErr};
+ghost use Rattle.std.specs.Prelude.{◌≡◌, ◌⊎◌, All, map, string_bytes, IfErr, OnOk, OnErr};
+ghost use Rattle.stream_io.specs.Store.{SameStore, StoreOnward, Written};
 ghost use Rattle.tool_base.specs.Ending as spec;
 ghost use Rattle.tool_base.specs.Endings.{ending};
 ghost use Rattle.tool_base.specs.OutputOf.{output_of};
-ghost use Rattle.tool_base.specs.Outputs.{AreDifferent, EndsWith, FirstNotNew, IsLeft, IsNew, IsNotNew};
-ghost use Rattle.tool_base.specs.Outputs.{StopsAfter, all_added};
-ghost use Rattle.tool_base.specs.World.{store_run};
+ghost use Rattle.tool_base.specs.Outputs.{AreDifferent, EndsWith, FirstNotNew, IsLeft, IsNew, IsNotNew, StopsAfter};
+ghost use Rattle.tool_base.specs.World.{IsBack, IsCalm, IsPart, from_to};
 
 use crate::ending::Ending;
 use std::alloc::{AllocError, Global};
-use stream_io::{Failed, NewFault, Store};
+use stream_io::{CallFault, NewFault, Readers, Store};
 
 /// A file to be written.
 #[derive(Drop)]
@@ -20,6 +19,8 @@ pub struct Output {
     pub name: String,
     /// Its bytes.
     pub bytes: Vec<u8>,
+    /// Who may read it.
+    pub readers: Readers,
 }
 
 /// The end where an output of this name is in the store.
@@ -34,19 +35,19 @@ fn exists(alloc: Global, name: &str) -> Ending
 
 /// Tests that a name is not in the store.
 pub fn test_new<S: Store>(alloc: Global, store: &mut S, name: &str) -> Result<(), Ending>
-    ensures new { let run = store_run S.told S.steady S.file S.count store.old store.new in
-        OnOk result (IsNew run name.now) }
-    ensures refused { let run = store_run S.told S.steady S.file S.count store.old store.new in
-        IfErr result (λ end. IsNotNew run name.now (ending end)) }
-    ensures file { S.file store.new ≡ S.file store.old }
-    ensures count { S.count store.old ≤ S.count store.new }
-    ensures told { S.told store.new ≡ S.told store.old }
-    ensures steady { S.steady store.new ≡ S.steady store.old }
+    ensures new { (first last : S)
+        → IsPart (S.state first) (S.state store.old) (S.state store.new) (S.state last)
+        → OnOk result (IsNew (from_to (S.state first) (S.state last)) name.now) }
+    ensures refused { (first last : S)
+        → IsPart (S.state first) (S.state store.old) (S.state store.new) (S.state last)
+        → IfErr result (λ end. IsNotNew (from_to (S.state first) (S.state last)) name.now (ending end)) }
+    ensures calm { IsCalm (S.state store.old) (S.state store.new) }
 {
     match store.has(name) {
         Ok(false) => Ok(()),
         Ok(true) => Err(exists(alloc, name)),
-        Err(Failed) => Err(Ending::StoreFailed),
+        Err(CallFault::Failed) => Err(Ending::StoreFailed),
+        Err(CallFault::NoMemory) => Err(Ending::NoMemory),
     }
 }
 
@@ -56,14 +57,15 @@ pub fn test_all_new<S: Store>(
     store: &mut S,
     outputs: &[Output],
 ) -> Result<(), Ending>
-    ensures new { let run = store_run S.told S.steady S.file S.count store.old store.new in
-        OnOk result (All (IsNew run) (map (λ output. string_bytes output.name) outputs.now)) }
-    ensures refused { let run = store_run S.told S.steady S.file S.count store.old store.new in
-        IfErr result (λ end. FirstNotNew run (map (λ output. string_bytes output.name) outputs.now) (ending end)) }
-    ensures file { S.file store.new ≡ S.file store.old }
-    ensures count { S.count store.old ≤ S.count store.new }
-    ensures told { S.told store.new ≡ S.told store.old }
-    ensures steady { S.steady store.new ≡ S.steady store.old }
+    ensures new { (first last : S)
+        → IsPart (S.state first) (S.state store.old) (S.state store.new) (S.state last)
+        → OnOk result (All (IsNew (from_to (S.state first) (S.state last)))
+        (map (λ output. string_bytes output.name) outputs.now)) }
+    ensures refused { (first last : S)
+        → IsPart (S.state first) (S.state store.old) (S.state store.new) (S.state last)
+        → IfErr result (λ end. FirstNotNew (from_to (S.state first) (S.state last))
+        (map (λ output. string_bytes output.name) outputs.now) (ending end)) }
+    ensures calm { IsCalm (S.state store.old) (S.state store.new) }
 {
     'outputs: for output in outputs {
         test_new(alloc, store, output.name.as_str())?;
@@ -73,17 +75,15 @@ pub fn test_all_new<S: Store>(
 
 /// Writes a file under a new name.
 fn write_output<S: Store>(alloc: Global, store: &mut S, output: &Output) -> Result<(), Ending>
-    ensures written { IsTrue (S.told store.old) → OnOk result ((name : List ℕ) →
-        S.file store.new name ≡ all_added (S.file store.old) (output_of output.now ∷ []) name) }
-    ensures refused { let run = store_run S.told S.steady S.file S.count store.old store.new in
-        IfErr result (λ end. IsNotNew run (string_bytes output.now.name) (ending end)) }
-    ensures unchanged { IsTrue (S.told store.old) → OnErr result (S.file store.new ≡ S.file store.old) }
-    ensures count { S.count store.old ≤ S.count store.new }
-    ensures told { S.told store.new ≡ S.told store.old }
-    ensures steady { S.steady store.new ≡ S.steady store.old }
+    ensures written { OnOk result (Written (S.state store.old) (string_bytes output.now.name) output.now.bytes.items
+        (S.state store.new)) }
+    ensures refused { IfErr result (λ end.
+        IsNotNew (from_to (S.state store.old) (S.state store.new)) (string_bytes output.now.name) (ending end)) }
+    ensures unchanged { OnErr result (SameStore (S.state store.old) (S.state store.new)) }
+    ensures onward { StoreOnward (S.state store.old) (S.state store.new) }
 {
     let name = output.name.as_str();
-    match store.write_new(alloc, name, &output.bytes) {
+    match store.write_new(alloc, name, &output.bytes, output.readers) {
         Ok(()) => Ok(()),
         Err(NewFault::Exists) => Err(exists(alloc, name)),
         Err(NewFault::Failed) => Err(Ending::StoreFailed),
@@ -94,16 +94,14 @@ fn write_output<S: Store>(alloc: Global, store: &mut S, output: &Output) -> Resu
 /// Writes files under names that differ and were found new, in their order.
 pub fn write_all<S: Store>(alloc: Global, store: &mut S, outputs: &[Output]) -> Result<(), Ending>
     requires differ { AreDifferent (map (λ output. string_bytes output.name) outputs.now) }
-    requires new { IsTrue (S.told store.old)
-        → All (λ name. S.file store.old name ≡ None) (map (λ output. string_bytes output.name) outputs.now) }
-    ensures written { let run = store_run S.told S.steady S.file S.count store.old store.new in
-        OnOk result (IsLeft run (map output_of outputs.now)) }
-    ensures refused { let run = store_run S.told S.steady S.file S.count store.old store.new in
-        IfErr result (λ end.
+    requires new { All (IsNew (from_to (S.state store.old) (S.state store.old)))
+        (map (λ output. string_bytes output.name) outputs.now) }
+    ensures written { (first : S) → IsCalm (S.state first) (S.state store.old)
+        → OnOk result (IsLeft (from_to (S.state first) (S.state store.new)) (map output_of outputs.now)) }
+    ensures refused { (first : S) → IsCalm (S.state first) (S.state store.old)
+        → let run = from_to (S.state first) (S.state store.new) in IfErr result (λ end.
         EndsWith (λ end written. StopsAfter run (map output_of outputs.now) written end) run (ending end)) }
-    ensures count { S.count store.old ≤ S.count store.new }
-    ensures told { S.told store.new ≡ S.told store.old }
-    ensures steady { S.steady store.new ≡ S.steady store.old }
+    ensures back { IsBack (S.state store.old) (S.state store.new) }
 {
     'outputs: for output in outputs {
         write_output(alloc, store, output)?;

@@ -1,12 +1,11 @@
 //! Files that a command reads whole.
 
-ghost use Rattle.std.specs.Prelude.{◌≡◌, ◌≤◌, ◌⊎◌, IfOk, IfErr};
+ghost use Rattle.std.specs.Prelude.{◌≡◌, ◌⊎◌, IfOk, IfErr};
 ghost use Rattle.tool_base.specs.Ending as spec;
 ghost use Rattle.tool_base.specs.Endings.{ending};
-ghost use Rattle.tool_base.specs.Reads.{FailsToRead};
-ghost use Rattle.tool_base.specs.World.{Bytes, IsRead, store_run};
+ghost use Rattle.tool_base.specs.Reads.{FailsUpTo};
+ghost use Rattle.tool_base.specs.World.{Bytes, IsCalm, IsPart, IsReadUpTo, from_to};
 
-use crate::FILE_LIMIT;
 use crate::ending::Ending;
 use std::alloc::{AllocError, Global};
 use stream_io::{ReadAllFault, Store};
@@ -21,18 +20,23 @@ pub fn unreadable(alloc: Global, name: &str, fault: u8) -> Ending
     }
 }
 
-/// Reads a file whole.
-pub fn read_file<S: Store>(alloc: Global, store: &mut S, name: &str) -> Result<Vec<u8>, Ending>
-    ensures bytes { let run = store_run S.told S.steady S.file S.count store.old store.new in
-        IfOk result (λ bytes. IsRead run name.now (Bytes bytes.items)) }
-    ensures refused { let run = store_run S.told S.steady S.file S.count store.old store.new in
-        IfErr result (λ end. FailsToRead run name.now (ending end)) }
-    ensures file { S.file store.new ≡ S.file store.old }
-    ensures count { S.count store.old ≤ S.count store.new }
-    ensures told { S.told store.new ≡ S.told store.old }
-    ensures steady { S.steady store.new ≡ S.steady store.old }
+/// Reads a file whole, if it has at most `limit` bytes.
+pub fn read_file<S: Store>(
+    alloc: Global,
+    store: &mut S,
+    name: &str,
+    limit: u64,
+) -> Result<Vec<u8>, Ending>
+    ensures bytes { (first last : S)
+        → IsPart (S.state first) (S.state store.old) (S.state store.new) (S.state last)
+        → IfOk result (λ bytes.
+        IsReadUpTo limit (from_to (S.state first) (S.state last)) name.now (Bytes bytes.items)) }
+    ensures refused { (first last : S)
+        → IsPart (S.state first) (S.state store.old) (S.state store.new) (S.state last)
+        → IfErr result (λ end. FailsUpTo limit (from_to (S.state first) (S.state last)) name.now (ending end)) }
+    ensures calm { IsCalm (S.state store.old) (S.state store.new) }
 {
-    match store.read_all(alloc, name, FILE_LIMIT) {
+    match store.read_all(alloc, name, limit) {
         Ok(bytes) => Ok(bytes),
         Err(ReadAllFault::Failed) => Err(Ending::StoreFailed),
         Err(ReadAllFault::TooLong { got }) => Err(Ending::TooLong { got }),

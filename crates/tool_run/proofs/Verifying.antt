@@ -1,5 +1,5 @@
 -- How a verification ends where a file is not read.
-use Rattle.std.proofs.Common.{◌≡◌, ◌⊎◌, ℕ, List, Some, refl, inl, inr}
+use Rattle.std.proofs.Common.{◌≡◌, ◌⊎◌, ℕ, List, Some, refl, inl, inr, subst}
 use Rattle.lms_bytes.specs.FaultNumbers.{key_fault_number}
 use Rattle.lms_bytes.specs.PublicKey.{public_bytes, public_fault}
 use Rattle.lms_bytes.specs.declared.faults.KeyFault.{KeyFault}
@@ -9,6 +9,9 @@ use Rattle.tool_base.specs.Ending.{Ending}
 use Rattle.tool_base.specs.Reads.{FailsToRead, failed, too_long, no_memory}
 use Rattle.tool_base.specs.World.{StoreRun, Bytes, IsRead}
 use Rattle.tool_run.specs.Verify.{VerifyEnds, key_failed, key_refused, key_too_long, message_failed, message_too_long, signature_failed, signature_too_long}
+
+pub key_read : (run : StoreRun) (name bytes : List ℕ) (key : PublicKey) → bytes ≡ public_bytes key → IsRead run name (Bytes bytes) → IsRead run name (Bytes (public_bytes key))
+key_read run name bytes key is read = subst (λ b. IsRead run name (Bytes b)) is read
 
 pub key_not_read : (run : StoreRun) (key : List ℕ) (end : Ending) → FailsToRead run key end
     → (end ≡ spec.NoMemory) ⊎ ((message signature : List ℕ) → VerifyEnds run key message signature end)

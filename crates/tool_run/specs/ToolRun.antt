@@ -9,7 +9,7 @@ use Rattle.tool_base.specs.Outputs.{EndsWith, Output}
 use Rattle.tool_run.specs.Rehearse.{RehearseEnds}
 use Rattle.tool_run.specs.Verify.{VerifyEnds}
 use Rattle.tool_words.specs.Words.{Row, Verify, Rehearse, Deal, command_of}
-use Rattle.tool_base.specs.World.{World, OutputRun, StoreRun}
+use Rattle.tool_base.specs.World.{AllBack, Onward, OutputRun, StoreRun, World, from_to}
 
 -- the ends that a command may have and the files that it wrote then, by the rules of that command
 abbrev pub CommandEnds : Row → StoreRun → Ending → List Output → Type 0
@@ -50,10 +50,16 @@ pub record EndsSo (output : OutputRun) (end : Ending) (status : ℕ) : Type 0 wh
   pub is : (shown ≡ NoMemory) ⊎ (shown ≡ end)
   pub answered : IsAnswered output shown status
 
+-- the store in the run of a call
+abbrev pub store_run : World → StoreRun
+store_run world = from_to world.before.store world.after.store
+
 -- A call with these words: it came to an end by the rules of its command and had written these files, the store has
 -- them beside what it had, and its status and its output are that end's or, where there was no memory for the line,
--- those of want of memory.
+-- those of want of memory. No object changed its kind, no count fell, and all that was handed out is back.
 pub record ToolRun (words : List (List ℕ)) (world : World) (status : ℕ) : Type 0 where
   pub end : Ending
-  pub ended : EndsWith (MayEnd (command_of words) world.store) world.store end
+  pub ended : EndsWith (MayEnd (command_of words) (store_run world)) (store_run world) end
   pub answered : EndsSo world.output end status
+  pub onward : Onward world.before world.after
+  pub back : AllBack world.before world.after

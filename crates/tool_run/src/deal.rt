@@ -14,21 +14,22 @@ ghost use Rattle.tool_base.specs.OutputOf.{output_of};
 ghost use Rattle.tool_base.specs.Outputs.{EndsWith};
 ghost use Rattle.tool_words.specs.Rows.{deal_words};
 ghost use Rattle.tool_base.specs.Undealt.{end_of_fault};
-ghost use Rattle.tool_base.specs.World.{store_run};
+ghost use Rattle.tool_base.specs.World.{IsBack, from_to};
 
 use coalition_map::{Plan, PlanFault};
 use dealer::{DealingFiles, deal};
 use lms_bytes::Params;
 use memory::NoMemory;
 use std::alloc::{AllocError, Global};
-use stream_io::Store;
-use tool_base::{Ending, Output, Undealt, end_of_fault, read_file, test_all_new, write_all};
+use stream_io::{Readers, Store};
+use tool_base::{Ending, FILE_LIMIT, Output, Undealt, end_of_fault, read_file, test_all_new, write_all};
 use tool_words::DealWords;
 
 /// Deals a key, and writes its files.
 pub(crate) fn deal_files<S: Store>(alloc: Global, store: &mut S, words: &DealWords) -> Ending
-    ensures { let run = store_run S.told S.steady S.file S.count store.old store.new in
+    ensures ended { let run = from_to (S.state store.old) (S.state store.new) in
         EndsWith (DealEnds run (deal_words words.now)) run (ending result) }
+    ensures back { IsBack (S.state store.old) (S.state store.new) }
 {
     match try_deal(alloc, store, words) {
         Ok(done) => done,
@@ -38,12 +39,13 @@ pub(crate) fn deal_files<S: Store>(alloc: Global, store: &mut S, words: &DealWor
 
 /// Reads the entropy, deals, tests the names of the outputs, and writes them. It answers the end once all are written.
 fn try_deal<S: Store>(alloc: Global, store: &mut S, words: &DealWords) -> Result<Ending, Ending>
-    ensures dealt { let run = store_run S.told S.steady S.file S.count store.old store.new in
+    ensures dealt { let run = from_to (S.state store.old) (S.state store.new) in
         IfOk result (λ done. EndsWith (DealEnds run (deal_words words.now)) run (ending done)) }
-    ensures refused { let run = store_run S.told S.steady S.file S.count store.old store.new in
+    ensures refused { let run = from_to (S.state store.old) (S.state store.new) in
         IfErr result (λ end. EndsWith (DealEnds run (deal_words words.now)) run (ending end)) }
+    ensures back { IsBack (S.state store.old) (S.state store.new) }
 {
-    let entropy = read_file(alloc, store, words.entropy)?;
+    let entropy = read_file(alloc, store, words.entropy, FILE_LIMIT)?;
     let (outputs, done) = dealt_outputs(alloc, words, &entropy)?;
     test_all_new(alloc, store, &outputs)?;
     write_all(alloc, store, &outputs)?;
@@ -117,14 +119,26 @@ fn named_outputs(
     ensures { IfOk result (λ outputs. map output_of outputs.items ≡ named_files prefix.now files) }
 {
     let mut outputs = Vec::new(alloc);
-    outputs.push(named(format!(in alloc; "{prefix}.pub")?, files.public))?;
-    outputs.push(named(format!(in alloc; "{prefix}.tree")?, files.tree))?;
-    outputs.push(named(format!(in alloc; "{prefix}.ref")?, files.reference))?;
+    outputs.push(named(
+        format!(in alloc; "{prefix}.pub")?,
+        files.public,
+        Readers::Anyone,
+    ))?;
+    outputs.push(named(
+        format!(in alloc; "{prefix}.tree")?,
+        files.tree,
+        Readers::Anyone,
+    ))?;
+    outputs.push(named(
+        format!(in alloc; "{prefix}.ref")?,
+        files.reference,
+        Readers::Anyone,
+    ))?;
     push_shares(alloc, prefix, files.shares, &mut outputs)?;
     Ok(outputs)
 }
 
-/// Adds the shares with their names, that of trustee 1 first.
+/// Adds the shares with their names, that of trustee 1 first. A share is its trustee's secret.
 fn push_shares(
     alloc: Global,
     prefix: &str,
@@ -137,17 +151,25 @@ fn push_shares(
 {
     let mut t: u8 = 1;
     'shares: for share in shares {
-        outputs.push(named(format!(in alloc; "{prefix}.share{t}")?, share))?;
+        outputs.push(named(
+            format!(in alloc; "{prefix}.share{t}")?,
+            share,
+            Readers::OwnerAlone,
+        ))?;
         t += 1;
     }
     Ok(())
 }
 
 /// A file under a name.
-fn named(name: String, bytes: Vec<u8>) -> Output
+fn named(name: String, bytes: Vec<u8>, readers: Readers) -> Output
     ensures { output_of result ≡ record { name = string_bytes name; bytes = bytes.items } }
 {
-    Output { name, bytes }
+    Output {
+        name,
+        bytes,
+        readers,
+    }
 }
 
 /// The parameter set of the words.

@@ -7,14 +7,14 @@ ghost use Rattle.tool_base.specs.Endings.{ending};
 ghost use Rattle.tool_base.specs.OutputOf.{output_of};
 ghost use Rattle.tool_base.specs.Outputs.{EndsWith};
 ghost use Rattle.tool_run.specs.Rehearse.{IsNotRehearsed, IsRehearsedTo, RehearseEnds};
-ghost use Rattle.tool_base.specs.World.{store_run};
+ghost use Rattle.tool_base.specs.World.{IsBack, from_to};
 
 use dealer::public_file;
 use memory::NoMemory;
 use rehearsal::{Rehearsed, rehearse};
 use std::alloc::Global;
-use stream_io::Store;
-use tool_base::{Ending, Output, end_of_fault, read_file, test_new, write_all};
+use stream_io::{Readers, Store};
+use tool_base::{Ending, FILE_LIMIT, Output, end_of_fault, read_file, test_new, write_all};
 
 /// Deals a key and signs a message with its first leaf in memory, and writes the public key and the signature.
 pub(crate) fn rehearse_files<S: Store>(
@@ -26,8 +26,9 @@ pub(crate) fn rehearse_files<S: Store>(
     signature_out: &str,
 ) -> Ending
     requires { key_out.now ≢ signature_out.now }
-    ensures { let run = store_run S.told S.steady S.file S.count store.old store.new in
+    ensures ended { let run = from_to (S.state store.old) (S.state store.new) in
         EndsWith (RehearseEnds run entropy.now message.now key_out.now signature_out.now) run (ending result) }
+    ensures back { IsBack (S.state store.old) (S.state store.new) }
 {
     match try_rehearse(alloc, store, entropy, message, key_out, signature_out) {
         Ok(()) => Ending::Rehearsed,
@@ -45,17 +46,18 @@ fn try_rehearse<S: Store>(
     signature_out: &str,
 ) -> Result<(), Ending>
     requires { key_out.now ≢ signature_out.now }
-    ensures rehearsed { let run = store_run S.told S.steady S.file S.count store.old store.new in
+    ensures rehearsed { let run = from_to (S.state store.old) (S.state store.new) in
         OnOk result (EndsWith (RehearseEnds run entropy.now message.now key_out.now signature_out.now) run
         spec.Rehearsed) }
-    ensures refused { let run = store_run S.told S.steady S.file S.count store.old store.new in
+    ensures refused { let run = from_to (S.state store.old) (S.state store.new) in
         IfErr result (λ end. EndsWith (RehearseEnds run entropy.now message.now key_out.now signature_out.now) run
         (ending end)) }
+    ensures back { IsBack (S.state store.old) (S.state store.new) }
 {
     test_new(alloc, store, key_out)?;
     test_new(alloc, store, signature_out)?;
-    let seeds = read_file(alloc, store, entropy)?;
-    let text = read_file(alloc, store, message)?;
+    let seeds = read_file(alloc, store, entropy, FILE_LIMIT)?;
+    let text = read_file(alloc, store, message, FILE_LIMIT)?;
     let outputs = rehearsed_outputs(alloc, &seeds, &text, key_out, signature_out)?;
     write_all(alloc, store, &outputs)
 }
@@ -96,10 +98,12 @@ fn named_outputs(
     let key = Output {
         name: String::from_str(alloc, key_out)?,
         bytes: public_file(alloc, &rehearsed.public)?,
+        readers: Readers::Anyone,
     };
     let signature = Output {
         name: String::from_str(alloc, signature_out)?,
         bytes: rehearsed.signature,
+        readers: Readers::Anyone,
     };
     Ok([key, signature])
 }

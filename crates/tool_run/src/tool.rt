@@ -7,7 +7,7 @@ ghost use Rattle.tool_run.specs.ToolRun.{CommandEnds, MayEnd, ToolRun, IsAnswere
 ghost use Rattle.tool_base.specs.Outputs.{EndsWith};
 ghost use Rattle.tool_words.specs.Rows.{row};
 ghost use Rattle.tool_words.specs.Words.{OutputsDiffer, command_of};
-ghost use Rattle.tool_base.specs.World.{store_run, output_run};
+ghost use Rattle.tool_base.specs.World.{IsBack, from_to, output_run};
 
 use crate::deal::deal_files;
 use crate::rehearse::rehearse_files;
@@ -31,7 +31,8 @@ pub fn run_tool<R: Threads + Wait + Sync, S: Store, N: Net, T: Clocks, O: Sink>(
 ) -> u8
     ensures run { ToolRun (map string_bytes words.now)
         (record {
-          store = store_run S.told S.steady S.file S.count store.old store.new;
+          before = record { store = S.state store.old; net = N.state net.old; time = T.state time.old };
+          after = record { store = S.state store.new; net = N.state net.new; time = T.state time.new };
           output = output_run O.steady O.room O.talk out.old out.new;
         })
         result }
@@ -42,8 +43,9 @@ pub fn run_tool<R: Threads + Wait + Sync, S: Store, N: Net, T: Clocks, O: Sink>(
 
 /// Does what the words ask for, and answers how it ends.
 fn run_words<S: Store>(alloc: Global, words: &[String], store: &mut S) -> Ending
-    ensures { let run = store_run S.told S.steady S.file S.count store.old store.new in
+    ensures ended { let run = from_to (S.state store.old) (S.state store.new) in
         EndsWith (MayEnd (command_of (map string_bytes words.now)) run) run (ending result) }
+    ensures back { IsBack (S.state store.old) (S.state store.new) }
 {
     match command_of(alloc, words) {
         Some(command) => run_command(alloc, store, &command),
@@ -53,9 +55,10 @@ fn run_words<S: Store>(alloc: Global, words: &[String], store: &mut S) -> Ending
 
 /// Does what a command asks for, and answers how it ends.
 fn run_command<S: Store>(alloc: Global, store: &mut S, command: &Command) -> Ending
-    requires { OutputsDiffer (row command.now) }
-    ensures { let run = store_run S.told S.steady S.file S.count store.old store.new in
+    requires differ { OutputsDiffer (row command.now) }
+    ensures ended { let run = from_to (S.state store.old) (S.state store.new) in
         EndsWith (CommandEnds (row command.now) run) run (ending result) }
+    ensures back { IsBack (S.state store.old) (S.state store.new) }
 {
     match command {
         Command::Verify {

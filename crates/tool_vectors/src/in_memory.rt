@@ -1,11 +1,14 @@
 //! Runs over files in memory: each end of `verify` with its line, and what follows where a call of the store fails, a
 //! file is not there, or the output has no room.
 
+use host_io::{FileStore, StdoutSink};
+use memory_io::{MemNet, MemSink};
+use memory_store::MemStore;
 use std::alloc::AllocError;
 use std::io::{self, ErrorKind};
 use std::sync::Wait;
 use std::thread::Threads;
-use stream_io::{FileStore, MemNet, MemSink, MemStore, StdoutSink, Store, write_whole};
+use stream_io::{Store, write_whole};
 use tool_run::{MemClocks, run_tool};
 
 /// Files, each a name and its bytes.
@@ -71,16 +74,24 @@ fn print_run<R: Threads + Wait + Sync>(
     for word in ["verify", "k", "m", "s"] {
         words.push(String::from_str(rt.alloc(), word)?)?;
     }
-    let mut store = MemStore::new(files, Vec::from_slice(rt.alloc(), failing)?);
+    let failing = Vec::from_slice(rt.alloc(), failing)?;
+    let Ok(mut store) = MemStore::of_files(rt.alloc(), files, failing) else {
+        return Err(io::Error::from(ErrorKind::OutOfMemory));
+    };
     let Ok(mut out) = MemSink::new(rt.alloc(), room, 7, Vec::new(rt.alloc())) else {
         return Err(io::Error::from(ErrorKind::OutOfMemory));
     };
+    let mut net = MemNet::new(
+        Vec::new(rt.alloc()),
+        Vec::new(rt.alloc()),
+        Vec::new(rt.alloc()),
+    );
     let status = run_tool(
         threads,
         rt.alloc(),
         words.as_slice(),
         &mut store,
-        &mut MemNet::new(Vec::new(rt.alloc())),
+        &mut net,
         &mut MemClocks::new(0),
         &mut out,
     );

@@ -5,9 +5,9 @@
 
 mod in_memory;
 
+use host_io::{FileStore, StdoutSink, TcpNet};
 use std::alloc::{AllocError, Global};
 use std::io;
-use stream_io::{FileStore, StdoutSink, TcpNet};
 use tool_run::{SystemClocks, run_tool};
 
 /// The vectors, by their LMS and LM-OTS typecodes.
@@ -76,7 +76,7 @@ fn cases(alloc: Global) -> Result<Vec<Vec<String>>, AllocError> {
 
 fn main(rt: HostRuntime) -> io::Result<()> {
     let mut store = FileStore::new(rt);
-    let mut net = TcpNet::new();
+    let mut net = TcpNet::new(rt);
     let mut time = SystemClocks::new(rt);
     let mut out = StdoutSink::new(rt);
     for words in &cases(rt.alloc())? {

@@ -1,4 +1,4 @@
-use Rattle.std.proofs.Common.{ap, arith, rules, length, length-drop, ◌∙◌}
+use Rattle.std.proofs.Common.{ap, arith, length, length-drop, ◌∙◌}
 use Rattle.stream_io.proofs.Pieces.{grown, wrote-then}
 use Rattle.stream_io.proofs.sink.write_whole.Goals as goal
 

@@ -1,4 +1,4 @@
-use Rattle.std.proofs.Common.{◌≡◌, ◌+◌, ◌-◌, length, ap, ◌∙◌, arith, length-drop, length-take-le, drop, take, ◌++◌}
+use Rattle.std.proofs.Common.{◌≡◌, ◌-◌, length, ap, ◌∙◌, arith, length-drop, length-take-le, drop, take, ◌++◌}
 use Rattle.stream_io.proofs.Pieces.{if-both, part-front}
 use Rattle.stream_io.proofs.source.read_behind.Goals as goal
 

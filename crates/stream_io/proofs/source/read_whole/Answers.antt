@@ -1,4 +1,4 @@
-use Rattle.std.proofs.Common.{rules, ◌≡◌, ◌+◌, ◌++◌, take, length, ap, ◌∙◌, arith}
+use Rattle.std.proofs.Common.{◌++◌, take, ap, ◌∙◌, arith}
 use Rattle.stream_io.proofs.Pieces.{only-then, piece, took-then}
 use Rattle.stream_io.proofs.source.read_whole.Goals as goal
 

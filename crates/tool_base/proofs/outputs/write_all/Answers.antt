@@ -1,50 +1,65 @@
-use Rattle.std.proofs.Common.{IsTrue, ◌≡◌, ◌≢◌, ◌<◌, [], All, None, length, get_or, string_bytes, refl, sym, ap, arith, ◌∙◌, map, take}
-use Rattle.std.proofs.lemmas.List.{get_or-map, length-map, take-map}
+use Rattle.std.proofs.Common.{ℕ, List, ◌≡◌, ◌≢◌, ◌<◌, [], All, length, get_or, string_bytes, sym, ap, arith, ◌∙◌, map, take}
+use Rattle.std.proofs.lemmas.List.{get_or-map, length-map, take-map, take_all}
 use Rattle.std.proofs.lemmas.List.Elements.{All-get_or}
 use Rattle.std.proofs.lemmas.Result.{err_from_is_err_and}
 use Rattle.tool_base.specs.OutputOf.{output_of}
-use Rattle.tool_base.specs.Outputs.{all_added}
+use Rattle.tool_base.specs.Outputs.{AreDifferent, IsNew}
+use Rattle.tool_base.specs.declared.outputs.Output.{Output}
+use Rattle.tool_base.specs.World.{from_to}
 use Rattle.tool_base.proofs.Names.{before_differ}
-use Rattle.tool_base.proofs.Writing.{added_more, added_none, names_of, not_added, stops_after, stops_behind}
+use Rattle.tool_base.proofs.Runs.{back_calm, back_same, back_written, calm_none}
+use Rattle.tool_base.proofs.Writing.{left_more, left_part, left_same, names_of, none_left, stopped_part, stops_after, stops_behind}
 use Rattle.tool_base.proofs.outputs.write_all.Goals as goal
 
 pub outputs-init : goal.outputs-init
-outputs-init g c = (refl, refl, omega arith, λ told name. added_none _ name)
+outputs-init g c = (back_calm _ _ (calm_none _), none_left _ _ (calm_none _))
+
+-- the names so far are others than the one to come
+earlier_differ : (outputs : List Output) (i : ℕ) (output : Output) → i < length outputs → output ≡ get_or outputs i output
+    → AreDifferent (map (λ output. string_bytes output.name) outputs)
+    → All (λ other. other ≢ string_bytes output.name) (map (λ output. output.name) (map output_of (take i outputs)))
+earlier_differ outputs i output h e differ =
+    let name = λ (output : Output). string_bytes output.name in
+    let size : i < length (map name outputs) = omega (arith, h, length-map outputs name) in
+    let own : get_or (map name outputs) i [] ≡ string_bytes output.name = get_or-map name outputs i output [] h ∙ ap name (sym e) in
+    rw (names_of output_of (take i outputs), ← own, ← take-map) (before_differ _ i size differ)
 
 pub returns-in_err-write_output-clause-refused : goal.returns-in_err-write_output-clause-refused
 returns-in_err-write_output-clause-refused g c =
     let p = err_from_is_err_and c.from_residual.result c.from_residual.ensures.1 in
-    let before = c.outputs.invariant in
-    let told-same = before.0 in
-    let steady-same = before.1 in
-    let begins = before.2 in
+    let state = g.S.Store.state in
+    let inv = c.outputs.invariant in
     let step = c.in_err-write_output.ensures in
-    let later = step.count in
-    let size : c.outputs.output-index < length (map (λ output. string_bytes output.name) c.args.outputs.now) =
-    omega (arith, c.outputs-test.true, length-map c.args.outputs.now (λ output. string_bytes output.name)) in
-    let name : get_or (map (λ output. string_bytes output.name) c.args.outputs.now) c.outputs.output-index [] ≡ string_bytes c.output-item.result.name =
-    get_or-map (λ output. string_bytes output.name) c.args.outputs.now c.outputs.output-index c.output-item.result [] c.outputs-test.true ∙ ap (λ output. string_bytes output.name) (sym c.output-item.is) in
-    let earlier = before_differ _ c.outputs.output-index size c.requires.differ in
-    let others : All (λ other. other ≢ string_bytes c.output-item.result.name) (map (λ output. string_bytes output.name) (take c.outputs.output-index c.args.outputs.now)) =
-    rw (← name, ← take-map) earlier in
-    let absent : IsTrue (g.S.Store.told c.args.store.now) → all_added (g.S.Store.file c.args.store.now) (map output_of (take c.outputs.output-index c.args.outputs.now)) (string_bytes c.output-item.result.name) ≡ None =
-    λ told. not_added (g.S.Store.file c.args.store.now) (map output_of (take c.outputs.output-index c.args.outputs.now)) (string_bytes c.output-item.result.name)
-    (rw name at (All-get_or (λ name. g.S.Store.file c.args.store.now name ≡ None) _ c.outputs.output-index [] size (c.requires.new told)))
-    (rw (names_of output_of (take c.outputs.output-index c.args.outputs.now)) others) in
-    rw (p.1, p.2) (stops_after _ output_of c.args.outputs.now c.outputs.output-index c.output-item.result _ c.outputs-test.true c.output-item.is
-    (λ told name. rw (step.unchanged (rw told-same told)) (before.3 told name))
-    (stops_behind _ _ _ (record { told = told-same; steady = steady-same; begins = begins; ends = omega arith; file = before.3 }) _ _ absent step.refused))
+    let outputs = c.args.outputs.now in
+    let i = c.outputs.output-index in
+    let output = c.output-item.result in
+    let h = c.outputs-test.true in
+    let name = λ (output : Output). string_bytes output.name in
+    let size : i < length (map name outputs) = omega (arith, h, length-map outputs name) in
+    let own : get_or (map name outputs) i [] ≡ string_bytes output.name = get_or-map name outputs i output [] h ∙ ap name (sym c.output-item.is) in
+    let new : IsNew (from_to (state c.args.store.now) (state c.args.store.now)) (string_bytes output.name) =
+    rw own at (All-get_or (IsNew (from_to (state c.args.store.now) (state c.args.store.now))) (map name outputs) i [] size c.requires.new) in
+    let left = left_same _ _ _ step.unchanged step.onward _ inv.1 in
+    λ first calm.
+    rw (p.1, p.2) (stopped_part _ _ _ calm _ _ (stops_after _ output_of outputs i output _ h c.output-item.is left
+    (stops_behind _ _ _ _ inv.0.onward (λ name told. inv.0.out told name) inv.1 _ _ new (earlier_differ outputs i output h c.output-item.is c.requires.differ) step.refused)))
+
+pub returns-in_err-write_output-clause-back : goal.returns-in_err-write_output-clause-back
+returns-in_err-write_output-clause-back g c =
+    let step = c.in_err-write_output.ensures in
+    back_same _ _ _ c.outputs.invariant.0 step.unchanged step.onward
 
 pub outputs-preserved : goal.outputs-preserved
 outputs-preserved g c =
-    let before = c.outputs.invariant in
-    let told-same = before.0 in
-    let begins = before.2 in
+    let inv = c.outputs.invariant in
     let step = c.in_ok-write_output.ensures in
-    let later = step.count in (
-      step.told ∙ before.0,
-      step.steady ∙ before.1,
-      omega arith,
-      λ told name. added_more (g.S.Store.file c.args.store.now) (g.S.Store.file c.outputs.store) (g.S.Store.file c.write_output.new.store) output_of c.args.outputs.now c.outputs.output-index c.output-item.result name c.outputs-test.true c.output-item.is
-          (before.3 told name) (step.written (rw told-same told) name),
+    let output = c.output-item.result in (
+      back_written _ _ _ _ _ inv.0 step.written step.onward,
+      left_more _ _ _ output_of c.args.outputs.now c.outputs.output-index output c.outputs-test.true c.output-item.is inv.0.onward.told
+          (earlier_differ c.args.outputs.now c.outputs.output-index output c.outputs-test.true c.output-item.is c.requires.differ) inv.1 step.written,
     )
+
+pub returns-clause-written : goal.returns-clause-written
+returns-clause-written g c =
+    let all = take_all c.outputs.output-index c.args.outputs.now (let end = c.outputs-test.false in omega arith) in
+    λ first calm. left_part _ _ _ calm _ (rw all at c.outputs.invariant.1)

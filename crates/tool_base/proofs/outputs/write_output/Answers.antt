@@ -1,10 +1,9 @@
-use Rattle.tool_base.specs.Outputs.{all_added, test_failed, no_memory_to_name}
+use Rattle.tool_base.specs.Outputs.{test_failed, no_memory_to_name}
 use Rattle.tool_base.proofs.Writing.{there_or_no_memory}
 use Rattle.tool_base.proofs.outputs.write_output.Goals as goal
 
 pub returns-in-Ok-clause-written : goal.returns-in-Ok-clause-written
-unfolding all_added
-returns-in-Ok-clause-written g c = λ told name. rw (← c.as_str-name.ensures.value, ← c.deref.ensures.value) (c.in-Ok.ensures.written told name)
+returns-in-Ok-clause-written g c = rw (← c.as_str-name.ensures.value, ← c.deref.ensures.value) c.in-Ok.ensures.written
 
 pub returns-in-Err-Exists-clause-refused : goal.returns-in-Err-Exists-clause-refused
 returns-in-Err-Exists-clause-refused g c =

@@ -1,18 +1,23 @@
 use Rattle.tool_base.specs.Reads.{failed, too_long, no_memory}
+use Rattle.tool_base.specs.World.{Bytes}
+use Rattle.tool_base.proofs.Runs.{fails_part, read_part}
 use Rattle.tool_base.proofs.reading.read_file.Goals as goal
 
 pub returns-in-Err-Failed-clause-refused : goal.returns-in-Err-Failed-clause-refused
 returns-in-Err-Failed-clause-refused g c =
     let read = c.in-Err-Failed.ensures in
     let is = c.in-Err-Failed.field-0-is in
-    failed (read.cause.rose (cc), λ told steady. read.absent told steady (cc))
+    λ first last part. fails_part _ _ _ _ part _ _ _ (failed (read.cause.rose (cc), λ told steady. read.absent told steady (cc)))
 
 pub returns-in-Err-TooLong-clause-refused : goal.returns-in-Err-TooLong-clause-refused
 returns-in-Err-TooLong-clause-refused g c =
     let read = c.in-Err-TooLong.ensures in
     let is = c.in-Err-TooLong.field-0-is in
     let got = c.in-Err-TooLong.got-is in
-    too_long c.in-Err-TooLong.got (read.above c.in-Err-TooLong.got (cc))
+    λ first last part. fails_part _ _ _ _ part _ _ _ (too_long c.in-Err-TooLong.got (read.above c.in-Err-TooLong.got (cc)))
 
 pub returns-in-Err-NoMemory-clause-refused : goal.returns-in-Err-NoMemory-clause-refused
-returns-in-Err-NoMemory-clause-refused g c = no_memory
+returns-in-Err-NoMemory-clause-refused g c = λ first last part. no_memory
+
+pub returns-in-Ok-clause-bytes : goal.returns-in-Ok-clause-bytes
+returns-in-Ok-clause-bytes g c = λ first last part. read_part _ _ _ _ part _ _ (Bytes c.in-Ok.bytes.items) (c.in-Ok.ensures.within, c.in-Ok.ensures.bytes)

@@ -1,0 +1,2 @@
+pub mod TcpPort
+pub mod Untold

@@ -1,0 +1,5 @@
+pub mod Calls
+pub mod Chain
+pub mod Links
+pub mod Nets
+pub mod Ports

@@ -1,0 +1,136 @@
+//! A link in memory.
+
+ghost use Rattle.std.specs.Prelude.{◌≡◌, ◌-◌, ◌++◌, ◌↔◌, [], None, IsTrue, IfOk, true, refl, vec_len, vec_capacity};
+ghost use Rattle.std.specs.Prelude.{option_map, string_bytes};
+ghost use Rattle.memory_io.specs.Links.{is_steady_link, talk_of};
+ghost use Rattle.stream_io.specs.Talk.{Talk};
+
+use crate::calls::Calls;
+use crate::chain::Seat;
+use crate::conversation::{Conversation, Gate};
+use crate::mem_sink::MemSink;
+use crate::mem_source::MemSource;
+use disk_trait::Faults;
+use memory::NoMemory;
+use std::alloc::Global;
+use stream_io::{Failed, Sink, Source, Stream};
+
+/// A link to a peer that gives the bytes of a source, and whose other end is a sink.
+#[derive(Drop)]
+pub struct MemLink {
+    pub(crate) conversation: Conversation,
+    pub(crate) seat: Seat<Conversation>,
+}
+
+impl MemLink {
+    /// A link. The calls whose numbers are listed fail; the first call has the number 0, and reads and writes are
+    /// counted together. So do the reads that the gate holds, and the calls at which the source or the sink fails.
+    pub fn new(
+        alloc: Global,
+        source: MemSource,
+        sink: MemSink,
+        failing: Vec<u64>,
+        gate: Option<Gate>,
+    ) -> Result<MemLink, NoMemory>
+        ensures talk { IfOk result (λ link. ⟦<MemLink as Stream>⟧.talk link ≡ record {
+          told = true;
+          place = None;
+          taken = (⟦<MemSource as Stream>⟧.talk source).taken;
+          left = (⟦<MemSource as Stream>⟧.talk source).left;
+          written = (⟦<MemSink as Stream>⟧.talk sink).written;
+          count = 0;
+        }) }
+        ensures room { IfOk result (λ link. ⟦<MemLink as Sink>⟧.room link ≡ ⟦<MemSink as Sink>⟧.room sink) }
+        ensures steady { IfOk result (λ link. IsTrue (⟦<MemLink as Faults>⟧.steady link)
+            ↔ (failing.items ≡ []) × (gate ≡ None) × IsTrue (⟦<MemSource as Faults>⟧.steady source)
+            × IsTrue (⟦<MemSink as Faults>⟧.steady sink)) }
+    {
+        let seat = Seat::new(alloc)?;
+        let conversation = Conversation {
+            place: None,
+            source,
+            sink,
+            gate,
+            calls: Calls::new(failing),
+        };
+        Ok(MemLink { conversation, seat })
+    }
+
+    /// What has gone over it.
+    pub fn conversation(&self) -> &Conversation
+        ensures { talk_of result.now ≡ ⟦<MemLink as Stream>⟧.talk self.now }
+    {
+        &self.conversation
+    }
+
+    /// Whether its calls fail for their arguments alone.
+    pub(crate) fn is_steady(&self) -> bool
+        ensures { result ≡ is_steady_link self.now.conversation }
+    {
+        let link = &self.conversation;
+        link.calls.is_steady()
+            && link.gate.is_none()
+            && link.source.is_steady()
+            && link.sink.is_steady()
+    }
+
+    /// Begins anew, as a link to a place that was dialled or to none.
+    pub(crate) fn begin(&mut self, place: Option<String>)
+        ensures place { (talk_of self.new.conversation).place ≡ option_map string_bytes place }
+        ensures taken { (talk_of self.new.conversation).taken ≡ [] }
+        ensures left { (talk_of self.new.conversation).left
+            ≡ (talk_of self.old.conversation).taken ++ (talk_of self.old.conversation).left }
+        ensures written { (talk_of self.new.conversation).written ≡ [] }
+        ensures count { (talk_of self.new.conversation).count ≡ 0 }
+        ensures steady { is_steady_link self.new.conversation ≡ is_steady_link self.old.conversation }
+    {
+        let link = &mut self.conversation;
+        link.place = place;
+        link.source.begin();
+        link.sink.begin();
+        link.calls.begin();
+    }
+}
+
+impl Faults for MemLink {
+    ghost count = { λ link. link.conversation.calls.faults };
+
+    ghost steady = { λ link. is_steady_link link.conversation };
+
+    fn faults(&self) -> u64 {
+        self.conversation.calls.faults
+    }
+}
+
+impl Stream for MemLink {
+    ghost talk = { λ link. talk_of link.conversation };
+
+    ghost counts = { λ _. refl };
+}
+
+impl Source for MemLink {
+    fn read(&mut self, out: &mut [u8]) -> Result<usize, Failed> {
+        let link = &mut self.conversation;
+        link.calls.make()?;
+        if link.is_held() {
+            return Err(link.calls.fail());
+        }
+        match link.source.read(out) {
+            Ok(count) => Ok(count),
+            Err(Failed) => Err(link.calls.fail()),
+        }
+    }
+}
+
+impl Sink for MemLink {
+    ghost room = { λ link. vec_capacity link.conversation.sink.written - vec_len link.conversation.sink.written };
+
+    fn write(&mut self, bytes: &[u8]) -> Result<usize, Failed> {
+        let link = &mut self.conversation;
+        link.calls.make()?;
+        match link.sink.write(bytes) {
+            Ok(count) => Ok(count),
+            Err(Failed) => Err(link.calls.fail()),
+        }
+    }
+}

@@ -1,0 +1,121 @@
+//! A port in memory.
+
+ghost use Rattle.std.specs.Prelude.{◌≡◌, ◌&&◌, [], true, IfOk, length, option_map, refl, string_bytes};
+ghost use Rattle.std.specs.Prelude.{if◌then◌else◌, is_some};
+ghost use Rattle.std.specs.List.{list_any};
+ghost use Rattle.memory_io.specs.Ports.{is_at, is_steady_script, port_state};
+ghost use Rattle.stream_io.specs.Net.{PortState};
+
+use crate::calls::Calls;
+use crate::chain::{Chain, Seat};
+use crate::kept_port::{KeptPort, take_at};
+use crate::mem_link::MemLink;
+use crate::port_script::PortScript;
+use disk_trait::Faults;
+use memory::NoMemory;
+use std::alloc::Global;
+use stream_io::{Accepted, Failed, Port};
+
+/// A port whose links are made beforehand, and which keeps what was said on them.
+#[derive(Drop)]
+pub struct MemPort {
+    pub(crate) kept: KeptPort,
+    pub(crate) seat: Seat<KeptPort>,
+}
+
+impl MemPort {
+    /// A port that listens at a place, or only dials. Without a place it has no link to accept.
+    pub fn new(
+        alloc: Global,
+        place: Option<String>,
+        script: PortScript,
+    ) -> Result<MemPort, NoMemory>
+        ensures { IfOk result (λ port. ⟦<MemPort as Port>⟧.state port ≡ record {
+          told = true;
+          steady = is_steady_script script;
+          place = option_map string_bytes place;
+          count = 0;
+          accept_count = 0;
+          waiting = if is_some place then length script.waiting.items else 0;
+          reaches = λ name. list_any (is_at name) script.dialled.items;
+          talks = [];
+        }) }
+    {
+        let seat = Seat::new(alloc)?;
+        let kept = KeptPort {
+            place,
+            waiting: script.waiting,
+            dialled: script.dialled,
+            gave_steady: true,
+            talks: Chain::new(),
+            calls: Calls::new(script.failing),
+            accept_faults: 0,
+        };
+        Ok(MemPort { kept, seat })
+    }
+
+    /// What it has and keeps.
+    pub fn kept(&self) -> &KeptPort
+        ensures { port_state result.now ≡ ⟦<MemPort as Port>⟧.state self.now }
+    {
+        &self.kept
+    }
+}
+
+impl Faults for MemPort {
+    ghost count = { λ port. port.kept.calls.faults };
+
+    ghost steady = { λ port. (port_state port.kept).steady };
+
+    fn faults(&self) -> u64 {
+        self.kept.calls.faults
+    }
+}
+
+impl Port for MemPort {
+    type Link = MemLink;
+
+    ghost state = { λ port. port_state port.kept };
+
+    fn accept_faults(&self) -> u64 {
+        self.kept.accept_faults
+    }
+
+    fn accept(&mut self) -> Accepted<MemLink> {
+        let port = &mut self.kept;
+        if port.place.is_none() || port.waiting.is_empty() {
+            return Accepted::End;
+        }
+        if port.calls.make().is_err() {
+            port.accept_faults = port.accept_faults.saturating_add(1);
+            return Accepted::Failed;
+        }
+        let mut link = port.waiting.remove(0);
+        link.begin(None);
+        port.gave_steady &= link.is_steady();
+        Accepted::Link(link)
+    }
+
+    fn dial(&mut self, place: &str) -> Result<MemLink, Failed> {
+        let port = &mut self.kept;
+        port.calls.make()?;
+        let Some((name, mut link)) = take_at(&mut port.dialled, place) else {
+            return Err(port.calls.fail());
+        };
+        link.begin(Some(name));
+        port.gave_steady &= link.is_steady();
+        Ok(link)
+    }
+
+    fn hang_up(&mut self, link: MemLink) {
+        let port = &mut self.kept;
+        if link.faults() > 0 {
+            port.calls.fail();
+        }
+        port.talks.push(link.seat, link.conversation);
+    }
+
+    ghost counts = { λ _. refl };
+
+    ghost steadies = { λ _. refl };
+}

@@ -1,0 +1,31 @@
+-- Disks in memory that are all stable, and what writes and syncs leave as it was.
+use Rattle.std.proofs.Common.{◌≡◌, ℕ, Bool, true, false, List, length, replicate, if◌then◌else◌, refl, sym, subst, arith}
+use Rattle.std.proofs.lemmas.List.{ext_get_or, get_or-replicate}
+use Rattle.disk_trait.specs.Images.{Only}
+use Rattle.disk_trait.specs.MemDisk.{MemState, IsImage, MayLeave, changed, is_steady, with_named, with_stable, with_written}
+use Rattle.disk_trait.specs.MemDiskLaws.{leaves_bytes}
+
+-- bytes of which none is pending are all that a crash leaves
+pub only_stable : (bytes : List ℕ) → Only bytes (IsImage bytes bytes (replicate (length bytes) false))
+only_stable bytes image is =
+    let size : length image ≡ length bytes = omega (arith, is.no_shorter, is.no_longer) in
+    ext_get_or 0 image bytes size (λ k below. is.others k below (get_or-replicate (length bytes) k false true (omega arith)))
+
+module _ (disk : MemState) where
+  -- a sync adds no image
+  pub sync-images : (fails : Bool) (image : List ℕ)
+      → MayLeave (if fails then changed true disk else with_stable disk) image → MayLeave disk image
+  sync-images true image is = is
+  sync-images false image is = subst (MayLeave disk) (sym (only_stable disk.bytes image is)) (leaves_bytes disk refl refl)
+
+  -- after a write, which failed or not
+  abbrev pub after_write : ℕ → List ℕ → Bool → MemState
+  after_write at bytes fails = if fails then with_named disk at (length bytes) else with_written disk at bytes
+
+  pub write-steady : (at : ℕ) (bytes : List ℕ) (fails : Bool) → is_steady (after_write at bytes fails) ≡ is_steady disk
+  write-steady at bytes true = refl
+  write-steady at bytes false = refl
+
+  pub write-room : (at : ℕ) (bytes : List ℕ) (fails : Bool) → (after_write at bytes fails).capacity ≡ disk.capacity
+  write-room at bytes true = refl
+  write-room at bytes false = refl

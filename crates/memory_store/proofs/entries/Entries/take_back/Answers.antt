@@ -1,0 +1,18 @@
+use Rattle.std.proofs.Common.{ap, sym, ◌∙◌, is_some}
+use Rattle.memory_store.specs.declared.entries.Slot.TheVariants.{Here}
+use Rattle.memory_store.proofs.Added.{changed, is_placed, returned}
+use Rattle.memory_store.proofs.entries.Entries.take_back.Goals as goal
+
+pub unwrap-place-requires : goal.unwrap-place-requires
+unwrap-place-requires c =
+    rw c.place_of.ensures (is_placed c.args.self.now.list.items c.args.name.now ∙ ap is_some c.requires)
+
+pub returns-clause-slots : goal.returns-clause-slots
+returns-clause-slots c =
+    changed c.args.self.now.list.items c.args.name.now c.unwrap-place.result c.index_mut.result.now
+    (sym c.unwrap-place.ensures ∙ c.place_of.ensures) c.index_mut.ensures.value (Here c.args.disk)
+
+pub returns-clause-steady : goal.returns-clause-steady
+returns-clause-steady c =
+    returned c.args.self.now.list.items c.args.name.now c.unwrap-place.result c.index_mut.result.now
+    (sym c.unwrap-place.ensures ∙ c.place_of.ensures) c.index_mut.ensures.value c.args.disk c.requires
