@@ -36,7 +36,9 @@ fn dealing_store(rt: HostRuntime, length: usize, failing: &[u64]) -> io::Result<
     files.push((String::from_str(rt.alloc(), "e")?, entropy))?;
     files.push((String::from_str(rt.alloc(), "m")?, Vec::new(rt.alloc())))?;
     let failing = Vec::from_slice(rt.alloc(), failing)?;
-    MemStore::of_files(rt.alloc(), files, failing).map_err(|_| io::Error::from(ErrorKind::OutOfMemory))
+    MemStore::of_files(rt.alloc(), files, failing).map_err(|_| io::Error::from(
+        ErrorKind::OutOfMemory,
+    ))
 }
 
 /// Runs the words over a store. It prints what was printed, the status, and the outputs that are in the store.

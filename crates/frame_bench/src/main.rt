@@ -3,12 +3,12 @@
 #![tactic(auto)]
 
 use lms_bytes::{IdHash, Params, Val};
+use memory_io::MemSource;
 use ots_chain::MessageHash;
 use round_frames::next_ask;
 use std::alloc::{AllocError, Global};
 use std::process::ExitCode;
 use std::{env, io};
-use memory_io::MemSource;
 
 /// The length of the message, 16 MiB.
 const MESSAGE: usize = 16_777_216;

@@ -5,13 +5,13 @@
 
 mod reading;
 
+use host_io::FileStore;
 use lms_bytes::Params;
+use memory_io::MemSource;
 use reading::reading;
 use std::alloc::{AllocError, Global};
 use std::io::{self, ErrorKind};
 use std::str;
-use host_io::FileStore;
-use memory_io::MemSource;
 use stream_io::Store;
 
 /// A row of the table.

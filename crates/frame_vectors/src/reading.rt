@@ -1,9 +1,9 @@
 //! Readings as the table writes them.
 
 use lms_bytes::{Ask, MessageId, Params, ReplyHead};
+use memory_io::MemSource;
 use round_frames::{FrameFault, Outcome, next_ask, next_reply, next_request, next_result};
 use std::alloc::{AllocError, Global};
-use memory_io::MemSource;
 use stream_io::Source;
 
 /// What a reader reads of a source that has so many bytes, and how many of them it took, or the fault.

@@ -1,8 +1,14 @@
 -- What links in memory stand for.
 use Rattle.std.specs.Prelude.{◌&&◌, Bool, true, take, drop, is_none, option_map, string_bytes}
 use Rattle.memory_io.specs.Calls.{is_empty}
+use Rattle.memory_io.specs.Chain.{own}
 use Rattle.memory_io.specs.declared.conversation.Conversation.{Conversation}
+use Rattle.memory_io.specs.declared.mem_link.MemLink.{MemLink}
 use Rattle.stream_io.specs.Talk.{Talk}
+
+-- what a link holds
+abbrev pub conversation_of : MemLink → Conversation
+conversation_of link = own link.node.value
 
 -- what has gone over the link, all of it told
 abbrev pub talk_of : Conversation → Talk

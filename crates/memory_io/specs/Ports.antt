@@ -6,9 +6,11 @@ use Rattle.std.specs.Str.{bytes_eq}
 use Rattle.std.specs.declared.alloc.Global.{Global}
 use Rattle.std.specs.declared.string.String.{String}
 use Rattle.memory_io.specs.Calls.{is_empty}
-use Rattle.memory_io.specs.Links.{is_steady_link, talk_of}
+use Rattle.memory_io.specs.Chain.{own}
+use Rattle.memory_io.specs.Links.{conversation_of, is_steady_link, talk_of}
 use Rattle.memory_io.specs.declared.kept_port.KeptPort.{KeptPort}
 use Rattle.memory_io.specs.declared.mem_link.MemLink.{MemLink}
+use Rattle.memory_io.specs.declared.mem_port.MemPort.{MemPort}
 use Rattle.memory_io.specs.declared.port_script.PortScript.{PortScript}
 use Rattle.stream_io.specs.Net.{PortState}
 
@@ -18,15 +20,19 @@ is_at place entry = bytes_eq (string_bytes entry.0) place
 
 -- a link that waits to be accepted, or at a place, and is steady
 abbrev pub is_steady_waiting : MemLink → Bool
-is_steady_waiting link = is_steady_link link.conversation
+is_steady_waiting link = is_steady_link (conversation_of link)
 
 abbrev pub is_steady_entry : String Global × MemLink → Bool
-is_steady_entry entry = is_steady_link entry.1.conversation
+is_steady_entry entry = is_steady_link (conversation_of entry.1)
 
 -- these links are steady, those that wait to be accepted and those that wait to be dialled
 abbrev pub are_steady : List MemLink → List (String Global × MemLink) → Bool
 are_steady waiting dialled =
     list_all is_steady_waiting waiting && list_all is_steady_entry dialled
+
+-- what a port has and keeps
+abbrev pub kept_of : MemPort → KeptPort
+kept_of port = own port.node.value
 
 -- a port of this script is steady
 abbrev pub is_steady_script : PortScript → Bool

@@ -2,22 +2,16 @@
 
 ghost use Rattle.std.specs.Prelude.{◌≡◌, ◌+◌, ◌++◌, ◌∷◌, [], Some, IfOk, IfErr, length, option_copied};
 ghost use Rattle.std.specs.List.{slice_get};
-ghost use Rattle.memory_io.specs.Chain.{node_values};
+ghost use Rattle.memory_io.specs.Chain.{node_values, own};
 
 use memory::NoMemory;
 use std::alloc::Global;
 use std::marker::Model;
 
-/// The memory that a chain takes with a value.
+/// A value in the memory in which a chain takes it, and what the chain took before.
 #[derive(Drop)]
-pub(crate) struct Seat<T> {
-    node: Box<Node<T>>,
-}
-
-/// A value, or none yet, and what a chain took before it.
-#[derive(Drop)]
-struct Node<T> {
-    value: Option<T>,
+pub(crate) struct Node<T> {
+    pub(crate) value: T,
     earlier: Option<Box<Node<T>>>,
 }
 
@@ -36,16 +30,16 @@ impl<T> Model for Chain<T> {
     ghost view = { λ chain. values_of chain.last };
 }
 
-impl<T: Drop> Seat<T> {
-    /// A seat, in memory of its own.
-    pub(crate) fn new(alloc: Global) -> Result<Seat<T>, NoMemory> {
+impl<T: Drop> Node<T> {
+    /// A node with this value.
+    pub(crate) fn new(alloc: Global, value: T) -> Result<Box<Node<T>>, NoMemory>
+        ensures { IfOk result (λ node. own node.value ≡ value) }
+    {
         let node = Node {
-            value: None,
+            value,
             earlier: None,
         };
-        Ok(Seat {
-            node: Box::new(alloc, node)?,
-        })
+        Ok(Box::new(alloc, node)?)
     }
 }
 
@@ -57,12 +51,11 @@ impl<T: Drop> Chain<T> {
         Chain { last: None }
     }
 
-    /// Takes a value, in the memory of this seat.
-    pub(crate) fn push(&mut self, seat: Seat<T>, value: T)
-        ensures { self.new ≡ self.old ++ value ∷ [] }
+    /// Takes a value with its memory.
+    pub(crate) fn push(&mut self, node: Box<Node<T>>)
+        ensures { self.new ≡ self.old ++ own node.value ∷ [] }
     {
-        let mut node = seat.node;
-        node.value = Some(value);
+        let mut node = node;
         node.earlier = self.last.take();
         self.last = Some(node);
     }
@@ -88,9 +81,9 @@ fn find<T>(node: &Node<T>, index: usize) -> Result<&T, usize>
         },
         None => index,
     };
-    match &node.value {
-        Some(value) if left == 0 => Ok(value),
-        Some(_) => Err(left - 1),
-        None => Err(left),
+    if left == 0 {
+        Ok(&node.value)
+    } else {
+        Err(left - 1)
     }
 }

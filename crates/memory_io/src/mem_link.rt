@@ -2,11 +2,11 @@
 
 ghost use Rattle.std.specs.Prelude.{◌≡◌, ◌-◌, ◌++◌, ◌↔◌, [], None, IsTrue, IfOk, true, refl, vec_len, vec_capacity};
 ghost use Rattle.std.specs.Prelude.{option_map, string_bytes};
-ghost use Rattle.memory_io.specs.Links.{is_steady_link, talk_of};
+ghost use Rattle.memory_io.specs.Links.{conversation_of, is_steady_link, talk_of};
 ghost use Rattle.stream_io.specs.Talk.{Talk};
 
 use crate::calls::Calls;
-use crate::chain::Seat;
+use crate::chain::Node;
 use crate::conversation::{Conversation, Gate};
 use crate::mem_sink::MemSink;
 use crate::mem_source::MemSource;
@@ -18,8 +18,7 @@ use stream_io::{Failed, Sink, Source, Stream};
 /// A link to a peer that gives the bytes of a source, and whose other end is a sink.
 #[derive(Drop)]
 pub struct MemLink {
-    pub(crate) conversation: Conversation,
-    pub(crate) seat: Seat<Conversation>,
+    pub(crate) node: Box<Node<Conversation>>,
 }
 
 impl MemLink {
@@ -45,7 +44,6 @@ impl MemLink {
             ↔ (failing.items ≡ []) × (gate ≡ None) × IsTrue (⟦<MemSource as Faults>⟧.steady source)
             × IsTrue (⟦<MemSink as Faults>⟧.steady sink)) }
     {
-        let seat = Seat::new(alloc)?;
         let conversation = Conversation {
             place: None,
             source,
@@ -53,21 +51,22 @@ impl MemLink {
             gate,
             calls: Calls::new(failing),
         };
-        Ok(MemLink { conversation, seat })
+        let node = Node::new(alloc, conversation)?;
+        Ok(MemLink { node })
     }
 
     /// What has gone over it.
     pub fn conversation(&self) -> &Conversation
         ensures { talk_of result.now ≡ ⟦<MemLink as Stream>⟧.talk self.now }
     {
-        &self.conversation
+        &self.node.value
     }
 
     /// Whether its calls fail for their arguments alone.
     pub(crate) fn is_steady(&self) -> bool
-        ensures { result ≡ is_steady_link self.now.conversation }
+        ensures { result ≡ is_steady_link (conversation_of self.now) }
     {
-        let link = &self.conversation;
+        let link = &self.node.value;
         link.calls.is_steady()
             && link.gate.is_none()
             && link.source.is_steady()
@@ -76,15 +75,15 @@ impl MemLink {
 
     /// Begins anew, as a link to a place that was dialled or to none.
     pub(crate) fn begin(&mut self, place: Option<String>)
-        ensures place { (talk_of self.new.conversation).place ≡ option_map string_bytes place }
-        ensures taken { (talk_of self.new.conversation).taken ≡ [] }
-        ensures left { (talk_of self.new.conversation).left
-            ≡ (talk_of self.old.conversation).taken ++ (talk_of self.old.conversation).left }
-        ensures written { (talk_of self.new.conversation).written ≡ [] }
-        ensures count { (talk_of self.new.conversation).count ≡ 0 }
-        ensures steady { is_steady_link self.new.conversation ≡ is_steady_link self.old.conversation }
+        ensures place { (talk_of (conversation_of self.new)).place ≡ option_map string_bytes place }
+        ensures taken { (talk_of (conversation_of self.new)).taken ≡ [] }
+        ensures left { (talk_of (conversation_of self.new)).left
+            ≡ (talk_of (conversation_of self.old)).taken ++ (talk_of (conversation_of self.old)).left }
+        ensures written { (talk_of (conversation_of self.new)).written ≡ [] }
+        ensures count { (talk_of (conversation_of self.new)).count ≡ 0 }
+        ensures steady { is_steady_link (conversation_of self.new) ≡ is_steady_link (conversation_of self.old) }
     {
-        let link = &mut self.conversation;
+        let link = &mut self.node.value;
         link.place = place;
         link.source.begin();
         link.sink.begin();
@@ -93,24 +92,24 @@ impl MemLink {
 }
 
 impl Faults for MemLink {
-    ghost count = { λ link. link.conversation.calls.faults };
+    ghost count = { λ link. (conversation_of link).calls.faults };
 
-    ghost steady = { λ link. is_steady_link link.conversation };
+    ghost steady = { λ link. is_steady_link (conversation_of link) };
 
     fn faults(&self) -> u64 {
-        self.conversation.calls.faults
+        self.node.value.calls.faults
     }
 }
 
 impl Stream for MemLink {
-    ghost talk = { λ link. talk_of link.conversation };
+    ghost talk = { λ link. talk_of (conversation_of link) };
 
     ghost counts = { λ _. refl };
 }
 
 impl Source for MemLink {
     fn read(&mut self, out: &mut [u8]) -> Result<usize, Failed> {
-        let link = &mut self.conversation;
+        let link = &mut self.node.value;
         link.calls.make()?;
         if link.is_held() {
             return Err(link.calls.fail());
@@ -123,10 +122,10 @@ impl Source for MemLink {
 }
 
 impl Sink for MemLink {
-    ghost room = { λ link. vec_capacity link.conversation.sink.written - vec_len link.conversation.sink.written };
+    ghost room = { λ link. let sink = (conversation_of link).sink in vec_capacity sink.written - vec_len sink.written };
 
     fn write(&mut self, bytes: &[u8]) -> Result<usize, Failed> {
-        let link = &mut self.conversation;
+        let link = &mut self.node.value;
         link.calls.make()?;
         match link.sink.write(bytes) {
             Ok(count) => Ok(count),

@@ -7,7 +7,7 @@ ghost use Rattle.std.specs.List.{list_all, list_any, slice_get};
 ghost use Rattle.disk_trait.specs.Faults.{HasCause};
 ghost use Rattle.memory_io.specs.Calls.{is_empty};
 ghost use Rattle.memory_io.specs.Nets.{is_admitted, is_listed, net_state};
-ghost use Rattle.memory_io.specs.Ports.{is_steady_script, port_state};
+ghost use Rattle.memory_io.specs.Ports.{is_steady_script, kept_of, port_state};
 ghost use Rattle.stream_io.specs.Net.{Gathers, IsNewPort, NetOnward, NetState, SomeFailed, SomeUnaccepted};
 ghost use Rattle.stream_io.specs.Store.{RisesWhere};
 
@@ -71,7 +71,7 @@ impl MemNet {
     /// The next port, of the next script.
     fn make_port(&mut self, alloc: Global, place: Option<&str>) -> Result<MemPort, NoMemory>
         ensures made { IfOk result (λ port.
-            IsNewPort (net_state self.old) (option_copied place.entry) (port_state port.kept)) }
+            IsNewPort (net_state self.old) (option_copied place.entry) (port_state (kept_of port))) }
         ensures steady { (net_state self.new).steady ≡ (net_state self.old).steady }
         ensures same { self.new ≡ record self.old { scripts = self.new.scripts; gave_steady = self.new.gave_steady } }
     {
@@ -90,7 +90,7 @@ impl MemNet {
     ) -> Result<Vec<MemPort>, NoMemory>
         ensures many { IfOk result (λ ports. length ports.items ≡ count) }
         ensures made { IfOk result (λ ports. All (IsNewPort (net_state self.old) (option_copied place.entry))
-            (map (λ port. port_state port.kept) ports.items)) }
+            (map (λ port. port_state (kept_of port)) ports.items)) }
         ensures steady { (net_state self.new).steady ≡ (net_state self.old).steady }
         ensures same { self.new ≡ record self.old { scripts = self.new.scripts; gave_steady = self.new.gave_steady } }
     {
@@ -159,21 +159,21 @@ fn admit(calls: &mut Calls, places: &[String], place: Option<&str>) -> Result<()
 
 /// Whether a port has counted a fault.
 fn some_failed(ports: &[MemPort]) -> bool
-    ensures { result ≡ list_any (λ port. nat_lt 0 port.kept.calls.faults) ports.now }
+    ensures { result ≡ list_any (λ port. nat_lt 0 (kept_of port).calls.faults) ports.now }
 {
     ports.iter().any(|port| port.faults() > 0)
 }
 
 /// Whether a port failed to accept.
 fn some_unaccepted(ports: &[MemPort]) -> bool
-    ensures { result ≡ list_any (λ port. nat_lt 0 port.kept.accept_faults) ports.now }
+    ensures { result ≡ list_any (λ port. nat_lt 0 (kept_of port).accept_faults) ports.now }
 {
     ports.iter().any(|port| port.accept_faults() > 0)
 }
 
 /// Counts a fault where a port has counted one.
 fn count_failed(calls: &mut Calls, ports: &[MemPort])
-    ensures rises { RisesWhere (SomeFailed (map (λ port. port_state port.kept) ports.now))
+    ensures rises { RisesWhere (SomeFailed (map (λ port. port_state (kept_of port)) ports.now))
         calls.old.faults calls.new.faults }
     ensures failing { calls.new.failing ≡ calls.old.failing }
 {
@@ -184,7 +184,7 @@ fn count_failed(calls: &mut Calls, ports: &[MemPort])
 
 /// Counts a fault of ports where one failed to accept.
 fn count_unaccepted(port_faults: &mut u64, ports: &[MemPort])
-    ensures { RisesWhere (SomeUnaccepted (map (λ port. port_state port.kept) ports.now))
+    ensures { RisesWhere (SomeUnaccepted (map (λ port. port_state (kept_of port)) ports.now))
         port_faults.old port_faults.new }
 {
     if some_unaccepted(ports) {
@@ -194,10 +194,10 @@ fn count_unaccepted(port_faults: &mut u64, ports: &[MemPort])
 
 /// Keeps what the ports have and keep.
 fn keep(kept: &mut Chain<KeptPort>, ports: Vec<MemPort>)
-    ensures { kept.new ≡ kept.old ++ map (λ port. port.kept) ports.items }
+    ensures { kept.new ≡ kept.old ++ map kept_of ports.items }
 {
     for port in ports {
-        kept.push(port.seat, port.kept);
+        kept.push(port.node);
     }
 }
 
@@ -239,7 +239,7 @@ impl Net for MemNet {
     }
 
     fn gather(&mut self, ports: Vec<MemPort>)
-        ensures kept { Gathers (net_state self.old) (map (λ port. port_state port.kept) ports.items)
+        ensures kept { Gathers (net_state self.old) (map (λ port. port_state (kept_of port)) ports.items)
             (net_state self.new) }
         ensures offers { (net_state self.new).offers ≡ (net_state self.old).offers }
         ensures onward { NetOnward (net_state self.old) (net_state self.new) }

@@ -3,11 +3,11 @@
 ghost use Rattle.std.specs.Prelude.{◌≡◌, ◌&&◌, [], true, IfOk, length, option_map, refl, string_bytes};
 ghost use Rattle.std.specs.Prelude.{if◌then◌else◌, is_some};
 ghost use Rattle.std.specs.List.{list_any};
-ghost use Rattle.memory_io.specs.Ports.{is_at, is_steady_script, port_state};
+ghost use Rattle.memory_io.specs.Ports.{is_at, is_steady_script, kept_of, port_state};
 ghost use Rattle.stream_io.specs.Net.{PortState};
 
 use crate::calls::Calls;
-use crate::chain::{Chain, Seat};
+use crate::chain::{Chain, Node};
 use crate::kept_port::{KeptPort, take_at};
 use crate::mem_link::MemLink;
 use crate::port_script::PortScript;
@@ -19,8 +19,7 @@ use stream_io::{Accepted, Failed, Port};
 /// A port whose links are made beforehand, and which keeps what was said on them.
 #[derive(Drop)]
 pub struct MemPort {
-    pub(crate) kept: KeptPort,
-    pub(crate) seat: Seat<KeptPort>,
+    pub(crate) node: Box<Node<KeptPort>>,
 }
 
 impl MemPort {
@@ -41,7 +40,6 @@ impl MemPort {
           talks = [];
         }) }
     {
-        let seat = Seat::new(alloc)?;
         let kept = KeptPort {
             place,
             waiting: script.waiting,
@@ -51,53 +49,43 @@ impl MemPort {
             calls: Calls::new(script.failing),
             accept_faults: 0,
         };
-        Ok(MemPort { kept, seat })
+        let node = Node::new(alloc, kept)?;
+        Ok(MemPort { node })
     }
 
     /// What it has and keeps.
     pub fn kept(&self) -> &KeptPort
         ensures { port_state result.now ≡ ⟦<MemPort as Port>⟧.state self.now }
     {
-        &self.kept
+        &self.node.value
     }
 }
 
 impl Faults for MemPort {
-    ghost count = { λ port. port.kept.calls.faults };
+    ghost count = { λ port. (kept_of port).calls.faults };
 
-    ghost steady = { λ port. (port_state port.kept).steady };
+    ghost steady = { λ port. (port_state (kept_of port)).steady };
 
     fn faults(&self) -> u64 {
-        self.kept.calls.faults
+        self.node.value.calls.faults
     }
 }
 
 impl Port for MemPort {
     type Link = MemLink;
 
-    ghost state = { λ port. port_state port.kept };
+    ghost state = { λ port. port_state (kept_of port) };
 
     fn accept_faults(&self) -> u64 {
-        self.kept.accept_faults
+        self.node.value.accept_faults
     }
 
     fn accept(&mut self) -> Accepted<MemLink> {
-        let port = &mut self.kept;
-        if port.place.is_none() || port.waiting.is_empty() {
-            return Accepted::End;
-        }
-        if port.calls.make().is_err() {
-            port.accept_faults = port.accept_faults.saturating_add(1);
-            return Accepted::Failed;
-        }
-        let mut link = port.waiting.remove(0);
-        link.begin(None);
-        port.gave_steady &= link.is_steady();
-        Accepted::Link(link)
+        self.node.value.accept()
     }
 
     fn dial(&mut self, place: &str) -> Result<MemLink, Failed> {
-        let port = &mut self.kept;
+        let port = &mut self.node.value;
         port.calls.make()?;
         let Some((name, mut link)) = take_at(&mut port.dialled, place) else {
             return Err(port.calls.fail());
@@ -108,11 +96,11 @@ impl Port for MemPort {
     }
 
     fn hang_up(&mut self, link: MemLink) {
-        let port = &mut self.kept;
+        let port = &mut self.node.value;
         if link.faults() > 0 {
             port.calls.fail();
         }
-        port.talks.push(link.seat, link.conversation);
+        port.talks.push(link.node);
     }
 
     ghost counts = { λ _. refl };

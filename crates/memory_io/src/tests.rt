@@ -274,12 +274,10 @@ fn a_net_in_memory_keeps_the_ports_of_one_place(rt: HostRuntime) -> Result<(), C
     let mut net = MemNet::new(places, scripts, Vec::new(alloc));
     let mut ports = net.ports(alloc, Some("here"), 3)?;
     assert_eq!(rt; ports.len(), 3);
-    if let [first, second, third] = ports.as_mut_slice() {
-        assert!(rt; matches!(second.accept(), Accepted::Failed));
-        assert!(rt; serves(second, "al"));
-        assert!(rt; serves(first, "he"));
-        assert!(rt; is_at_end(third));
-    }
+    assert!(rt; matches!(ports[1].accept(), Accepted::Failed));
+    assert!(rt; serves(&mut ports[1], "al"));
+    assert!(rt; serves(&mut ports[0], "he"));
+    assert!(rt; is_at_end(&mut ports[2]));
     net.gather(ports);
     assert_eq!(rt; (net.faults(), net.port_faults()), (1, 1));
     assert_eq!(rt; counts(net.kept(0)), (Some("here"), 0, 0));

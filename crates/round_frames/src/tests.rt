@@ -10,8 +10,8 @@ use crate::{
 use coalition_map::Members;
 use disk_trait::Faults;
 use lms_bytes::{Ask, MessageId, Params, ReplyHead, Val};
-use std::alloc::{AllocError, Global};
 use memory_io::{MemSink, MemSource};
+use std::alloc::{AllocError, Global};
 use stream_io::{Sink, write_whole};
 
 /// A failure of round two.

@@ -22,7 +22,9 @@ use lms_bytes::Params;
 use memory::NoMemory;
 use std::alloc::{AllocError, Global};
 use stream_io::{Readers, Store};
-use tool_base::{Ending, FILE_LIMIT, Output, Undealt, end_of_fault, read_file, test_all_new, write_all};
+use tool_base::{
+    Ending, FILE_LIMIT, Output, Undealt, end_of_fault, read_file, test_all_new, write_all,
+};
 use tool_words::DealWords;
 
 /// Deals a key, and writes its files.

@@ -3,7 +3,7 @@ use Rattle.std.proofs.lemmas.List.{length-map}
 use Rattle.std.specs.List.{list_all}
 use Rattle.memory_io.specs.Calls.{is_empty}
 use Rattle.memory_io.specs.Nets.{is_admitted, is_listed, net_state}
-use Rattle.memory_io.specs.Ports.{is_steady_script, port_state}
+use Rattle.memory_io.specs.Ports.{is_steady_script, kept_of, port_state}
 use Rattle.memory_io.specs.declared.mem_port.MemPort.{MemPort}
 use Rattle.memory_io.proofs.Ports.{admitted, new-for}
 use Rattle.memory_io.proofs.mem_net.MemNetNet.ports.Goals as goal
@@ -14,7 +14,7 @@ returns-clause-made c =
     let made = c.in_ok-ports.ensures in
     let place = option_copied c.args.place in
     record {
-      many = length-map c.in_ok-ports.ports.items (λ (port : MemPort). port_state port.kept) ∙ made.many;
+      many = length-map c.in_ok-ports.ports.items (λ (port : MemPort). port_state (kept_of port)) ∙ made.many;
       new_ports = new-for _ (net_state net) place _ refl
           (ap (λ f. (is_empty f.items && net.gave_steady) && list_all is_steady_script net.scripts.items) c.admit.ensures.failing) made.made;
       offered = λ _. admitted net place (ap (λ l. is_admitted (is_listed l) place) (sym c.deref.ensures.value) ∙ c.in_default.ensures.offered);
