@@ -1,7 +1,7 @@
 //! The descriptors of standard input, output and error.
 
-use std::fd::AsRawFd;
 use std::fs::{File, OpenOptions};
+use std::os::fd::AsRawFd;
 
 /// Opens `/dev/null` in the place of each of the descriptors 0 to 2 that is closed, and keeps it open while the result
 /// lives. A program may be started with any of them closed; the system would then give its number to the next file
