@@ -1,6 +1,6 @@
 //! Reads frames that another implementation read as well, from a table with a row for each reading: the typecodes, the
 //! reader, the bytes, and what was read. Each is read twice, from one piece and from pieces of one byte. It prints the
-//! number of each row that was read otherwise, and how many were not.
+//! number of each row that was read otherwise, and how many were not. Then it reads a long message in pieces.
 #![tactic(auto)]
 
 mod reading;
@@ -54,6 +54,40 @@ fn agrees(alloc: Global, row: &Row, piece: usize) -> Result<bool, AllocError> {
     Ok(got.as_str() == row.want)
 }
 
+/// A message of 1,048,576 zero bytes by its id: its length, and its SHA-256 by another program.
+const LONG_ID: &str = "0010000030e14955ebf1352266dc2ff8067e68104607e750abb9d3b36582b8af909fcb58";
+
+/// An ask of round two for that message, whose key, leaf, randomizer and tag are zero.
+fn long_ask(alloc: Global) -> Result<Vec<u8>, AllocError> {
+    let mut bytes = Vec::from_slice(alloc, &[b'T', b'L', 1, 2, 0, 0x10, 0, 0x54])?;
+    bytes.resize(8 + 84 + 1_048_576, 0)?;
+    Ok(bytes)
+}
+
+/// What is read of that ask in these pieces.
+fn long_reading(alloc: Global, params: &Params, pieces: Vec<usize>) -> Result<String, AllocError> {
+    let bytes = long_ask(alloc)?;
+    let length = bytes.len();
+    let mut source = MemSource::new(bytes, pieces, Vec::new(alloc));
+    reading(alloc, params, "ask", &mut source, length)
+}
+
+/// Whether that ask is read alike from one piece and from pieces of 1, 63, 64 and 65 bytes in turn, with its id.
+fn agrees_on_long(alloc: Global) -> Result<bool, AllocError> {
+    let Ok(params) = Params::of_codes(5, 3) else {
+        return Ok(false);
+    };
+    let mut pieces = Vec::new(alloc);
+    for _ in 0..6_000 {
+        for size in [1, 63, 64, 65] {
+            pieces.push(size)?;
+        }
+    }
+    let whole = long_reading(alloc, &params, Vec::new(alloc))?;
+    let cut = long_reading(alloc, &params, pieces)?;
+    Ok(whole == cut && whole.as_str().contains(LONG_ID))
+}
+
 fn main(rt: HostRuntime) -> io::Result<()> {
     let mut store = FileStore::new(rt);
     let Ok(bytes) = store.read_all(rt.alloc(), "frames.tsv", 1 << 20) else {
@@ -74,5 +108,7 @@ fn main(rt: HostRuntime) -> io::Result<()> {
             println!(rt; "row {number} is read otherwise")?;
         }
     }
-    println!(rt; "{agreed} rows are read as the table says")
+    println!(rt; "{agreed} rows are read as the table says")?;
+    let long = agrees_on_long(rt.alloc())?;
+    println!(rt; "a long message is read alike in one piece and in many: {long}")
 }
