@@ -1,6 +1,6 @@
 -- This project's profile: asks.
 use Rattle.std.specs.Prelude.{◌≡◌, ◌≤◌, ◌<◌, ◌^◌, ⊤, ◌+◌, ◌==◌, ◌||◌, ◌++◌, ℕ, List, length, take, drop, nat_le}
-use Rattle.std.specs.Prelude.{MatchOption, Some, None, Ok, if◌then◌else◌}
+use Rattle.std.specs.Prelude.{IfSome, MatchOption, Some, None, Ok, if◌then◌else◌}
 use Rattle.lms_bytes.specs.Bytes.{bytes_at, str_to_u32, u32str}
 use Rattle.lms_bytes.specs.MessageId.{message_id, message_id_bytes}
 use Rattle.lms_bytes.specs.declared.ask.Ask.{Ask}
@@ -40,6 +40,10 @@ ask_of params head message =
 
 abbrev pub second_ask : Params → List ℕ → Ask
 second_ask params payload = ask_of params (take (52 + params.n) payload) (drop (52 + params.n) payload)
+
+-- the randomizer and the digest of an ask of round two have n bytes
+abbrev pub HasSizes : Params → Ask → Type 0
+HasSizes params ask = IfSome ask.second (λ second. (length second.c ≡ params.n) × (length second.digest ≡ params.n))
 
 -- the reader of asks
 abbrev pub asks : Params → Reader Ask

@@ -1,9 +1,9 @@
 //! Asks, as frames.
 
-ghost use Rattle.std.specs.Prelude.{◌≡◌, ◌≢◌, ◌+◌, ◌≤◌, length, IsTrue, IfSome, Ok, Err, None};
+ghost use Rattle.std.specs.Prelude.{◌≡◌, ◌≢◌, ◌+◌, ◌≤◌, length, IsTrue, IfOk, IfSome, Ok, Err, None};
 ghost use Rattle.stream_io.specs.Store.{RisesWhere};
 ghost use Rattle.stream_io.specs.Talk.{OnlyRead};
-ghost use Rattle.round_frames.specs.Asks.{ask_of, asks, first_ask, second_ask};
+ghost use Rattle.round_frames.specs.Asks.{HasSizes, ask_of, asks, first_ask, second_ask};
 ghost use Rattle.round_frames.specs.Frames.{frame_of, header_fault, payload_in, whole};
 ghost use Rattle.round_frames.specs.Reads.{Reads};
 ghost use Rattle.round_frames.specs.declared.fault.FrameFault.TheVariants.{ReadFault, NoMemory};
@@ -27,6 +27,7 @@ pub fn next_ask<S: Source>(params: &Params, source: &mut S) -> Result<Ask, Frame
     ensures answers { IsTrue (S.steady source.old) → result ≢ Err ReadFault }
     ensures steady { S.steady source.new ≡ S.steady source.old }
     ensures no_memory { result ≢ Err NoMemory }
+    ensures sizes { IfOk result (HasSizes params.now) }
 {
     let header = next_header(source)?;
     next_payload(params, source, &header)
@@ -45,6 +46,7 @@ fn next_payload<S: Source>(
     ensures answers { IsTrue (S.steady source.old) → result ≢ Err ReadFault }
     ensures steady { S.steady source.new ≡ S.steady source.old }
     ensures no_memory { result ≢ Err NoMemory }
+    ensures sizes { IfOk result (HasSizes params.now) }
 {
     if let Some(fault) = ask_fault(params, header) {
         return Err(fault);
@@ -83,6 +85,7 @@ fn next_first<S: Source>(source: &mut S) -> Result<Ask, FrameFault>
     ensures answers { IsTrue (S.steady source.old) → result ≢ Err ReadFault }
     ensures steady { S.steady source.new ≡ S.steady source.old }
     ensures no_memory { result ≢ Err NoMemory }
+    ensures first { IfOk result (λ ask. ask.second ≡ None) }
 {
     let mut payload = [0; 56];
     fill(source, &mut payload)?;
@@ -118,6 +121,7 @@ fn next_second<S: Source>(params: &Params, source: &mut S, length: u32) -> Resul
     ensures answers { IsTrue (S.steady source.old) → result ≢ Err ReadFault }
     ensures steady { S.steady source.new ≡ S.steady source.old }
     ensures no_memory { result ≢ Err NoMemory }
+    ensures sizes { IfOk result (HasSizes params.now) }
 {
     let mut room = [0; 84];
     let size = 52 + params.n as usize;
@@ -141,6 +145,7 @@ fn finish_second<S: Source>(
     ensures answers { IsTrue (S.steady source.old) → result ≢ Err ReadFault }
     ensures steady { S.steady source.new ≡ S.steady source.old }
     ensures no_memory { result ≢ Err NoMemory }
+    ensures sizes { IfOk result (HasSizes params.now) }
 {
     let n = params.n as usize;
     let mut key = [0; 16];

@@ -38,6 +38,9 @@ pub(crate) fn take_message<S: Source>(
     ensures digest { IsTrue (S.talk source.old).told → OnOk result (
         (params : Params) (key : List ℕ) (q : ℕ) (c : List ℕ) → HasTaken hashes.old.digest params key q c []
         → HasTaken hashes.new.digest params key q c (take size (S.talk source.old).left)) }
+    ensures some { OnOk result ((params : Params) (key : List ℕ) (q : ℕ) (c : List ℕ)
+        → HasTaken hashes.old.digest params key q c []
+        → (xs : List ℕ) × HasTaken hashes.new.digest params key q c xs) }
     ensures passed { IsTrue (S.talk source.old).told → Passed (S.talk source.old) (S.talk source.new) result size }
     ensures only { OnlyRead (S.talk source.old) (S.talk source.new) }
     ensures faults { IfErr result (λ fault. (fault ≡ Cut) ⊎ (fault ≡ ReadFault)) }
@@ -68,6 +71,9 @@ fn take_piece<S: Source>(
     ensures digest { IsTrue (S.talk source.old).told → OnOk result (
         (params : Params) (key : List ℕ) (q : ℕ) (c xs : List ℕ) → HasTaken hashes.old.digest params key q c xs
         → HasTaken hashes.new.digest params key q c (xs ++ take (length room.old) (S.talk source.old).left)) }
+    ensures some { OnOk result ((params : Params) (key : List ℕ) (q : ℕ) (c xs : List ℕ)
+        → HasTaken hashes.old.digest params key q c xs
+        → (ys : List ℕ) × HasTaken hashes.new.digest params key q c ys) }
     ensures passed { IsTrue (S.talk source.old).told
         → Passed (S.talk source.old) (S.talk source.new) result (length room.old) }
     ensures only { OnlyRead (S.talk source.old) (S.talk source.new) }

@@ -1,4 +1,4 @@
-use Rattle.std.proofs.Common.{◌∙◌, Ok, ap, arith, take}
+use Rattle.std.proofs.Common.{◌∙◌, Ok, ap, arith, length, take}
 use Rattle.std.proofs.lemmas.Result.{err_from_is_err_and}
 use Rattle.round_frames.specs.Asks.{ask_of}
 use Rattle.round_frames.proofs.Reading.{all-there, ask-is, part-missing}
@@ -28,3 +28,12 @@ returns-clause-told g c told =
     (c.copy_from_slice-2.ensures.after ∙ c.part-2.ensures.bytes)
     (c.finish.ensures (take size rest) (t.id told c.new.ensures.taken))
     (c.finish-2.ensures.digest params key leaf rand (take size rest) (t.digest told params key leaf rand c.new-2.ensures))))
+
+pub returns-clause-sizes : goal.returns-clause-sizes
+returns-clause-sizes g c =
+    let params = c.args.params.now in
+    let key = c.copy_from_slice.new.self in
+    let leaf = c.u32_at-leaf.result in
+    let rand = c.of-c.result in
+    let taken = c.in_ok-take_message.ensures.some params key leaf rand c.new-2.ensures in
+    (ap length c.of-c.ensures ∙ c.part-3.ensures.length, c.finish-2.ensures.length params key leaf rand taken.0 taken.1)

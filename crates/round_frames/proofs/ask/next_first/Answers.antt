@@ -15,3 +15,6 @@ returns-clause-told g c told =
     let talk = g.S.Stream.talk in
     all-there (talk c.args.source.now) (talk c.fill.new.source) _ 56 (λ payload. Ok (first_ask payload)) (c.in_ok-fill.ensures.passed told)
     (ap (λ ask. Ok ask) (c.read_first.ensures ∙ ap first_ask (c.in_ok-fill.ensures.bytes told)))
+
+pub returns-clause-first : goal.returns-clause-first
+returns-clause-first g c = ap (λ ask. ask.second) c.read_first.ensures

@@ -1,5 +1,9 @@
-use Rattle.std.proofs.Common.{◌≡◌, ◌==◌, Ok, false, ne_eqb, refl}
-use Rattle.round_frames.specs.Asks.{asks, first_ask, second_ask}
+use Rattle.std.proofs.Common.{◌≡◌, ◌==◌, Option, None, Result, Ok, Err, IfOk, IfSome, false, length, ne_eqb, refl, subst, sym}
+use Rattle.lms_bytes.specs.declared.ask.Ask.{Ask}
+use Rattle.lms_bytes.specs.declared.ask.Second.{Second}
+use Rattle.lms_bytes.specs.declared.params.Params.{Params}
+use Rattle.round_frames.specs.Asks.{HasSizes, asks, first_ask, second_ask}
+use Rattle.round_frames.specs.declared.fault.FrameFault.{FrameFault}
 use Rattle.round_frames.proofs.Reading.{in-payload, payload-fault}
 use Rattle.round_frames.proofs.ask.next_payload.Goals as goal
 
@@ -20,3 +24,10 @@ returns-else-header-eq1-clause-told g c told =
     let test : (header.kind == 1) ≡ false = ne_eqb header.kind 1 c.if-header-eq1.false in
     in-payload (asks c.args.params.now) header (talk c.args.source.now) (talk c.next_second.new.source) c.next_second.result header.length (λ payload. Ok (second_ask c.args.params.now payload))
     c.in_default.ensures.fault refl (λ payload. rw test refl) (c.next_second.ensures.told told)
+
+sizes-first : (params : Params) (result : Result Ask FrameFault) → IfOk result (λ ask. ask.second ≡ None) → IfOk result (HasSizes params)
+sizes-first params (Ok ask) none = subst (λ (o : Option Second). IfSome o (λ second. (length second.c ≡ params.n) × (length second.digest ≡ params.n))) (sym none) tt
+sizes-first params (Err fault) none = tt
+
+pub returns-then-header-eq1-clause-sizes : goal.returns-then-header-eq1-clause-sizes
+returns-then-header-eq1-clause-sizes g c = sizes-first c.args.params.now c.next_first.result c.next_first.ensures.first

@@ -1,10 +1,27 @@
-use Rattle.std.proofs.Common.{◌≡◌, ◌++◌, ◌∙◌, subst, arith, length, length-take-le, length-append, length-drop, take}
+use Rattle.std.proofs.Common.{◌≡◌, ◌++◌, ◌∙◌, ℕ, [], refl, subst, arith, length, length-take-le, length-append, length-drop, take}
+use Rattle.std.proofs.lemmas.List.{length-replicate}
 use Rattle.std.proofs.lemmas.Result.{err_from_is_err_and}
 use Rattle.lms_bytes.specs.IdHash.{HasTaken as IdTaken}
 use Rattle.ots_chain.specs.MessageHash.{HasTaken}
 use Rattle.stream_io.specs.Talk.{Took}
-use Rattle.round_frames.proofs.Reading.{only-then, passed-then, piece, took-then}
+use Rattle.round_frames.proofs.Reading.{only-same, only-then, passed-then, piece, took-none, took-then}
 use Rattle.round_frames.proofs.message.take_message.Goals as goal
+
+pub pieces-init : goal.pieces-init
+pieces-init g c =
+    let talk = g.S.Stream.talk c.args.source.now in
+    record {
+      within = omega arith;
+      room = length-replicate {A = ℕ} 4096 0;
+      counted = c.requires;
+      only = only-same talk;
+      quiet = refl;
+      steady = refl;
+      id = λ is start. start;
+      digest = λ is params key q rand start. start;
+      some = λ params key q rand start. ([], start);
+      took = λ _. took-none talk;
+    }
 
 pub pieces-preserved : goal.pieces-preserved
 pieces-preserved g c =
@@ -27,6 +44,7 @@ pieces-preserved g c =
           (subst (λ k. IdTaken c.take_piece.new.hashes.id (take at xs ++ take k left)) full (r.id (v.only.told ∙ is) (take at xs) (v.id is start)));
       digest = λ is params key q rand start. subst (HasTaken c.take_piece.new.hashes.digest params key q rand) (piece at n _ _ (v.took is))
           (subst (λ k. HasTaken c.take_piece.new.hashes.digest params key q rand (take at xs ++ take k left)) full (r.digest (v.only.told ∙ is) params key q rand (take at xs) (v.digest is params key q rand start)));
+      some = λ params key q rand start. let before = v.some params key q rand start in r.some params key q rand before.0 before.1;
       took = λ is. took-then at n _ _ _ (v.took is) (subst (Took (talk c.pieces.source) (talk c.take_piece.new.source)) full (r.passed (v.only.told ∙ is)));
     }
 
@@ -52,3 +70,6 @@ returns-clause-passed g c told =
     let v = c.pieces.invariant in
     let whole : c.pieces.at ≡ c.args.size = (let a = c.pieces-test.false in let b = v.within in omega arith) in
     subst (Took (talk c.args.source.now) (talk c.pieces.source)) whole (v.took told)
+
+pub returns-clause-some : goal.returns-clause-some
+returns-clause-some g c = c.pieces.invariant.some

@@ -19,6 +19,7 @@ invariant-pieces g l =
       steady : g.S.Faults.steady l.source ≡ g.S.Faults.steady l.initial.source;
       id : IsTrue (talk l.initial.source).told → IdTaken l.initial.hashes.id [] → IdTaken l.hashes.id (take l.at xs);
       digest : IsTrue (talk l.initial.source).told → (params : Params) (key : List ℕ) (q : ℕ) (c : List ℕ) → HasTaken l.initial.hashes.digest params key q c [] → HasTaken l.hashes.digest params key q c (take l.at xs);
+      some : (params : Params) (key : List ℕ) (q : ℕ) (c : List ℕ) → HasTaken l.initial.hashes.digest params key q c [] → (xs : List ℕ) × HasTaken l.hashes.digest params key q c xs;
       took : IsTrue (talk l.initial.source).told → Took (talk l.initial.source) (talk l.source) l.at;
     }
 

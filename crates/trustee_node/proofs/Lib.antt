@@ -1,0 +1,9 @@
+mod Conversing
+mod Deciding
+mod Frames
+mod Heads
+mod Masks
+mod Prefixes
+mod Serving
+mod Standing
+mod Turning

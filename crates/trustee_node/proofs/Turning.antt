@@ -1,0 +1,331 @@
+-- One turn of a pass.
+use Rattle.std.proofs.Common.{◌≡◌, ◌≢◌, ◌⊎◌, ◌+◌, ◌-◌, ◌^◌, ◌≤◌, ◌<◌, ℕ, false, List, [], ◌∷◌, ◌++◌, length, drop, None, Option, Result, Ok, Err, IsTrue, refl, sym, ap, ◌∙◌, subst, arith, inl, inr, append-nil}
+use Rattle.std.proofs.Math.Seq.{drop-append_seam}
+use mathlib.Core.List.{IsPrefix}
+use native.Mathlib.Decide.{dec_le}
+use mathlib.Core.Logic.{dite}
+use Rattle.approval_book.specs.Decisions.{BookAnswer, BookDecides, Decided, Denied, IsDenied, as_denial, book_answer_in, decided, denied}
+use Rattle.approval_book.specs.declared.denial.Denial.{Denial}
+use Rattle.disk_trait.specs.Faults.{Rose}
+use Rattle.disk_trait.specs.declared.disk.Pages as pages
+use Rattle.disk_trait.specs.declared.faults.Faults as counting
+use Rattle.lms_bytes.specs.declared.ask.Ask.{Ask}
+use Rattle.opening_journal.specs.Entries.{JournalState}
+use Rattle.opening_journal.specs.Journal.{disk_of, faults_of, state_of}
+use Rattle.opening_journal.specs.declared.entry.Entry.{Entry}
+use Rattle.opening_journal.proofs.Held.{holds}
+use Rattle.share_files.specs.declared.share.Share.{Share}
+use Rattle.trustee_core.specs.Decisions.{Granted, Refused, answer_in}
+use Rattle.trustee_core.specs.Trustee.{Decided as DecidedOn, journal_of, share_of}
+use Rattle.trustee_core.specs.declared.grant.Grant.{Grant}
+use Rattle.trustee_core.specs.declared.kept.TrusteeName.{TrusteeName}
+use Rattle.trustee_core.specs.declared.refusal.Refusal.{Refusal}
+use Rattle.trustee_core.specs.declared.refusal.Refusal.TheVariants as refusal
+use Rattle.trustee_core.specs.declared.trustee.Trustee.{Trustee}
+use Rattle.turn_lock.specs.Pass.{SamePass, Seen}
+use Rattle.trustee_node.specs.Turns.{HasSteadyDisk, InTurn, NoTurn, Outcome, Serves, TellsDisk, Turn, ended, is_code, next, worn}
+use Rattle.trustee_node.proofs.Deciding.{book-met}
+use Rattle.trustee_node.proofs.Prefixes.{prefix-is, prefix-same, prefix-then}
+use Rattle.trustee_node.proofs.Serving.{same-then}
+
+module _ {D : Type 0} {p : pages.Ghosts D} {f : counting.Ghosts D} where
+  -- what a trustee under a lock is called
+  abbrev pub name_of : Trustee D p f → TrusteeName
+  name_of trustee = record {
+    share = share_of trustee;
+    told = p.told (disk_of (journal_of trustee));
+    honest = p.honest (disk_of (journal_of trustee));
+    steady = f.steady (disk_of (journal_of trustee));
+  }
+
+at-most : (x k : ℕ) → x ≡ 0 → x ≤ k
+at-most x k is = omega (arith, is)
+
+-- only a refusal by the disk has code 6, and only one for a damaged slot has code 7
+six : (why : Refusal) → why ≢ refusal.Device → is_code 6 (InTurn (Decided (Refused why))) ≡ 0
+six refusal.ForeignKey other = refl
+six refusal.NoSuchLeaf other = refl
+six refusal.NotMember other = refl
+six (refusal.TooLong got) other = refl
+six refusal.BadCheck other = refl
+six refusal.Device other = absurd (other refl)
+six (refusal.Damaged leaf a b) other = refl
+six refusal.NotBound other = refl
+six (refusal.Spent kept) other = refl
+six (refusal.OtherDigest c digest) other = refl
+
+seven : (why : Refusal) → ((leaf a b : ℕ) → why ≢ refusal.Damaged leaf a b) → is_code 7 (InTurn (Decided (Refused why))) ≡ 0
+seven refusal.ForeignKey never = refl
+seven refusal.NoSuchLeaf never = refl
+seven refusal.NotMember never = refl
+seven (refusal.TooLong got) never = refl
+seven refusal.BadCheck never = refl
+seven refusal.Device never = refl
+seven (refusal.Damaged leaf a b) never = absurd (never leaf a b refl)
+seven refusal.NotBound never = refl
+seven (refusal.Spent kept) never = refl
+seven (refusal.OtherDigest c digest) never = refl
+
+six-device : is_code 6 (InTurn (Decided (Refused refusal.Device))) ≡ 1
+six-device = refl
+
+device-rises : (answer : BookAnswer) (number floor : ℕ) → (answer ≡ Decided (Refused refusal.Device) → Rose number floor)
+    → number ≤ floor → floor < 2 ^ 64 - 1 → is_code 6 (InTurn answer) ≤ floor - number
+device-rises (Denied message) number floor rose le small = at-most (is_code 6 (InTurn (Denied message))) (floor - number) refl
+device-rises (Decided Granted) number floor rose le small = at-most (is_code 6 (InTurn (Decided Granted))) (floor - number) refl
+device-rises (Decided (Refused refusal.Device)) number floor rose le small = let r = rose refl in let one = six-device in omega (arith, r, one, le, small)
+device-rises (Decided (Refused refusal.ForeignKey)) number floor rose le small = at-most _ (floor - number) (six refusal.ForeignKey (λ is. absurd (cc)))
+device-rises (Decided (Refused refusal.NoSuchLeaf)) number floor rose le small = at-most _ (floor - number) (six refusal.NoSuchLeaf (λ is. absurd (cc)))
+device-rises (Decided (Refused refusal.NotMember)) number floor rose le small = at-most _ (floor - number) (six refusal.NotMember (λ is. absurd (cc)))
+device-rises (Decided (Refused (refusal.TooLong got))) number floor rose le small = at-most _ (floor - number) (six (refusal.TooLong got) (λ is. absurd (cc)))
+device-rises (Decided (Refused refusal.BadCheck)) number floor rose le small = at-most _ (floor - number) (six refusal.BadCheck (λ is. absurd (cc)))
+device-rises (Decided (Refused (refusal.Damaged leaf a b))) number floor rose le small = at-most _ (floor - number) (six (refusal.Damaged leaf a b) (λ is. absurd (cc)))
+device-rises (Decided (Refused refusal.NotBound)) number floor rose le small = at-most _ (floor - number) (six refusal.NotBound (λ is. absurd (cc)))
+device-rises (Decided (Refused (refusal.Spent kept))) number floor rose le small = at-most _ (floor - number) (six (refusal.Spent kept) (λ is. absurd (cc)))
+device-rises (Decided (Refused (refusal.OtherDigest c digest))) number floor rose le small = at-most _ (floor - number) (six (refusal.OtherDigest c digest) (λ is. absurd (cc)))
+
+-- no worn pass stands behind a decision
+eleven-refused : (why : Refusal) → is_code 11 (InTurn (Decided (Refused why))) ≡ 0
+eleven-refused refusal.ForeignKey = refl
+eleven-refused refusal.NoSuchLeaf = refl
+eleven-refused refusal.NotMember = refl
+eleven-refused (refusal.TooLong got) = refl
+eleven-refused refusal.BadCheck = refl
+eleven-refused refusal.Device = refl
+eleven-refused (refusal.Damaged leaf a b) = refl
+eleven-refused refusal.NotBound = refl
+eleven-refused (refusal.Spent kept) = refl
+eleven-refused (refusal.OtherDigest c digest) = refl
+
+pub eleven : (answer : BookAnswer) → is_code 11 (InTurn answer) ≡ 0
+eleven (Denied message) = refl
+eleven (Decided Granted) = refl
+eleven (Decided (Refused why)) = eleven-refused why
+
+-- a decision of a trustee with a book, and what it leaves of the trustee
+denied-or : (share : Share) (ids : Option (List (List ℕ))) (before : JournalState) (ask : Ask) (moment : ℕ) (answer : BookAnswer) (after : JournalState)
+    → BookDecides share ids before ask moment answer after → (IsDenied ids ask × (answer ≡ Denied ask.message)) ⊎ (IsDenied ids ask → ⊥)
+denied-or share ids before ask moment answer after (denied is) = inl (is, refl)
+denied-or share ids before ask moment answer after (decided given new approved decides) = inr approved
+
+as-core : (core : Result Grant Refusal) → book_answer_in (as_denial core) ≡ Decided (answer_in core)
+as-core (Ok grant) = refl
+as-core (Err why) = refl
+
+core-device : (core : Result Grant Refusal) → Decided (answer_in core) ≡ Decided (Refused refusal.Device) → core ≡ Err refusal.Device
+core-device (Ok grant) is = absurd (cc)
+core-device (Err why) is = let same : why ≡ refusal.Device = cc in ap Err same
+
+core-six : (core : Result Grant Refusal) → core ≢ Err refusal.Device → is_code 6 (InTurn (Decided (answer_in core))) ≡ 0
+core-six (Ok grant) other = refl
+core-six (Err why) other = six why (λ is. other (ap Err is))
+
+core-seven : (core : Result Grant Refusal) → ((leaf a b : ℕ) → core ≢ Err (refusal.Damaged leaf a b)) → is_code 7 (InTurn (Decided (answer_in core))) ≡ 0
+core-seven (Ok grant) never = refl
+core-seven (Err why) never = seven why (λ leaf a b is. never leaf a b (ap Err is))
+
+module _ {D : Type 0} {p : pages.Ghosts D} {f : counting.Ghosts D} where
+  pub record Leaves (old new : Trustee D p f) (answer : BookAnswer) : Type 0 where
+    pub name : name_of new ≡ name_of old
+    pub count : faults_of (journal_of old) ≤ faults_of (journal_of new)
+    pub rose : answer ≡ Decided (Refused refusal.Device) → Rose (faults_of (journal_of old)) (faults_of (journal_of new))
+    pub steady : IsTrue (f.steady (disk_of (journal_of old))) → IsTrue (p.told (disk_of (journal_of old))) → is_code 6 (InTurn answer) ≡ 0
+    pub told : IsTrue (p.told (disk_of (journal_of old))) → is_code 7 (InTurn answer) ≡ 0
+
+  -- nothing is left of a denied ask
+  leaves-denied : (old new : Trustee D p f) (answer : BookAnswer) (ask : Ask) → new ≡ old → answer ≡ Denied ask.message → Leaves old new answer
+  leaves-denied old new answer ask same is = record {
+    name = ap name_of same;
+    count = (let e = ap (λ (t : Trustee D p f). faults_of (journal_of t)) same in omega (arith, e));
+    rose = λ device. absurd (cc);
+    steady = λ _ _. ap (λ (a : BookAnswer). is_code 6 (InTurn a)) is;
+    told = λ _. ap (λ (a : BookAnswer). is_code 7 (InTurn a)) is;
+  }
+
+  names-same : (old new : Trustee D p f) (core : Result Grant Refusal) → DecidedOn old new core → name_of new ≡ name_of old
+  names-same old new core d i = record {
+    share = d.share i;
+    told = d.stays.disk.told i;
+    honest = d.stays.disk.honest i;
+    steady = d.stays.disk.steady i;
+  }
+
+  leaves-decided : (old new : Trustee D p f) (core : Result Grant Refusal) → DecidedOn old new core → Leaves old new (Decided (answer_in core))
+  leaves-decided old new core d = record {
+    name = names-same old new core d;
+    count = d.stays.disk.count;
+    rose = λ device. d.cause.failed (core-device core device);
+    steady = λ steady told. core-six core (d.succeeds steady told);
+    told = λ told. core-seven core (d.told told);
+  }
+
+  pub leaves : (ids : Option (List (List ℕ))) (ask : Ask) (moment : ℕ) (old new : Trustee D p f) (result : Result Grant Denial)
+      → BookDecides (share_of old) ids (state_of (journal_of old)) ask moment (book_answer_in result) (state_of (journal_of new))
+      → (IsDenied ids ask → new ≡ old)
+      → ((IsDenied ids ask → ⊥) → (core : Result Grant Refusal) × (result ≡ as_denial core) × DecidedOn old new core)
+      → Leaves old new (book_answer_in result)
+  leaves ids ask moment old new result event stays decides =
+      elim (denied-or (share_of old) ids (state_of (journal_of old)) ask moment (book_answer_in result) (state_of (journal_of new)) event) [
+        | inl out ↦ leaves-denied old new (book_answer_in result) ask (stays out.0) out.1
+        | inr approved ↦
+            let d = decides approved in
+            subst (Leaves old new) (sym (ap book_answer_in d.1 ∙ as-core d.0)) (leaves-decided old new d.0 d.2)
+      ]
+
+  -- no entry is in doubt before the first fault
+  pub sure : (trustee : Trustee D p f) → faults_of (journal_of trustee) ≡ 0 → (state_of (journal_of trustee)).doubt ≡ None
+  sure trustee none = (holds (journal_of trustee)).cause none
+
+-- what taking the value tells, and what giving it back tells
+pub record Took (old mid : Seen Entry TrusteeName) (before : JournalState) (number : ℕ) : Type 0 where
+  pub begins : IsPrefix old.log before.entries
+  pub reaches : old.floor ≤ number
+  pub log : mid.log ≡ before.entries
+  pub floor : mid.floor ≡ number
+  pub fresh : mid.greatest < 2 ^ 62
+  pub draws : old.greatest < 2 ^ 62 → mid.draws ≡ old.draws + 1
+  pub greatest : old.greatest ≤ mid.greatest
+  pub rises : mid.rises ≡ old.rises
+  pub own : mid.own ≡ old.own
+  pub joined : mid.joined ≡ old.joined
+  pub same : SamePass old mid
+
+pub record Gave (mid new : Seen Entry TrusteeName) (after : JournalState) (number : ℕ) : Type 0 where
+  pub log : new.log ≡ after.entries
+  pub floor : new.floor ≡ number
+  pub rises : new.rises ≡ mid.rises + (number - mid.floor)
+  pub own : new.own ≡ mid.own ++ drop (length mid.log) after.entries
+  pub idle : new.in_turn ≡ false
+  pub draws : new.draws ≡ mid.draws
+  pub greatest : new.greatest ≡ mid.greatest
+  pub joined : new.joined ≡ mid.joined
+  pub same : SamePass mid new
+
+-- a turn was taken at one state of the trustee, with this number, and given at another
+pub record Turned (old new : Seen Entry TrusteeName) (before after : JournalState) (number : ℕ) : Type 0 where
+  pub begins : IsPrefix old.log before.entries
+  pub log : new.log ≡ after.entries
+  pub reaches : old.floor ≤ number
+  pub goes_on : number ≤ new.floor
+  pub rises : new.rises ≡ old.rises + (new.floor - number)
+  pub own : new.own ≡ old.own ++ drop (length before.entries) after.entries
+  pub draws : new.draws ≡ old.draws + 1
+  pub greatest : old.greatest ≤ new.greatest
+  pub fresh : new.greatest < 2 ^ 62
+  pub same : SamePass old new
+  pub joined : new.joined ≡ old.joined
+  pub idle : new.in_turn ≡ false
+
+pub took-gave : (old mid new : Seen Entry TrusteeName) (before after : JournalState) (number last : ℕ) → Took old mid before number → Gave mid new after last → number ≤ last → Turned old new before after number
+took-gave old mid new before after number last a b goes_on = record {
+  begins = a.begins;
+  log = b.log;
+  reaches = a.reaches;
+  goes_on = (let f = b.floor in omega (arith, f, goes_on));
+  rises = (let f = b.floor in let r = b.rises in let s = a.rises in let t = a.floor in omega (arith, f, r, s, t));
+  own = b.own ∙ (λ i. a.own i ++ drop (length (a.log i)) after.entries);
+  draws = (let p = a.greatest in let q = a.fresh in let d = a.draws (omega (arith, p, q)) in let e = b.draws in omega (arith, d, e));
+  greatest = (let p = a.greatest in let q = b.greatest in omega (arith, p, q));
+  fresh = (let p = a.fresh in let q = b.greatest in omega (arith, p, q));
+  same = same-then old mid new a.same b.same;
+  joined = b.joined ∙ a.joined;
+  idle = b.idle;
+}
+
+-- what was added to the entries that were met
+added-after : {A : Type 0} (before seen added : List A) → seen ≡ before → drop (length before) (seen ++ added) ≡ added
+added-after before seen added is = ap (λ (b : List _). drop (length b) (seen ++ added)) (sym is) ∙ drop-append_seam seen added
+
+-- one ask in the fields of a turn
+abbrev pub turn_of : Ask → ℕ → List Entry → Outcome → List Entry → Turn
+turn_of ask moment seen outcome added = record { ask = ask; moment = moment; seen = seen; outcome = outcome; added = added }
+
+-- a turn in which the trustee decided
+pub turned : (share : Share) (ids : Option (List (List ℕ))) (old new : Seen Entry TrusteeName) (before after : JournalState) (number : ℕ) (ask : Ask) (moment : ℕ) (answer : BookAnswer)
+    → Turned old new before after number → (number ≡ 0 → before.doubt ≡ None)
+    → BookDecides share ids before ask moment answer after
+    → (answer ≡ Decided (Refused refusal.Device) → Rose number new.floor)
+    → (HasSteadyDisk new.name → is_code 6 (InTurn answer) ≡ 0)
+    → (TellsDisk new.name → is_code 7 (InTurn answer) ≡ 0)
+    → (seen : List Entry) × (added : List Entry) × Serves share ids old new (turn_of ask moment seen (InTurn answer) added ∷ [])
+turned share ids old new before after number ask moment answer t sure decides rose steady told =
+    let m = book-met share ids before ask moment answer after decides in
+    let turn = turn_of ask moment m.seen (InTurn answer) m.added in
+    let le = t.goes_on in
+    let reaches = t.reaches in (
+      m.seen,
+      m.added,
+      record {
+        served = next old.log new.log turn [] (prefix-then old.log before.entries m.seen t.begins m.begins) m.answers
+            (ended (m.seen ++ m.added) new.log (prefix-is (m.seen ++ m.added) new.log (sym m.entries ∙ sym t.log)));
+        floor = omega (arith, le, reaches);
+        own = λ zero.
+            let is = m.sure (sure (omega (arith, le, zero))) in
+            t.own ∙ ap (λ (e : List Entry). old.own ++ drop (length before.entries) e) m.entries
+            ∙ ap (λ (e : List Entry). old.own ++ e) (added-after before.entries m.seen m.added is ∙ sym (append-nil m.added));
+        draws = record {
+          most = (let a = t.draws in omega (arith, a));
+          least = (let a = t.draws in omega (arith, a));
+          greatest = t.greatest;
+          fresh = λ _. (let e = eleven answer in omega (arith, e));
+          worn = λ large. absurd (let a = t.greatest in let b = t.fresh in omega (arith, a, b, large));
+        };
+        faults = record {
+          rises = λ small. (let a = t.rises in let d = device-rises answer number new.floor rose le small in omega (arith, a, d));
+          steady = λ is. (let d = steady is in omega (arith, d));
+          first = λ zero. (let d = m.sound (sure (omega (arith, le, zero))) in omega (arith, d));
+          told = λ is. (let d = told is in omega (arith, d));
+        };
+        same = t.same;
+        joined = t.joined;
+        idle = t.idle;
+      },
+    )
+
+-- a turn that a worn pass did not get
+pub record NotTurned (old new : Seen Entry TrusteeName) : Type 0 where
+  pub log : new.log ≡ old.log
+  pub floor : new.floor ≡ old.floor
+  pub rises : new.rises ≡ old.rises
+  pub own : new.own ≡ old.own
+  pub some_draw : old.draws ≤ new.draws
+  pub one_draw : new.draws ≤ old.draws + 1
+  pub greatest : old.greatest ≤ new.greatest
+  pub worn : 2 ^ 62 ≤ new.greatest
+  pub same : SamePass old new
+  pub joined : new.joined ≡ old.joined
+  pub idle : new.in_turn ≡ false
+
+-- the draws of a pass that was worn, or is worn by this ticket
+pub few-draws : (old new : Seen Entry TrusteeName) → (old.greatest < 2 ^ 62 → new.draws ≡ old.draws + 1) → (2 ^ 62 ≤ old.greatest → new ≡ old)
+    → (old.draws ≤ new.draws) × (new.draws ≤ old.draws + 1)
+few-draws old new draws still = dite (dec_le (2 ^ 62) old.greatest)
+    (λ le. let same = ap (λ (p : Seen Entry TrusteeName). p.draws) (still le) in (omega (arith, same), omega (arith, same)))
+    (λ lt. let d = draws (omega (arith, lt)) in (omega (arith, d), omega (arith, d)))
+
+pub not-turned : (share : Share) (ids : Option (List (List ℕ))) (old new : Seen Entry TrusteeName) (ask : Ask) (moment : ℕ) → NotTurned old new
+    → Serves share ids old new (turn_of ask moment old.log NoTurn [] ∷ [])
+not-turned share ids old new ask moment t =
+    let turn = turn_of ask moment old.log NoTurn [] in
+    record {
+      served = next old.log new.log turn [] (prefix-same old.log) worn
+          (ended (old.log ++ []) new.log (prefix-is (old.log ++ []) new.log (append-nil old.log ∙ sym t.log)));
+      floor = (let a = t.floor in omega (arith, a));
+      own = λ _. t.own ∙ sym (append-nil old.own);
+      draws = record {
+        most = (let a = t.one_draw in omega (arith, a));
+        least = (let a = t.some_draw in omega (arith, a));
+        greatest = t.greatest;
+        fresh = λ small. absurd (let a = t.worn in omega (arith, a, small));
+        worn = λ _. refl;
+      };
+      faults = record {
+        rises = λ _. (let a = t.rises in omega (arith, a));
+        steady = λ _. refl;
+        first = λ _. refl;
+        told = λ _. refl;
+      };
+      same = t.same;
+      joined = t.joined;
+      idle = t.idle;
+    }

@@ -1,0 +1,41 @@
+use Rattle.std.proofs.Common.{◌≡◌, length, refl, ap, ◌∙◌, arith, append-nil}
+use Rattle.lms_bytes.specs.Bytes.{joined}
+use Rattle.trustee_core.specs.Grants.{ask_of, mask_of}
+use Rattle.round_frames.proofs.Writing.{small-hash}
+use Rattle.trustee_node.proofs.Masks.{masks-more, some-there}
+use Rattle.trustee_node.proofs.reply.put_masks.Goals as goal
+
+pub loop-i-init : goal.loop-i-init
+loop-i-init c = record {
+  later = omega arith;
+  within = (let a = c.requires.from in let b = c.mask_count-count.ensures in omega (arith, a, b));
+  first = λ _. refl;
+  small = omega arith;
+  bytes = append-nil (joined (mask_of c.args.share.now (ask_of c.args.grant.now)) c.args.from);
+}
+
+pub loop-i-preserved : goal.loop-i-preserved
+loop-i-preserved c =
+    let v = c.loop-i.invariant in
+    let f = mask_of c.args.share.now (ask_of c.args.grant.now) in
+    let bytes = c.bytes.ensures.bytes in
+    record {
+      later = (let a = v.later in omega (arith, a));
+      within = (let t = c.loop-i-test.true in omega (arith, t));
+      first = λ is. absurd (let a = v.later in omega (arith, a, is));
+      small = (let t = c.if-is_full.false in omega (arith, t));
+      bytes = masks-more f c.args.from c.loop-i.i c.loop-i.length c.args.share.now.params.n c.loop-i.room c.put.new.out c.bytes.result.now
+          v.bytes (bytes ∙ c.release.ensures.mask) (ap length bytes ∙ c.release.ensures.length) c.put.ensures.front;
+    }
+
+pub returns-then-is_full-clause-later : goal.returns-then-is_full-clause-later
+returns-then-is_full-clause-later c =
+    let v = c.loop-i.invariant in
+    some-there c.args.from c.loop-i.i c.loop-i.length c.args.share.now.params.n v.later v.first (small-hash c.args.share.now.params) c.if-is_full.true
+
+pub returns-clause-bytes : goal.returns-clause-bytes
+returns-clause-bytes c =
+    let v = c.loop-i.invariant in
+    let f = mask_of c.args.share.now (ask_of c.args.grant.now) in
+    let whole : c.loop-i.i ≡ c.mask_count-count.result = (let t = c.loop-i-test.false in let w = v.within in omega (arith, t, w)) in
+    v.bytes ∙ ap (joined f) whole

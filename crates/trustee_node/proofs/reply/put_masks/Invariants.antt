@@ -1,0 +1,15 @@
+use Rattle.std.proofs.Common.{◌≡◌, ◌≤◌, ◌++◌, take}
+use Rattle.lms_bytes.specs.Bytes.{joined}
+use Rattle.trustee_core.specs.Grants.{ask_of, mask_of}
+use Rattle.trustee_node.proofs.reply.put_masks.Given as goal
+
+-- the masks from `from` up to `i` are in the room
+abbrev pub invariant-loop-i : goal.invariant-loop-i
+invariant-loop-i l =
+    record {
+      later : l.from ≤ l.i;
+      within : l.i ≤ l.count;
+      first : l.i ≡ l.from → l.length ≡ 0;
+      small : l.length ≤ 4096;
+      bytes : joined (mask_of l.share (ask_of l.grant)) l.from ++ take l.length l.room ≡ joined (mask_of l.share (ask_of l.grant)) l.i;
+    }

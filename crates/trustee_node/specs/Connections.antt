@@ -1,0 +1,108 @@
+-- A connection: the asks that were read and when, what was written, and how it ended.
+use Rattle.std.specs.Prelude.{◌≡◌, ◌≢◌, ◌⊎◌, ◌≤◌, ◌+◌, ◌++◌, ⊤, ℕ, Bool, List, [], ◌∷◌, length, drop, IsTrue}
+use Rattle.std.specs.Prelude.{Option, Ok, Err}
+use Rattle.lms_bytes.specs.declared.params.Params.{Params}
+use Rattle.opening_journal.specs.declared.entry.Entry.{Entry}
+use Rattle.round_frames.specs.Asks.{asks}
+use Rattle.round_frames.specs.Frames.{frame_of}
+use Rattle.round_frames.specs.declared.fault.FrameFault.{FrameFault}
+use Rattle.round_frames.specs.declared.fault.FrameFault.TheVariants.{End, Cut, Magic, Kind, TooLong, Shape}
+use Rattle.round_frames.specs.declared.fault.FrameFault.TheVariants.{ReadFault, NoMemory}
+use Rattle.share_files.specs.declared.share.Share.{Share}
+use Rattle.stream_io.specs.Store.{RisesWhere}
+use Rattle.stream_io.specs.Talk.{Talk, WrotePart}
+use Rattle.trustee_core.specs.declared.kept.TrusteeName.{TrusteeName}
+use Rattle.turn_lock.specs.Pass.{Seen}
+use Rattle.trustee_node.specs.Replies.{replies}
+use Rattle.trustee_node.specs.Turns.{Serves, Turn, with_code}
+use Rattle.trustee_node.specs.declared.served.Served.{Served}
+use Rattle.trustee_node.specs.declared.served.ServedEnd.{ServedEnd}
+use Rattle.trustee_node.specs.declared.served.ServedEnd.TheVariants.{Closed, Frame, WriteFailed, Worn, Full}
+
+-- the bytes begin with the asks of these turns, one frame after the other, and this is what stands behind them
+pub data ReadsAsks (params : Params) : List ℕ → List Turn → List ℕ → Type 0 where
+  read_none : (bytes : List ℕ) → ReadsAsks params bytes [] bytes
+  read_one : (bytes rest : List ℕ) (turn : Turn) (turns : List Turn)
+      → (frame_of (asks params) bytes).result ≡ Ok turn.ask
+      → ReadsAsks params (drop (frame_of (asks params) bytes).size bytes) turns rest
+      → ReadsAsks params bytes (turn ∷ turns) rest
+
+-- what stands behind the asks has this fault, and just the bytes that show it were read
+abbrev pub FaultBehind : Params → FrameFault → List ℕ → List ℕ → Type 0
+FaultBehind params fault rest left =
+    ((frame_of (asks params) rest).result ≡ Err fault) × (left ≡ drop (frame_of (asks params) rest).size rest)
+
+-- what was left to read at the end, by what stood behind the asks
+abbrev pub LeftBehind : Params → ServedEnd → List ℕ → List ℕ → Type 0
+LeftBehind params Closed rest left = FaultBehind params End rest left
+LeftBehind params (Frame fault) rest left = (fault ≡ ReadFault) ⊎ FaultBehind params fault rest left
+LeftBehind params WriteFailed rest left = left ≡ rest
+LeftBehind params Worn rest left = left ≡ rest
+LeftBehind params Full rest left = left ≡ rest
+
+-- what was read: the asks of these turns, and of what stood behind them as much as the end says
+pub record HasRead (params : Params) (old new : Talk) (ended : ServedEnd) (turns : List Turn) : Type 0 where
+  pub rest : List ℕ
+  pub asks_read : ReadsAsks params old.left turns rest
+  pub behind : LeftBehind params ended rest new.left
+  pub all : new.taken ++ new.left ≡ old.taken ++ old.left
+
+-- what was written: all replies, or a beginning where a write failed
+abbrev pub HasWritten : Share → Talk → Talk → ServedEnd → List Turn → Type 0
+HasWritten share old new Closed turns = new.written ≡ old.written ++ replies share turns
+HasWritten share old new (Frame fault) turns = new.written ≡ old.written ++ replies share turns
+HasWritten share old new WriteFailed turns = WrotePart old new (replies share turns)
+HasWritten share old new Worn turns = new.written ≡ old.written ++ replies share turns
+HasWritten share old new Full turns = new.written ≡ old.written ++ replies share turns
+
+-- how many replies were written whole: all but the last where a write failed; only the last ask may meet a worn pass
+abbrev pub EndsBy : ServedEnd → ℕ → List Turn → Type 0
+EndsBy Closed frames turns = (frames ≡ length turns) × (with_code 11 turns ≡ 0)
+EndsBy (Frame fault) frames turns =
+    (fault ≢ End) × (fault ≢ NoMemory) × (frames ≡ length turns) × (with_code 11 turns ≡ 0)
+EndsBy WriteFailed frames turns = (frames + 1 ≡ length turns) × (with_code 11 turns ≤ 1)
+EndsBy Worn frames turns = (frames ≡ length turns) × (with_code 11 turns ≡ 1)
+EndsBy Full frames turns = (frames ≡ length turns) × (length turns ≡ 65536) × (with_code 11 turns ≡ 0)
+
+-- the link failed, in a read or in a write
+abbrev pub IsLinkFault : ServedEnd → Type 0
+IsLinkFault Closed = ⊥
+IsLinkFault (Frame fault) = fault ≡ ReadFault
+IsLinkFault WriteFailed = ⊤
+IsLinkFault Worn = ⊥
+IsLinkFault Full = ⊥
+
+-- each turn has the next answer of the clock, from this one on
+abbrev pub HaveMoments : (ℕ → ℕ) → ℕ → List Turn → Type 0
+HaveMoments answers from [] = ⊤
+HaveMoments answers from (turn ∷ turns) = (turn.moment ≡ answers from) × HaveMoments answers (from + 1) turns
+
+-- the clock was read once for each turn, and goes on after that
+pub record IsDated (before now : ℕ → ℕ) (turns : List Turn) : Type 0 where
+  pub moments : HaveMoments before 0 turns
+  pub later : (j : ℕ) → now j ≡ before (j + length turns)
+
+-- All of a connection, by the turns that its asks had: the pass, the link and the clock before and after, and its end.
+pub record Conversation (share : Share) (ids : Option (List (List ℕ))) (pass_old pass_new : Seen Entry TrusteeName)
+    (old new : Talk) (clock_told : Bool) (answers_old answers_new : ℕ → ℕ) (served : Served) : Type 0 where
+  pub turns : List Turn
+  pub serves : Serves share ids pass_old pass_new turns
+  pub dated : IsTrue clock_told → IsDated answers_old answers_new turns
+  pub read : IsTrue old.told → HasRead share.params old new served.ended turns
+  pub written : IsTrue old.told → HasWritten share old new served.ended turns
+  pub ends : EndsBy served.ended served.frames turns
+  pub most : length turns ≤ 65536
+  pub cause : RisesWhere (IsLinkFault served.ended) old.count new.count
+  pub told : new.told ≡ old.told
+  pub place : new.place ≡ old.place
+
+-- the end of a connection whose next frame has this fault
+abbrev pub end_by : FrameFault → ServedEnd
+end_by End = Closed
+end_by Cut = Frame Cut
+end_by Magic = Frame Magic
+end_by (Kind got) = Frame (Kind got)
+end_by (TooLong got) = Frame (TooLong got)
+end_by Shape = Frame Shape
+end_by ReadFault = Frame ReadFault
+end_by NoMemory = Frame NoMemory

@@ -1,0 +1,4 @@
+pub mod Turns
+pub mod Places
+pub mod Replies
+pub mod Connections

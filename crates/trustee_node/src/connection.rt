@@ -1,0 +1,70 @@
+//! Connections.
+
+ghost use Rattle.std.specs.Prelude.{◌≡◌, ◌≢◌, IsTrue};
+ghost use Rattle.std.specs.Option.{option_map};
+ghost use Rattle.approval_book.specs.Approved.{ids_of};
+ghost use Rattle.trustee_node.specs.Connections.{Conversation};
+ghost use Rattle.trustee_node.specs.Turns.{IsIdle};
+
+use crate::reply::write_reply;
+use crate::served::{Served, ServedEnd, end_by};
+use crate::turn::decide_in_turn;
+use approval_book::Approved;
+use disk_trait::{Disk, Faults};
+use round_frames::{FrameFault, next_ask};
+use share_files::Share;
+use std::sync::Wait;
+use stream_io::{Failed, Sink, Source, Stream};
+use trustee_core::{Clock, Trustee};
+use turn_lock::{Pass, TurnLock};
+
+/// The most frames of one connection.
+const MOST_FRAMES: u32 = 65_536;
+
+/// Serves a connection: reads asks one after the other, reads the clock once for each, decides on it in a turn of its
+/// own, and writes a reply. The share is that of the lock's trustee. A trustee with a book grants round one only for
+/// the messages that the book lists. The lock is held for the decision alone. It holds neither a message nor a list of
+/// masks, and takes no memory.
+pub fn serve_connection<D: Disk, C: Clock, L: Source + Sink>(
+    rt: &impl Wait,
+    lock: &TurnLock<Trustee<D>>,
+    pass: &mut Pass<Trustee<D>>,
+    share: &Share,
+    book: Option<&Approved>,
+    clock: &mut C,
+    link: &mut L,
+) -> Served
+    requires { IsIdle lock.now share.now pass.old }
+    ensures conversation { Conversation share.now (option_map (λ b. ids_of b.now) book.entry) pass.old pass.new
+        (L.talk link.old) (L.talk link.new) (C.told clock.old) (C.answers clock.old) (C.answers clock.new) result }
+    ensures pass { IsIdle lock.now share.now pass.new }
+    ensures clock { C.told clock.new ≡ C.told clock.old }
+    ensures answers { IsTrue (L.steady link.old) → result.ended ≢ ServedEnd.Frame FrameFault.ReadFault }
+    ensures steady { L.steady link.new ≡ L.steady link.old }
+{
+    let mut frames = 0;
+    for _ in 0..MOST_FRAMES {
+        let ask = match next_ask(&share.params, link) {
+            Ok(ask) => ask,
+            Err(fault) => {
+                let ended = end_by(fault);
+                return Served { frames, ended };
+            }
+        };
+        let moment = clock.now();
+        let answer = decide_in_turn(rt, lock, pass, share, book, &ask, moment);
+        if let Err(Failed) = write_reply(share, &ask, &answer, link) {
+            let ended = ServedEnd::WriteFailed;
+            return Served { frames, ended };
+        }
+        frames += 1;
+        if answer.is_worn() {
+            let ended = ServedEnd::Worn;
+            return Served { frames, ended };
+        }
+    }
+    Served {
+        frames,
+        ended: ServedEnd::Full,
+    }
+}

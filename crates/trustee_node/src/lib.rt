@@ -1,0 +1,12 @@
+//! The running trustee: it reads asks from a connection, decides on each in a turn of its own, and writes a reply to
+//! each.
+#![tactic(auto)]
+
+mod connection;
+pub mod laws;
+mod reply;
+mod served;
+mod turn;
+
+pub use connection::serve_connection;
+pub use served::{Served, ServedEnd};

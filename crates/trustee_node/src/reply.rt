@@ -1,0 +1,219 @@
+//! Replies. They are written outside the turn, and take no memory.
+
+ghost use Rattle.std.specs.Prelude.{◌≡◌, ◌<◌, ◌≤◌, ◌++◌, length, replicate, take, IfSome, IsTrue, MatchResult};
+ghost use Rattle.disk_trait.specs.Faults.{HasCause};
+ghost use Rattle.lms_bytes.specs.Bytes.{joined};
+ghost use Rattle.round_frames.specs.Asks.{HasSizes};
+ghost use Rattle.round_frames.specs.Replies.{IsHead};
+ghost use Rattle.stream_io.specs.Talk.{OnlyWrote, WrotePart};
+ghost use Rattle.trustee_core.specs.Grants.{ask_of, mask_of, masks_of};
+ghost use Rattle.trustee_node.specs.Replies.{HasDigest, IsGrantOf, body_in, c_of, kept_by, masks_joined, outcome_in};
+ghost use Rattle.trustee_node.specs.Replies.{reply_bytes, reply_head, round_of};
+
+use crate::turn::Answer;
+use approval_book::Denial;
+use disk_trait::Faults;
+use lms_bytes::bytes::put;
+use lms_bytes::{Ask, Params, ReplyHead, Val};
+use round_frames::write_reply_head;
+use share_files::Share;
+use stream_io::{Failed, Sink, Stream, write_whole};
+use trustee_core::{Grant, Refusal, mask_count, release};
+
+/// How many bytes of masks are written at once.
+const ROOM: usize = 4096;
+
+/// Writes the reply to an ask: its head, and behind it the masks of a grant, or what a refusal keeps.
+pub(crate) fn write_reply<K: Sink>(
+    share: &Share,
+    ask: &Ask,
+    answer: &Answer,
+    link: &mut K,
+) -> Result<(), Failed>
+    requires sizes { HasSizes share.now.params ask.now }
+    requires answer { IsGrantOf answer.now ask.now }
+    ensures wrote { let bytes = reply_bytes share.now ask.now (outcome_in answer.now) in
+        IsTrue (K.talk link.old).told → MatchResult result
+        (λ _. (K.talk link.new).written ≡ (K.talk link.old).written ++ bytes)
+        (λ _. WrotePart (K.talk link.old) (K.talk link.new) bytes) }
+    ensures only { OnlyWrote (K.talk link.old) (K.talk link.new) }
+    ensures cause { HasCause (K.talk link.old).count (K.talk link.new).count result }
+    ensures steady { K.steady link.new ≡ K.steady link.old }
+{
+    let head = head_of(share, ask, answer);
+    if let Err(failed) = write_reply_head(&share.params, &head, link) {
+        return Err(failed);
+    }
+    write_body(share, answer, link)
+}
+
+/// The head of the reply to an ask.
+fn head_of(share: &Share, ask: &Ask, answer: &Answer) -> ReplyHead
+    requires { HasSizes share.now.params ask.now }
+    ensures head { result ≡ reply_head share.now ask.now (outcome_in answer.now) }
+    ensures written { IsHead share.now.params result }
+{
+    ReplyHead {
+        key: ask.key,
+        leaf: ask.leaf,
+        member: share.member,
+        message: ask.message,
+        round: round_of(ask),
+        c: randomizer_of(&share.params, ask),
+        code: answer.code(),
+    }
+}
+
+/// The round of an ask.
+fn round_of(ask: &Ask) -> u8
+    ensures { result ≡ round_of ask.now.second }
+{
+    match ask.second {
+        None => 1,
+        Some(_) => 2,
+    }
+}
+
+/// The randomizer of an ask, and `n` zero bytes in round one.
+fn randomizer_of(params: &Params, ask: &Ask) -> Val
+    ensures { result ≡ c_of params.now ask.now.second }
+{
+    match &ask.second {
+        None => zeros(params),
+        Some(second) => second.c,
+    }
+}
+
+/// As many zero bytes as a hash value has.
+fn zeros(params: &Params) -> Val
+    ensures { result ≡ replicate params.now.n 0 }
+{
+    let zeros = [0; 32];
+    Val::of(&zeros[..params.n as usize])
+}
+
+/// Writes what follows the head.
+fn write_body<K: Sink>(share: &Share, answer: &Answer, link: &mut K) -> Result<(), Failed>
+    requires { HasDigest share.now answer.now }
+    ensures wrote { IsTrue (K.talk link.old).told → MatchResult result
+        (λ _. (K.talk link.new).written ≡ (K.talk link.old).written ++ body_in share.now answer.now)
+        (λ _. WrotePart (K.talk link.old) (K.talk link.new) (body_in share.now answer.now)) }
+    ensures only { OnlyWrote (K.talk link.old) (K.talk link.new) }
+    ensures cause { HasCause (K.talk link.old).count (K.talk link.new).count result }
+    ensures steady { K.steady link.new ≡ K.steady link.old }
+{
+    match answer {
+        Answer::Decided(Ok(grant)) => write_masks(share, grant, link),
+        Answer::Decided(Err(Denial::Core(why))) => write_kept(why, link),
+        Answer::Decided(Err(Denial::NotApproved { .. })) => Ok(()),
+        Answer::Worn => Ok(()),
+    }
+}
+
+/// Writes what a refusal keeps.
+fn write_kept<K: Sink>(why: &Refusal, link: &mut K) -> Result<(), Failed>
+    ensures wrote { IsTrue (K.talk link.old).told → MatchResult result
+        (λ _. (K.talk link.new).written ≡ (K.talk link.old).written ++ kept_by why.now)
+        (λ _. WrotePart (K.talk link.old) (K.talk link.new) (kept_by why.now)) }
+    ensures only { OnlyWrote (K.talk link.old) (K.talk link.new) }
+    ensures cause { HasCause (K.talk link.old).count (K.talk link.new).count result }
+    ensures steady { K.steady link.new ≡ K.steady link.old }
+{
+    let mut room = [0; 64];
+    let length = put_kept(why, &mut room);
+    write_whole(link, &room[..length])
+}
+
+/// Puts what a refusal keeps to the front of the room, and answers its length: the two gates, the kept message's id, or
+/// the kept randomizer and digest.
+fn put_kept(why: &Refusal, out: &mut [u8; 64]) -> usize
+    ensures length { result ≤ 64 }
+    ensures bytes { take result out.new ≡ kept_by why.now }
+{
+    match why {
+        Refusal::Damaged { a, b, .. } => {
+            put(out, 0, &[*a, *b]);
+            2
+        }
+        Refusal::Spent { kept } => {
+            put(out, 0, &kept.to_bytes());
+            36
+        }
+        Refusal::OtherDigest { c, digest } => put_pair(c, digest, out),
+        Refusal::ForeignKey
+        | Refusal::NoSuchLeaf
+        | Refusal::NotMember
+        | Refusal::TooLong { .. }
+        | Refusal::BadCheck
+        | Refusal::Device
+        | Refusal::NotBound => 0,
+    }
+}
+
+/// Puts two values one behind the other to the front of the room, and answers their length.
+fn put_pair(first: &Val, second: &Val, out: &mut [u8; 64]) -> usize
+    ensures length { result ≤ 64 }
+    ensures bytes { take result out.new ≡ first.now ++ second.now }
+{
+    let (first, second) = (first.bytes(), second.bytes());
+    put(out, 0, first);
+    put(out, first.len(), second);
+    first.len() + second.len()
+}
+
+/// Some masks in a room: the first that is not there, and the length of those that are.
+#[derive(Clone, Copy)]
+struct Batch {
+    next: u16,
+    length: usize,
+}
+
+/// Writes the masks of a grant, as many at once as there is room for.
+fn write_masks<K: Sink>(share: &Share, grant: &Grant, link: &mut K) -> Result<(), Failed>
+    requires { IfSome (ask_of grant.now).second (λ second. length second.digest ≡ share.now.params.n) }
+    ensures wrote { IsTrue (K.talk link.old).told → MatchResult result
+        (λ _. (K.talk link.new).written ≡ (K.talk link.old).written ++ masks_joined share.now (ask_of grant.now))
+        (λ _. WrotePart (K.talk link.old) (K.talk link.new) (masks_joined share.now (ask_of grant.now))) }
+    ensures only { OnlyWrote (K.talk link.old) (K.talk link.new) }
+    ensures cause { HasCause (K.talk link.old).count (K.talk link.new).count result }
+    ensures steady { K.steady link.new ≡ K.steady link.old }
+{
+    let count = mask_count(&share.params, grant);
+    let mut room = [0; ROOM];
+    let mut next = 0;
+    'batches: while next < count {
+        let batch = put_masks(share, grant, next, &mut room);
+        if let Err(failed) = write_whole(link, &room[..batch.length]) {
+            return Err(failed);
+        }
+        next = batch.next;
+    }
+    Ok(())
+}
+
+/// Puts masks of a grant to the front of the room, from mask `from` on and as many as there is room for.
+fn put_masks(share: &Share, grant: &Grant, from: u16, room: &mut [u8; ROOM]) -> Batch
+    requires from { from < masks_of share.now.params (ask_of grant.now) }
+    requires digest { IfSome (ask_of grant.now).second (λ second. length second.digest ≡ share.now.params.n) }
+    ensures later { from < result.next }
+    ensures within { result.next ≤ masks_of share.now.params (ask_of grant.now) }
+    ensures length { result.length ≤ 4096 }
+    ensures bytes { joined (mask_of share.now (ask_of grant.now)) from ++ take result.length room.new
+        ≡ joined (mask_of share.now (ask_of grant.now)) result.next }
+{
+    let n = share.params.n as usize;
+    let count = mask_count(&share.params, grant);
+    let mut length = 0;
+    for i in from..count {
+        let is_full = length + n > ROOM;
+        if is_full {
+            return Batch { next: i, length };
+        }
+        put(room, length, release(share, grant, i).bytes());
+        length += n;
+    }
+    Batch {
+        next: count,
+        length,
+    }
+}
