@@ -75,19 +75,15 @@ masks-agree share leaf (Some s) None rounds same i = absurd (cc)
 masks-agree share leaf (Some s) (Some t) rounds same i =
     ap (λ (d : List ℕ). chain_mask_of share.params share.key share.id leaf i (digit_of share.params d i)) (same s t refl refl)
 
-module _ (share : Share) (before last : JournalState) (answers : List Answered) (none : before.doubt ≡ None) (lives : Lives share before answers last) where
-  abbrev count : ℕ
-  count = 2 ^ share.params.h
+-- asks that one last state fits are of one opening
+module _ (share : Share) (last : JournalState) (asks : List Ask) (fits : All (Fits (2 ^ share.params.h) last) asks) where
+  fits-in : (ask : Ask) → Contains asks ask → Fits (2 ^ share.params.h) last ask
+  fits-in ask within = All-contains (Fits (2 ^ share.params.h) last) asks ask fits within
 
-  pub grows : MapGrows count before.entries last.entries
-  grows = (lives-end share before answers last (no-doubt before none) lives).steps.keeps
-
-  fits-in : (ask : Ask) → Contains (granted_in answers) ask → Fits count last ask
-  fits-in ask within = All-contains (Fits count last) (granted_in answers) ask (lives-end share before answers last (no-doubt before none) lives).fits within
-
-  pub one-opening : OneOpening share (granted_in answers)
-  one-opening =
-      let pair = λ (a b : Ask) (x y : Second) (in_a : Contains (granted_in answers) a) (in_b : Contains (granted_in answers) b) (leaf : a.leaf ≡ b.leaf) (is_x : a.second ≡ Some x) (is_y : b.second ≡ Some y).
+  pub opening-of : OneOpening share asks
+  opening-of =
+      let count = 2 ^ share.params.h in
+      let pair = λ (a b : Ask) (x y : Second) (in_a : Contains asks a) (in_b : Contains asks b) (leaf : a.leaf ≡ b.leaf) (is_x : a.second ≡ Some x) (is_y : b.second ≡ Some y).
       pair-agrees count last a b x y leaf is_x is_y (fits-in a in_a) (fits-in b in_b) in
       record {
         message = λ a b in_a in_b leaf. message-agrees count last a b leaf (fits-in a in_a) (fits-in b in_b);
@@ -96,3 +92,10 @@ module _ (share : Share) (before last : JournalState) (answers : List Answered) 
             ap (λ (q : ℕ). mask_at share q a.second i) leaf
             ∙ masks-agree share b.leaf a.second b.second rounds (λ x y is_x is_y. (pair a b x y in_a in_b leaf is_x is_y).1) i;
       }
+
+module _ (share : Share) (before last : JournalState) (answers : List Answered) (none : before.doubt ≡ None) (lives : Lives share before answers last) where
+  pub grows : MapGrows (2 ^ share.params.h) before.entries last.entries
+  grows = (lives-end share before answers last (no-doubt before none) lives).steps.keeps
+
+  pub one-opening : OneOpening share (granted_in answers)
+  one-opening = opening-of share last (granted_in answers) (lives-end share before answers last (no-doubt before none) lives).fits
