@@ -2,18 +2,30 @@
 use Rattle.std.specs.Prelude.{string_bytes}
 use Rattle.tool_base.specs.Ending as spec
 use Rattle.tool_base.specs.declared.ending.Ending.{Ending}
-use Rattle.tool_base.specs.declared.ending.Ending.TheVariants.{Verified, Rehearsed, Dealt, Usage, StoreFailed}
-use Rattle.tool_base.specs.declared.ending.Ending.TheVariants.{Unreadable, NotDealt, TooLong, NoMemory, Exists}
+use Rattle.tool_base.specs.declared.ending.Ending.TheVariants.{Verified, Rehearsed, Dealt, Enrolled, Migrated, Approved}
+use Rattle.tool_base.specs.declared.ending.Ending.TheVariants.{Signed, Served, Usage, StoreFailed, Unreadable, NotDealt}
+use Rattle.tool_base.specs.declared.ending.Ending.TheVariants.{NotSigned, DeviceFailed, TooLong, NotLoaded, NoMemory}
+use Rattle.tool_base.specs.declared.ending.Ending.TheVariants.{Exists, NetFailed, BookFull}
 
 -- the end, with the bytes of the names in it
 abbrev pub ending : Ending → spec.Ending
 ending (Verified verdict) = spec.Verified verdict
 ending Rehearsed = spec.Rehearsed
 ending (Dealt leaves coalitions) = spec.Dealt leaves coalitions
+ending (Enrolled number) = spec.Enrolled number
+ending (Migrated slots) = spec.Migrated slots
+ending (Approved slots) = spec.Approved slots
+ending (Signed leaf) = spec.Signed leaf
+ending (Served connections frames) = spec.Served connections frames
 ending Usage = spec.Usage
 ending StoreFailed = spec.StoreFailed
 ending (Unreadable name fault) = spec.Unreadable (string_bytes name) fault
 ending (NotDealt why) = spec.NotDealt why
+ending (NotSigned why) = spec.NotSigned why
+ending DeviceFailed = spec.DeviceFailed
 ending (TooLong got) = spec.TooLong got
+ending (NotLoaded fault) = spec.NotLoaded fault
 ending NoMemory = spec.NoMemory
 ending (Exists name) = spec.Exists (string_bytes name)
+ending NetFailed = spec.NetFailed
+ending BookFull = spec.BookFull

@@ -1,7 +1,9 @@
 pub mod Ending
 pub mod Endings
+pub mod Grammars
 pub mod OutputOf
 pub mod Outputs
 pub mod Reads
+pub mod Touched
 pub mod Undealt
 pub mod World

@@ -8,6 +8,7 @@ ghost use Rattle.tool_base.specs.Endings.{ending};
 ghost use Rattle.tool_base.specs.Undealt.{end_of_fault};
 
 use crate::undealt::Undealt;
+use crate::unsigned::Unsigned;
 use dealer::DealFault;
 use lms_bytes::Val;
 use lms_verify::Verdict;
@@ -22,6 +23,16 @@ pub enum Ending {
     Rehearsed,
     /// A key was dealt, and its files were written.
     Dealt { leaves: u32, coalitions: u32 },
+    /// A journal was made for the trustee of this number, or a leaf table, whose number is 0.
+    Enrolled { number: u8 },
+    /// A journal was copied, with so many slots that are not free.
+    Migrated { slots: u32 },
+    /// A message is listed in a book, of which so many slots are not free.
+    Approved { slots: u32 },
+    /// A signature was made with this leaf, and written.
+    Signed { leaf: u32 },
+    /// So many connections were served, with so many replies.
+    Served { connections: u32, frames: u32 },
     /// The words are no command.
     Usage,
     /// A call of the store failed, or a name is not in it.
@@ -30,12 +41,22 @@ pub enum Ending {
     Unreadable { name: String, fault: u8 },
     /// A key is not dealt.
     NotDealt(Undealt),
+    /// Nothing is signed.
+    NotSigned(Unsigned),
+    /// A call of a disk or of a view failed.
+    DeviceFailed,
     /// A file is longer than its limit.
     TooLong { got: u64 },
+    /// A journal, a table or a book was not loaded, by the fault of this number.
+    NotLoaded { fault: u8 },
     /// Want of memory.
     NoMemory,
     /// An output of this name is in the store.
     Exists { name: String },
+    /// Ports were not made, or accepting failed.
+    NetFailed,
+    /// A book has no free slot.
+    BookFull,
 }
 
 impl Ending {
@@ -48,14 +69,21 @@ impl Ending {
         match self {
             Ending::Verified(Verdict::Accepted { .. }) => 0,
             Ending::Verified(_) => 1,
-            Ending::Rehearsed | Ending::Dealt { .. } => 0,
+            Ending::Rehearsed | Ending::Dealt { .. } | Ending::Enrolled { .. } => 0,
+            Ending::Migrated { .. } | Ending::Approved { .. } => 0,
+            Ending::Signed { .. } | Ending::Served { .. } => 0,
             Ending::Usage => 2,
             Ending::StoreFailed => 3,
             Ending::Unreadable { .. } => 4,
             Ending::NotDealt(_) => 5,
+            Ending::NotSigned(why) => why.status(),
+            Ending::DeviceFailed => 10,
             Ending::TooLong { .. } => 12,
+            Ending::NotLoaded { .. } => 13,
             Ending::NoMemory => 14,
             Ending::Exists { .. } => 15,
+            Ending::NetFailed => 17,
+            Ending::BookFull => 19,
         }
     }
 
@@ -67,13 +95,26 @@ impl Ending {
             Ending::Verified(verdict) => verdict_line(alloc, verdict),
             Ending::Rehearsed => format!(in alloc; "rehearsed leaf 0\n"),
             Ending::Dealt { leaves, coalitions } => dealt_line(alloc, *leaves, *coalitions),
+            Ending::Enrolled { number } => format!(in alloc; "enrolled {number}\n"),
+            Ending::Migrated { slots } => format!(in alloc; "migrated {slots}\n"),
+            Ending::Approved { slots } => format!(in alloc; "approved {slots}\n"),
+            Ending::Signed { leaf } => format!(in alloc; "signed leaf {leaf}\n"),
+            Ending::Served {
+                connections,
+                frames,
+            } => served_line(alloc, *connections, *frames),
             Ending::Usage => format!(in alloc; "error 2 usage\n"),
             Ending::StoreFailed => format!(in alloc; "error 3 store\n"),
             Ending::Unreadable { name, fault } => file_line(alloc, name.as_str(), *fault),
             Ending::NotDealt(why) => why.line(alloc),
+            Ending::NotSigned(why) => why.line(alloc),
+            Ending::DeviceFailed => format!(in alloc; "error 10 device\n"),
             Ending::TooLong { got } => format!(in alloc; "error 12 too long {got}\n"),
+            Ending::NotLoaded { fault } => format!(in alloc; "error 13 journal fault {fault}\n"),
             Ending::NoMemory => format!(in alloc; "error 14 memory\n"),
             Ending::Exists { name } => exists_line(alloc, name.as_str()),
+            Ending::NetFailed => format!(in alloc; "error 17 network\n"),
+            Ending::BookFull => format!(in alloc; "error 19 book full\n"),
         }
     }
 }
@@ -113,6 +154,13 @@ fn dealt_line(alloc: Global, leaves: u32, coalitions: u32) -> Result<String, All
     ensures { IfOk result (λ line. string_bytes line ≡ line_of (spec.Dealt leaves coalitions)) }
 {
     format!(in alloc; "dealt {leaves} leaves to {coalitions} coalitions\n")
+}
+
+/// The line of a service.
+fn served_line(alloc: Global, connections: u32, frames: u32) -> Result<String, AllocError>
+    ensures { IfOk result (λ line. string_bytes line ≡ line_of (spec.Served connections frames)) }
+{
+    format!(in alloc; "served {connections} connections {frames} frames\n")
 }
 
 /// The line of an output that is in the store.

@@ -5,13 +5,17 @@ mod clocks;
 mod ending;
 mod outputs;
 mod reading;
+mod shares;
 mod undealt;
+mod unsigned;
 
 pub use clocks::{Clocks, MemClock, MemClocks, SystemClock, SystemClocks};
 pub use ending::{Ending, end_of_fault};
 pub use outputs::{Output, test_all_new, test_new, write_all};
 pub use reading::{read_file, unreadable};
+pub use shares::read_share_file;
 pub use undealt::Undealt;
+pub use unsigned::Unsigned;
 
 /// The longest file that is read whole, in bytes.
 pub const FILE_LIMIT: u64 = 67_108_864;

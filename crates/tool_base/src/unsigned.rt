@@ -1,0 +1,82 @@
+//! Why nothing is signed.
+
+ghost use Rattle.std.specs.Prelude.{◌≡◌, IfOk, string_bytes};
+ghost use Rattle.tool_base.specs.Ending.{unsigned_line, unsigned_status};
+ghost use Rattle.tool_base.specs.declared.unsigned.Unsigned.TheVariants as unsigned;
+
+use lms_bytes::Val;
+use std::alloc::{AllocError, Global};
+
+/// Why nothing is signed. A member is a trustee of the leaf's coalition, by its number.
+#[derive(Clone, Copy, Debug, PartialEq, Eq)]
+pub enum Unsigned {
+    /// This member gave no reply in this round.
+    Missing { member: u8, round: u8 },
+    /// This member has answered for another message, or under another randomizer, with the leaf.
+    SpentLeaf { leaf: u32, member: u8 },
+    /// This member found that the joined randomizer is not the dealer's.
+    WrongCheck { leaf: u32, member: u8 },
+    /// The joined signature leads to the root `got`, and the key has `want`.
+    WrongRoot { leaf: u32, got: Val, want: Val },
+    /// The coalition of this number has no leaf left.
+    NoLeaf { coalition: u32 },
+    /// This member refused, by the refusal of this code.
+    Refused { member: u8, code: u8 },
+    /// This member sent frame after frame that is no reply to the ask.
+    Stray { member: u8, round: u8 },
+    /// The members are no coalition.
+    NotACoalition,
+}
+
+impl Unsigned {
+    /// The status that the tool answers.
+    pub fn status(&self) -> u8
+        ensures { result ≡ unsigned_status self.now }
+    {
+        match self {
+            Unsigned::Missing { .. } => 6,
+            Unsigned::SpentLeaf { .. } => 7,
+            Unsigned::WrongCheck { .. } | Unsigned::WrongRoot { .. } => 8,
+            Unsigned::NoLeaf { .. } => 9,
+            Unsigned::Refused { .. } | Unsigned::Stray { .. } => 11,
+            Unsigned::NotACoalition => 18,
+        }
+    }
+
+    /// The line that the tool prints.
+    pub fn line(&self, alloc: Global) -> Result<String, AllocError>
+        ensures { IfOk result (λ line. string_bytes line ≡ unsigned_line self.now) }
+    {
+        match self {
+            Unsigned::Missing { member, round } => {
+                format!(in alloc; "error 6 missing {member} round {round}\n")
+            }
+            Unsigned::SpentLeaf { leaf, member } => {
+                format!(in alloc; "error 7 spent leaf {leaf} member {member}\n")
+            }
+            Unsigned::WrongCheck { leaf, member } => {
+                format!(in alloc; "error 8 check leaf {leaf} member {member}\n")
+            }
+            Unsigned::WrongRoot { leaf, got, want } => root_line(alloc, *leaf, got, want),
+            Unsigned::NoLeaf { coalition } => {
+                format!(in alloc; "error 9 no leaf coalition {coalition}\n")
+            }
+            Unsigned::Refused { member, code } => {
+                format!(in alloc; "error 11 member {member} code {code}\n")
+            }
+            Unsigned::Stray { member, round } => {
+                format!(in alloc; "error 11 stray {member} round {round}\n")
+            }
+            Unsigned::NotACoalition => format!(in alloc; "error 18 not a coalition\n"),
+        }
+    }
+}
+
+/// The line of a signature that leads to another root than the key's.
+fn root_line(alloc: Global, leaf: u32, got: &Val, want: &Val) -> Result<String, AllocError>
+    ensures { IfOk result (λ line. string_bytes line ≡ unsigned_line (unsigned.WrongRoot leaf got.now want.now)) }
+{
+    let got = hex::encode(alloc, got.bytes())?;
+    let want = hex::encode(alloc, want.bytes())?;
+    format!(in alloc; "error 8 root leaf {leaf} {got} {want}\n")
+}
