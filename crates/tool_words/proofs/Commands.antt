@@ -1,10 +1,10 @@
 -- The names of a command's outputs.
-use Rattle.std.proofs.Common.{◌≡◌, ◌==◌, length, ℕ, Bool, true, false, List, [], ◌∷◌, Option, None, Some, if◌then◌else◌, refl, subst}
+use Rattle.std.proofs.Common.{◌≡◌, ◌==◌, ◌^◌, ◌-◌, length, ℕ, Bool, true, false, List, [], ◌∷◌, Option, None, Some, if◌then◌else◌, refl, subst}
 use Rattle.std.specs.List.{list_any}
 use Rattle.std.specs.Prelude.{codes}
 use Rattle.std.specs.Str.{bytes_eq}
 use Rattle.std.proofs.lemmas.Slice.Eq.{bytes_eq-Decides}
-use Rattle.tool_words.specs.Words.{Deal, DealWords, OutputsDiffer, Rehearse, Row, Verify, command_of, deal_of, is_option, number_of, rehearse_of, row_of, verify_of}
+use Rattle.tool_words.specs.Words.{Approve, Deal, DealWords, Enrol, Migrate, OutputsDiffer, Rehearse, Row, Trustee, TrusteeWords, Verify, approve_of, command_of, deal_of, enrol_of, is_option, migrate_of, number_of, number_within, rehearse_of, row_of, trustee_of, verify_of}
 
 -- of two rows the one that the test takes
 taken : (test : Bool) (a b : Option Row) (row : Row) → ((r : Row) → a ≡ Some r → OutputsDiffer r) → ((r : Row) → b ≡ Some r → OutputsDiffer r)
@@ -71,12 +71,69 @@ deal_differ (a ∷ b ∷ c ∷ d ∷ e ∷ f ∷ []) row is =
     taken (length f == 0) None _ row none (with_numbers a f (number_of b) (number_of c) (number_of d) (number_of e)) is
 deal_differ (a ∷ b ∷ c ∷ d ∷ e ∷ f ∷ g ∷ more) row is = absurd (cc)
 
+enrol_differ : (words : List (List ℕ)) (row : Row) → enrol_of words ≡ Some row → OutputsDiffer row
+enrol_differ [] row is = absurd (cc)
+enrol_differ (a ∷ []) row is = absurd (cc)
+enrol_differ (a ∷ b ∷ []) row is = let same : Enrol a b ≡ row = cc in subst OutputsDiffer same tt
+enrol_differ (a ∷ b ∷ c ∷ more) row is = absurd (cc)
+
+migrate_differ : (words : List (List ℕ)) (row : Row) → migrate_of words ≡ Some row → OutputsDiffer row
+migrate_differ [] row is = absurd (cc)
+migrate_differ (a ∷ []) row is = absurd (cc)
+migrate_differ (a ∷ b ∷ []) row is = absurd (cc)
+migrate_differ (a ∷ b ∷ c ∷ []) row is = let same : Migrate a b c ≡ row = cc in subst OutputsDiffer same tt
+migrate_differ (a ∷ b ∷ c ∷ d ∷ more) row is = absurd (cc)
+
+approve_differ : (words : List (List ℕ)) (row : Row) → approve_of words ≡ Some row → OutputsDiffer row
+approve_differ [] row is = absurd (cc)
+approve_differ (a ∷ []) row is = absurd (cc)
+approve_differ (a ∷ b ∷ []) row is = absurd (cc)
+approve_differ (a ∷ b ∷ c ∷ []) row is = let same : Approve a b c ≡ row = cc in subst OutputsDiffer same tt
+approve_differ (a ∷ b ∷ c ∷ d ∷ more) row is = absurd (cc)
+
+-- with two numbers or fewer
+with_service : (share journal place : List ℕ) (workers connections : Option ℕ) (book : Option (List ℕ)) (row : Row)
+    → elim workers [
+      | None ↦ None
+      | Some workers ↦ elim connections [
+        | None ↦ None
+        | Some connections ↦ Some (Trustee (record {
+          share = share;
+          journal = journal;
+          place = place;
+          workers = workers;
+          connections = connections;
+          book = book;
+        }))
+      ]
+    ] ≡ Some row → OutputsDiffer row
+with_service share journal place None connections book row is = absurd (cc)
+with_service share journal place (Some workers) None book row is = absurd (cc)
+with_service share journal place (Some workers) (Some connections) book row is =
+    let words : TrusteeWords = record { share = share; journal = journal; place = place; workers = workers; connections = connections; book = book } in
+    let same : Trustee words ≡ row = cc in
+    subst OutputsDiffer same tt
+
+trustee_differ : (words : List (List ℕ)) (row : Row) → trustee_of words ≡ Some row → OutputsDiffer row
+trustee_differ [] row is = absurd (cc)
+trustee_differ (a ∷ []) row is = absurd (cc)
+trustee_differ (a ∷ b ∷ []) row is = absurd (cc)
+trustee_differ (a ∷ b ∷ c ∷ []) row is = absurd (cc)
+trustee_differ (a ∷ b ∷ c ∷ d ∷ []) row is = absurd (cc)
+trustee_differ (a ∷ b ∷ c ∷ d ∷ e ∷ []) row is = with_service a b c (number_within 1 64 d) (number_within 1 (2 ^ 32 - 1) e) None row is
+trustee_differ (a ∷ b ∷ c ∷ d ∷ e ∷ f ∷ []) row is = with_service a b c (number_within 1 64 d) (number_within 1 (2 ^ 32 - 1) e) (Some f) row is
+trustee_differ (a ∷ b ∷ c ∷ d ∷ e ∷ f ∷ g ∷ more) row is = absurd (cc)
+
 row_differs : (words : List (List ℕ)) (row : Row) → row_of words ≡ Some row → OutputsDiffer row
 row_differs [] row is = absurd (cc)
 row_differs (name ∷ words) row is =
     taken (bytes_eq name (codes "verify")) (verify_of words) _ row (verify_differ words)
     (λ row is. taken (bytes_eq name (codes "rehearse")) (rehearse_of words) _ row (rehearse_differ words)
-    (λ row is. taken (bytes_eq name (codes "deal")) (deal_of words) None row (deal_differ words) none is) is) is
+    (λ row is. taken (bytes_eq name (codes "deal")) (deal_of words) _ row (deal_differ words)
+    (λ row is. taken (bytes_eq name (codes "enrol")) (enrol_of words) _ row (enrol_differ words)
+    (λ row is. taken (bytes_eq name (codes "migrate")) (migrate_of words) _ row (migrate_differ words)
+    (λ row is. taken (bytes_eq name (codes "approve")) (approve_of words) _ row (approve_differ words)
+    (λ row is. taken (bytes_eq name (codes "trustee")) (trustee_of words) None row (trustee_differ words) none is) is) is) is) is) is) is
 
 pub outputs_differ : (words : List (List ℕ)) (row : Row) → command_of words ≡ Some row → OutputsDiffer row
 unfolding command_of

@@ -1,9 +1,12 @@
 -- The commands of the program as rows.
+use Rattle.std.specs.Option.{option_map}
 use Rattle.tool_words.specs.Words.{Row}
 use Rattle.tool_words.specs.Words as words
 use Rattle.tool_words.specs.declared.words.Command.{Command}
-use Rattle.tool_words.specs.declared.words.Command.TheVariants.{Verify, Rehearse, Deal}
+use Rattle.tool_words.specs.declared.words.Command.TheVariants.{Verify, Rehearse, Deal, Enrol, Migrate, Approve}
+use Rattle.tool_words.specs.declared.words.Command.TheVariants.{Trustee}
 use Rattle.tool_words.specs.declared.words.DealWords.{DealWords}
+use Rattle.tool_words.specs.declared.trustee_words.TrusteeWords.{TrusteeWords}
 
 -- the words of `deal`, each as its bytes
 abbrev pub deal_words : DealWords → words.DealWords
@@ -16,9 +19,24 @@ deal_words deal = record {
   prefix = deal.prefix.now;
 }
 
+-- the words of `trustee`, each as its bytes
+abbrev pub trustee_words : TrusteeWords → words.TrusteeWords
+trustee_words trustee = record {
+  share = trustee.share.now;
+  journal = trustee.journal.now;
+  place = trustee.place.now;
+  workers = trustee.workers;
+  connections = trustee.connections;
+  book = option_map (λ book. book.now) trustee.book;
+}
+
 -- the bytes of the command's words
 abbrev pub row : Command → Row
 row (Verify key message signature) = words.Verify key.now message.now signature.now
 row (Rehearse entropy message key_out signature_out) =
     words.Rehearse entropy.now message.now key_out.now signature_out.now
 row (Deal deal) = words.Deal (deal_words deal)
+row (Enrol file journal) = words.Enrol file.now journal.now
+row (Migrate share journal new) = words.Migrate share.now journal.now new.now
+row (Approve share book message) = words.Approve share.now book.now message.now
+row (Trustee trustee) = words.Trustee (trustee_words trustee)

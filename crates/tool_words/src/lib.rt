@@ -2,8 +2,10 @@
 #![tactic(auto)]
 
 mod split;
+mod trustee_words;
 mod words;
 
+pub use trustee_words::TrusteeWords;
 pub use words::{Command, DealWords, command_of};
 
 #[cfg(test)]

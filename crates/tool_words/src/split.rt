@@ -1,6 +1,7 @@
 //! The split of the words by `clap`.
 
-use crate::words::{Command, DealWords, number_of};
+use crate::trustee_words::TrusteeWords;
+use crate::words::{Command, DealWords, number_of, number_within};
 use clap::{Arg, ArgAction, ArgMatches, Command as Parser, Error};
 use std::alloc::Global;
 
@@ -10,6 +11,14 @@ const VERIFY: [&str; 3] = ["key", "message", "signature"];
 const REHEARSE: [&str; 4] = ["entropy", "message", "key-out", "signature-out"];
 
 const DEAL: [&str; 6] = ["entropy", "lms", "ots", "n", "k", "prefix"];
+
+const ENROL: [&str; 2] = ["file", "journal"];
+
+const MIGRATE: [&str; 3] = ["share", "journal", "new"];
+
+const APPROVE: [&str; 3] = ["share", "book", "message"];
+
+const TRUSTEE: [&str; 5] = ["share", "journal", "place", "workers", "connections"];
 
 /// The parser of one command: its name, and the names of its words.
 fn command<'a>(alloc: Global, name: &'a str, words: &[&'a str]) -> Result<Parser<'a>, Error> {
@@ -27,6 +36,11 @@ fn word_of<'a>(alloc: Global, name: &'a str) -> Arg<'a> {
     Arg::new(alloc, name).required(true).action(ArgAction::Set)
 }
 
+/// A word of a command, which may be left out.
+fn optional_word<'a>(alloc: Global, name: &'a str) -> Arg<'a> {
+    Arg::new(alloc, name).required(false).action(ArgAction::Set)
+}
+
 /// The parser of all commands. It has no help and no version.
 fn commands<'a>(alloc: Global) -> Result<Parser<'a>, Error> {
     let parser = Parser::new(alloc, "rikselbe")
@@ -37,7 +51,11 @@ fn commands<'a>(alloc: Global) -> Result<Parser<'a>, Error> {
         .subcommand_required(true)
         .subcommand(command(alloc, "verify", &VERIFY)?)?
         .subcommand(command(alloc, "rehearse", &REHEARSE)?)?
-        .subcommand(command(alloc, "deal", &DEAL)?)?;
+        .subcommand(command(alloc, "deal", &DEAL)?)?
+        .subcommand(command(alloc, "enrol", &ENROL)?)?
+        .subcommand(command(alloc, "migrate", &MIGRATE)?)?
+        .subcommand(command(alloc, "approve", &APPROVE)?)?
+        .subcommand(command(alloc, "trustee", &TRUSTEE)?.arg(optional_word(alloc, "book"))?)?;
     Ok(parser)
 }
 
@@ -48,6 +66,10 @@ pub(crate) fn split(alloc: Global, words: &[String]) -> Result<Option<Command<'_
         Some(("verify", found)) => verify_of(found),
         Some(("rehearse", found)) => rehearse_of(found),
         Some(("deal", found)) => deal_of(found),
+        Some(("enrol", found)) => enrol_of(found),
+        Some(("migrate", found)) => migrate_of(found),
+        Some(("approve", found)) => approve_of(found),
+        Some(("trustee", found)) => trustee_of(found),
         _ => None,
     };
     Ok(command)
@@ -81,5 +103,43 @@ fn deal_of<'a>(found: &ArgMatches<'a>) -> Option<Command<'a>> {
         n: number_of(found.get_str("n")?)?,
         k: number_of(found.get_str("k")?)?,
         prefix: found.get_str("prefix")?,
+    }))
+}
+
+/// The words of `enrol`.
+fn enrol_of<'a>(found: &ArgMatches<'a>) -> Option<Command<'a>> {
+    Some(Command::Enrol {
+        file: found.get_str("file")?,
+        journal: found.get_str("journal")?,
+    })
+}
+
+/// The words of `migrate`.
+fn migrate_of<'a>(found: &ArgMatches<'a>) -> Option<Command<'a>> {
+    Some(Command::Migrate {
+        share: found.get_str("share")?,
+        journal: found.get_str("journal")?,
+        new: found.get_str("new")?,
+    })
+}
+
+/// The words of `approve`.
+fn approve_of<'a>(found: &ArgMatches<'a>) -> Option<Command<'a>> {
+    Some(Command::Approve {
+        share: found.get_str("share")?,
+        book: found.get_str("book")?,
+        message: found.get_str("message")?,
+    })
+}
+
+/// The words of `trustee`.
+fn trustee_of<'a>(found: &ArgMatches<'a>) -> Option<Command<'a>> {
+    Some(Command::Trustee(TrusteeWords {
+        share: found.get_str("share")?,
+        journal: found.get_str("journal")?,
+        place: found.get_str("place")?,
+        workers: number_within(found.get_str("workers")?, 1, 64)?,
+        connections: number_within(found.get_str("connections")?, 1, u32::MAX)?,
+        book: found.get_str("book"),
     }))
 }

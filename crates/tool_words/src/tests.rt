@@ -1,6 +1,7 @@
 //! Tests of what no contract says: that `clap` splits the words.
 
 use crate::split::split;
+use crate::trustee_words::TrusteeWords;
 use crate::words::{Command, DealWords};
 use std::alloc::{AllocError, Global};
 
@@ -33,6 +34,31 @@ fn clap_splits_the_words(rt: HostRuntime) -> Result<(), AllocError> {
         let words = words_of(rt.alloc(), texts)?;
         let found = split(rt.alloc(), words.as_slice());
         assert!(rt; found.is_err(), "{} words", texts.len());
+    }
+    Ok(())
+}
+
+#[test]
+fn clap_splits_the_words_of_a_service(rt: HostRuntime) -> Result<(), AllocError> {
+    let lists: [(&'static [&'static str], Option<&'static str>); 2] = [
+        (&["trustee", "s", "j", "p", "64", "4294967295"], None),
+        (
+            &["trustee", "s", "j", "p", "064", "4294967295", "b"],
+            Some("b"),
+        ),
+    ];
+    for (texts, book) in lists {
+        let words = words_of(rt.alloc(), texts)?;
+        let command = Command::Trustee(TrusteeWords {
+            share: "s",
+            journal: "j",
+            place: "p",
+            workers: 64,
+            connections: u32::MAX,
+            book,
+        });
+        let found = split(rt.alloc(), words.as_slice());
+        assert!(rt; matches!(found, Ok(Some(split)) if split == command));
     }
     Ok(())
 }

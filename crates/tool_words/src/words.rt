@@ -1,12 +1,14 @@
 //! The words of a command.
 
-ghost use Rattle.std.specs.Prelude.{◌≡◌, map, option_map, string_bytes};
+ghost use Rattle.std.specs.Prelude.{◌≡◌, ◌≤◌, IfSome, map, option_map, string_bytes};
 ghost use Rattle.std.specs.Char.{is_ascii_digit};
 ghost use Rattle.std.specs.List.{list_all, list_any};
-ghost use Rattle.tool_words.specs.Words.{command_of, deal_of, is_option, number_of, rehearse_of, row_of, verify_of};
+ghost use Rattle.tool_words.specs.Words.{approve_of, command_of, deal_of, enrol_of, is_option, migrate_of, number_of};
+ghost use Rattle.tool_words.specs.Words.{number_within, rehearse_of, row_of, trustee_of, trustee_with, verify_of};
 ghost use Rattle.tool_words.specs.Rows.{row};
 
 use crate::split::split;
+use crate::trustee_words::TrusteeWords;
 use std::alloc::Global;
 
 /// The words after `deal`.
@@ -51,6 +53,33 @@ pub enum Command<'a> {
     },
     /// Deals a key.
     Deal(DealWords<'a>),
+    /// Makes the journal of a trustee, or the leaf table of an aggregator.
+    Enrol {
+        /// The name of the trustee's share, or of the reference file.
+        file: &'a str,
+        /// The name that the journal or the table is made under.
+        journal: &'a str,
+    },
+    /// Copies a journal of version 1 into one of version 2.
+    Migrate {
+        /// The name of the share's file.
+        share: &'a str,
+        /// The name of the journal.
+        journal: &'a str,
+        /// The name that the copy is made under.
+        new: &'a str,
+    },
+    /// Lists a message in a book of approved messages.
+    Approve {
+        /// The name of the share's file.
+        share: &'a str,
+        /// The name of the book.
+        book: &'a str,
+        /// The name of the message's file.
+        message: &'a str,
+    },
+    /// Serves a trustee.
+    Trustee(TrusteeWords<'a>),
 }
 
 /// The command that the words are, if they are one. The rule of the words decides, and `clap` splits them: its split
@@ -98,6 +127,10 @@ fn row_of(words: &[String]) -> Option<Command<'_>>
         "verify" => verify_of(rest),
         "rehearse" => rehearse_of(rest),
         "deal" => deal_of(rest),
+        "enrol" => enrol_of(rest),
+        "migrate" => migrate_of(rest),
+        "approve" => approve_of(rest),
+        "trustee" => trustee_of(rest),
         _ => None,
     }
 }
@@ -152,6 +185,107 @@ fn deal_of(words: &[String]) -> Option<Command<'_>>
         k: number_of(k.as_str())?,
         prefix: prefix.as_str(),
     }))
+}
+
+/// The words after `enrol`.
+fn enrol_of(words: &[String]) -> Option<Command<'_>>
+    ensures { option_map row result ≡ enrol_of (map string_bytes words.now) }
+{
+    let [file, journal] = words else {
+        return None;
+    };
+    Some(Command::Enrol {
+        file: file.as_str(),
+        journal: journal.as_str(),
+    })
+}
+
+/// The words after `migrate`.
+fn migrate_of(words: &[String]) -> Option<Command<'_>>
+    ensures { option_map row result ≡ migrate_of (map string_bytes words.now) }
+{
+    let [share, journal, new] = words else {
+        return None;
+    };
+    Some(Command::Migrate {
+        share: share.as_str(),
+        journal: journal.as_str(),
+        new: new.as_str(),
+    })
+}
+
+/// The words after `approve`.
+fn approve_of(words: &[String]) -> Option<Command<'_>>
+    ensures { option_map row result ≡ approve_of (map string_bytes words.now) }
+{
+    let [share, book, message] = words else {
+        return None;
+    };
+    Some(Command::Approve {
+        share: share.as_str(),
+        book: book.as_str(),
+        message: message.as_str(),
+    })
+}
+
+/// The words after `trustee`.
+fn trustee_of(words: &[String]) -> Option<Command<'_>>
+    ensures { option_map row result ≡ trustee_of (map string_bytes words.now) }
+{
+    match words {
+        [share, journal, place, workers, connections] => trustee_with(
+            share.as_str(),
+            journal.as_str(),
+            place.as_str(),
+            workers.as_str(),
+            connections.as_str(),
+            None,
+        ),
+        [share, journal, place, workers, connections, book] => trustee_with(
+            share.as_str(),
+            journal.as_str(),
+            place.as_str(),
+            workers.as_str(),
+            connections.as_str(),
+            Some(book.as_str()),
+        ),
+        _ => None,
+    }
+}
+
+/// The words of a trustee with this book, or with none.
+fn trustee_with<'a>(
+    share: &'a str,
+    journal: &'a str,
+    place: &'a str,
+    workers: &str,
+    connections: &str,
+    book: Option<&'a str>,
+) -> Option<Command<'a>>
+    ensures { option_map row result ≡ trustee_with share.now journal.now place.now workers.now connections.now
+        (option_map (λ book. book.now) book.entry) }
+{
+    Some(Command::Trustee(TrusteeWords {
+        share,
+        journal,
+        place,
+        workers: number_within(workers, 1, 64)?,
+        connections: number_within(connections, 1, u32::MAX)?,
+        book,
+    }))
+}
+
+/// The number that a word is, if it is one from `least` to `most`.
+pub(crate) fn number_within(word: &str, least: u32, most: u32) -> Option<u32>
+    ensures number { result ≡ number_within least most word.now }
+    ensures within { IfSome result (λ number. (least ≤ number) × (number ≤ most)) }
+{
+    let number = number_of(word)?;
+    if least <= number && number <= most {
+        Some(number)
+    } else {
+        None
+    }
 }
 
 /// The number that a word is: one to ten decimal digits of a number below 2^32.
