@@ -3,7 +3,9 @@ mod Deciding
 mod Frames
 mod Heads
 mod Masks
-mod Prefixes
-mod Serving
-mod Standing
+pub mod Opening
+pub mod Prefixes
+pub mod Serving
+pub mod Standing
 mod Turning
+mod Working

@@ -8,7 +8,7 @@ use Rattle.trustee_node.specs.Places.{StandInLog}
 use Rattle.trustee_node.specs.Turns.{ServedTurns, Turn, ended, next}
 use Rattle.trustee_node.proofs.Prefixes.{prefix-more, prefix-then}
 
-begins-length : {A : Type 0} (xs ys : List A) → IsPrefix xs ys → length xs ≤ length ys
+pub begins-length : {A : Type 0} (xs ys : List A) → IsPrefix xs ys → length xs ≤ length ys
 begins-length xs ys p = let e : length xs + length p.0 ≡ length ys = sym (length-append xs p.0) ∙ ap length p.1 in omega (arith, e)
 
 take-begins : {A : Type 0} (xs ys : List A) → IsPrefix xs ys → take (length xs) ys ≡ xs

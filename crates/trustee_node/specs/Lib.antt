@@ -2,3 +2,4 @@ pub mod Turns
 pub mod Places
 pub mod Replies
 pub mod Connections
+pub mod Workers

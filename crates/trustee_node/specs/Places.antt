@@ -1,7 +1,12 @@
 -- Where turns stand in a log.
-use Rattle.std.specs.Prelude.{◌≡◌, ◌≤◌, ◌+◌, ◌++◌, ℕ, List, [], ◌∷◌, length, take}
+use Rattle.std.specs.Prelude.{◌≡◌, ◌≤◌, ◌+◌, ◌++◌, ℕ, List, [], ◌∷◌, length, take, Option}
+use mathlib.Core.List.{IsPrefix}
+use Rattle.approval_book.specs.Decisions.{Decided, Denied}
+use Rattle.lms_bytes.specs.declared.ask.Ask.{Ask}
 use Rattle.opening_journal.specs.declared.entry.Entry.{Entry}
-use Rattle.trustee_node.specs.Turns.{Turn}
+use Rattle.share_files.specs.declared.share.Share.{Share}
+use Rattle.trustee_core.specs.Decisions.{Granted, Refused}
+use Rattle.trustee_node.specs.Turns.{InTurn, NoTurn, Outcome, ServedTurns, Turn}
 
 -- the turn met so many entries of the log, no fewer than these, and what it added stands just behind them
 pub record StandsIn (log : List Entry) (least : ℕ) (turn : Turn) : Type 0 where
@@ -14,3 +19,27 @@ abbrev pub StandInLog : List Entry → ℕ → List Turn → Type 0
 StandInLog log least [] = least ≤ length log
 StandInLog log least (turn ∷ turns) =
     StandsIn log least turn × StandInLog log (length turn.seen + length turn.added) turns
+
+-- the turns stand in a log that this one goes on from
+pub record StandUnder (share : Share) (last : List Entry) (turns : List Turn) : Type 0 where
+  pub ids : Option (List (List ℕ))
+  pub log : List Entry
+  pub end : List Entry
+  pub served : ServedTurns share ids log turns end
+  pub begins : IsPrefix end last
+
+-- the asks of these turns that were granted
+abbrev pub if_granted : Outcome → Ask → List Ask → List Ask
+if_granted (InTurn (Decided Granted)) ask asks = ask ∷ asks
+if_granted (InTurn (Decided (Refused why))) ask asks = asks
+if_granted (InTurn (Denied message)) ask asks = asks
+if_granted NoTurn ask asks = asks
+
+abbrev pub granted_in : List Turn → List Ask
+granted_in [] = []
+granted_in (turn ∷ turns) = if_granted turn.outcome turn.ask (granted_in turns)
+
+-- those of several passes
+abbrev pub granted_by : List (List Turn) → List Ask
+granted_by [] = []
+granted_by (turns ∷ others) = granted_in turns ++ granted_by others

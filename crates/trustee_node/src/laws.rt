@@ -1,13 +1,15 @@
 //! What follows from the definitions. No function here does anything.
 
-ghost use Rattle.std.specs.Prelude.{ℕ, List, Option, length};
+ghost use Rattle.std.specs.Prelude.{ℕ, All, List, Option, length};
 ghost use Rattle.lms_bytes.specs.declared.ask.Ask.{Ask};
+ghost use Rattle.opening_journal.specs.Entries.{IsLegalList};
 ghost use Rattle.opening_journal.specs.declared.entry.Entry.{Entry};
 ghost use Rattle.round_frames.specs.Asks.{HasSizes};
 ghost use Rattle.round_frames.specs.Frames.{ReadsBack};
 ghost use Rattle.round_frames.specs.Replies.{HasParts, replies};
 ghost use Rattle.share_files.specs.declared.share.Share.{Share};
-ghost use Rattle.trustee_node.specs.Places.{StandInLog};
+ghost use Rattle.trustee_core.specs.Lives.{OneOpening};
+ghost use Rattle.trustee_node.specs.Places.{StandInLog, StandUnder, granted_by};
 ghost use Rattle.trustee_node.specs.Replies.{KeepsSizes, reply_body, reply_bytes, reply_head};
 ghost use Rattle.trustee_node.specs.Turns.{Outcome, ServedTurns, Turn};
 
@@ -16,6 +18,13 @@ ghost use Rattle.trustee_node.specs.Turns.{Outcome, ServedTurns, Turn};
 pub fn turns_stand_in_the_log()
     ensures { (share : Share) (ids : Option (List (List ℕ))) (log last : List Entry) (turns : List Turn)
         → ServedTurns share ids log turns last → StandInLog last (length log) turns }
+{}
+
+/// Of all turns of passes whose logs one legal log goes on from, whatever books they were asked under, the grants are
+/// of one opening.
+pub fn one_opening()
+    ensures { (share : Share) (last : List Entry) (passes : List (List Turn)) → IsLegalList last
+        → All (StandUnder share last) passes → OneOpening share (granted_by passes) }
 {}
 
 /// A reply whose parts have their lengths is read back as its head and what follows it.

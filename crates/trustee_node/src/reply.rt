@@ -161,10 +161,12 @@ fn put_pair(first: &Val, second: &Val, out: &mut [u8; 64]) -> usize
     first.len() + second.len()
 }
 
-/// Some masks in a room: the first that is not there, and the length of those that are.
+/// Masks in a room.
 #[derive(Clone, Copy)]
 struct Batch {
+    /// The first mask that is not there.
     next: u16,
+    /// How many bytes those before it take.
     length: usize,
 }
 

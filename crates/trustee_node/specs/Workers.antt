@@ -1,0 +1,105 @@
+-- What a worker does with its links.
+use Rattle.std.specs.Prelude.{◌≡◌, ◌≤◌, ◌+◌, ◌-◌, ◌^◌, ◌++◌, ℕ, Bool, true, false, List, All, length, map, min}
+use Rattle.std.specs.Prelude.{Option, None, IsTrue}
+use Rattle.std.specs.List.{flat_map, sum_by}
+use Rattle.opening_journal.specs.declared.entry.Entry.{Entry}
+use Rattle.share_files.specs.declared.share.Share.{Share}
+use Rattle.stream_io.specs.Net.{HangsUp, IsNewLink, PortOnward, PortState}
+use Rattle.stream_io.specs.Store.{RisesWhere}
+use Rattle.stream_io.specs.Talk.{Talk}
+use Rattle.trustee_core.specs.declared.kept.TrusteeName.{TrusteeName}
+use Rattle.turn_lock.specs.Pass.{Seen}
+use Rattle.trustee_node.specs.Connections.{Conversation, EndsBy, HasRead, HasWritten, IsDated, IsLinkFault}
+use Rattle.trustee_node.specs.Turns.{Serves, Turn, with_code}
+use Rattle.trustee_node.specs.declared.served.Served.{Served}
+use Rattle.trustee_node.specs.declared.worker.Worker.{Worker}
+
+-- a clock in one state: whether it tells its answers, and what it answers from now on, the next answer at 0
+pub record ClockState : Type 0 where
+  pub told : Bool
+  pub answers : ℕ → ℕ
+
+-- the state of a clock that has these members
+abbrev pub clock_state : {C : Type 0} → (C → Bool) → (C → ℕ → ℕ) → C → ClockState
+clock_state told answers clock = record { told = told clock; answers = answers clock }
+
+-- a worker in one state: its port, its pass and its clock, and what it did
+pub record WorkerState : Type 0 where
+  pub port : PortState
+  pub pass : Seen Entry TrusteeName
+  pub clock : ClockState
+  pub connections : ℕ
+  pub frames : ℕ
+  pub worn : Bool
+  pub failed : Bool
+
+-- the state of a worker whose port and clock have these members
+abbrev pub worker_state : {P T C L : Type 0} → (P → PortState) → (C → Bool) → (C → ℕ → ℕ)
+    → Worker P T C L Entry TrusteeName → WorkerState
+worker_state state told answers worker = record {
+  port = state worker.port;
+  pass = worker.pass;
+  clock = clock_state told answers worker.own;
+  connections = worker.connections;
+  frames = worker.frames;
+  worn = worker.worn;
+  failed = worker.failed;
+}
+
+-- a link was served, and hung up as it was then
+pub record ServesLink (share : Share) (ids : Option (List (List ℕ))) (pass_old pass_new : Seen Entry TrusteeName)
+    (link : Talk) (port_old port_new : PortState) (clock_old clock_new : ClockState) (served : Served) : Type 0 where
+  pub talk : Talk
+  pub conversation : Conversation share ids pass_old pass_new link talk clock_old.told clock_old.answers
+      clock_new.answers served
+  pub hung : HangsUp port_old talk port_new
+
+-- a connection that was served: its link as it was accepted and as it was hung up, its turns and how it ended
+pub record Connection : Type 0 where
+  pub link : Talk
+  pub talk : Talk
+  pub turns : List Turn
+  pub served : Served
+
+-- the link was new at a port that is told where this says so, and served so
+pub record IsConnection (share : Share) (port_told : Bool) (one : Connection) : Type 0 where
+  pub port : PortState
+  pub steady : Bool
+  pub port_told_is : port.told ≡ port_told
+  pub accepted : IsNewLink port None one.link steady
+  pub read : IsTrue one.link.told → HasRead share.params one.link one.talk one.served.ended one.turns
+  pub written : IsTrue one.link.told → HasWritten share one.link one.talk one.served.ended one.turns
+  pub ends : EndsBy one.served.ended one.served.frames one.turns
+  pub most : length one.turns ≤ 65536
+  pub cause : RisesWhere (IsLinkFault one.served.ended) one.link.count one.talk.count
+  pub told : one.talk.told ≡ one.link.told
+
+abbrev pub turns_of : List Connection → List Turn
+turns_of served = flat_map (λ (one : Connection). one.turns) served
+
+abbrev pub frames_of : List Connection → ℕ
+frames_of served = sum_by (λ (one : Connection). one.served.frames) served
+
+-- All of a worker, by the connections that it served, one after the other: its pass, its clock and its port, its
+-- numbers, and whether accepting failed. Where it is worn, at least one ask met a worn pass.
+pub record Worked (share : Share) (ids : Option (List (List ℕ))) (old new : WorkerState) : Type 0 where
+  pub served : List Connection
+  pub are : All (IsConnection share old.port.told) served
+  pub serves : Serves share ids old.pass new.pass (turns_of served)
+  pub dated : IsTrue old.clock.told → IsDated old.clock.answers new.clock.answers (turns_of served)
+  pub talks : IsTrue old.port.told → new.port.talks ≡ old.port.talks ++ map (λ (one : Connection). one.talk) served
+  pub waiting : IsTrue old.port.told → old.port.waiting ≡ new.port.waiting + length served
+  pub onward : PortOnward old.port new.port
+  pub accepts : RisesWhere (new.failed ≡ true) old.port.accept_count new.port.accept_count
+  pub clock_told : new.clock.told ≡ old.clock.told
+  pub connections : new.connections ≡ length served
+  pub frames : new.frames ≡ min (frames_of served) (2 ^ 32 - 1)
+  pub worn : new.worn ≡ true → 1 ≤ with_code 11 (turns_of served)
+
+-- why a worker ended: it served as many connections as it was to, there is no further link, accepting failed, or its
+-- pass is worn
+pub data WorkEnds (asked : ℕ) (new : WorkerState) : Type 0 where
+  served_all : new.connections ≡ asked → new.failed ≡ false → WorkEnds asked new
+  no_further : (IsTrue new.port.told → new.port.waiting ≡ 0) → new.failed ≡ false → WorkEnds asked new
+  accept_failed : new.failed ≡ true → WorkEnds asked new
+  pass_worn : new.worn ≡ true → new.failed ≡ false → WorkEnds asked new

@@ -1,0 +1,145 @@
+//! Workers, which serve one link after the other.
+
+ghost use Rattle.std.specs.Prelude.{◌≡◌, ◌≤◌, ◌<◌, ℕ, All, length, slice_index_or};
+ghost use Rattle.std.specs.Option.{option_map};
+ghost use Rattle.approval_book.specs.Approved.{ids_of};
+ghost use Rattle.stream_io.specs.Net.{PortOnward};
+ghost use Rattle.trustee_node.specs.Turns.{IsIdle};
+ghost use Rattle.trustee_node.specs.Workers.{ServesLink, WorkEnds, Worked, clock_state, worker_state};
+
+use crate::connection::serve_connection;
+use crate::served::{Served, ServedEnd};
+use approval_book::Approved;
+use disk_trait::Disk;
+use share_files::Share;
+use std::sync::Wait;
+use std::thread;
+use std::thread::Threads;
+use stream_io::{Accepted, Port, Stream};
+use trustee_core::{Clock, Trustee};
+use turn_lock::{Kept, Pass, TurnLock};
+
+/// What one thread uses, and what it did.
+pub struct Worker<P: Port, T: Kept, X> {
+    /// Where it accepts links.
+    pub port: P,
+    /// By which it takes turns.
+    pub pass: Pass<T>,
+    /// What it alone uses: a trustee's clock, or an aggregator's cells.
+    pub own: X,
+    /// How many connections it served.
+    pub connections: u32,
+    /// How many replies were written whole in them. It stops at `u32::MAX`.
+    pub frames: u32,
+    /// Whether its pass has no more turns.
+    pub worn: bool,
+    /// Whether accepting failed.
+    pub failed: bool,
+}
+
+/// Serves one link after the other by each worker, all beside each other, until each has served `connections`, there is
+/// no further link for it, accepting fails or its pass has no more turns. It takes no memory.
+pub fn serve<R: Threads + Wait + Sync, D: Disk + Send, C: Clock + Send, P: Port + Send>(
+    rt: &R,
+    lock: &TurnLock<Trustee<D>>,
+    share: &Share,
+    book: Option<&Approved>,
+    workers: &mut [Worker<P, Trustee<D>, C>],
+    connections: u32,
+)
+    requires { All (λ worker. IsIdle lock.now share.now worker.pass) workers.old }
+    ensures worked { (i : ℕ) (d : _) → i < length workers.old
+        → Worked share.now (option_map (λ b. ids_of b.now) book.entry)
+        (worker_state P.state C.told C.answers (slice_index_or workers.old i d))
+        (worker_state P.state C.told C.answers (slice_index_or workers.new i d)) }
+    ensures pass { All (λ worker. IsIdle lock.now share.now worker.pass) workers.new }
+    ensures most { All (λ worker. worker.connections ≤ connections) workers.new }
+    ensures ends { All (λ worker. WorkEnds connections (worker_state P.state C.told C.answers worker)) workers.new }
+{
+    let threads = workers.len();
+    if threads == 0 {
+        return;
+    }
+    let serves = |_: usize, worker: &mut Worker<P, Trustee<D>, C>|
+        requires { IsIdle lock.now share.now worker.now.pass }
+        ensures { Worked share.entry.now (option_map (λ b. ids_of b.now) book.entry)
+            (worker_state P.state C.told C.answers worker.entry.now)
+            (worker_state P.state C.told C.answers worker.exit.now)
+            × IsIdle lock.entry.now share.entry.now worker.exit.now.pass × (worker.exit.now.connections ≤ connections)
+            × WorkEnds connections (worker_state P.state C.told C.answers worker.exit.now) }
+    { work(rt, lock, share, book, worker, connections) };
+    thread::for_each_mut(rt, workers, threads, &serves);
+}
+
+/// Serves one link after the other, until it has served `connections`, there is no further link, accepting fails or the
+/// pass has no more turns.
+fn work<D: Disk, C: Clock, P: Port>(
+    rt: &impl Wait,
+    lock: &TurnLock<Trustee<D>>,
+    share: &Share,
+    book: Option<&Approved>,
+    worker: &mut Worker<P, Trustee<D>, C>,
+    connections: u32,
+)
+    requires { IsIdle lock.now share.now worker.old.pass }
+    ensures worked { Worked share.now (option_map (λ b. ids_of b.now) book.entry)
+        (worker_state P.state C.told C.answers worker.old) (worker_state P.state C.told C.answers worker.new) }
+    ensures pass { IsIdle lock.now share.now worker.new.pass }
+    ensures most { worker.new.connections ≤ connections }
+    ensures ends { WorkEnds connections (worker_state P.state C.told C.answers worker.new) }
+{
+    worker.connections = 0;
+    worker.frames = 0;
+    worker.worn = false;
+    worker.failed = false;
+    for _ in 0..connections {
+        let link = match worker.port.accept() {
+            Accepted::Link(link) => link,
+            Accepted::End => return,
+            Accepted::Failed => {
+                worker.failed = true;
+                return;
+            }
+        };
+        let served = serve_link(
+            rt,
+            lock,
+            &mut worker.pass,
+            share,
+            book,
+            &mut worker.own,
+            &mut worker.port,
+            link,
+        );
+        worker.connections += 1;
+        worker.frames = worker.frames.saturating_add(served.frames);
+        if served.ended == ServedEnd::Worn {
+            worker.worn = true;
+            return;
+        }
+    }
+}
+
+/// Serves a link, and hangs it up.
+fn serve_link<D: Disk, C: Clock, P: Port>(
+    rt: &impl Wait,
+    lock: &TurnLock<Trustee<D>>,
+    pass: &mut Pass<Trustee<D>>,
+    share: &Share,
+    book: Option<&Approved>,
+    clock: &mut C,
+    port: &mut P,
+    mut link: P::Link,
+) -> Served
+    requires { IsIdle lock.now share.now pass.old }
+    ensures served { ServesLink share.now (option_map (λ b. ids_of b.now) book.entry) pass.old pass.new
+        (P.Link.talk link) (P.state port.old) (P.state port.new)
+        (clock_state C.told C.answers clock.old) (clock_state C.told C.answers clock.new) result }
+    ensures pass { IsIdle lock.now share.now pass.new }
+    ensures clock { C.told clock.new ≡ C.told clock.old }
+    ensures onward { PortOnward (P.state port.old) (P.state port.new) }
+{
+    let served = serve_connection(rt, lock, pass, share, book, clock, &mut link);
+    port.hang_up(link);
+    served
+}
