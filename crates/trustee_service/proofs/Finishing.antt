@@ -1,0 +1,77 @@
+-- The lock is ended.
+use Rattle.std.proofs.Common.{◌≡◌, ◌+◌, ◌^◌, ◌≤◌, ◌<◌, ℕ, Bool, List, Option, Some, All, length, sym, ap, ◌∙◌, subst, arith}
+use Rattle.std.specs.Prelude.{count_by}
+use Rattle.std.proofs.lemmas.List.{length-map}
+use mathlib.Core.Logic.{dite}
+use native.Mathlib.Decide.{dec_le}
+use Rattle.opening_journal.specs.declared.entry.Entry.{Entry}
+use Rattle.share_files.specs.declared.share.Share.{Share}
+use Rattle.stream_io.specs.Net.{PortState}
+use Rattle.trustee_core.specs.declared.kept.TrusteeName.{TrusteeName}
+use Rattle.trustee_node.specs.Turns.{HasSteadyDisk, TellsDisk}
+use Rattle.trustee_node.specs.Workers.{ClockState}
+use Rattle.trustee_service.specs.Gathered.{Gathered}
+use Rattle.trustee_service.specs.Ports.{IsPortRun, PortRun, ServedPorts, turns_in}
+use Rattle.trustee_service.specs.Trustees.{TrusteeState}
+use Rattle.trustee_service.specs.declared.totals.Totals.{Totals}
+use Rattle.turn_lock.specs.Lock.{Lock}
+use Rattle.turn_lock.specs.Pass.{Seen}
+
+-- what a lock was made with
+pub record OpenedBy (lock : Lock Entry TrusteeName) (old : TrusteeState) : Type 0 where
+  pub log : lock.opening_log ≡ old.entries
+  pub number : lock.opening_number ≡ old.faults
+  pub name : lock.name ≡ Some old.name
+  pub first : lock.first_ticket ≡ 0
+
+-- what its end tells
+pub record ClosedBy (lock : Lock Entry TrusteeName) (pass : Seen Entry TrusteeName) (new : TrusteeState) : Type 0 where
+  pub log : new.entries ≡ pass.log
+  pub number : new.faults ≡ pass.floor
+  pub name : Some new.name ≡ pass.name
+  pub tickets : 0 < pass.draws → pass.greatest < lock.first_ticket + pass.draws
+  pub no_ticket : pass.draws ≡ 0 → pass.greatest ≡ 0
+  pub rises : pass.floor ≡ lock.opening_number + pass.rises
+  pub entries : (test : Entry → Bool) → count_by test pass.log ≡ count_by test lock.opening_log + count_by test pass.own
+
+small-ticket : (draws greatest first most : ℕ) → (0 < draws → greatest < first + draws) → (draws ≡ 0 → greatest ≡ 0) → first ≡ 0 → draws ≤ most → most ≤ 2 ^ 54 → greatest < 2 ^ 62
+small-ticket draws greatest first most some none start few bound =
+    dite (dec_le 1 draws)
+    (λ drawn. let is = some drawn in omega (arith, is, start, few, bound))
+    (λ never. let zero : draws ≡ 0 = omega arith in let is = none zero in omega (arith, is))
+
+module _ (share : Share) (ids : Option (List (List ℕ))) (asked : ℕ) (lock : Lock Entry TrusteeName) (old new : TrusteeState) (pass : Seen Entry TrusteeName)
+    (olds news : List PortState) (clocks : List ClockState) (totals : Totals) (opened : OpenedBy lock old) (closed : ClosedBy lock pass new) where
+  small : Gathered share ids asked lock pass olds news clocks totals → length olds ≤ 64 → pass.greatest < 2 ^ 62
+  small all few =
+      let most = all.most in
+      let drawn = all.draws.most in
+      let count : length all.runs ≡ length olds = sym (length-map all.runs (λ (run : PortRun). run.before)) ∙ ap length all.before in
+      small-ticket pass.draws pass.greatest lock.first_ticket (length (turns_in all.runs)) closed.tickets closed.no_ticket opened.first (omega (arith, drawn)) (omega (arith, most, count, few))
+
+  pub ends-served : Gathered share ids asked lock pass olds news clocks totals → length olds ≤ 64 → ServedPorts share ids asked old new olds news clocks totals
+  ends-served all few =
+      let fresh = small all few in
+      let number = closed.number in
+      let rose = closed.rises in
+      let first = opened.number in
+      record {
+        runs = all.runs;
+        before = all.before;
+        after = all.after;
+        by_clocks = all.by_clocks;
+        are = subst (λ (l : List Entry). All (IsPortRun share ids asked l new.entries) all.runs) opened.log
+            (subst (λ (l : List Entry). All (IsPortRun share ids asked lock.opening_log l) all.runs) (sym closed.log) (all.are fresh));
+        codes = record {
+          rises = λ below. (let rises = all.faults.rises (omega (arith, below, number)) in omega (arith, rises, number, rose, first));
+          steady = λ is told. all.faults.steady (subst HasSteadyDisk closed.name (is, told));
+          first = λ zero. all.faults.first (sym number ∙ zero);
+          told = λ is. all.faults.told (subst TellsDisk closed.name is);
+          worn = all.draws.fresh fresh;
+        };
+        adds = λ zero test.
+            let own = all.own (sym number ∙ zero) in
+            ap (count_by test) closed.log ∙ closed.entries test
+            ∙ (λ i. count_by test (opened.log i) + count_by test (own i));
+        totals_are = all.totals_are;
+      }

@@ -1,0 +1,6 @@
+mod Standing
+mod Gathering
+mod Joining
+mod Finishing
+mod Running
+mod Opening

@@ -1,0 +1,3 @@
+pub mod Trustees
+pub mod Ports
+pub mod Gathered

@@ -1,0 +1,31 @@
+-- A trustee in one state.
+use Rattle.std.specs.Prelude.{ℕ, List}
+use Rattle.disk_trait.specs.declared.disk.Pages as pages
+use Rattle.disk_trait.specs.declared.faults.Faults as faults
+use Rattle.opening_journal.specs.Journal.{disk_of, faults_of, state_of}
+use Rattle.opening_journal.specs.declared.entry.Entry.{Entry}
+use Rattle.trustee_core.specs.Trustee.{journal_of, share_of}
+use Rattle.trustee_core.specs.declared.kept.TrusteeName.{TrusteeName}
+use Rattle.trustee_core.specs.declared.trustee.Trustee.{Trustee}
+
+-- the entries of its journal, the count of faults of its disk, and its share and what its disk is for good
+pub record TrusteeState : Type 0 where
+  pub entries : List Entry
+  pub faults : ℕ
+  pub name : TrusteeName
+
+module _ {D : Type 0} {p : pages.Ghosts D} {f : faults.Ghosts D} where
+  abbrev pub name_of : Trustee D p f → TrusteeName
+  name_of trustee = record {
+    share = share_of trustee;
+    told = p.told (disk_of (journal_of trustee));
+    honest = p.honest (disk_of (journal_of trustee));
+    steady = f.steady (disk_of (journal_of trustee));
+  }
+
+  abbrev pub trustee_state : Trustee D p f → TrusteeState
+  trustee_state trustee = record {
+    entries = (state_of (journal_of trustee)).entries;
+    faults = faults_of (journal_of trustee);
+    name = name_of trustee;
+  }
