@@ -1,0 +1,58 @@
+-- Blank files under new names.
+use Rattle.std.proofs.Common.{◌≡◌, ℕ, List, [], ◌∷◌, Some, IsTrue, refl, ap, subst, ◌∙◌, rules}
+use Rattle.slot_file.specs.Fresh as file
+use Rattle.slot_file.specs.Fresh.{IsBlank}
+use Rattle.slot_file.specs.declared.header.Header.{Header}
+use Rattle.slot_file.specs.declared.prepared.PrepareFault.{PrepareFault}
+use Rattle.slot_file.specs.declared.prepared.PrepareFault.TheVariants.{Device, NotEmpty}
+use Rattle.stream_io.specs.Store.{Made, PagesState, StoreOnward, StoreState, has_name}
+use Rattle.stream_io.specs.declared.store.NewFault.{NewFault}
+use Rattle.stream_io.specs.declared.store.NewFault.TheVariants.{Exists, Failed, NoMemory}
+use Rattle.tool_base.specs.Ending.{Ending}
+use Rattle.tool_base.specs.Outputs.{IsNew, IsNotNew, CallFailed, test_failed, no_memory_to_name}
+use Rattle.tool_base.specs.World.{IsCalm, StoreRun, from_to}
+use Rattle.tool_base.proofs.Writing.{there_or_no_memory}
+use Rattle.tool_disks.specs.Disks.{DeviceFails}
+use Rattle.tool_journals.specs.Blanks.{IsBlankDisk, IsMade, IsNeverHalf, IsNotMade, device, not_empty}
+use Rattle.tool_disks.specs.Disks.{IsOut}
+use Rattle.tool_disks.proofs.Outs.{IsBackAs}
+use Rattle.tool_journals.specs.Faults.{IsEndOfNew, end_of_prepare}
+
+-- a name that was not new for a disk
+pub not_new_of : (run : StoreRun) (name : List ℕ) (fault : NewFault) (end : Ending) → IsEndOfNew name fault end
+    → (fault ≡ Exists → IsTrue run.before.told → IsTrue (has_name run.before name)) → (fault ≡ Failed → CallFailed run) → IsNotNew run name end
+not_new_of run name Exists end is there failed = there_or_no_memory run name end is (there refl)
+not_new_of run name Failed end is there failed = rw is (test_failed (failed refl))
+not_new_of run name NoMemory end is there failed = rw is no_memory_to_name
+
+pub not_made_of : (run : StoreRun) (name : List ℕ) (header : Header) (count : ℕ) (fault : PrepareFault) (end : Ending) → end ≡ end_of_prepare fault
+    → IsNew run name → (fault ≡ Device → DeviceFails run) → ((held : ℕ) → fault ≡ NotEmpty held → IsTrue run.before.told → ⊥)
+    → IsNeverHalf (file.IsNew header count) run name → IsNotMade run name header count end (name ∷ [])
+not_made_of run name header count Device end is new failed empty half = rw is (device new (failed refl) half)
+not_made_of run name header count (NotEmpty held) end is new failed empty half = rw is (not_empty new (empty held refl))
+
+-- a disk that was made is out
+pub made_out : (a b : StoreState) (name : List ℕ) (size : ℕ) (disk : PagesState) → Made a name size disk b → StoreOnward a b → IsOut a name disk b
+made_out a b name size disk made onward = record {
+  onward = onward;
+  told = made.given.told;
+  steady = made.given.steady;
+  kind = made.kind;
+  was_in = search rules;
+  file = λ told other differs. made.file told other;
+  out = made.out;
+  others = made.others;
+  loans = made.loans;
+}
+
+pub new_calm : (first a b : StoreState) (name : List ℕ) → IsCalm first a → IsNew (from_to a b) name → (c : StoreState) → IsNew (from_to first c) name
+new_calm first a b name calm new c = λ told. rw (← calm.same.names.file, ← calm.same.names.out) (new (rw calm.onward.told told))
+
+pub made_of : (first a b c : StoreState) (name : List ℕ) (header : Header) (count : ℕ) (disk : PagesState) → IsCalm first a
+    → IsBlankDisk a name header count disk b → IsBackAs first name disk c → IsMade (from_to first c) name header count
+made_of first a b c name header count disk calm blank back = record {
+  new = new_calm first a b name calm blank.absent c;
+  file = λ told. back.file told ∙ ap Some (blank.file (rw calm.onward.told told)).0;
+  blank = λ told. let is = blank.file (rw calm.onward.told told) in subst (λ f. IsBlank header count f) is.0 is.1;
+  stable = search rules;
+}

@@ -1,0 +1,112 @@
+//! The command `approve`.
+
+ghost use Rattle.std.specs.Prelude.{◌≡◌, IfOk, IfErr};
+ghost use Rattle.lms_bytes.specs.MessageId.{message_id_bytes};
+ghost use Rattle.slot_file.specs.Disks.{SameDisk};
+ghost use Rattle.stream_io.specs.Store.{pages_state};
+ghost use Rattle.tool_base.specs.Endings.{ending};
+ghost use Rattle.tool_base.specs.Reads.{FailsToRead};
+ghost use Rattle.tool_base.specs.Touched.{EndsTouching};
+ghost use Rattle.tool_base.specs.World.{IsCalm, IsPart, from_to};
+ghost use Rattle.tool_journals.specs.Adding.{AddEnds, DiskFails, disk_run};
+ghost use Rattle.tool_journals.specs.Approve.{ApproveEnds, IsBookDisk, IsMessageRead, IsNotOpened};
+
+use crate::blank::{Blank, new_blank};
+use crate::faults::end_of_add;
+use approval_book::Book;
+use disk_trait::Disk;
+use lms_bytes::MessageId;
+use slot_file::Header;
+use std::alloc::Global;
+use stream_io::{CallFault, Store};
+use tool_base::{Ending, FILE_LIMIT, read_file, read_share_file};
+use tool_disks::end_of_slots;
+
+/// Lists a message in the book of a share's trustee, all three by the names of their files. A book that is not in the
+/// store is made.
+pub fn approve_message<S: Store>(
+    alloc: Global,
+    store: &mut S,
+    share: &str,
+    book: &str,
+    message: &str,
+) -> Ending
+    ensures ended { let run = from_to (S.state store.old) (S.state store.new) in
+        EndsTouching (ApproveEnds run share.now book.now message.now) run (ending result) }
+{
+    let found = match read_share_file(alloc, store, share) {
+        Ok(found) => found,
+        Err(end) => return end,
+    };
+    let id = match read_message(alloc, store, message) {
+        Ok(id) => id,
+        Err(end) => return end,
+    };
+    let blank = Blank::book_of(&found);
+    let disk = match open_book(alloc, store, book, &blank) {
+        Ok(disk) => disk,
+        Err(end) => return end,
+    };
+    let (disk, end) = add_message(alloc, disk, &blank.header, &id);
+    store.return_disk(book, disk);
+    end
+}
+
+/// Reads a message for its id.
+fn read_message<S: Store>(alloc: Global, store: &mut S, name: &str) -> Result<MessageId, Ending>
+    ensures id { (first last : S)
+        → IsPart (S.state first) (S.state store.old) (S.state store.new) (S.state last)
+        → IfOk result (λ id.
+        IsMessageRead (from_to (S.state first) (S.state last)) name.now (message_id_bytes id)) }
+    ensures refused { (first last : S)
+        → IsPart (S.state first) (S.state store.old) (S.state store.new) (S.state last)
+        → IfErr result (λ end. FailsToRead (from_to (S.state first) (S.state last)) name.now (ending end)) }
+    ensures calm { IsCalm (S.state store.old) (S.state store.new) }
+{
+    let text = read_file(alloc, store, name, FILE_LIMIT)?;
+    Ok(MessageId::of(&text))
+}
+
+/// Takes the disk of the book out of the store, or makes the book where it is not there.
+fn open_book<S: Store>(
+    alloc: Global,
+    store: &mut S,
+    book: &str,
+    blank: &Blank,
+) -> Result<S::Disk, Ending>
+    requires { blank.now.count ≡ 1024 }
+    ensures opened { IfOk result (λ disk. IsBookDisk (S.state store.old) book.now blank.now.header
+        (pages_state S.Disk.told S.Disk.honest S.Disk.steady S.Disk.count S.Disk.room S.Disk.reads S.Disk.may_leave
+        disk) (S.state store.new)) }
+    ensures refused { (first : S) → IsCalm (S.state first) (S.state store.old)
+        → let run = from_to (S.state first) (S.state store.new) in IfErr result (λ end.
+        EndsTouching (IsNotOpened run book.now blank.now.header) run (ending end)) }
+{
+    match store.has(book) {
+        Ok(true) => match store.take_disk(book) {
+            Ok(disk) => Ok(disk),
+            Err(CallFault::Failed) => Err(Ending::StoreFailed),
+            Err(CallFault::NoMemory) => Err(Ending::NoMemory),
+        },
+        Ok(false) => new_blank(alloc, store, book, blank),
+        Err(CallFault::Failed) => Err(Ending::StoreFailed),
+        Err(CallFault::NoMemory) => Err(Ending::NoMemory),
+    }
+}
+
+/// Loads the book of a disk and adds a message.
+fn add_message<D: Disk>(alloc: Global, disk: D, header: &Header, id: &MessageId) -> (D, Ending)
+    requires { header.now.version ≡ 3 }
+    ensures ended { AddEnds (DiskFails D.Pages.own D.Faults disk result.0) (disk_run D.Pages.own disk result.0)
+        header.now (message_id_bytes id.now) (ending result.1) }
+    ensures stays { SameDisk D.Pages.own D.Faults disk result.0 }
+{
+    match Book::load(alloc, disk, header) {
+        Ok(mut book) => {
+            let added = book.add(id);
+            let end = end_of_add(added, book.count());
+            (book.end(), end)
+        }
+        Err((disk, fault)) => (disk, end_of_slots(fault)),
+    }
+}

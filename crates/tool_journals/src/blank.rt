@@ -1,0 +1,89 @@
+//! Blank files of slots under new names.
+
+ghost use Rattle.std.specs.Prelude.{◌≡◌, ◌^◌, IfOk, IfErr};
+ghost use Rattle.slot_file.specs.Layout.{file_size};
+ghost use Rattle.stream_io.specs.Store.{pages_state};
+ghost use Rattle.tool_base.specs.Endings.{ending};
+ghost use Rattle.tool_base.specs.Touched.{EndsTouching};
+ghost use Rattle.tool_base.specs.World.{IsCalm, from_to};
+ghost use Rattle.tool_disks.specs.Headers.{book_header};
+ghost use Rattle.tool_journals.specs.Blanks.{IsBlankDisk, IsNotMade};
+ghost use Rattle.trustee_core.specs.Trustee.{journal_header};
+
+use crate::faults::{end_of_new, end_of_prepare};
+use share_files::Share;
+use slot_file::{Header, prepare};
+use std::alloc::Global;
+use stream_io::Store;
+use tool_base::Ending;
+use tool_disks::header_of;
+
+/// A blank file of slots.
+#[derive(Clone, Copy)]
+pub(crate) struct Blank {
+    /// Its header.
+    pub(crate) header: Header,
+    /// How many slots it has.
+    pub(crate) count: u32,
+}
+
+impl Blank {
+    /// The journal of a share's trustee.
+    pub(crate) fn journal_of(share: &Share) -> Blank
+        ensures header { result.header ≡ journal_header share.now }
+        ensures count { result.count ≡ 2 ^ share.now.params.h }
+    {
+        Blank {
+            header: header_of(share, 2),
+            count: share.params.leaves(),
+        }
+    }
+
+    /// The book of a share's trustee.
+    pub(crate) fn book_of(share: &Share) -> Blank
+        ensures header { result.header ≡ book_header share.now }
+        ensures count { result.count ≡ 1024 }
+    {
+        Blank {
+            header: header_of(share, 3),
+            count: 1024,
+        }
+    }
+}
+
+/// The length in bytes of a file of so many slots.
+pub(crate) fn file_length(version: u8, count: u32) -> usize
+    ensures { result ≡ file_size version count }
+{
+    let slot = if version == 2 { 160 } else { 128 };
+    128 + slot * count as usize
+}
+
+/// Makes a blank file under a new name and keeps its disk.
+pub(crate) fn new_blank<S: Store>(
+    alloc: Global,
+    store: &mut S,
+    name: &str,
+    blank: &Blank,
+) -> Result<S::Disk, Ending>
+    ensures made { IfOk result (λ disk. IsBlankDisk (S.state store.old) name.now blank.now.header blank.now.count
+        (pages_state S.Disk.told S.Disk.honest S.Disk.steady S.Disk.count S.Disk.room S.Disk.reads S.Disk.may_leave
+        disk) (S.state store.new)) }
+    ensures refused { (first : S) → IsCalm (S.state first) (S.state store.old)
+        → let run = from_to (S.state first) (S.state store.new) in IfErr result (λ end.
+        EndsTouching (IsNotMade run name.now blank.now.header blank.now.count) run (ending end)) }
+{
+    let mut disk = match store.new_disk(
+        alloc,
+        name,
+        file_length(blank.header.version, blank.count),
+    ) {
+        Ok(made) => made,
+        Err(fault) => return Err(end_of_new(alloc, name, fault)),
+    };
+    if let Err(fault) = prepare(&mut disk, &blank.header, blank.count) {
+        store.return_disk(name, disk);
+        return Err(end_of_prepare(fault));
+    }
+    Ok(disk)
+}
