@@ -1,0 +1,28 @@
+-- Ports of a net, out and back.
+use Rattle.std.proofs.Common.{◌≡◌, ◌+◌, ◌-◌, ℕ, List, length, Option, ◌∙◌, arith}
+use Rattle.stream_io.specs.Net.{Gathers, MakesPorts, NetOnward, NetState, PortState, SameNet}
+use Rattle.tool_service.specs.Nets.{IsNetBack}
+
+pub net_same : (old new : NetState) → SameNet old new → NetOnward old new → IsNetBack old new
+net_same old new same onward = record { onward = onward; out = λ told. same.out }
+
+net_onward : (a b c : NetState) → NetOnward a b → NetOnward b c → NetOnward a c
+net_onward a b c one two = record {
+  told = two.told ∙ one.told;
+  steady = two.steady ∙ one.steady;
+  count = let x = one.count in let y = two.count in omega arith;
+  port_count = let x = one.port_count in let y = two.port_count in omega arith;
+}
+
+-- all ports that were made come back
+pub net_back : (old mid new : NetState) (place : Option (List ℕ)) (count : ℕ) (made returned : List PortState)
+    → MakesPorts old place count made mid → NetOnward old mid → length returned ≡ length made → Gathers mid returned new
+    → NetOnward mid new → IsNetBack old new
+net_back old mid new place count made returned makes one many gathers two = record {
+  onward = net_onward old mid new one two;
+  out = λ told.
+      let first : mid.out ≡ old.out + count = makes.out told in
+      let then : new.out ≡ mid.out - length returned = gathers.out (rw one.told told) in
+      let all : length made ≡ count = makes.many in
+      omega (arith, first, then, all, many);
+}

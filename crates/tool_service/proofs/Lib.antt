@@ -1,0 +1,5 @@
+pub mod Backs
+pub mod Booking
+pub mod Lasts
+pub mod Serving
+pub mod Wholes

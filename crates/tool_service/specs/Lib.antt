@@ -1,0 +1,4 @@
+pub mod Journals
+pub mod Nets
+pub mod Services
+pub mod Trustee

@@ -1,0 +1,7 @@
+//! Commands that serve: a trustee over the ports of a net.
+#![tactic(auto)]
+
+mod nets;
+mod trustee;
+
+pub use trustee::serve_trustee;
