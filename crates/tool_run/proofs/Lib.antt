@@ -3,4 +3,5 @@ pub mod Names
 pub mod Naming
 pub mod Plans
 pub mod Rehearsing
+pub mod Running
 pub mod Verifying

@@ -5,24 +5,38 @@ use Rattle.disk_trait.specs.Faults.{Rose}
 use Rattle.stream_io.specs.Talk.{WrotePart}
 use Rattle.tool_base.specs.Ending.{Ending, Usage, NoMemory, status_of, line_of}
 use Rattle.tool_run.specs.Deal.{DealEnds}
-use Rattle.tool_base.specs.Outputs.{EndsWith, Output}
+use Rattle.tool_base.specs.Outputs.{EndsWith}
+use Rattle.tool_base.specs.Touched.{EndsTouching}
+use Rattle.tool_journals.specs.Approve.{ApproveEnds}
+use Rattle.tool_journals.specs.Enrol.{EnrolEnds}
+use Rattle.tool_journals.specs.Migrate.{MigrateEnds}
 use Rattle.tool_run.specs.Rehearse.{RehearseEnds}
 use Rattle.tool_run.specs.Verify.{VerifyEnds}
-use Rattle.tool_words.specs.Words.{Row, Verify, Rehearse, Deal, command_of}
-use Rattle.tool_base.specs.World.{AllBack, Onward, OutputRun, StoreRun, World, from_to}
+use Rattle.tool_service.specs.Trustee.{TrusteeRun}
+use Rattle.tool_words.specs.Words.{Row, Verify, Rehearse, Deal, Enrol, Migrate, Approve, Trustee, command_of}
+use Rattle.tool_base.specs.World.{AllBack, Onward, Outside, OutputRun, StoreRun, World, from_to}
 
--- the ends that a command may have and the files that it wrote then, by the rules of that command
-abbrev pub CommandEnds : Row → StoreRun → Ending → List Output → Type 0
-CommandEnds (Verify key message signature) store end written =
-    ((end ≡ NoMemory) ⊎ VerifyEnds store key message signature end) × (written ≡ [])
-CommandEnds (Rehearse entropy message key_out signature_out) store end written =
-    RehearseEnds store entropy message key_out signature_out end written
-CommandEnds (Deal words) store end written = DealEnds store words end written
+-- a command that works on the store alone: the net is as it was
+pub record OnStore (Run : StoreRun → Ending → Type 0) (before after : Outside) (end : Ending) : Type 0 where
+  pub run : Run (from_to before.store after.store) end
+  pub net : after.net ≡ before.net
 
--- those that words may have: other words than a command's are a faulty command line, and write nothing
-abbrev pub MayEnd : Option Row → StoreRun → Ending → List Output → Type 0
-MayEnd None store end written = (end ≡ Usage) × (written ≡ [])
-MayEnd (Some row) store end written = CommandEnds row store end written
+-- what a command does and how it ends, by the rules of that command
+abbrev pub CommandRun : Row → Outside → Outside → Ending → Type 0
+CommandRun (Verify key message signature) = OnStore (λ store. EndsWith (λ end written.
+    ((end ≡ NoMemory) ⊎ VerifyEnds store key message signature end) × (written ≡ [])) store)
+CommandRun (Rehearse entropy message key_out signature_out) =
+    OnStore (λ store. EndsWith (RehearseEnds store entropy message key_out signature_out) store)
+CommandRun (Deal words) = OnStore (λ store. EndsWith (DealEnds store words) store)
+CommandRun (Enrol file journal) = OnStore (λ store. EndsTouching (EnrolEnds store file journal) store)
+CommandRun (Migrate share journal new) = OnStore (λ store. EndsTouching (MigrateEnds store share journal new) store)
+CommandRun (Approve share book message) = OnStore (λ store. EndsTouching (ApproveEnds store share book message) store)
+CommandRun (Trustee words) = TrusteeRun words
+
+-- what words do: other words than a command's are a faulty command line, and change nothing
+abbrev pub WordsRun : Option Row → Outside → Outside → Ending → Type 0
+WordsRun None = OnStore (λ store. EndsWith (λ end written. (end ≡ Usage) × (written ≡ [])) store)
+WordsRun (Some row) = CommandRun row
 
 -- the line was printed whole
 pub record IsPrinted (output : OutputRun) (line : List ℕ) : Type 0 where
@@ -50,16 +64,12 @@ pub record EndsSo (output : OutputRun) (end : Ending) (status : ℕ) : Type 0 wh
   pub is : (shown ≡ NoMemory) ⊎ (shown ≡ end)
   pub answered : IsAnswered output shown status
 
--- the store in the run of a call
-abbrev pub store_run : World → StoreRun
-store_run world = from_to world.before.store world.after.store
-
--- A call with these words: it came to an end by the rules of its command and had written these files, the store has
--- them beside what it had, and its status and its output are that end's or, where there was no memory for the line,
--- those of want of memory. No object changed its kind, no count fell, and all that was handed out is back.
+-- A call with these words: it came to an end by the rules of its command, which say what it did, and its status and
+-- its output are that end's or, where there was no memory for the line, those of want of memory. No object changed its
+-- kind, no count fell, and all that was handed out is back.
 pub record ToolRun (words : List (List ℕ)) (world : World) (status : ℕ) : Type 0 where
   pub end : Ending
-  pub ended : EndsWith (MayEnd (command_of words) (store_run world)) (store_run world) end
+  pub ended : WordsRun (command_of words) world.before world.after end
   pub answered : EndsSo world.output end status
   pub onward : Onward world.before world.after
   pub back : AllBack world.before world.after

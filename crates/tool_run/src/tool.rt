@@ -3,11 +3,11 @@
 ghost use Rattle.std.specs.Prelude.{◌≡◌, ◌⊎◌, map, string_bytes, ◌==◌, if◌then◌else◌};
 ghost use Rattle.tool_base.specs.Ending as spec;
 ghost use Rattle.tool_base.specs.Endings.{ending};
-ghost use Rattle.tool_run.specs.ToolRun.{CommandEnds, MayEnd, ToolRun, IsAnswered, IsPrinted, IsCutShort, EndsSo};
-ghost use Rattle.tool_base.specs.Outputs.{EndsWith};
+ghost use Rattle.tool_run.specs.ToolRun.{CommandRun, EndsSo, IsAnswered, IsCutShort, IsPrinted, ToolRun, WordsRun};
+ghost use Rattle.tool_service.specs.Nets.{IsNetBack};
 ghost use Rattle.tool_words.specs.Rows.{row};
 ghost use Rattle.tool_words.specs.Words.{OutputsDiffer, command_of};
-ghost use Rattle.tool_base.specs.World.{IsBack, from_to, output_run};
+ghost use Rattle.tool_base.specs.World.{IsBack, output_run};
 
 use crate::deal::deal_files;
 use crate::rehearse::rehearse_files;
@@ -17,6 +17,8 @@ use std::sync::Wait;
 use std::thread::Threads;
 use stream_io::{Failed, Net, Sink, Store, write_whole};
 use tool_base::{Clocks, Ending};
+use tool_journals::{approve_message, enrol_file, migrate_journal};
+use tool_service::serve_trustee;
 use tool_words::{Command, command_of};
 
 /// Does what the words ask for, and answers the status. The words begin with the command.
@@ -37,28 +39,50 @@ pub fn run_tool<R: Threads + Wait + Sync, S: Store, N: Net, T: Clocks, O: Sink>(
         })
         result }
 {
-    let end = run_words(alloc, words, store);
+    let end = run_words(rt, alloc, words, store, net, time);
     finish(alloc, &end, out)
 }
 
 /// Does what the words ask for, and answers how it ends.
-fn run_words<S: Store>(alloc: Global, words: &[String], store: &mut S) -> Ending
-    ensures ended { let run = from_to (S.state store.old) (S.state store.new) in
-        EndsWith (MayEnd (command_of (map string_bytes words.now)) run) run (ending result) }
+fn run_words<R: Threads + Wait + Sync, S: Store, N: Net, T: Clocks>(
+    rt: &R,
+    alloc: Global,
+    words: &[String],
+    store: &mut S,
+    net: &mut N,
+    time: &mut T,
+) -> Ending
+    ensures ended { WordsRun (command_of (map string_bytes words.now))
+        (record { store = S.state store.old; net = N.state net.old; time = T.state time.old })
+        (record { store = S.state store.new; net = N.state net.new; time = T.state time.new })
+        (ending result) }
     ensures back { IsBack (S.state store.old) (S.state store.new) }
+    ensures net { IsNetBack (N.state net.old) (N.state net.new) }
+    ensures time { T.state time.new ≡ T.state time.old }
 {
     match command_of(alloc, words) {
-        Some(command) => run_command(alloc, store, &command),
+        Some(command) => run_command(rt, alloc, &command, store, net, time),
         None => Ending::Usage,
     }
 }
 
 /// Does what a command asks for, and answers how it ends.
-fn run_command<S: Store>(alloc: Global, store: &mut S, command: &Command) -> Ending
+fn run_command<R: Threads + Wait + Sync, S: Store, N: Net, T: Clocks>(
+    rt: &R,
+    alloc: Global,
+    command: &Command,
+    store: &mut S,
+    net: &mut N,
+    time: &mut T,
+) -> Ending
     requires differ { OutputsDiffer (row command.now) }
-    ensures ended { let run = from_to (S.state store.old) (S.state store.new) in
-        EndsWith (CommandEnds (row command.now) run) run (ending result) }
+    ensures ended { CommandRun (row command.now)
+        (record { store = S.state store.old; net = N.state net.old; time = T.state time.old })
+        (record { store = S.state store.new; net = N.state net.new; time = T.state time.new })
+        (ending result) }
     ensures back { IsBack (S.state store.old) (S.state store.new) }
+    ensures net { IsNetBack (N.state net.old) (N.state net.new) }
+    ensures time { T.state time.new ≡ T.state time.old }
 {
     match command {
         Command::Verify {
@@ -73,6 +97,18 @@ fn run_command<S: Store>(alloc: Global, store: &mut S, command: &Command) -> End
             signature_out,
         } => rehearse_files(alloc, store, entropy, message, key_out, signature_out),
         Command::Deal(words) => deal_files(alloc, store, words),
+        Command::Enrol { file, journal } => enrol_file(alloc, store, file, journal),
+        Command::Migrate {
+            share,
+            journal,
+            new,
+        } => migrate_journal(alloc, store, share, journal, new),
+        Command::Approve {
+            share,
+            book,
+            message,
+        } => approve_message(alloc, store, share, book, message),
+        Command::Trustee(words) => serve_trustee(rt, alloc, words, store, net, time),
     }
 }
 

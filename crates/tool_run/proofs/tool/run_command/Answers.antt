@@ -1,16 +1,35 @@
-use Rattle.std.proofs.Common.{refl}
-use Rattle.tool_run.specs.ToolRun.{CommandEnds}
-use Rattle.tool_words.specs.Words as words
+use Rattle.std.proofs.Common.{◌≡◌, ◌⊎◌, List, [], refl}
+use Rattle.tool_base.specs.Ending as ending
 use Rattle.tool_base.specs.World.{from_to}
-use Rattle.tool_base.proofs.Runs.{back_calm}
 use Rattle.tool_base.proofs.Writing.{ends_untouched}
+use Rattle.tool_run.specs.Verify.{VerifyEnds}
 use Rattle.tool_run.proofs.tool.run_command.Goals as goal
 
 pub returns-in-Verify-clause-ended : goal.returns-in-Verify-clause-ended
 returns-in-Verify-clause-ended g c =
     let run = from_to (g.S.Store.state c.args.store.now) (g.S.Store.state c.verify_files.new.store) in
-    let row = words.Verify c.in-Verify.key.now c.in-Verify.message.now c.in-Verify.signature.now in
-    rw c.in-Verify.is (ends_untouched _ _ c.verify_files.ensures.calm (CommandEnds row run) _ (c.verify_files.ensures.cause, refl))
+    let verify = c.in-Verify in
+    rw c.in-Verify.is (record {
+      run = ends_untouched _ _ c.verify_files.ensures.calm
+          (λ end written. ((end ≡ ending.NoMemory) ⊎ VerifyEnds run verify.key.now verify.message.now verify.signature.now end) × (written ≡ [])) _
+          (c.verify_files.ensures.cause, refl);
+      net = refl;
+    })
 
-pub returns-in-Verify-clause-back : goal.returns-in-Verify-clause-back
-returns-in-Verify-clause-back g c = back_calm _ _ c.verify_files.ensures.calm
+pub returns-in-Rehearse-clause-ended : goal.returns-in-Rehearse-clause-ended
+returns-in-Rehearse-clause-ended g c = rw c.in-Rehearse.is (record { run = c.rehearse_files.ensures.ended; net = refl })
+
+pub returns-in-Deal-clause-ended : goal.returns-in-Deal-clause-ended
+returns-in-Deal-clause-ended g c = rw c.in-Deal.is (record { run = c.deal_files.ensures.ended; net = refl })
+
+pub returns-in-Enrol-clause-ended : goal.returns-in-Enrol-clause-ended
+returns-in-Enrol-clause-ended g c = rw c.in-Enrol.is (record { run = c.enrol_file.ensures.ended; net = refl })
+
+pub returns-in-Migrate-clause-ended : goal.returns-in-Migrate-clause-ended
+returns-in-Migrate-clause-ended g c = rw c.in-Migrate.is (record { run = c.migrate_journal.ensures.ended; net = refl })
+
+pub returns-in-Approve-clause-ended : goal.returns-in-Approve-clause-ended
+returns-in-Approve-clause-ended g c = rw c.in-Approve.is (record { run = c.approve_message.ensures.ended; net = refl })
+
+pub returns-in-Trustee-clause-ended : goal.returns-in-Trustee-clause-ended
+returns-in-Trustee-clause-ended g c = rw c.in-Trustee.is c.serve_trustee.ensures

@@ -1,17 +1,15 @@
 use Rattle.std.proofs.Common.{◌≡◌, Some, map, string_bytes, None, refl}
 use Rattle.tool_words.specs.Rows.{row}
-use Rattle.tool_run.specs.ToolRun.{MayEnd}
 use Rattle.tool_words.specs.Words.{command_of}
 use Rattle.tool_base.specs.World.{from_to}
 use Rattle.tool_words.proofs.Commands.{outputs_differ}
 use Rattle.tool_base.proofs.Runs.{back_calm, calm_none}
 use Rattle.tool_base.proofs.Writing.{ends_untouched}
+use Rattle.tool_run.proofs.Running.{usage_run}
 use Rattle.tool_run.proofs.tool.run_words.Goals as goal
 
 pub returns-in-None-clause-ended : goal.returns-in-None-clause-ended
-returns-in-None-clause-ended g c =
-    let run = from_to (g.S.Store.state c.args.store.now) (g.S.Store.state c.args.store.now) in
-    rw (← c.command_of.ensures, c.in-None.is) (ends_untouched _ _ (calm_none _) (MayEnd None run) _ (refl, refl))
+returns-in-None-clause-ended g c = rw (← c.command_of.ensures, c.in-None.is) (usage_run _ _ _)
 
 pub returns-in-None-clause-back : goal.returns-in-None-clause-back
 returns-in-None-clause-back g c = back_calm _ _ (calm_none _)
