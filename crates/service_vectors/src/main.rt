@@ -1,0 +1,88 @@
+//! Runs the commands of a trustee over files, links and clocks in memory, and compares what is written to the links
+//! with what another implementation's trustee replied. It prints what each command prints, the status behind it, and
+//! length, first bytes and SHA-256 of files that it made or had to leave alone.
+#![tactic(auto)]
+
+mod scene;
+mod steps;
+
+use host_io::FileStore;
+use memory_io::MemSink;
+use memory_store::MemStore;
+use scene::{made, net_of, print_outcome, words_of};
+use std::io::{self, ErrorKind};
+use stream_io::Store;
+use tool_run::{MemClocks, run_tool};
+
+/// The files that are there at first.
+const FILES: [&str; 20] = [
+    "share1",
+    "share2",
+    "share3",
+    "share1.24",
+    "asks",
+    "replies",
+    "ask",
+    "reply",
+    "asks.24",
+    "replies.24",
+    "ask.10",
+    "spent.10",
+    "refusals",
+    "three",
+    "abc",
+    "message",
+    "old",
+    "zeros",
+    "short",
+    "damaged",
+];
+
+/// No file here is longer.
+const FILE_LIMIT: u64 = 1 << 16;
+
+/// The moment at which each clock begins.
+const START: u64 = 1000;
+
+/// The store of these files.
+fn store_of_files(rt: HostRuntime) -> io::Result<MemStore> {
+    let mut host = FileStore::new(rt);
+    let mut files = Vec::new(rt.alloc());
+    for name in FILES {
+        match host.read_all(rt.alloc(), name, FILE_LIMIT) {
+            Ok(bytes) => files.push((String::from_str(rt.alloc(), name)?, bytes))?,
+            Err(_) => return Err(io::Error::from(ErrorKind::NotFound)),
+        }
+    }
+    MemStore::of_files(rt.alloc(), files, Vec::new(rt.alloc())).map_err(|_| io::Error::from(
+        ErrorKind::OutOfMemory,
+    ))
+}
+
+fn main(rt: HostRuntime) -> io::Result<()> {
+    let mut store = store_of_files(rt)?;
+    for steps in [
+        steps::ENROL,
+        steps::SERVE,
+        steps::REFUSED,
+        steps::MIGRATE,
+        steps::APPROVE,
+    ] {
+        for step in steps {
+            let words = words_of(rt.alloc(), step.words)?;
+            let mut net = made(net_of(rt.alloc(), &store, step.talks))?;
+            let mut out = made(MemSink::new(rt.alloc(), 100, 7, Vec::new(rt.alloc())))?;
+            let status = run_tool(
+                &rt,
+                rt.alloc(),
+                words.as_slice(),
+                &mut store,
+                &mut net,
+                &mut MemClocks::new(START),
+                &mut out,
+            );
+            print_outcome(rt, &store, &net, step, (out.written(), status))?;
+        }
+    }
+    Ok(())
+}

@@ -1,0 +1,106 @@
+//! What a command is given beside the store, and what is printed behind it.
+
+use crate::steps::{Step, Talk};
+use host_io::StdoutSink;
+use memory::NoMemory;
+use memory_io::{KeptPort, MemLink, MemNet, MemSink, MemSource, PortScript};
+use memory_store::MemStore;
+use sha2::{Digest, Sha256};
+use std::alloc::{AllocError, Global};
+use std::io::{self, ErrorKind};
+use stream_io::write_whole;
+
+/// The words of a text.
+pub(crate) fn words_of(alloc: Global, text: &str) -> Result<Vec<String>, AllocError> {
+    let mut words = Vec::new(alloc);
+    for word in text.split(' ') {
+        words.push(String::from_str(alloc, word)?)?;
+    }
+    Ok(words)
+}
+
+/// The bytes of a file, none where it is not there.
+fn file<'a>(store: &'a MemStore, name: &str) -> &'a [u8] {
+    store.bytes(name).unwrap_or_default()
+}
+
+/// A link that gives the asks of a talk.
+fn link_of(alloc: Global, store: &MemStore, talk: &Talk) -> Result<MemLink, NoMemory> {
+    let asks = Vec::from_slice(alloc, file(store, talk.asks))?;
+    let mut pieces = Vec::new(alloc);
+    pieces.resize(asks.len(), talk.piece)?;
+    let source = MemSource::new(asks, pieces, Vec::new(alloc));
+    let sink = MemSink::new(alloc, talk.room, 64, Vec::new(alloc))?;
+    MemLink::new(alloc, source, sink, Vec::new(alloc), None)
+}
+
+/// A net that offers the place `here`, at whose ports these links wait, one at each.
+pub(crate) fn net_of(alloc: Global, store: &MemStore, talks: &[Talk]) -> Result<MemNet, NoMemory> {
+    let mut places = Vec::new(alloc);
+    places.push(String::from_str(alloc, "here")?)?;
+    let mut scripts = Vec::new(alloc);
+    for talk in talks {
+        let mut script = PortScript::new(alloc);
+        script.waiting.push(link_of(alloc, store, talk)?)?;
+        scripts.push(script)?;
+    }
+    Ok(MemNet::new(places, scripts, Vec::new(alloc)))
+}
+
+/// What was made, where there was memory for it.
+pub(crate) fn made<T>(value: Result<T, NoMemory>) -> io::Result<T> {
+    value.map_err(|_| io::Error::from(ErrorKind::OutOfMemory))
+}
+
+/// What was written to the first link of a port, none where there was no link.
+fn written(port: Option<&KeptPort>) -> &[u8] {
+    match port.and_then(|port| port.talk(0)) {
+        Some(talk) => talk.written(),
+        None => &[],
+    }
+}
+
+/// How these bytes are like those that are wanted.
+fn likeness(got: &[u8], want: &[u8]) -> &'static str {
+    if got == want {
+        "as given"
+    } else if got.is_empty() {
+        "not given"
+    } else if want.starts_with(got) {
+        "cut short"
+    } else {
+        "other replies"
+    }
+}
+
+/// Prints the name of a file, its length, its first 16 bytes and its SHA-256.
+fn print_file(rt: HostRuntime, store: &MemStore, name: &str) -> io::Result<()> {
+    let Some(bytes) = store.bytes(name) else {
+        return println!(rt; "{name} is not there");
+    };
+    let length = bytes.len();
+    let first = hex::encode(rt.alloc(), bytes.get(..16).unwrap_or_default())?;
+    let digest = hex::encode(rt.alloc(), Sha256::digest(bytes))?;
+    println!(rt; "{name} {length} {first} {digest}")
+}
+
+/// Prints what a step's command printed, its status, how the replies are, and the files.
+pub(crate) fn print_outcome(
+    rt: HostRuntime,
+    store: &MemStore,
+    net: &MemNet,
+    step: &Step,
+    outcome: (&[u8], u8),
+) -> io::Result<()> {
+    let (line, status) = outcome;
+    let _ = write_whole(&mut StdoutSink::new(rt), line);
+    println!(rt; "[status {status}]")?;
+    for (index, talk) in step.talks.iter().enumerate() {
+        let replies = likeness(written(net.kept(index)), file(store, talk.replies));
+        println!(rt; "{}: {replies}", talk.replies)?;
+    }
+    for name in step.files {
+        print_file(rt, store, name)?;
+    }
+    Ok(())
+}

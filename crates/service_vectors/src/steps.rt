@@ -1,0 +1,261 @@
+//! The commands that are run, one after the other over one store.
+
+/// A link to a trustee, and what the trustee replies there.
+#[derive(Clone, Copy)]
+pub(crate) struct Talk {
+    /// The name of the file that the link gives.
+    pub(crate) asks: &'static str,
+    /// The name of the file with the replies.
+    pub(crate) replies: &'static str,
+    /// The most bytes that one read gives.
+    pub(crate) piece: usize,
+    /// For how many bytes of replies the link has room.
+    pub(crate) room: usize,
+}
+
+/// A command, the links that wait at the ports of its net, one at each, and the files that are printed behind it.
+pub(crate) struct Step {
+    pub(crate) words: &'static str,
+    pub(crate) talks: &'static [Talk],
+    pub(crate) files: &'static [&'static str],
+}
+
+/// More bytes than any asks or replies here have.
+const ALL: usize = 8192;
+
+/// Both asks of a session that another implementation ran, and that implementation's replies.
+const SESSION: Talk = Talk {
+    asks: "asks",
+    replies: "replies",
+    piece: ALL,
+    room: ALL,
+};
+
+/// The same, byte by byte.
+const IN_PIECES: Talk = Talk {
+    asks: "asks",
+    replies: "replies",
+    piece: 1,
+    room: ALL,
+};
+
+/// The same, where the link takes the first reply and a part of the second.
+const CUT_SHORT: Talk = Talk {
+    asks: "asks",
+    replies: "replies",
+    piece: ALL,
+    room: 1000,
+};
+
+/// The first ask and its reply.
+const ROUND_ONE: Talk = Talk {
+    asks: "ask",
+    replies: "reply",
+    piece: ALL,
+    room: ALL,
+};
+
+/// The first ask for a leaf that is bound to `abc`.
+const SPENT: Talk = Talk {
+    asks: "ask.10",
+    replies: "spent.10",
+    piece: ALL,
+    room: ALL,
+};
+
+/// Both asks where the message is not approved: code 12, and code 8 since the leaf is not bound.
+const NOT_APPROVED: Talk = Talk {
+    asks: "asks",
+    replies: "refusals",
+    piece: ALL,
+    room: ALL,
+};
+
+/// Both asks of a session over hashes of 24 bytes.
+const SESSION_24: Talk = Talk {
+    asks: "asks.24",
+    replies: "replies.24",
+    piece: ALL,
+    room: ALL,
+};
+
+/// Journals of trustees.
+pub(crate) const ENROL: &[Step] = &[
+    Step {
+        words: "enrol share3 new3",
+        talks: &[],
+        files: &["new3"],
+    },
+    Step {
+        words: "enrol three new",
+        talks: &[],
+        files: &["new"],
+    },
+    Step {
+        words: "enrol share1 new3",
+        talks: &[],
+        files: &["new3"],
+    },
+    Step {
+        words: "enrol share1 new1",
+        talks: &[],
+        files: &["new1"],
+    },
+];
+
+/// A trustee that serves, again over the same journal, by two workers, and over links that give little or take little.
+pub(crate) const SERVE: &[Step] = &[
+    Step {
+        words: "trustee share1 new1 here 1 1",
+        talks: &[SESSION],
+        files: &["new1"],
+    },
+    Step {
+        words: "trustee share1 new1 here 1 1",
+        talks: &[SESSION],
+        files: &["new1"],
+    },
+    Step {
+        words: "trustee share1 new1 here 2 1",
+        talks: &[ROUND_ONE, ROUND_ONE],
+        files: &["new1"],
+    },
+    Step {
+        words: "enrol share1 pieces1",
+        talks: &[],
+        files: &[],
+    },
+    Step {
+        words: "trustee share1 pieces1 here 1 1",
+        talks: &[IN_PIECES],
+        files: &["pieces1"],
+    },
+    Step {
+        words: "enrol share1 cut1",
+        talks: &[],
+        files: &[],
+    },
+    Step {
+        words: "trustee share1 cut1 here 1 1",
+        talks: &[CUT_SHORT],
+        files: &["cut1"],
+    },
+    Step {
+        words: "enrol share1.24 new1.24",
+        talks: &[],
+        files: &[],
+    },
+    Step {
+        words: "trustee share1.24 new1.24 here 1 1",
+        talks: &[SESSION_24],
+        files: &["new1.24"],
+    },
+];
+
+/// Services that do not begin: a place that the net does not offer, journals that do not load, of another trustee, of
+/// zeros, too short, of version 1 and with a damaged slot, a journal that is not there, and a share that does not read.
+pub(crate) const REFUSED: &[Step] = &[
+    Step {
+        words: "trustee share1 new1 there 1 1",
+        talks: &[SESSION],
+        files: &["new1"],
+    },
+    Step {
+        words: "trustee share2 new1 here 1 1",
+        talks: &[SESSION],
+        files: &["new1"],
+    },
+    Step {
+        words: "trustee share1 zeros here 1 1",
+        talks: &[SESSION],
+        files: &[],
+    },
+    Step {
+        words: "trustee share1 short here 1 1",
+        talks: &[SESSION],
+        files: &[],
+    },
+    Step {
+        words: "trustee share1 old here 1 1",
+        talks: &[SESSION],
+        files: &[],
+    },
+    Step {
+        words: "trustee share1 damaged here 1 1",
+        talks: &[SESSION],
+        files: &[],
+    },
+    Step {
+        words: "trustee share1 none here 1 1",
+        talks: &[SESSION],
+        files: &[],
+    },
+    Step {
+        words: "trustee three new1 here 1 1",
+        talks: &[SESSION],
+        files: &[],
+    },
+];
+
+/// A journal of version 1 in which leaf 0 was opened in the session and leaf 10 bound to `abc`.
+pub(crate) const MIGRATE: &[Step] = &[
+    Step {
+        words: "migrate share1 old moved1",
+        talks: &[],
+        files: &["old", "moved1"],
+    },
+    Step {
+        words: "trustee share1 moved1 here 2 1",
+        talks: &[SESSION, SPENT],
+        files: &["moved1"],
+    },
+    Step {
+        words: "migrate share1 moved1 moved2",
+        talks: &[],
+        files: &["moved2"],
+    },
+];
+
+/// A book of approved messages, and a trustee that serves with it.
+pub(crate) const APPROVE: &[Step] = &[
+    Step {
+        words: "approve share1 book abc",
+        talks: &[],
+        files: &["book"],
+    },
+    Step {
+        words: "approve share1 book abc",
+        talks: &[],
+        files: &["book"],
+    },
+    Step {
+        words: "enrol share1 booked1",
+        talks: &[],
+        files: &["booked1"],
+    },
+    Step {
+        words: "trustee share1 booked1 here 1 1 book",
+        talks: &[NOT_APPROVED],
+        files: &["booked1"],
+    },
+    Step {
+        words: "approve share1 book message",
+        talks: &[],
+        files: &["book"],
+    },
+    Step {
+        words: "trustee share1 booked1 here 1 1 book",
+        talks: &[SESSION],
+        files: &["booked1", "book"],
+    },
+    Step {
+        words: "approve share1 booked1 abc",
+        talks: &[],
+        files: &[],
+    },
+    Step {
+        words: "trustee share1 booked1 here 1 1 booked1",
+        talks: &[SESSION],
+        files: &["booked1"],
+    },
+];
