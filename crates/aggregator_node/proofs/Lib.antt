@@ -1,0 +1,9 @@
+pub mod Addressing
+pub mod Frames
+pub mod Hearing
+pub mod Reaching
+pub mod Refusing
+pub mod Rounds
+pub mod Sessions
+pub mod Tasks
+pub mod Writing

@@ -1,0 +1,65 @@
+-- What calls one after the other leave as it was.
+use Rattle.std.proofs.Common.{◌≡◌, ◌≤◌, ℕ, Bool, List, Result, Err, refl, sym, subst, ◌∙◌, arith}
+use Rattle.aggregator_node.specs.Faults.{IsLostBy, LostBy}
+use Rattle.aggregator_node.specs.Runs.{HasCalled, first_frame}
+use Rattle.aggregator_node.specs.Tasks.{OnlyDials}
+use Rattle.aggregator_node.specs.declared.desk.Address.{Address}
+use Rattle.aggregator_node.specs.declared.fault.SignFault.{SignFault}
+use Rattle.aggregator_node.specs.declared.fault.Why.{Why}
+use Rattle.disk_trait.specs.Faults.{Rose}
+use Rattle.disk_trait.specs.declared.faults.Faults as faults
+use Rattle.reference_value.specs.Stay.{CellsStay}
+use Rattle.reference_value.specs.declared.cells.Cells as cells
+use Rattle.session_core.specs.State.{SameAsk, State}
+use Rattle.stream_io.specs.Talk.{Talk}
+use Rattle.stream_io.specs.Net.{PortOnward, PortState}
+
+pub onward-then : (a b c : PortState) → PortOnward a b → PortOnward b c → PortOnward a c
+onward-then a b c x y = record {
+  told = y.told ∙ x.told;
+  steady = y.steady ∙ x.steady;
+  place = y.place ∙ x.place;
+  count = (let p = x.count in let q = y.count in omega arith);
+  accept_count = (let p = x.accept_count in let q = y.accept_count in omega arith);
+}
+
+pub dials-then : (a b c : PortState) → OnlyDials a b → OnlyDials b c → OnlyDials a c
+dials-then a b c x y = record { onward = onward-then a b c x.onward y.onward; talks = y.talks ∙ x.talks }
+
+pub same-then : (a b c : State) → SameAsk a b → SameAsk b c → SameAsk a c
+same-then a b c x y = record {
+  key = y.key ∙ x.key;
+  plan = y.plan ∙ x.plan;
+  leaf = y.leaf ∙ x.leaf;
+  message = y.message ∙ x.message;
+  c = y.c ∙ x.c;
+}
+
+-- the ask of round one stays the same
+pub frame-same : (a b : State) → SameAsk a b → first_frame b ≡ first_frame a
+unfolding first_frame
+frame-same a b same = rw (same.key, same.leaf, same.message) refl
+
+module _ {addresses : List Address} {old new : State} {member : ℕ} {before now : PortState} {olds news : List Talk} {result : Result Bool SignFault} where
+  pub called-as : (f g : List ℕ) → g ≡ f → HasCalled addresses g old new member before now olds news result → HasCalled addresses f old new member before now olds news result
+  called-as f g is h = subst (λ (x : List ℕ). HasCalled addresses x old new member before now olds news result) is h
+
+pub rose-later : (a b c : ℕ) → a ≤ b → Rose b c → Rose a c
+rose-later a b c le rose = omega arith
+
+-- a loss that is handed on is the loss that came
+pub lost-as : {V W : Type 0} (why : Why) (r : Result V SignFault) (q : Result W SignFault) (x y : SignFault) → r ≡ Err x → x ≡ y → q ≡ Err y → LostBy why r → LostBy why q
+lost-as {V} {W} why r q x y is same was lost =
+    let here : IsLostBy why x = subst (λ (z : Result V SignFault). LostBy why z) is lost in
+    let there : IsLostBy why y = subst (IsLostBy why) same here in
+    subst (λ (z : Result W SignFault). LostBy why z) (sym was) there
+
+module _ {C : Type 0} {k : cells.Ghosts C} {f : faults.Ghosts C} {x y z : C} where
+  pub stays-then : CellsStay k f x y → CellsStay k f y z → CellsStay k f x z
+  stays-then a b = record {
+    set = b.set ∙ a.set;
+    plan = b.plan ∙ a.plan;
+    told = b.told ∙ a.told;
+    steady = b.steady ∙ a.steady;
+    leaves = λ told. b.leaves (a.told ∙ told) ∙ a.leaves told;
+  }

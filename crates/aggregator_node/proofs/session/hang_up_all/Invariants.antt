@@ -1,0 +1,14 @@
+use Rattle.std.proofs.Common.{◌≡◌, ◌+◌, ◌++◌, IsTrue, map}
+use Rattle.stream_io.specs.Net.{PortOnward}
+use Rattle.aggregator_node.proofs.session.hang_up_all.Given as goal
+
+-- what is hung up and what is left are all links together
+abbrev pub invariant-loop : goal.invariant-loop
+invariant-loop g l =
+    let talk = g.P.Link.Stream.talk in
+    let state = g.P.Port.state in
+    record {
+      all : IsTrue (state l.fn.port).told → (state l.port).talks ++ map talk l.links.items ≡ (state l.fn.port).talks ++ map talk l.fn.links.items;
+      onward : PortOnward (state l.fn.port) (state l.port);
+      many : l.links.len + l.counter ≡ l.end;
+    }

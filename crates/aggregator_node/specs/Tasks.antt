@@ -1,0 +1,38 @@
+-- What a session is run with.
+use Rattle.std.specs.Prelude.{◌≡◌, ◌≤◌, ℕ, List, length, None, IfSome, IsTrue}
+use Rattle.coalition_map.specs.Coalitions.{PlanNumbers, leaf_members}
+use Rattle.disk_trait.specs.declared.faults.Faults as faults
+use Rattle.lms_bytes.specs.MessageId.{message_id}
+use Rattle.lms_bytes.specs.declared.public_key.PublicKey.{PublicKey}
+use Rattle.reference_value.specs.declared.cells.Cells as cells
+use Rattle.session_core.specs.State.{State}
+use Rattle.share_files.specs.Reference.{leaves_length}
+use Rattle.stream_io.specs.Net.{PortOnward, PortState}
+
+-- a session that may run: of this key, plan and message, and in round one. The message has at most 2^24 bytes.
+pub record MayRun (key : PublicKey) (plan : PlanNumbers) (message : List ℕ) (s : State) : Type 0 where
+  pub of_key : s.key ≡ key
+  pub of_plan : s.plan ≡ plan
+  pub id : s.message ≡ message_id message
+  pub limit : length message ≤ 16777216
+  pub round : s.c ≡ None
+
+-- internal: a session of this key, plan and message, and the members of its leaf
+pub record IsTask (key : PublicKey) (plan : PlanNumbers) (members message : List ℕ) (s : State) : Type 0 where
+  pub of_key : s.key ≡ key
+  pub of_plan : s.plan ≡ plan
+  pub all : members ≡ leaf_members s.plan s.leaf
+  pub id : s.message ≡ message_id message
+  pub limit : length message ≤ 16777216
+  pub c : IfSome s.c (λ c. length c ≡ key.params.n)
+
+-- cells that give what they have whenever they are asked: steady ones that tell all leaves
+pub record IsExact {C : Type 0} (c : cells.Ghosts C) (f : faults.Ghosts C) (r : C) : Type 0 where
+  pub steady : IsTrue (f.steady r)
+  pub told : IsTrue (c.told r)
+  pub whole : length (c.leaves r) ≡ leaves_length (c.set r) (c.plan r)
+
+-- links were dialled from a port, and none was hung up
+pub record OnlyDials (old new : PortState) : Type 0 where
+  pub onward : PortOnward old new
+  pub talks : new.talks ≡ old.talks
