@@ -1,0 +1,6 @@
+//! One message of an aggregator, signed with a leaf that is leased for it in a table.
+#![tactic(auto)]
+
+mod sign;
+
+pub use sign::{Signed, sign_leased};
