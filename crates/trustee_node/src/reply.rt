@@ -14,11 +14,12 @@ use crate::turn::Answer;
 use approval_book::Denial;
 use disk_trait::Faults;
 use lms_bytes::bytes::put;
-use lms_bytes::{Ask, Params, ReplyHead, Val};
+use lms_bytes::{Ask, Params, ReplyHead, Val, digit};
+use mask_prf::MacKey;
 use round_frames::write_reply_head;
 use share_files::Share;
 use stream_io::{Failed, Sink, Stream, write_whole};
-use trustee_core::{Grant, Refusal, mask_count, release};
+use trustee_core::{Grant, Refusal, mask_count};
 
 /// How many bytes of masks are written at once.
 const ROOM: usize = 4096;
@@ -181,10 +182,12 @@ fn write_masks<K: Sink>(share: &Share, grant: &Grant, link: &mut K) -> Result<()
     ensures steady { K.steady link.new ≡ K.steady link.old }
 {
     let count = mask_count(&share.params, grant);
+    // The key is hashed once for all masks.
+    let key = MacKey::new(&share.key);
     let mut room = [0; ROOM];
     let mut next = 0;
     'batches: while next < count {
-        let batch = put_masks(share, grant, next, &mut room);
+        let batch = put_masks(&key, share, grant, next, &mut room);
         if let Err(failed) = write_whole(link, &room[..batch.length]) {
             return Err(failed);
         }
@@ -193,8 +196,27 @@ fn write_masks<K: Sink>(share: &Share, grant: &Grant, link: &mut K) -> Result<()
     Ok(())
 }
 
+/// Mask `i` of an ask that was granted, `n` bytes, by the share's key.
+fn mask(key: &MacKey, share: &Share, ask: &Ask, i: u16) -> Val
+    requires key { key.now ≡ share.now.key }
+    requires mask { i < masks_of share.now.params ask.now }
+    requires digest { IfSome ask.now.second (λ second. length second.digest ≡ share.now.params.n) }
+    ensures mask { result ≡ mask_of share.now ask.now i }
+    ensures length { length result ≡ share.now.params.n }
+{
+    let Share { params, id, .. } = share;
+    match &ask.second {
+        None => key.random_mask(params, id, ask.leaf),
+        Some(second) => {
+            let step = digit(params, &second.digest, i);
+            key.chain_mask(params, id, ask.leaf, i, step)
+        }
+    }
+}
+
 /// Puts masks of a grant to the front of the room, from mask `from` on and as many as there is room for.
-fn put_masks(share: &Share, grant: &Grant, from: u16, room: &mut [u8; ROOM]) -> Batch
+fn put_masks(key: &MacKey, share: &Share, grant: &Grant, from: u16, room: &mut [u8; ROOM]) -> Batch
+    requires key { key.now ≡ share.now.key }
     requires from { from < masks_of share.now.params (ask_of grant.now) }
     requires digest { IfSome (ask_of grant.now).second (λ second. length second.digest ≡ share.now.params.n) }
     ensures later { from < result.next }
@@ -211,7 +233,7 @@ fn put_masks(share: &Share, grant: &Grant, from: u16, room: &mut [u8; ROOM]) -> 
         if is_full {
             return Batch { next: i, length };
         }
-        put(room, length, release(share, grant, i).bytes());
+        put(room, length, mask(key, share, grant.ask(), i).bytes());
         length += n;
     }
     Batch {

@@ -25,7 +25,7 @@ loop-i-preserved c =
       first = λ is. absurd (let a = v.later in omega (arith, a, is));
       small = (let t = c.if-is_full.false in omega (arith, t));
       bytes = masks-more f c.args.from c.loop-i.i c.loop-i.length c.args.share.now.params.n c.loop-i.room c.put.new.out c.bytes.result.now
-          v.bytes (bytes ∙ c.release.ensures.mask) (ap length bytes ∙ c.release.ensures.length) c.put.ensures.front;
+          v.bytes (bytes ∙ c.mask.ensures.mask ∙ ap (λ ask. mask_of c.args.share.now ask c.loop-i.i) c.ask.ensures) (ap length bytes ∙ c.mask.ensures.length) c.put.ensures.front;
     }
 
 pub returns-then-is_full-clause-later : goal.returns-then-is_full-clause-later
