@@ -3,9 +3,11 @@
 //! length, first bytes and SHA-256 of files that it made or had to leave alone.
 #![tactic(auto)]
 
+mod files;
 mod scene;
 mod steps;
 
+use files::push_made;
 use host_io::FileStore;
 use memory_io::MemSink;
 use memory_store::MemStore;
@@ -15,7 +17,7 @@ use stream_io::Store;
 use tool_run::{MemClocks, run_tool};
 
 /// The files that are there at first.
-const FILES: [&str; 20] = [
+const FILES: [&str; 22] = [
     "share1",
     "share2",
     "share3",
@@ -36,6 +38,8 @@ const FILES: [&str; 20] = [
     "zeros",
     "short",
     "damaged",
+    "long.front",
+    "long.replies",
 ];
 
 /// No file here is longer.
@@ -54,23 +58,25 @@ fn store_of_files(rt: HostRuntime) -> io::Result<MemStore> {
             Err(_) => return Err(io::Error::from(ErrorKind::NotFound)),
         }
     }
-    MemStore::of_files(rt.alloc(), files, Vec::new(rt.alloc())).map_err(|_| io::Error::from(
-        ErrorKind::OutOfMemory,
-    ))
+    made(push_made(rt.alloc(), &mut files))?;
+    made(MemStore::of_files(rt.alloc(), files, Vec::new(rt.alloc())))
 }
 
 fn main(rt: HostRuntime) -> io::Result<()> {
     let mut store = store_of_files(rt)?;
-    for steps in [
-        steps::ENROL,
-        steps::SERVE,
-        steps::REFUSED,
-        steps::MIGRATE,
-        steps::APPROVE,
+    for (steps, deaf) in [
+        (steps::ENROL, false),
+        (steps::SERVE, false),
+        (steps::REFUSED, false),
+        (steps::MIGRATE, false),
+        (steps::APPROVE, false),
+        (steps::IN_PIECES_TOO, false),
+        (steps::FULL, false),
+        (steps::DEAF, true),
     ] {
         for step in steps {
             let words = words_of(rt.alloc(), step.words)?;
-            let mut net = made(net_of(rt.alloc(), &store, step.talks))?;
+            let mut net = made(net_of(rt.alloc(), &store, step.talks, deaf))?;
             let mut out = made(MemSink::new(rt.alloc(), 100, 7, Vec::new(rt.alloc())))?;
             let status = run_tool(
                 &rt,

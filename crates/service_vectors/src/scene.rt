@@ -1,6 +1,6 @@
 //! What a command is given beside the store, and what is printed behind it.
 
-use crate::steps::{Step, Talk};
+use crate::steps::{IN_TURN, Step, Talk};
 use host_io::StdoutSink;
 use memory::NoMemory;
 use memory_io::{KeptPort, MemLink, MemNet, MemSink, MemSource, PortScript};
@@ -24,23 +24,44 @@ fn file<'a>(store: &'a MemStore, name: &str) -> &'a [u8] {
     store.bytes(name).unwrap_or_default()
 }
 
+/// How many bytes the reads of so many bytes give, one after the other.
+fn pieces_of(alloc: Global, length: usize, piece: usize) -> Result<Vec<usize>, NoMemory> {
+    let mut pieces = Vec::new(alloc);
+    if piece != IN_TURN {
+        pieces.resize(length, piece)?;
+        return Ok(pieces);
+    }
+    for _ in 0..length / 193 + 1 {
+        pieces.extend_from_slice(&[1, 63, 64, 65])?;
+    }
+    Ok(pieces)
+}
+
 /// A link that gives the asks of a talk.
 fn link_of(alloc: Global, store: &MemStore, talk: &Talk) -> Result<MemLink, NoMemory> {
     let asks = Vec::from_slice(alloc, file(store, talk.asks))?;
-    let mut pieces = Vec::new(alloc);
-    pieces.resize(asks.len(), talk.piece)?;
+    let pieces = pieces_of(alloc, asks.len(), talk.piece)?;
     let source = MemSource::new(asks, pieces, Vec::new(alloc));
     let sink = MemSink::new(alloc, talk.room, 64, Vec::new(alloc))?;
     MemLink::new(alloc, source, sink, Vec::new(alloc), None)
 }
 
-/// A net that offers the place `here`, at whose ports these links wait, one at each.
-pub(crate) fn net_of(alloc: Global, store: &MemStore, talks: &[Talk]) -> Result<MemNet, NoMemory> {
+/// A net that offers the place `here`, at whose ports these links wait, one at each. Where that is asked for, accepting
+/// fails at the second connection of the first port.
+pub(crate) fn net_of(
+    alloc: Global,
+    store: &MemStore,
+    talks: &[Talk],
+    deaf: bool,
+) -> Result<MemNet, NoMemory> {
     let mut places = Vec::new(alloc);
     places.push(String::from_str(alloc, "here")?)?;
     let mut scripts = Vec::new(alloc);
-    for talk in talks {
+    for (index, talk) in talks.iter().enumerate() {
         let mut script = PortScript::new(alloc);
+        if deaf && index == 0 {
+            script.failing.push(1)?;
+        }
         script.waiting.push(link_of(alloc, store, talk)?)?;
         scripts.push(script)?;
     }

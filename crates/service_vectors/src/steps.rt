@@ -20,8 +20,14 @@ pub(crate) struct Step {
     pub(crate) files: &'static [&'static str],
 }
 
-/// More bytes than any asks or replies here have.
-const ALL: usize = 8192;
+/// More bytes than any replies here have.
+const ALL: usize = 16384;
+
+/// In place of a number of bytes that one read gives: 1, 63, 64 and 65 in turn.
+pub(crate) const IN_TURN: usize = 0;
+
+/// More bytes than any asks have.
+const WHOLE: usize = 1 << 21;
 
 /// Both asks of a session that another implementation ran, and that implementation's replies.
 const SESSION: Talk = Talk {
@@ -68,6 +74,38 @@ const NOT_APPROVED: Talk = Talk {
     asks: "asks",
     replies: "refusals",
     piece: ALL,
+    room: ALL,
+};
+
+/// Ten asks: both asks of the session, five times.
+const TEN: Talk = Talk {
+    asks: "ten",
+    replies: "ten.replies",
+    piece: ALL,
+    room: ALL,
+};
+
+/// The same, byte by byte.
+const TEN_IN_PIECES: Talk = Talk {
+    asks: "ten",
+    replies: "ten.replies",
+    piece: 1,
+    room: ALL,
+};
+
+/// Both asks for a message of a megabyte.
+const LONG: Talk = Talk {
+    asks: "long",
+    replies: "long.replies",
+    piece: WHOLE,
+    room: ALL,
+};
+
+/// The same, in pieces.
+const LONG_IN_PIECES: Talk = Talk {
+    asks: "long",
+    replies: "long.replies",
+    piece: IN_TURN,
     room: ALL,
 };
 
@@ -257,5 +295,50 @@ pub(crate) const APPROVE: &[Step] = &[
         words: "trustee share1 booked1 here 1 1 booked1",
         talks: &[SESSION],
         files: &["booked1"],
+    },
+];
+
+/// Ten asks on one link, and asks for a message of a megabyte, whole and in pieces: the replies are the same bytes.
+pub(crate) const IN_PIECES_TOO: &[Step] = &[
+    Step {
+        words: "enrol share1 ten1",
+        talks: &[],
+        files: &[],
+    },
+    Step {
+        words: "trustee share1 ten1 here 2 1",
+        talks: &[TEN, TEN_IN_PIECES],
+        files: &[],
+    },
+    Step {
+        words: "enrol share1 long1",
+        talks: &[],
+        files: &[],
+    },
+    Step {
+        words: "trustee share1 long1 here 2 1",
+        talks: &[LONG, LONG_IN_PIECES],
+        files: &[],
+    },
+];
+
+/// A book that lists 1,024 other messages.
+pub(crate) const FULL: &[Step] = &[Step {
+    words: "approve share1 full abc",
+    talks: &[],
+    files: &[],
+}];
+
+/// Two workers. Accepting fails at the second connection of the first port: the other worker goes on.
+pub(crate) const DEAF: &[Step] = &[
+    Step {
+        words: "enrol share1 deaf1",
+        talks: &[],
+        files: &[],
+    },
+    Step {
+        words: "trustee share1 deaf1 here 2 2",
+        talks: &[ROUND_ONE, SESSION],
+        files: &[],
     },
 ];
