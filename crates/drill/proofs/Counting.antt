@@ -1,0 +1,35 @@
+-- One more event.
+use Rattle.std.proofs.Common.{◌≡◌, ◌≤◌, ℕ, ◌+◌, ◌*◌, ◌==◌, Bool, true, false, refl, sym, ◌∙◌, ap, arith, add-one, if◌then◌else◌}
+use Rattle.std.proofs.lemmas.Bool.Decides.{nat_tests}
+use Rattle.drill.specs.Summaries.{events_in}
+use Rattle.drill_events.specs.Draws.{event_at, events_of, state_at}
+use Rattle.drill_events.specs.declared.draws.Schedule.{Schedule}
+use Rattle.drill_events.specs.declared.event.Event.{Event}
+
+pub events-none : (kind : Event → Bool) (number : ℕ) → events_of kind number 0 ≡ 0
+unfolding events_of
+events-none kind number = refl
+
+pub events-more : (kind : Event → Bool) (number i : ℕ)
+    → events_of kind number (i + 1) ≡ events_of kind number i + (if kind (event_at number (176 + 3 * i)).event then 1 else 0)
+unfolding events_of
+events-more kind number i = rw (add-one i) refl
+
+-- the state of the generator after one more event
+pub state-more : (number i state : ℕ) → state ≡ state_at number (176 + 3 * i + 3) → state ≡ state_at number (176 + 3 * (i + 1))
+state-more number i state is = is ∙ ap (state_at number) (omega arith)
+
+-- what an event adds, counted by its schedule
+pub events-by : (kind : Event → Bool) (number i : ℕ) (schedule : Schedule) → schedule ≡ event_at number (176 + 3 * i)
+    → events_of kind number (i + 1) ≡ events_of kind number i + (if kind schedule.event then 1 else 0)
+events-by kind number i schedule is =
+    events-more kind number i ∙ ap (λ (s : Schedule). events_of kind number i + (if kind s.event then 1 else 0)) (sym is)
+
+pub one-or-none : (b : Bool) → (if b then 1 else 0) ≤ 1
+one-or-none true = omega arith
+one-or-none false = omega arith
+
+pub events-some : (sessions events : ℕ) → (sessions ≡ 0 → ⊥) → events_in sessions events ≡ events
+events-some sessions events some =
+    let test : sessions == 0 ≡ false = grind (arith, nat_tests) in
+    rw test refl

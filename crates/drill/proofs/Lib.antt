@@ -1,0 +1,5 @@
+pub mod Desks
+pub mod Asked
+pub mod Tables
+pub mod Counting
+pub mod Seating

@@ -1,0 +1,22 @@
+-- A seat that is taken out, and put back.
+use Rattle.std.proofs.Common.{◌<◌, ℕ, List, length, get_or, set, sym, ◌∙◌, subst, inl, inr, arith}
+use Rattle.std.proofs.lemmas.Bool.{cases_eq}
+use Rattle.std.proofs.lemmas.List.{get_or-set_other, get_or-set_same, length-set}
+use Rattle.coalition_map.specs.Coalitions.{PlanNumbers}
+use Rattle.lms_bytes.specs.declared.public_key.PublicKey.{PublicKey}
+use Rattle.drill.specs.Seats.{AllFit, Fits}
+use Rattle.drill.specs.declared.seat.Seat.{Seat}
+
+pub set-fits : (key : PublicKey) (plan : PlanNumbers) (xs : List Seat) (i : ℕ) (d s : Seat) → AllFit key plan xs → i < length xs → Fits key plan i s
+    → AllFit key plan (set (set xs i d) i s)
+set-fits key plan xs i d s all inside fits k none within =
+    let one = length-set xs i d in
+    let both = length-set (set xs i d) i s in
+    elim (cases_eq k i) [
+      | inl same ↦
+          subst (λ (j : ℕ). Fits key plan j (get_or (set (set xs i d) i s) j none)) (sym same)
+          (subst (λ (x : Seat). Fits key plan i x) (sym (get_or-set_same (set xs i d) i s none (omega arith))) fits)
+      | inr differs ↦
+          subst (λ (x : Seat). Fits key plan k x) (sym (get_or-set_other (set xs i d) i k s none differs ∙ get_or-set_other xs i k d none differs))
+          (all k none (omega arith))
+    ]

@@ -1,0 +1,14 @@
+use Rattle.std.proofs.Common.{◌≡◌, ◌+◌, ◌*◌, length}
+use Rattle.drill.specs.Drills.{IsFor}
+use Rattle.drill.specs.Tallies.{IsWithin}
+use Rattle.drill.proofs.run.finish_all.Given as goal
+
+-- the sessions before this one have ended
+abbrev pub invariant-sessions : goal.invariant-sessions
+invariant-sessions l = record {
+  is_for : IsFor l.desk l.drill;
+  count : length l.drill.seats.items ≡ l.sessions;
+  within : IsWithin (200000 + 5 * l.i) l.tally;
+  cuts : l.tally.cuts ≡ l.fn.tally.cuts;
+  restarts : l.tally.restarts ≡ l.fn.tally.restarts;
+}

@@ -1,0 +1,14 @@
+use Rattle.std.proofs.Common.{◌≡◌, ◌+◌, length}
+use Rattle.drill.specs.Drills.{IsFor}
+use Rattle.drill.specs.Tallies.{IsWithin}
+use Rattle.drill.proofs.run.finish_session.Given as goal
+
+-- so many steps were taken
+abbrev pub invariant-steps : goal.invariant-steps
+invariant-steps l = record {
+  is_for : IsFor l.desk l.drill;
+  count : length l.drill.seats.items ≡ length l.fn.drill.seats.items;
+  within : IsWithin (l.fn.tally.asks + l.taken) l.tally;
+  cuts : l.tally.cuts ≡ l.fn.tally.cuts;
+  restarts : l.tally.restarts ≡ l.fn.tally.restarts;
+}

@@ -1,0 +1,18 @@
+use Rattle.std.proofs.Common.{◌≡◌, ◌≤◌, ◌+◌, ◌∙◌, subst, arith, if◌then◌else◌}
+use Rattle.drill_events.specs.Events.{is_cut, is_restart}
+use Rattle.drill_events.specs.declared.draws.Schedule.{Schedule}
+use Rattle.drill.proofs.run.play_next.Goals as goal
+
+pub returns-clause-cuts : goal.returns-clause-cuts
+returns-clause-cuts c = λ number i is.
+    let s = c.draw-schedule.ensures.schedule number i is in
+    let e = c.in_ok-played.ensures.cut in
+    let a = c.add.ensures.cuts in
+    let b = c.add_restart.ensures.cuts in
+    subst (λ (x : Schedule). c.add.new.self.cuts ≤ c.args.tally.now.cuts + (if is_cut x.event then 1 else 0)) s (omega arith)
+
+pub returns-clause-restarts : goal.returns-clause-restarts
+returns-clause-restarts c = λ number i is.
+    let s = c.draw-schedule.ensures.schedule number i is in
+    subst (λ (x : Schedule). c.add.new.self.restarts ≡ c.args.tally.now.restarts + (if is_restart x.event then 1 else 0)) s
+    (c.add.ensures.restarts ∙ c.add_restart.ensures.restarts)

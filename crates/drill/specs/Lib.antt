@@ -1,0 +1,4 @@
+pub mod Drills
+pub mod Seats
+pub mod Summaries
+pub mod Tallies

@@ -1,0 +1,19 @@
+-- What comes of a drill.
+use Rattle.std.specs.Prelude.{◌≡◌, ◌≤◌, ◌+◌, ◌==◌, ℕ, if◌then◌else◌}
+use Rattle.drill_events.specs.Draws.{events_of}
+use Rattle.drill_events.specs.Events.{is_cut, is_restart}
+use Rattle.drill_summary.specs.declared.summary.Summary.{Summary}
+
+-- how many events happen: none where there is no session
+abbrev pub events_in : ℕ → ℕ → ℕ
+events_in sessions events = if sessions == 0 then 0 else events
+
+-- The summary counts the sessions that were asked for, and none is signed and refused. Each ask was granted, stopped a
+-- disk, or was refused; a disk stopped only in events of that kind, and a trustee was loaded anew in each event of that
+-- kind.
+pub record IsSummary (number sessions events : ℕ) (summary : Summary) : Type 0 where
+  pub sessions_are : summary.sessions ≡ sessions
+  pub ends : summary.signed + summary.refused ≤ sessions
+  pub parts : summary.granted + summary.cuts ≤ summary.asks
+  pub cuts_in : summary.cuts ≤ events_of is_cut number (events_in sessions events)
+  pub restarts_are : summary.restarts ≡ events_of is_restart number (events_in sessions events)

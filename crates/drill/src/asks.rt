@@ -1,0 +1,101 @@
+//! What a session asks next.
+
+ghost use Rattle.std.specs.Prelude.{◌≡◌, ◌≢◌, ◌<◌, ◌≤◌, ℕ, length, Contains, None, IfNone, IfSome, IsTrue};
+ghost use Rattle.coalition_map.specs.Coalitions.{leaf_members};
+ghost use Rattle.session_core.specs.Asks.{kept_masks};
+ghost use Rattle.session_core.specs.State.{round_of};
+
+use crate::desk::Desk;
+use lms_bytes::{Ask, Val};
+use ots_chain::MessageHash;
+use reference_value::Whole;
+use session_core::Session;
+
+/// The next ask of a session, and whom it is put to.
+#[derive(Clone, Copy)]
+pub(crate) struct NextAsk {
+    pub(crate) member: u8,
+    pub(crate) ask: Ask,
+}
+
+/// Whether the session keeps no reply of the present round of this member.
+fn awaits(session: &Session, t: u8) -> bool
+    ensures member { IsTrue result → Contains (leaf_members session.now.plan session.now.leaf) t }
+    ensures none { IsTrue result → kept_masks session.now (round_of session.now) t ≡ None }
+    ensures kept { Contains (leaf_members session.now.plan session.now.leaf) t
+        → kept_masks session.now (round_of session.now) t ≡ None → IsTrue result }
+{
+    if !session.members().has(t) {
+        return false;
+    }
+    session.kept_reply(session.round(), t).is_none()
+}
+
+/// The least member of whom the session keeps no reply of the present round.
+pub(crate) fn next_member(session: &Session) -> Option<u8>
+    ensures within { IfSome result (λ t. (1 ≤ t) × (t ≤ 3)) }
+    ensures member { IfSome result (Contains (leaf_members session.now.plan session.now.leaf)) }
+    ensures none_kept { IfSome result (λ t. kept_masks session.now (round_of session.now) t ≡ None) }
+    ensures least { IfSome result (λ t. (u : ℕ) → 1 ≤ u → u < t
+        → Contains (leaf_members session.now.plan session.now.leaf) u
+        → kept_masks session.now (round_of session.now) u ≢ None) }
+    ensures none { IfNone result ((u : ℕ) → 1 ≤ u → u ≤ 3
+        → Contains (leaf_members session.now.plan session.now.leaf) u
+        → kept_masks session.now (round_of session.now) u ≢ None) }
+{
+    'trustees: for t in 1..4 {
+        if awaits(session, t) {
+            return Some(t);
+        }
+    }
+    None
+}
+
+/// The digest of the message under the session's randomizer, and in round one zeros, which no ask has.
+fn digest_of(desk: &Desk, session: &Session, message: &[u8]) -> Val
+    requires { session.now.key ≡ desk.now.dealt.public }
+    ensures length { length result ≡ 32 }
+{
+    let params = desk.params();
+    // A randomizer has the length of a hash value.
+    let _round = session.round();
+    match session.randomizer() {
+        None => Val::cut(&[0; 32], params.n),
+        Some(c) => MessageHash::of(params, &desk.key().id, session.leaf(), &c, message),
+    }
+}
+
+/// The ask of the present round to a member.
+fn ask_of(desk: &Desk, session: &Session, member: u8, message: &[u8]) -> Ask
+    requires key { session.now.key ≡ desk.now.dealt.public }
+    requires plan { session.now.plan ≡ desk.now.plan }
+    requires member { Contains (leaf_members session.now.plan session.now.leaf) member }
+    ensures c { IfSome result.second (λ second. length second.c ≡ 32) }
+    ensures digest { IfSome result.second (λ second. length second.digest ≡ 32) }
+{
+    let digest = digest_of(desk, session, message);
+    // A randomizer has the length of a hash value.
+    let _round = session.round();
+    let mut cells = Whole::new(desk.params(), &desk.plan, &desk.dealt.reference);
+    match session.ask(&mut cells, member, &digest) {
+        Ok(ask) => ask,
+        Err(_) => unreachable!(),
+    }
+}
+
+/// The next ask of a session, if it has one.
+pub(crate) fn next_ask(desk: &Desk, session: &Session, message: &[u8]) -> Option<NextAsk>
+    requires key { session.now.key ≡ desk.now.dealt.public }
+    requires plan { session.now.plan ≡ desk.now.plan }
+    ensures within { IfSome result (λ next. (1 ≤ next.member) × (next.member ≤ 3)) }
+    ensures c { IfSome result (λ next. IfSome next.ask.second (λ second. length second.c ≡ 32)) }
+    ensures digest { IfSome result (λ next. IfSome next.ask.second (λ second. length second.digest ≡ 32)) }
+{
+    match next_member(session) {
+        Some(member) => Some(NextAsk {
+            member,
+            ask: ask_of(desk, session, member, message),
+        }),
+        None => None,
+    }
+}

@@ -1,0 +1,311 @@
+//! The events of a drill.
+
+ghost use Rattle.std.specs.Prelude.{◌≡◌, ◌<◌, ◌≤◌, ◌+◌, ℕ, length, IfOk, IfSome, if◌then◌else◌};
+ghost use Rattle.drill.specs.Drills.{AtMost, IsFor};
+ghost use Rattle.drill.specs.Seats.{Fits, IsOf};
+ghost use Rattle.drill_events.specs.Events.{is_cut};
+ghost use Rattle.drill_trustees.specs.Trustees.{SameShares};
+ghost use Rattle.leaf_table.specs.Table.{plan_of};
+ghost use Rattle.lms_bytes.specs.declared.ask.Second.{Second};
+
+use crate::asks::{NextAsk, next_ask};
+use crate::desk::Desk;
+use crate::openings::Openings;
+use crate::seat::Seat;
+use crate::state::{Asks, Drill, NO_ASKS};
+use crate::steps::{answered, lease, put_ask};
+use disk_trait::MemDisk;
+use drill_events::{Event, message_of};
+use drill_trustees::{Answer, Trustees};
+use leaf_table::Table;
+use memory::NoMemory;
+use session_core::Session;
+use std::alloc::Global;
+use std::mem;
+
+/// One more ask, of which it is known whether it was granted.
+fn one(granted: bool) -> Asks
+    ensures bound { AtMost 1 result }
+    ensures cut { result.cut ≡ 0 }
+{
+    Asks {
+        put: 1,
+        granted: if granted { 1 } else { 0 },
+        cut: 0,
+    }
+}
+
+/// An ask that may have stopped a disk.
+fn one_of(answer: &Answer) -> Asks
+    ensures bound { AtMost 1 result }
+{
+    match answer {
+        Answer::Granted(_) => one(true),
+        Answer::Refused => one(false),
+        Answer::Stopped => Asks {
+            put: 1,
+            granted: 0,
+            cut: 1,
+        },
+    }
+}
+
+/// Both together.
+fn sum(first: &Asks, second: &Asks) -> Asks
+    requires first { AtMost 1 first.now }
+    requires second { AtMost 1 second.now }
+    ensures bound { AtMost 2 result }
+    ensures cut { result.cut ≡ first.now.cut + second.now.cut }
+{
+    Asks {
+        put: first.put + second.put,
+        granted: first.granted + second.granted,
+        cut: first.cut + second.cut,
+    }
+}
+
+/// The next ask of a seat, if it has one.
+fn next_of(desk: &Desk, seat: &Seat, i: u32) -> Option<NextAsk>
+    requires fits { Fits desk.now.dealt.public desk.now.plan i seat.now }
+    ensures within { IfSome result (λ next. (1 ≤ next.member) × (next.member ≤ 3)) }
+    ensures c { IfSome result (λ next. IfSome next.ask.second (λ (second : Second). length second.c ≡ 32)) }
+    ensures digest { IfSome result (λ next. IfSome next.ask.second (λ (second : Second). length second.digest ≡ 32)) }
+{
+    match seat {
+        Seat::Running(session) => next_ask(desk, session, &message_of(i)),
+        Seat::Waiting | Seat::Signed(_) | Seat::Refused => None,
+    }
+}
+
+/// A session with a leaf puts its next ask, and takes the answer.
+fn step_running(
+    alloc: Global,
+    desk: &Desk,
+    trustees: Trustees,
+    openings: &mut Openings,
+    session: Session,
+    i: u32,
+) -> Result<(Trustees, Seat, Asks), NoMemory>
+    requires of { IsOf desk.now.dealt.public desk.now.plan i session }
+    ensures fits { IfOk result (λ all. Fits desk.now.dealt.public desk.now.plan i all.1) }
+    ensures bound { IfOk result (λ all. AtMost 1 all.2) }
+    ensures cut { IfOk result (λ all. all.2.cut ≡ 0) }
+    ensures shares { IfOk result (λ all. SameShares trustees all.0) }
+{
+    let message = message_of(i);
+    let Some(next) = next_ask(desk, &session, &message) else {
+        return Ok((trustees, Seat::Running(session), NO_ASKS));
+    };
+    let (trustees, grant) = put_ask(trustees, openings, &next)?;
+    let asks = one(grant.is_some());
+    let seat = answered(alloc, desk, &trustees, session, &next, grant, i, &message)?;
+    Ok((trustees, seat, asks))
+}
+
+/// A session takes a step.
+fn step_seat(
+    alloc: Global,
+    desk: &Desk,
+    trustees: Trustees,
+    table: &mut Table<MemDisk>,
+    openings: &mut Openings,
+    seat: Seat,
+    i: u32,
+) -> Result<(Trustees, Seat, Asks), NoMemory>
+    requires fits { Fits desk.now.dealt.public desk.now.plan i seat }
+    requires plan { plan_of table.old ≡ desk.now.plan }
+    ensures plan { plan_of table.new ≡ desk.now.plan }
+    ensures fits { IfOk result (λ all. Fits desk.now.dealt.public desk.now.plan i all.1) }
+    ensures bound { IfOk result (λ all. AtMost 1 all.2) }
+    ensures cut { IfOk result (λ all. all.2.cut ≡ 0) }
+{
+    match seat {
+        Seat::Running(session) => step_running(alloc, desk, trustees, openings, session, i),
+        Seat::Waiting => {
+            let seat = lease(alloc, desk, table, i, &message_of(i))?;
+            Ok((trustees, seat, NO_ASKS))
+        }
+        Seat::Signed(leaf) => Ok((trustees, Seat::Signed(leaf), NO_ASKS)),
+        Seat::Refused => Ok((trustees, Seat::Refused, NO_ASKS)),
+    }
+}
+
+/// Session `i` takes a step.
+pub(crate) fn step(
+    alloc: Global,
+    desk: &Desk,
+    drill: Drill,
+    i: u32,
+) -> Result<(Drill, Asks), NoMemory>
+    requires is_for { IsFor desk.now drill }
+    requires within { i < length drill.seats.items }
+    ensures is_for { IfOk result (λ pair. IsFor desk.now pair.0) }
+    ensures count { IfOk result (λ pair. length pair.0.seats.items ≡ length drill.seats.items) }
+    ensures bound { IfOk result (λ pair. AtMost 1 pair.1) }
+    ensures cut { IfOk result (λ pair. pair.1.cut ≡ 0) }
+{
+    let Drill {
+        trustees,
+        mut table,
+        mut seats,
+        mut openings,
+    } = drill;
+    // Its place is filled again below.
+    let seat = mem::replace(&mut seats[i as usize], Seat::Refused);
+    let (trustees, seat, asks) = step_seat(
+        alloc,
+        desk,
+        trustees,
+        &mut table,
+        &mut openings,
+        seat,
+        i,
+    )?;
+    seats[i as usize] = seat;
+    let drill = Drill {
+        trustees,
+        table,
+        seats,
+        openings,
+    };
+    Ok((drill, asks))
+}
+
+/// The next ask of session `i` is put, and the answer is dropped.
+fn ask_and_drop(desk: &Desk, drill: Drill, i: u32) -> Result<(Drill, Asks), NoMemory>
+    requires is_for { IsFor desk.now drill }
+    requires within { i < length drill.seats.items }
+    ensures is_for { IfOk result (λ pair. IsFor desk.now pair.0) }
+    ensures count { IfOk result (λ pair. length pair.0.seats.items ≡ length drill.seats.items) }
+    ensures bound { IfOk result (λ pair. AtMost 1 pair.1) }
+    ensures cut { IfOk result (λ pair. pair.1.cut ≡ 0) }
+{
+    let Some(next) = next_of(desk, &drill.seats[i as usize], i) else {
+        return Ok((drill, NO_ASKS));
+    };
+    let Drill {
+        trustees,
+        table,
+        seats,
+        mut openings,
+    } = drill;
+    let (trustees, grant) = put_ask(trustees, &mut openings, &next)?;
+    let drill = Drill {
+        trustees,
+        table,
+        seats,
+        openings,
+    };
+    Ok((drill, one(grant.is_some())))
+}
+
+/// The next ask of session `i` is put twice, and the second answer is taken.
+fn ask_twice(alloc: Global, desk: &Desk, drill: Drill, i: u32) -> Result<(Drill, Asks), NoMemory>
+    requires is_for { IsFor desk.now drill }
+    requires within { i < length drill.seats.items }
+    ensures is_for { IfOk result (λ pair. IsFor desk.now pair.0) }
+    ensures count { IfOk result (λ pair. length pair.0.seats.items ≡ length drill.seats.items) }
+    ensures bound { IfOk result (λ pair. AtMost 2 pair.1) }
+    ensures cut { IfOk result (λ pair. pair.1.cut ≡ 0) }
+{
+    if next_of(desk, &drill.seats[i as usize], i).is_none() {
+        return Ok((drill, NO_ASKS));
+    }
+    let (drill, first) = ask_and_drop(desk, drill, i)?;
+    let (drill, second) = step(alloc, desk, drill, i)?;
+    Ok((drill, sum(&first, &second)))
+}
+
+/// The next ask of session `i` is put while the trustee's disk stops, and the answer is dropped.
+fn cut(
+    alloc: Global,
+    desk: &Desk,
+    drill: Drill,
+    i: u32,
+    pick: u32,
+) -> Result<(Drill, Asks), NoMemory>
+    requires is_for { IsFor desk.now drill }
+    requires within { i < length drill.seats.items }
+    ensures is_for { IfOk result (λ pair. IsFor desk.now pair.0) }
+    ensures count { IfOk result (λ pair. length pair.0.seats.items ≡ length drill.seats.items) }
+    ensures bound { IfOk result (λ pair. AtMost 1 pair.1) }
+{
+    let Some(next) = next_of(desk, &drill.seats[i as usize], i) else {
+        return Ok((drill, NO_ASKS));
+    };
+    let Drill {
+        trustees,
+        table,
+        seats,
+        mut openings,
+    } = drill;
+    let (trustees, answer) = trustees.cut(alloc, next.member, &next.ask, pick)?;
+    if let Answer::Granted(_) = &answer {
+        openings.note(next.member, &next.ask)?;
+    }
+    let drill = Drill {
+        trustees,
+        table,
+        seats,
+        openings,
+    };
+    Ok((drill, one_of(&answer)))
+}
+
+/// A trustee is loaded anew.
+fn restarted(alloc: Global, desk: &Desk, drill: Drill, pick: u32) -> Result<Drill, NoMemory>
+    requires is_for { IsFor desk.now drill }
+    ensures is_for { IfOk result (IsFor desk.now) }
+    ensures count { IfOk result (λ after. length after.seats.items ≡ length drill.seats.items) }
+{
+    let Drill {
+        trustees,
+        table,
+        seats,
+        openings,
+    } = drill;
+    let member = (1 + pick % 3) as u8;
+    Ok(Drill {
+        trustees: trustees.restarted(alloc, member)?,
+        table,
+        seats,
+        openings,
+    })
+}
+
+/// An event of session `i`.
+pub(crate) fn play(
+    alloc: Global,
+    desk: &Desk,
+    drill: Drill,
+    event: Event,
+    i: u32,
+    pick: u32,
+) -> Result<(Drill, Asks), NoMemory>
+    requires is_for { IsFor desk.now drill }
+    requires within { i < length drill.seats.items }
+    ensures is_for { IfOk result (λ pair. IsFor desk.now pair.0) }
+    ensures count { IfOk result (λ pair. length pair.0.seats.items ≡ length drill.seats.items) }
+    ensures bound { IfOk result (λ pair. AtMost 2 pair.1) }
+    ensures cut { IfOk result (λ pair. pair.1.cut ≤ (if is_cut event then 1 else 0)) }
+{
+    match event {
+        Event::Step => {
+            let (drill, asks) = step(alloc, desk, drill, i)?;
+            Ok((drill, asks))
+        }
+        Event::Twice => {
+            let (drill, asks) = ask_twice(alloc, desk, drill, i)?;
+            Ok((drill, asks))
+        }
+        Event::Dropped => {
+            let (drill, asks) = ask_and_drop(desk, drill, i)?;
+            Ok((drill, asks))
+        }
+        Event::Cut => {
+            let (drill, asks) = cut(alloc, desk, drill, i, pick)?;
+            Ok((drill, asks))
+        }
+        Event::Restart => Ok((restarted(alloc, desk, drill, pick)?, NO_ASKS)),
+    }
+}

@@ -1,0 +1,232 @@
+//! The run of a drill.
+
+ghost use Rattle.std.specs.Prelude.{◌≡◌, ◌≤◌, ◌<◌, ◌+◌, ◌*◌, ℕ, length, IfOk, if◌then◌else◌};
+ghost use Rattle.drill.specs.Drills.{IsFor};
+ghost use Rattle.drill.specs.Summaries.{IsSummary, events_in};
+ghost use Rattle.drill.specs.Tallies.{IsWithin};
+ghost use Rattle.drill_events.specs.Draws.{event_at, events_of, state_at};
+ghost use Rattle.drill_events.specs.Events.{is_cut, is_restart};
+
+use crate::dealing::deal_drill;
+use crate::desk::Desk;
+use crate::events::{play, step};
+use crate::seat::Seat;
+use crate::start::start;
+use crate::state::Drill;
+use crate::tally::{NOTHING, Tally};
+use disk_trait::{Generator, MemDisk};
+use drill_events::{Schedule, draw_entropy};
+use drill_summary::Summary;
+use memory::NoMemory;
+use std::alloc::Global;
+
+/// What a drill leaves.
+#[derive(Drop)]
+pub struct Drilled {
+    /// What came of its sessions and asks.
+    pub summary: Summary,
+    /// The disks of trustees 1, 2 and 3, in this order.
+    pub journals: Vec<MemDisk>,
+    /// The disk of the leaf table.
+    pub table: MemDisk,
+}
+
+/// Plays the next event, and counts it.
+fn play_next(
+    alloc: Global,
+    desk: &Desk,
+    drill: Drill,
+    generator: &mut Generator,
+    tally: &mut Tally,
+    sessions: u32,
+) -> Result<Drill, NoMemory>
+    requires is_for { IsFor desk.now drill }
+    requires count { length drill.seats.items ≡ sessions }
+    requires some { 0 < sessions }
+    requires room { IsWithin 900000 tally.old }
+    requires few { tally.old.restarts ≤ 900000 }
+    ensures is_for { IfOk result (IsFor desk.now) }
+    ensures count { IfOk result (λ after. length after.seats.items ≡ sessions) }
+    ensures state { (number i : ℕ) → generator.old.state ≡ state_at number i
+        → generator.new.state ≡ state_at number (i + 3) }
+    ensures within { IfOk result (λ _. IsWithin (tally.old.asks + 2) tally.new) }
+    ensures cuts { (number i : ℕ) → generator.old.state ≡ state_at number i
+        → IfOk result (λ _. tally.new.cuts
+        ≤ tally.old.cuts + (if is_cut (event_at number i).event then 1 else 0)) }
+    ensures restarts { (number i : ℕ) → generator.old.state ≡ state_at number i
+        → IfOk result (λ _. tally.new.restarts
+        ≡ tally.old.restarts + (if is_restart (event_at number i).event then 1 else 0)) }
+{
+    let schedule = Schedule::draw(generator);
+    tally.add_restart(schedule.event);
+    let i = schedule.session % sessions;
+    let (played, asks) = play(alloc, desk, drill, schedule.event, i, schedule.pick)?;
+    tally.add(&asks);
+    Ok(played)
+}
+
+/// Plays so many events.
+fn play_all(
+    alloc: Global,
+    desk: &Desk,
+    drill: Drill,
+    generator: &mut Generator,
+    sessions: u32,
+    events: u32,
+) -> Result<(Drill, Tally), NoMemory>
+    requires is_for { IsFor desk.now drill }
+    requires count { length drill.seats.items ≡ sessions }
+    requires some { 0 < sessions }
+    requires few { events ≤ 100000 }
+    ensures is_for { IfOk result (λ pair. IsFor desk.now pair.0) }
+    ensures count { IfOk result (λ pair. length pair.0.seats.items ≡ sessions) }
+    ensures within { IfOk result (λ pair. IsWithin 200000 pair.1) }
+    ensures cuts { (number : ℕ) → generator.old.state ≡ state_at number 176
+        → IfOk result (λ pair. pair.1.cuts ≤ events_of is_cut number events) }
+    ensures restarts { (number : ℕ) → generator.old.state ≡ state_at number 176
+        → IfOk result (λ pair. pair.1.restarts ≡ events_of is_restart number events) }
+{
+    let mut drill = drill;
+    let mut tally = NOTHING;
+    'events: for done in 0..events {
+        drill = play_next(alloc, desk, drill, generator, &mut tally, sessions)?;
+    }
+    Ok((drill, tally))
+}
+
+/// Plays so many events, and none where there is no session.
+fn play_events(
+    alloc: Global,
+    desk: &Desk,
+    drill: Drill,
+    generator: &mut Generator,
+    sessions: u32,
+    events: u32,
+) -> Result<(Drill, Tally), NoMemory>
+    requires is_for { IsFor desk.now drill }
+    requires count { length drill.seats.items ≡ sessions }
+    requires few { events ≤ 100000 }
+    ensures is_for { IfOk result (λ pair. IsFor desk.now pair.0) }
+    ensures count { IfOk result (λ pair. length pair.0.seats.items ≡ sessions) }
+    ensures within { IfOk result (λ pair. IsWithin 200000 pair.1) }
+    ensures cuts { (number : ℕ) → generator.old.state ≡ state_at number 176
+        → IfOk result (λ pair. pair.1.cuts ≤ events_of is_cut number (events_in sessions events)) }
+    ensures restarts { (number : ℕ) → generator.old.state ≡ state_at number 176
+        → IfOk result (λ pair. pair.1.restarts ≡ events_of is_restart number (events_in sessions events)) }
+{
+    if sessions == 0 {
+        return Ok((drill, NOTHING));
+    }
+    let (drill, tally) = play_all(alloc, desk, drill, generator, sessions, events)?;
+    Ok((drill, tally))
+}
+
+/// Lets session `i` take steps until it has ended: a lease and four asks.
+fn finish_session(
+    alloc: Global,
+    desk: &Desk,
+    drill: Drill,
+    tally: &mut Tally,
+    i: u32,
+) -> Result<Drill, NoMemory>
+    requires is_for { IsFor desk.now drill }
+    requires within { i < length drill.seats.items }
+    requires room { IsWithin 900000 tally.old }
+    ensures is_for { IfOk result (IsFor desk.now) }
+    ensures count { IfOk result (λ after. length after.seats.items ≡ length drill.seats.items) }
+    ensures asks { tally.new.asks ≤ tally.old.asks + 5 }
+    ensures within { IsWithin (tally.old.asks + 5) tally.new }
+    ensures cuts { tally.new.cuts ≡ tally.old.cuts }
+    ensures restarts { tally.new.restarts ≡ tally.old.restarts }
+{
+    let mut drill = drill;
+    'steps: for taken in 0..5u32 {
+        let (after, asks) = step(alloc, desk, drill, i)?;
+        drill = after;
+        tally.add(&asks);
+    }
+    Ok(drill)
+}
+
+/// Lets each session take steps until it has ended.
+fn finish_all(
+    alloc: Global,
+    desk: &Desk,
+    drill: Drill,
+    tally: &mut Tally,
+    sessions: u32,
+) -> Result<Drill, NoMemory>
+    requires is_for { IsFor desk.now drill }
+    requires count { length drill.seats.items ≡ sessions }
+    requires few { sessions ≤ 10000 }
+    requires room { IsWithin 200000 tally.old }
+    ensures is_for { IfOk result (IsFor desk.now) }
+    ensures count { IfOk result (λ after. length after.seats.items ≡ sessions) }
+    ensures parts { tally.new.granted + tally.new.cuts ≤ tally.new.asks }
+    ensures cuts { tally.new.cuts ≡ tally.old.cuts }
+    ensures restarts { tally.new.restarts ≡ tally.old.restarts }
+{
+    let mut drill = drill;
+    'sessions: for i in 0..sessions {
+        drill = finish_session(alloc, desk, drill, tally, i)?;
+    }
+    Ok(drill)
+}
+
+/// How many sessions signed, and how many were refused.
+fn count_ends(seats: &[Seat]) -> (u32, u32)
+    requires { length seats.now ≤ 10000 }
+    ensures { result.0 + result.1 ≤ length seats.now }
+{
+    let mut signed = 0;
+    let mut refused = 0;
+    'seats: for i in 0..seats.len() {
+        match &seats[i] {
+            Seat::Signed(_) => signed += 1,
+            Seat::Refused => refused += 1,
+            Seat::Waiting | Seat::Running(_) => {}
+        }
+    }
+    (signed, refused)
+}
+
+/// Makes a schedule of asks, losses, repeats, cuts within writes and restarts from a number, and runs it: each session
+/// signs a message of its own with a key that is dealt to three trustees, of whom two sign together.
+pub fn run_drill(
+    alloc: Global,
+    number: u64,
+    sessions: u32,
+    events: u32,
+) -> Result<Drilled, NoMemory>
+    requires sessions { sessions ≤ 10000 }
+    requires events { events ≤ 100000 }
+    ensures { IfOk result (λ drilled. IsSummary number sessions events drilled.summary) }
+{
+    let mut generator = Generator { state: number };
+    let entropy = draw_entropy(&mut generator);
+    let desk = deal_drill(alloc, &entropy)?;
+    let drill = start(alloc, &desk, sessions)?;
+    let (drill, mut tally) = play_events(alloc, &desk, drill, &mut generator, sessions, events)?;
+    let drill = finish_all(alloc, &desk, drill, &mut tally, sessions)?;
+    let (signed, refused) = count_ends(&drill.seats);
+    let summary = Summary {
+        sessions,
+        signed,
+        refused,
+        asks: tally.asks,
+        granted: tally.granted,
+        cuts: tally.cuts,
+        restarts: tally.restarts,
+        most: drill.openings.most(),
+    };
+    let Drill {
+        trustees,
+        table,
+        ..
+    } = drill;
+    Ok(Drilled {
+        summary,
+        journals: trustees.end(alloc)?,
+        table: table.end(),
+    })
+}

@@ -1,0 +1,81 @@
+//! The start of a drill.
+
+ghost use Rattle.std.specs.Prelude.{◌≡◌, length, IfOk};
+ghost use Rattle.drill.specs.Drills.{IsFor};
+ghost use Rattle.drill.specs.Seats.{AreWaiting};
+ghost use Rattle.leaf_table.specs.Table.{plan_of};
+
+use crate::desk::Desk;
+use crate::openings::Openings;
+use crate::seat::Seat;
+use crate::state::Drill;
+use disk_trait::MemDisk;
+use drill_trustees::Trustees;
+use leaf_table::Table;
+use memory::NoMemory;
+use slot_cache::CacheLoad;
+use slot_file::{Header, prepare};
+use std::alloc::Global;
+
+/// The bytes of a leaf table with a slot for each leaf.
+const ROOM: usize = 4224;
+
+/// How many leaves the key of a drill has.
+const LEAVES: u32 = 32;
+
+/// A table that has leased nothing.
+fn new_table(alloc: Global, desk: &Desk) -> Result<Table<MemDisk>, NoMemory>
+    ensures plan { IfOk result (λ table. plan_of table ≡ desk.now.plan) }
+{
+    let header = Header {
+        version: 1,
+        number: 0,
+        lms: desk.params().lms,
+        ots: desk.params().ots,
+        id: desk.key().id,
+    };
+    let mut disk = MemDisk::new(alloc, ROOM, usize::MAX)?;
+    match prepare(&mut disk, &header, LEAVES) {
+        Ok(()) => {}
+        Err(_) => unreachable!(),
+    }
+    match Table::load(alloc, disk, &header, &desk.plan) {
+        Ok(table) => Ok(table),
+        Err((_, fault)) => Err(memory_fault(fault)),
+    }
+}
+
+/// The one fault that loading a file may have that was just made, on a steady disk.
+fn memory_fault(fault: CacheLoad) -> NoMemory
+    requires { fault ≡ CacheLoad.NoMemory }
+{
+    match fault {
+        CacheLoad::NoMemory => NoMemory,
+        _ => unreachable!(),
+    }
+}
+
+/// So many sessions that wait.
+fn waiting(alloc: Global, sessions: u32) -> Result<Vec<Seat>, NoMemory>
+    ensures count { IfOk result (λ seats. length seats.items ≡ sessions) }
+    ensures waiting { IfOk result (λ seats. AreWaiting seats.items) }
+{
+    let mut seats = Vec::with_capacity(alloc, sessions as usize)?;
+    'sessions: for i in 0..sessions {
+        seats.push(Seat::Waiting)?;
+    }
+    Ok(seats)
+}
+
+/// A drill in which nothing has happened yet.
+pub(crate) fn start(alloc: Global, desk: &Desk, sessions: u32) -> Result<Drill, NoMemory>
+    ensures is_for { IfOk result (IsFor desk.now) }
+    ensures count { IfOk result (λ drill. length drill.seats.items ≡ sessions) }
+{
+    Ok(Drill {
+        trustees: Trustees::new(alloc, &desk.dealt.shares)?,
+        table: new_table(alloc, desk)?,
+        seats: waiting(alloc, sessions)?,
+        openings: Openings::new(alloc),
+    })
+}

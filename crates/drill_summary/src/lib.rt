@@ -1,0 +1,9 @@
+//! The outcome of a drill, and its line.
+#![tactic(auto)]
+
+mod summary;
+
+pub use summary::Summary;
+
+#[cfg(test)]
+mod tests;

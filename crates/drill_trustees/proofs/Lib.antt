@@ -1,0 +1,6 @@
+pub mod Asking
+pub mod Deciding
+pub mod Journals
+pub mod Results
+pub mod Starting
+pub mod Replacing
