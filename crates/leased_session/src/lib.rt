@@ -3,4 +3,4 @@
 
 mod sign;
 
-pub use sign::{Signed, sign_leased};
+pub use sign::{Signed, run_on, sign_leased, spent_by};

@@ -71,8 +71,8 @@ pub fn sign_leased<R: Cells, D: Disk, P: Port>(
     })
 }
 
-/// Runs a session with this leaf.
-fn run_on<R: Cells, P: Port>(
+/// Runs a session with a leaf that was leased for the message.
+pub fn run_on<R: Cells, P: Port>(
     alloc: Global,
     desk: &Desk,
     cells: &mut R,
@@ -101,7 +101,7 @@ fn run_on<R: Cells, P: Port>(
 }
 
 /// The member that has spent the leaf of a session for something else, where this is what came of the session.
-fn spent_by(outcome: &Result<Vec<u8>, SignFault>) -> Option<u8>
+pub fn spent_by(outcome: &Result<Vec<u8>, SignFault>) -> Option<u8>
     ensures { result ≡ spent_by (bytes_in outcome.now) }
 {
     match outcome {

@@ -1,0 +1,5 @@
+pub mod Answering
+pub mod Keeping
+pub mod Showing
+pub mod Signing
+pub mod Turning

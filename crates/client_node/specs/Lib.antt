@@ -1,0 +1,5 @@
+pub mod Clients
+pub mod Failures
+pub mod Logs
+pub mod Signing
+pub mod Turns
