@@ -1,4 +1,5 @@
 pub mod Names
+pub mod Nets
 pub mod Runs
 pub mod Sharing
 pub mod Writing

@@ -1,6 +1,7 @@
 -- How a call of the tool ends: the status that it answers and the line that it prints.
 use Rattle.std.specs.Prelude.{ℕ, List, [], ◌∷◌, ◌++◌, codes}
 use Rattle.std.specs.Fmt.{decimal}
+use Rattle.drill_summary.specs.declared.summary.Summary.{Summary}
 use Rattle.hex.specs.Hex.{encode_lower}
 use Rattle.lms_bytes.specs.FaultNumbers.{signature_fault_number}
 use Rattle.lms_verify.specs.declared.verification.Verdict.{Verdict}
@@ -22,6 +23,7 @@ pub data Ending : Type 0 where
   Approved : (slots : ℕ) → Ending
   Signed : (leaf : ℕ) → Ending
   Served : (connections frames : ℕ) → Ending
+  Drilled : (summary : Summary) → Ending
   Usage : Ending
   StoreFailed : Ending
   Unreadable : (name : List ℕ) → (fault : ℕ) → Ending
@@ -57,6 +59,7 @@ status_of (Migrated slots) = 0
 status_of (Approved slots) = 0
 status_of (Signed leaf) = 0
 status_of (Served connections frames) = 0
+status_of (Drilled summary) = 0
 status_of Usage = 2
 status_of StoreFailed = 3
 status_of (Unreadable name fault) = 4
@@ -102,6 +105,19 @@ unsigned_line (Refused member code) = two_numbers (codes "error 11 member ") mem
 unsigned_line (Stray member round) = two_numbers (codes "error 11 stray ") member (codes " round ") round
 unsigned_line NotACoalition = codes "error 18 not a coalition" ++ end_of_line
 
+-- what the line of a drill says of its sessions, and then of its asks
+abbrev pub drilled_sessions : Summary → List ℕ
+drilled_sessions summary =
+    codes "sessions " ++ (decimal summary.sessions
+    ++ (codes " signed " ++ (decimal summary.signed ++ (codes " refused " ++ decimal summary.refused))))
+
+abbrev pub drilled_asks : Summary → List ℕ
+drilled_asks summary =
+    codes " asks " ++ (decimal summary.asks
+    ++ (codes " granted " ++ (decimal summary.granted
+    ++ (codes " cuts " ++ (decimal summary.cuts
+    ++ (codes " restarts " ++ (decimal summary.restarts ++ (codes " most " ++ decimal summary.most))))))))
+
 abbrev pub line_of : Ending → List ℕ
 line_of (Verified (Accepted leaf)) = codes "accepted leaf " ++ (decimal leaf ++ end_of_line)
 line_of (Verified (Malformed fault)) =
@@ -119,6 +135,7 @@ line_of (Signed leaf) = codes "signed leaf " ++ (decimal leaf ++ end_of_line)
 line_of (Served connections frames) =
     codes "served " ++ (decimal connections
     ++ (codes " connections " ++ (decimal frames ++ (codes " frames" ++ end_of_line))))
+line_of (Drilled summary) = drilled_sessions summary ++ (drilled_asks summary ++ end_of_line)
 line_of Usage = codes "error 2 usage" ++ end_of_line
 line_of StoreFailed = codes "error 3 store" ++ end_of_line
 line_of (Unreadable name fault) = codes "error 4 file " ++ (name ++ (codes " fault " ++ (decimal fault ++ end_of_line)))

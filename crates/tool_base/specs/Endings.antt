@@ -3,9 +3,10 @@ use Rattle.std.specs.Prelude.{string_bytes}
 use Rattle.tool_base.specs.Ending as spec
 use Rattle.tool_base.specs.declared.ending.Ending.{Ending}
 use Rattle.tool_base.specs.declared.ending.Ending.TheVariants.{Verified, Rehearsed, Dealt, Enrolled, Migrated, Approved}
-use Rattle.tool_base.specs.declared.ending.Ending.TheVariants.{Signed, Served, Usage, StoreFailed, Unreadable, NotDealt}
-use Rattle.tool_base.specs.declared.ending.Ending.TheVariants.{NotSigned, DeviceFailed, TooLong, NotLoaded, NoMemory}
-use Rattle.tool_base.specs.declared.ending.Ending.TheVariants.{Exists, NetFailed, BookFull}
+use Rattle.tool_base.specs.declared.ending.Ending.TheVariants.{Signed, Served, Drilled, Usage}
+use Rattle.tool_base.specs.declared.ending.Ending.TheVariants.{StoreFailed, Unreadable, NotDealt, NotSigned}
+use Rattle.tool_base.specs.declared.ending.Ending.TheVariants.{DeviceFailed, TooLong, NotLoaded, NoMemory, Exists}
+use Rattle.tool_base.specs.declared.ending.Ending.TheVariants.{NetFailed, BookFull}
 
 -- the end, with the bytes of the names in it
 abbrev pub ending : Ending → spec.Ending
@@ -17,6 +18,7 @@ ending (Migrated slots) = spec.Migrated slots
 ending (Approved slots) = spec.Approved slots
 ending (Signed leaf) = spec.Signed leaf
 ending (Served connections frames) = spec.Served connections frames
+ending (Drilled summary) = spec.Drilled summary
 ending Usage = spec.Usage
 ending StoreFailed = spec.StoreFailed
 ending (Unreadable name fault) = spec.Unreadable (string_bytes name) fault

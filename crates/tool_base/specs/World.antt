@@ -73,6 +73,11 @@ pub record IsBack (old new : StoreState) : Type 0 where
   pub out : IsTrue old.told → (name : List ℕ) → new.out name ≡ old.out name
   pub views : IsTrue old.told → new.views ≡ old.views
 
+-- no count of a net fell, and all ports are back
+pub record IsNetBack (old new : NetState) : Type 0 where
+  pub onward : NetOnward old new
+  pub out : IsTrue old.told → new.out ≡ old.out
+
 -- how long a file may be that the tool reads whole
 abbrev pub file_limit : ℕ
 file_limit = 67108864

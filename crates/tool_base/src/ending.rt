@@ -1,7 +1,7 @@
 //! How a call ends, and the line that says so.
 
 ghost use Rattle.std.specs.Prelude.{◌≡◌, IfOk, string_bytes};
-ghost use Rattle.tool_base.specs.Ending.{line_of};
+ghost use Rattle.tool_base.specs.Ending.{drilled_asks, drilled_sessions, line_of};
 ghost use Rattle.lms_verify.specs.declared.verification.Verdict.TheVariants as verdict;
 ghost use Rattle.tool_base.specs.Ending as spec;
 ghost use Rattle.tool_base.specs.Endings.{ending};
@@ -10,6 +10,7 @@ ghost use Rattle.tool_base.specs.Undealt.{end_of_fault};
 use crate::undealt::Undealt;
 use crate::unsigned::Unsigned;
 use dealer::DealFault;
+use drill_summary::Summary;
 use lms_bytes::Val;
 use lms_verify::Verdict;
 use std::alloc::{AllocError, Global};
@@ -33,6 +34,8 @@ pub enum Ending {
     Signed { leaf: u32 },
     /// So many connections were served, with so many replies.
     Served { connections: u32, frames: u32 },
+    /// A drill was run.
+    Drilled(Summary),
     /// The words are no command.
     Usage,
     /// A call of the store failed, or a name is not in it.
@@ -71,7 +74,7 @@ impl Ending {
             Ending::Verified(_) => 1,
             Ending::Rehearsed | Ending::Dealt { .. } | Ending::Enrolled { .. } => 0,
             Ending::Migrated { .. } | Ending::Approved { .. } => 0,
-            Ending::Signed { .. } | Ending::Served { .. } => 0,
+            Ending::Signed { .. } | Ending::Served { .. } | Ending::Drilled(_) => 0,
             Ending::Usage => 2,
             Ending::StoreFailed => 3,
             Ending::Unreadable { .. } => 4,
@@ -103,6 +106,7 @@ impl Ending {
                 connections,
                 frames,
             } => served_line(alloc, *connections, *frames),
+            Ending::Drilled(summary) => drill_line(alloc, summary),
             Ending::Usage => format!(in alloc; "error 2 usage\n"),
             Ending::StoreFailed => format!(in alloc; "error 3 store\n"),
             Ending::Unreadable { name, fault } => file_line(alloc, name.as_str(), *fault),
@@ -161,6 +165,43 @@ fn served_line(alloc: Global, connections: u32, frames: u32) -> Result<String, A
     ensures { IfOk result (λ line. string_bytes line ≡ line_of (spec.Served connections frames)) }
 {
     format!(in alloc; "served {connections} connections {frames} frames\n")
+}
+
+/// The line of a drill.
+fn drill_line(alloc: Global, summary: &Summary) -> Result<String, AllocError>
+    ensures { IfOk result (λ line. string_bytes line ≡ line_of (spec.Drilled summary.now)) }
+{
+    let sessions = sessions_part(alloc, summary)?;
+    let asks = asks_part(alloc, summary)?;
+    format!(in alloc; "{sessions}{asks}\n")
+}
+
+/// What a drill's line says of its sessions.
+fn sessions_part(alloc: Global, summary: &Summary) -> Result<String, AllocError>
+    ensures { IfOk result (λ part. string_bytes part ≡ drilled_sessions summary.now) }
+{
+    let Summary {
+        sessions,
+        signed,
+        refused,
+        ..
+    } = *summary;
+    format!(in alloc; "sessions {sessions} signed {signed} refused {refused}")
+}
+
+/// What a drill's line says of its asks.
+fn asks_part(alloc: Global, summary: &Summary) -> Result<String, AllocError>
+    ensures { IfOk result (λ part. string_bytes part ≡ drilled_asks summary.now) }
+{
+    let Summary {
+        asks,
+        granted,
+        cuts,
+        restarts,
+        most,
+        ..
+    } = *summary;
+    format!(in alloc; " asks {asks} granted {granted} cuts {cuts} restarts {restarts} most {most}")
 }
 
 /// The line of an output that is in the store.

@@ -1,23 +1,32 @@
 -- How a verification ends where a file is not read.
-use Rattle.std.proofs.Common.{◌≡◌, ◌⊎◌, ℕ, List, Some, refl, inl, inr, subst}
+use Rattle.std.proofs.Common.{◌≡◌, ◌⊎◌, ℕ, List, Option, Some, None, option_map, refl, inl, inr}
 use Rattle.lms_bytes.specs.FaultNumbers.{key_fault_number}
 use Rattle.lms_bytes.specs.PublicKey.{public_bytes, public_fault}
 use Rattle.lms_bytes.specs.declared.faults.KeyFault.{KeyFault}
 use Rattle.lms_bytes.specs.declared.public_key.PublicKey.{PublicKey}
 use Rattle.tool_base.specs.Ending as spec
 use Rattle.tool_base.specs.Ending.{Ending}
+use Rattle.tool_base.specs.Grammars.{not_in_grammar, not_read}
 use Rattle.tool_base.specs.Reads.{FailsToRead, failed, too_long, no_memory}
 use Rattle.tool_base.specs.World.{StoreRun, Bytes, IsRead}
+use Rattle.tool_desk.specs.Key.{FailsKey}
 use Rattle.tool_run.specs.Verify.{VerifyEnds, key_failed, key_refused, key_too_long, message_failed, message_too_long, signature_failed, signature_too_long}
 
-pub key_read : (run : StoreRun) (name bytes : List ℕ) (key : PublicKey) → bytes ≡ public_bytes key → IsRead run name (Bytes bytes) → IsRead run name (Bytes (public_bytes key))
-key_read run name bytes key is read = subst (λ b. IsRead run name (Bytes b)) is read
+-- a key in no grammar, by its first fault
+key_in_no_grammar : (run : StoreRun) (key message signature bytes : List ℕ) (number : ℕ) (fault : Option KeyFault) → public_fault bytes ≡ fault
+    → IsRead run key (Bytes bytes) → option_map key_fault_number fault ≡ Some number → VerifyEnds run key message signature (spec.Unreadable key number)
+key_in_no_grammar run key message signature bytes number None is r counted = absurd (cc)
+key_in_no_grammar run key message signature bytes number (Some fault) is r counted =
+    let same : key_fault_number fault ≡ number = cc in
+    rw (← same) (key_refused bytes fault r is)
 
-pub key_not_read : (run : StoreRun) (key : List ℕ) (end : Ending) → FailsToRead run key end
-    → (end ≡ spec.NoMemory) ⊎ ((message signature : List ℕ) → VerifyEnds run key message signature end)
-key_not_read run key _ (failed r) = inr (λ message signature. key_failed r)
-key_not_read run key _ (too_long got r) = inr (λ message signature. key_too_long got r)
-key_not_read run key _ no_memory = inl refl
+pub key_not_read : (run : StoreRun) (key message signature : List ℕ) (end : Ending) → FailsKey run key end
+    → (end ≡ spec.NoMemory) ⊎ VerifyEnds run key message signature end
+key_not_read run key message signature _ (not_read _ (failed r)) = inr (key_failed r)
+key_not_read run key message signature _ (not_read _ (too_long got r)) = inr (key_too_long got r)
+key_not_read run key message signature _ (not_read _ no_memory) = inl refl
+key_not_read run key message signature _ (not_in_grammar bytes number r is) =
+    inr (key_in_no_grammar run key message signature bytes number (public_fault bytes) refl r is)
 
 pub message_not_read : (run : StoreRun) (key message signature : List ℕ) (public : PublicKey) (end : Ending)
     → IsRead run key (Bytes (public_bytes public)) → FailsToRead run message end
@@ -32,10 +41,3 @@ pub signature_not_read : (run : StoreRun) (key message signature : List ℕ) (pu
 signature_not_read run key message signature public text _ k m (failed r) = inr (signature_failed public text k m r)
 signature_not_read run key message signature public text _ k m (too_long got r) = inr (signature_too_long public text got k m r)
 signature_not_read run key message signature public text _ k m no_memory = inl refl
-
-pub refusal_told : (run : StoreRun) (key bytes : List ℕ) (fault : KeyFault) (end : Ending) (number : ℕ) → IsRead run key (Bytes bytes)
-    → public_fault bytes ≡ Some fault → number ≡ key_fault_number fault → (end ≡ spec.NoMemory) ⊎ (end ≡ spec.Unreadable key number)
-    → (end ≡ spec.NoMemory) ⊎ ((message signature : List ℕ) → VerifyEnds run key message signature end)
-refusal_told run key bytes fault end number r refused counted (inl e) = inl e
-refusal_told run key bytes fault end number r refused counted (inr e) =
-    inr (λ message signature. rw (e, counted) (key_refused bytes fault r refused))

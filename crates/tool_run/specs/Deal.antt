@@ -16,6 +16,7 @@ use Rattle.tool_base.specs.Ending as ending
 use Rattle.tool_base.specs.Ending.{Ending}
 use Rattle.tool_base.specs.Outputs.{FirstNotNew, IsNew, Output, StopsAfter}
 use Rattle.tool_base.specs.Undealt.{end_of_fault}
+use Rattle.tool_desk.specs.Files.{key_name, reference_name, tree_name}
 use Rattle.tool_words.specs.Words.{DealWords}
 use Rattle.tool_base.specs.Reads.{FailsToRead}
 use Rattle.tool_base.specs.World.{StoreRun, Bytes, IsRead}
@@ -36,9 +37,9 @@ share_output prefix d t = record { name = prefix ++ (codes ".share" ++ decimal t
 
 abbrev pub outputs_of : List ℕ → Dealing → List Output
 outputs_of prefix d =
-    record { name = prefix ++ codes ".pub"; bytes = public_file d }
-    ∷ record { name = prefix ++ codes ".tree"; bytes = tree_file d }
-    ∷ record { name = prefix ++ codes ".ref"; bytes = reference_file d }
+    record { name = key_name prefix; bytes = public_file d }
+    ∷ record { name = tree_name prefix; bytes = tree_file d }
+    ∷ record { name = reference_name prefix; bytes = reference_file d }
     ∷ map (share_output prefix d) (range_with_len 1 d.plan.n)
 
 -- the entropy is dealt as the words say: these are the outputs, and the end once all are written

@@ -1,4 +1,5 @@
 pub mod Deal
+pub mod Drill
 pub mod Naming
 pub mod Rehearse
 pub mod ToolRun

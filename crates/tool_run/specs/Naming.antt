@@ -3,6 +3,7 @@ use Rattle.std.specs.Prelude.{ℕ, ◌+◌, List, [], ◌∷◌, ◌++◌, codes
 use Rattle.std.specs.Fmt.{decimal}
 use Rattle.dealer.specs.declared.files.DealingFiles.{DealingFiles}
 use Rattle.tool_base.specs.Outputs.{Output}
+use Rattle.tool_desk.specs.Files.{key_name, reference_name, tree_name}
 
 -- shares from that of trustee t on
 unfoldable pub named_shares : List ℕ → ℕ → List (List ℕ) → List Output
@@ -13,7 +14,7 @@ named_shares prefix t (share ∷ shares) =
 -- all files, in the order in which they are written
 abbrev pub named_files : List ℕ → DealingFiles → List Output
 named_files prefix files =
-    record { name = prefix ++ codes ".pub"; bytes = files.public.items }
-    ∷ record { name = prefix ++ codes ".tree"; bytes = files.tree.items }
-    ∷ record { name = prefix ++ codes ".ref"; bytes = files.reference.items }
+    record { name = key_name prefix; bytes = files.public.items }
+    ∷ record { name = tree_name prefix; bytes = files.tree.items }
+    ∷ record { name = reference_name prefix; bytes = files.reference.items }
     ∷ named_shares prefix 1 (map (λ share. share.items) files.shares.items)

@@ -10,16 +10,24 @@ use Rattle.tool_base.specs.Touched.{EndsTouching}
 use Rattle.tool_journals.specs.Approve.{ApproveEnds}
 use Rattle.tool_journals.specs.Enrol.{EnrolEnds}
 use Rattle.tool_journals.specs.Migrate.{MigrateEnds}
+use Rattle.tool_run.specs.Drill.{DrillEnds}
 use Rattle.tool_run.specs.Rehearse.{RehearseEnds}
 use Rattle.tool_run.specs.Verify.{VerifyEnds}
 use Rattle.tool_service.specs.Trustee.{TrusteeRun}
-use Rattle.tool_words.specs.Words.{Row, Verify, Rehearse, Deal, Enrol, Migrate, Approve, Trustee, command_of}
+use Rattle.tool_signing.specs.Ports.{over_net}
+use Rattle.tool_signing.specs.Sign.{SigningRun}
+use Rattle.tool_words.specs.Words.{Row, Verify, Rehearse, Deal, Enrol, Migrate, Approve, Trustee, Sign, Drill}
+use Rattle.tool_words.specs.Words.{SignWords, command_of}
 use Rattle.tool_base.specs.World.{AllBack, Onward, Outside, OutputRun, StoreRun, World, from_to}
 
 -- a command that works on the store alone: the net is as it was
 pub record OnStore (Run : StoreRun → Ending → Type 0) (before after : Outside) (end : Ending) : Type 0 where
   pub run : Run (from_to before.store after.store) end
   pub net : after.net ≡ before.net
+
+-- the command that signs: it works on the store, over the net
+abbrev pub Signs : SignWords → Outside → Outside → Ending → Type 0
+Signs words before after = SigningRun words (from_to before.store after.store) (over_net before.net after.net)
 
 -- what a command does and how it ends, by the rules of that command
 abbrev pub CommandRun : Row → Outside → Outside → Ending → Type 0
@@ -32,6 +40,9 @@ CommandRun (Enrol file journal) = OnStore (λ store. EndsTouching (EnrolEnds sto
 CommandRun (Migrate share journal new) = OnStore (λ store. EndsTouching (MigrateEnds store share journal new) store)
 CommandRun (Approve share book message) = OnStore (λ store. EndsTouching (ApproveEnds store share book message) store)
 CommandRun (Trustee words) = TrusteeRun words
+CommandRun (Sign words) = Signs words
+CommandRun (Drill number sessions events) =
+    OnStore (λ store. EndsWith (λ end written. DrillEnds number sessions events end × (written ≡ [])) store)
 
 -- what words do: other words than a command's are a faulty command line, and change nothing
 abbrev pub WordsRun : Option Row → Outside → Outside → Ending → Type 0

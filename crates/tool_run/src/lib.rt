@@ -2,6 +2,7 @@
 #![tactic(auto)]
 
 mod deal;
+mod drilling;
 mod rehearse;
 mod tool;
 mod verify;

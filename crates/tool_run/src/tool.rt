@@ -4,12 +4,12 @@ ghost use Rattle.std.specs.Prelude.{◌≡◌, ◌⊎◌, map, string_bytes, ◌
 ghost use Rattle.tool_base.specs.Ending as spec;
 ghost use Rattle.tool_base.specs.Endings.{ending};
 ghost use Rattle.tool_run.specs.ToolRun.{CommandRun, EndsSo, IsAnswered, IsCutShort, IsPrinted, ToolRun, WordsRun};
-ghost use Rattle.tool_service.specs.Nets.{IsNetBack};
 ghost use Rattle.tool_words.specs.Rows.{row};
 ghost use Rattle.tool_words.specs.Words.{OutputsDiffer, command_of};
-ghost use Rattle.tool_base.specs.World.{IsBack, output_run};
+ghost use Rattle.tool_base.specs.World.{IsBack, IsNetBack, output_run};
 
 use crate::deal::deal_files;
+use crate::drilling::drill_sessions;
 use crate::rehearse::rehearse_files;
 use crate::verify::verify_files;
 use std::alloc::Global;
@@ -19,6 +19,7 @@ use stream_io::{Failed, Net, Sink, Store, write_whole};
 use tool_base::{Clocks, Ending};
 use tool_journals::{approve_message, enrol_file, migrate_journal};
 use tool_service::serve_trustee;
+use tool_signing::sign;
 use tool_words::{Command, command_of};
 
 /// Does what the words ask for, and answers the status. The words begin with the command.
@@ -109,6 +110,8 @@ fn run_command<R: Threads + Wait + Sync, S: Store, N: Net, T: Clocks>(
             message,
         } => approve_message(alloc, store, share, book, message),
         Command::Trustee(words) => serve_trustee(rt, alloc, words, store, net, time),
+        Command::Sign(words) => sign(alloc, words, store, net),
+        Command::Drill(words) => drill_sessions(alloc, words),
     }
 }
 

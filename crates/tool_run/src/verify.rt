@@ -1,17 +1,16 @@
 //! The command `verify`.
 
-ghost use Rattle.std.specs.Prelude.{◌≡◌, ◌⊎◌, List, ℕ, IfOk, IfErr};
-ghost use Rattle.lms_bytes.specs.PublicKey.{public_bytes};
+ghost use Rattle.std.specs.Prelude.{◌≡◌, ◌⊎◌, IfOk, IfErr};
 ghost use Rattle.tool_base.specs.Ending as spec;
 ghost use Rattle.tool_base.specs.Endings.{ending};
 ghost use Rattle.tool_run.specs.Verify.{VerifyEnds};
-ghost use Rattle.tool_base.specs.World.{Bytes, IsCalm, IsPart, IsRead, from_to};
+ghost use Rattle.tool_base.specs.World.{IsCalm, from_to};
 
-use lms_bytes::{PublicKey, read_public};
 use lms_verify::{Verdict, verify};
 use std::alloc::Global;
 use stream_io::Store;
-use tool_base::{Ending, FILE_LIMIT, read_file, unreadable};
+use tool_base::{Ending, FILE_LIMIT, read_file};
+use tool_desk::read_key_file;
 
 /// Verifies a signature of a message under a key, all three by the names of their files.
 pub(crate) fn verify_files<S: Store>(
@@ -46,27 +45,8 @@ fn read_and_verify<S: Store>(
         ⊎ VerifyEnds run key.now message.now signature.now (ending end)) }
     ensures calm { IsCalm (S.state store.old) (S.state store.new) }
 {
-    let public = read_key(alloc, store, key)?;
+    let public = read_key_file(alloc, store, key)?;
     let text = read_file(alloc, store, message, FILE_LIMIT)?;
     let bytes = read_file(alloc, store, signature, FILE_LIMIT)?;
     Ok(verify(&public, &text, &bytes))
-}
-
-/// Reads a public key.
-fn read_key<S: Store>(alloc: Global, store: &mut S, name: &str) -> Result<PublicKey, Ending>
-    ensures key { (first last : S)
-        → IsPart (S.state first) (S.state store.old) (S.state store.new) (S.state last)
-        → IfOk result (λ public.
-        IsRead (from_to (S.state first) (S.state last)) name.now (Bytes (public_bytes public))) }
-    ensures refused { (first last : S)
-        → IsPart (S.state first) (S.state store.old) (S.state store.new) (S.state last)
-        → IfErr result (λ end. (ending end ≡ spec.NoMemory) ⊎ ((message signature : List ℕ)
-        → VerifyEnds (from_to (S.state first) (S.state last)) name.now message signature (ending end))) }
-    ensures calm { IsCalm (S.state store.old) (S.state store.new) }
-{
-    let bytes = read_file(alloc, store, name, FILE_LIMIT)?;
-    match read_public(&bytes) {
-        Ok(key) => Ok(key),
-        Err(fault) => Err(unreadable(alloc, name, fault.number())),
-    }
 }

@@ -21,7 +21,7 @@ use Rattle.tool_base.specs.World.{IsCalm, Outside, TimeState, from_to}
 use Rattle.tool_disks.specs.Disks.{Stays}
 use Rattle.tool_disks.proofs.Outs.{keeps_calm}
 use Rattle.tool_service.specs.Journals.{LeavesJournal, StandsAs}
-use Rattle.tool_service.specs.Nets.{IsNetBack}
+use Rattle.tool_base.proofs.Nets.{net_none}
 use Rattle.tool_service.specs.Services.{end_of_call}
 use Rattle.tool_service.specs.Trustee.{TrusteeEnds, TrusteeRun, no_journal, no_memory, no_share}
 use Rattle.tool_words.specs.Words.{TrusteeWords}
@@ -47,12 +47,6 @@ module _ {D : Type 0} {p : pages.Ghosts D} {f : faults.Ghosts D} (share : Share)
         (subst (λ d. p.may_leave d image) is ((leaves told image).0 left)));
     legal = holds.legal;
   }
-
-pub net_none : (net : NetState) → IsNetBack net net
-net_none net = record {
-  onward = record { told = refl; steady = refl; count = omega arith; port_count = omega arith };
-  out = λ told. refl;
-}
 
 module _ (words : TrusteeWords) (a c : StoreState) (net : NetState) (time : TimeState) (calm : IsCalm a c) where
   abbrev before : Outside

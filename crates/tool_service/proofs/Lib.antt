@@ -1,4 +1,3 @@
-pub mod Backs
 pub mod Booking
 pub mod Lasts
 pub mod Serving

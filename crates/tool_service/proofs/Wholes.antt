@@ -24,7 +24,7 @@ use Rattle.tool_service.specs.Trustee as trustee
 use Rattle.tool_words.specs.Words.{TrusteeWords}
 use Rattle.trustee_core.specs.Trustee.{journal_header}
 use Rattle.trustee_service.specs.Trustees.{TrusteeState}
-use Rattle.tool_service.proofs.Lasts.{net_none}
+use Rattle.tool_base.proofs.Nets.{net_none}
 
 module _ (words : TrusteeWords) (a e : StoreState) (net : NetState) (time : TimeState) where
   -- the journal was not loaded

@@ -4,7 +4,7 @@ use Rattle.std.specs.Prelude.{Result, Ok, Err}
 use Rattle.memory.specs.declared.NoMemory.{NoMemory}
 use Rattle.disk_trait.specs.Faults.{Rose}
 use Rattle.share_files.specs.declared.share.Share.{Share}
-use Rattle.stream_io.specs.Net.{IsNewPort, NetOnward, NetState, PortState, SomeUnaccepted}
+use Rattle.stream_io.specs.Net.{IsNewPort, NetState, PortState, SomeUnaccepted}
 use Rattle.tool_base.specs.Ending as ending
 use Rattle.tool_base.specs.Ending.{Ending}
 use Rattle.tool_base.specs.World.{TimeState}
@@ -22,11 +22,6 @@ pub record IsNewClock (time : TimeState) (clock : ClockState) : Type 0 where
 -- a port that did not fail to accept
 abbrev pub HasAccepted : PortState → Type 0
 HasAccepted port = port.accept_count ≡ 0
-
--- no count of a net fell, and all ports are back
-pub record IsNetBack (old new : NetState) : Type 0 where
-  pub onward : NetOnward old new
-  pub out : IsTrue old.told → new.out ≡ old.out
 
 -- how a service over these ports ends, by what came of serving them
 abbrev pub ServiceEnds : List PortState → Result Totals NoMemory → Ending → Type 0

@@ -11,12 +11,12 @@ use Rattle.tool_base.specs.Ending as ending
 use Rattle.tool_base.specs.Ending.{Ending}
 use Rattle.tool_base.specs.Grammars.{FailsGrammar, IsShareRead, share_fault_number}
 use Rattle.tool_base.specs.Touched.{Keeps}
-use Rattle.tool_base.specs.World.{Failed, IsRead, Outside, StoreRun, from_to}
+use Rattle.tool_base.specs.World.{Failed, IsNetBack, IsRead, Outside, StoreRun, from_to}
 use Rattle.tool_disks.specs.Disks.{Stays}
 use Rattle.tool_disks.specs.Loads.{FailsToLoad, ReadsAs}
 use Rattle.tool_disks.specs.Headers.{book_header}
 use Rattle.tool_service.specs.Journals.{HasBook, IsJournal, LeavesJournal}
-use Rattle.tool_service.specs.Nets.{IsNetBack, ServedNet}
+use Rattle.tool_service.specs.Nets.{ServedNet}
 use Rattle.tool_words.specs.Words.{TrusteeWords}
 use Rattle.trustee_core.specs.Trustee.{journal_header}
 use Rattle.trustee_core.specs.declared.kept.TrusteeName.{TrusteeName}

@@ -3,8 +3,7 @@
 ghost use Rattle.std.specs.Prelude.{◌≡◌, ◌≤◌};
 ghost use Rattle.tool_base.specs.Endings.{ending};
 ghost use Rattle.tool_base.specs.Touched.{EndsTouching};
-ghost use Rattle.tool_base.specs.World.{from_to};
-ghost use Rattle.tool_service.specs.Nets.{IsNetBack};
+ghost use Rattle.tool_base.specs.World.{IsNetBack, from_to};
 ghost use Rattle.tool_service.specs.Services.{BookEnds, end_of_call};
 ghost use Rattle.tool_service.specs.Trustee.{TrusteeRun};
 ghost use Rattle.tool_words.specs.Rows.{trustee_words};

@@ -2,9 +2,10 @@
 use Rattle.std.proofs.Common.{◌≡◌, ◌==◌, ◌^◌, ◌-◌, length, ℕ, Bool, true, false, List, [], ◌∷◌, Option, None, Some, if◌then◌else◌, refl, subst}
 use Rattle.std.specs.List.{list_any}
 use Rattle.std.specs.Prelude.{codes}
+use Rattle.std.specs.Option.{option_map}
 use Rattle.std.specs.Str.{bytes_eq}
 use Rattle.std.proofs.lemmas.Slice.Eq.{bytes_eq-Decides}
-use Rattle.tool_words.specs.Words.{Approve, Deal, DealWords, Enrol, Migrate, OutputsDiffer, Rehearse, Row, Trustee, TrusteeWords, Verify, approve_of, command_of, deal_of, enrol_of, is_option, migrate_of, number_of, number_within, rehearse_of, row_of, trustee_of, verify_of}
+use Rattle.tool_words.specs.Words.{Approve, Deal, DealWords, Drill, Enrol, Migrate, OutputsDiffer, Rehearse, Row, Sign, SignWords, Trustee, TrusteeWords, Verify, approve_of, command_of, deal_of, drill_of, enrol_of, is_option, migrate_of, number_of, number_within, places_of, rehearse_of, row_of, sign_of, trustee_of, verify_of}
 
 -- of two rows the one that the test takes
 taken : (test : Bool) (a b : Option Row) (row : Row) → ((r : Row) → a ≡ Some r → OutputsDiffer r) → ((r : Row) → b ≡ Some r → OutputsDiffer r)
@@ -124,6 +125,46 @@ trustee_differ (a ∷ b ∷ c ∷ d ∷ e ∷ []) row is = with_service a b c (n
 trustee_differ (a ∷ b ∷ c ∷ d ∷ e ∷ f ∷ []) row is = with_service a b c (number_within 1 64 d) (number_within 1 (2 ^ 32 - 1) e) (Some f) row is
 trustee_differ (a ∷ b ∷ c ∷ d ∷ e ∷ f ∷ g ∷ more) row is = absurd (cc)
 
+-- with places or none
+with_places : (prefix table message out : List ℕ) (places : Option (List (Option (List ℕ)))) (row : Row)
+    → option_map (λ places. Sign (record { prefix = prefix; table = table; message = message; out = out; places = places })) places ≡ Some row
+    → OutputsDiffer row
+with_places prefix table message out None row is = absurd (cc)
+with_places prefix table message out (Some places) row is =
+    let words : SignWords = record { prefix = prefix; table = table; message = message; out = out; places = places } in
+    let same : Sign words ≡ row = cc in
+    subst OutputsDiffer same tt
+
+sign_differ : (words : List (List ℕ)) (row : Row) → sign_of words ≡ Some row → OutputsDiffer row
+sign_differ [] row is = absurd (cc)
+sign_differ (a ∷ []) row is = absurd (cc)
+sign_differ (a ∷ b ∷ []) row is = absurd (cc)
+sign_differ (a ∷ b ∷ c ∷ []) row is = absurd (cc)
+sign_differ (a ∷ b ∷ c ∷ d ∷ more) row is =
+    taken (length a == 0) None _ row none (with_places a b c d (places_of more)) is
+
+-- with three numbers or fewer
+with_drill : (number sessions events : Option ℕ) (row : Row)
+    → elim number [
+      | None ↦ None
+      | Some number ↦ elim sessions [
+        | None ↦ None
+        | Some sessions ↦ option_map (λ events. Drill number sessions events) events
+      ]
+    ] ≡ Some row → OutputsDiffer row
+with_drill None sessions events row is = absurd (cc)
+with_drill (Some number) None events row is = absurd (cc)
+with_drill (Some number) (Some sessions) None row is = absurd (cc)
+with_drill (Some number) (Some sessions) (Some events) row is =
+    let same : Drill number sessions events ≡ row = cc in subst OutputsDiffer same tt
+
+drill_differ : (words : List (List ℕ)) (row : Row) → drill_of words ≡ Some row → OutputsDiffer row
+drill_differ [] row is = absurd (cc)
+drill_differ (a ∷ []) row is = absurd (cc)
+drill_differ (a ∷ b ∷ []) row is = absurd (cc)
+drill_differ (a ∷ b ∷ c ∷ []) row is = with_drill (number_of a) (number_within 0 10000 b) (number_within 0 100000 c) row is
+drill_differ (a ∷ b ∷ c ∷ d ∷ more) row is = absurd (cc)
+
 row_differs : (words : List (List ℕ)) (row : Row) → row_of words ≡ Some row → OutputsDiffer row
 row_differs [] row is = absurd (cc)
 row_differs (name ∷ words) row is =
@@ -133,7 +174,9 @@ row_differs (name ∷ words) row is =
     (λ row is. taken (bytes_eq name (codes "enrol")) (enrol_of words) _ row (enrol_differ words)
     (λ row is. taken (bytes_eq name (codes "migrate")) (migrate_of words) _ row (migrate_differ words)
     (λ row is. taken (bytes_eq name (codes "approve")) (approve_of words) _ row (approve_differ words)
-    (λ row is. taken (bytes_eq name (codes "trustee")) (trustee_of words) None row (trustee_differ words) none is) is) is) is) is) is) is
+    (λ row is. taken (bytes_eq name (codes "trustee")) (trustee_of words) _ row (trustee_differ words)
+    (λ row is. taken (bytes_eq name (codes "sign")) (sign_of words) _ row (sign_differ words)
+    (λ row is. taken (bytes_eq name (codes "drill")) (drill_of words) None row (drill_differ words) none is) is) is) is) is) is) is) is) is
 
 pub outputs_differ : (words : List (List ℕ)) (row : Row) → command_of words ≡ Some row → OutputsDiffer row
 unfolding command_of

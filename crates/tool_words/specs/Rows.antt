@@ -1,11 +1,13 @@
 -- The commands of the program as rows.
+use Rattle.std.specs.Prelude.{map, string_bytes}
 use Rattle.std.specs.Option.{option_map}
-use Rattle.tool_words.specs.Words.{Row}
+use Rattle.tool_words.specs.Words.{Row, places_named}
 use Rattle.tool_words.specs.Words as words
 use Rattle.tool_words.specs.declared.words.Command.{Command}
 use Rattle.tool_words.specs.declared.words.Command.TheVariants.{Verify, Rehearse, Deal, Enrol, Migrate, Approve}
-use Rattle.tool_words.specs.declared.words.Command.TheVariants.{Trustee}
+use Rattle.tool_words.specs.declared.words.Command.TheVariants.{Trustee, Sign, Drill}
 use Rattle.tool_words.specs.declared.words.DealWords.{DealWords}
+use Rattle.tool_words.specs.declared.sign_words.SignWords.{SignWords}
 use Rattle.tool_words.specs.declared.trustee_words.TrusteeWords.{TrusteeWords}
 
 -- the words of `deal`, each as its bytes
@@ -30,6 +32,16 @@ trustee_words trustee = record {
   book = option_map (λ book. book.now) trustee.book;
 }
 
+-- the words of `sign`, each as its bytes
+abbrev pub sign_words : SignWords → words.SignWords
+sign_words sign = record {
+  prefix = sign.prefix.now;
+  table = sign.table.now;
+  message = sign.message.now;
+  out = sign.out.now;
+  places = places_named (map string_bytes sign.places.words.now);
+}
+
 -- the bytes of the command's words
 abbrev pub row : Command → Row
 row (Verify key message signature) = words.Verify key.now message.now signature.now
@@ -40,3 +52,5 @@ row (Enrol file journal) = words.Enrol file.now journal.now
 row (Migrate share journal new) = words.Migrate share.now journal.now new.now
 row (Approve share book message) = words.Approve share.now book.now message.now
 row (Trustee trustee) = words.Trustee (trustee_words trustee)
+row (Sign sign) = words.Sign (sign_words sign)
+row (Drill drill) = words.Drill drill.number drill.sessions drill.events

@@ -1,7 +1,9 @@
 -- Which words are a command. A word is the list of its bytes.
-use Rattle.std.specs.Prelude.{◌≢◌, ⊤, ℕ, Bool, false, ◌==◌, ◌&&◌, ◌^◌, ◌-◌, nat_le, nat_lt, List, [], ◌∷◌, length}
-use Rattle.std.specs.Prelude.{Option, Some, None, if◌then◌else◌, codes}
-use Rattle.std.specs.List.{list_any}
+use Rattle.std.specs.Prelude.{◌≡◌, ◌≢◌, ⊤, ℕ, Bool, false, ◌==◌, ◌&&◌, ◌^◌, ◌-◌, ◌≤◌, nat_le, nat_lt, List, []}
+use Rattle.std.specs.Prelude.{◌∷◌, length, replicate, slice_index_or, slice_set, Option, Some, None, is_some, IsTrue}
+use Rattle.std.specs.Prelude.{if◌then◌else◌, codes}
+use Rattle.std.specs.List.{All, after_first, before_first, list_any}
+use Rattle.std.specs.Option.{ForSome, option_and_then, option_map, unwrap_or}
 use Rattle.std.specs.Str.{all_ascii_digits, bytes_eq}
 use Rattle.std.specs.Str.Parse.{digits_value}
 
@@ -23,6 +25,14 @@ pub record TrusteeWords : Type 0 where
   pub connections : ℕ
   pub book : Option (List ℕ)
 
+-- the words after `sign`: the place of trustee t, or none, at t - 1
+pub record SignWords : Type 0 where
+  pub prefix : List ℕ
+  pub table : List ℕ
+  pub message : List ℕ
+  pub out : List ℕ
+  pub places : List (Option (List ℕ))
+
 -- a command with its words
 pub data Row : Type 0 where
   Verify : (key message signature : List ℕ) → Row
@@ -32,6 +42,8 @@ pub data Row : Type 0 where
   Migrate : (share journal new : List ℕ) → Row
   Approve : (share book message : List ℕ) → Row
   Trustee : (words : TrusteeWords) → Row
+  Sign : (words : SignWords) → Row
+  Drill : (number sessions events : ℕ) → Row
 
 -- the byte of `-`
 abbrev pub dash : ℕ
@@ -57,6 +69,47 @@ number_within least most word = elim (number_of word) [
   | None ↦ None
   | Some number ↦ if nat_le least number && nat_le number most then Some number else None
 ]
+
+-- the byte is `=`
+abbrev pub is_equals : ℕ → Bool
+is_equals byte = byte == 61
+
+-- the trustee's number and the place that an address word has: a number from 1 to 12, `=`, and a place
+unfoldable pub address_of : List ℕ → Option (ℕ × List ℕ)
+address_of word =
+    if length (after_first is_equals word) == 0 then None else
+    option_map (λ number. (number, after_first is_equals word)) (number_within 1 12 (before_first is_equals word))
+
+-- the places with that of one more trustee, where it has none yet
+abbrev pub with_place : List (Option (List ℕ)) → ℕ × List ℕ → Option (List (Option (List ℕ)))
+with_place places address =
+    if is_some (slice_index_or places (address.0 - 1) None) then None else
+    Some (slice_set places (address.0 - 1) (Some address.1))
+
+-- the places with that of an address word
+unfoldable pub with_address : List (Option (List ℕ)) → List ℕ → Option (List (Option (List ℕ)))
+with_address places word = option_and_then (with_place places) (address_of word)
+
+-- the places with those of address words, in any order
+abbrev pub with_addresses : List (Option (List ℕ)) → List (List ℕ) → Option (List (Option (List ℕ)))
+with_addresses places [] = Some places
+with_addresses places (word ∷ words) =
+    option_and_then (λ places. with_addresses places words) (with_address places word)
+
+-- the places of one to twelve address words
+unfoldable pub places_of : List (List ℕ) → Option (List (Option (List ℕ)))
+places_of words =
+    if nat_le 1 (length words) && nat_le (length words) 12 then with_addresses (replicate 12 None) words else None
+
+-- the places of words that are one to twelve address words
+abbrev pub places_named : List (List ℕ) → List (Option (List ℕ))
+places_named words = unwrap_or (places_of words) []
+
+-- twelve places, some trustee's among them, and each has some byte
+pub record HasPlaces (places : List (Option (List ℕ))) : Type 0 where
+  pub count : length places ≡ 12
+  pub some : IsTrue (list_any is_some places)
+  pub full : All (λ place. ForSome place (λ name. 1 ≤ length name)) places
 
 -- the words after `verify`
 abbrev pub verify_of : List (List ℕ) → Option Row
@@ -127,6 +180,27 @@ trustee_of (share ∷ journal ∷ place ∷ workers ∷ connections ∷ book ∷
     trustee_with share journal place workers connections (Some book)
 trustee_of words = None
 
+-- the words after `sign`; the names of the files that it reads begin with some byte
+abbrev pub sign_of : List (List ℕ) → Option Row
+sign_of (prefix ∷ table ∷ message ∷ out ∷ addresses) =
+    if length prefix == 0 then None else
+    option_map
+    (λ places. Sign (record { prefix = prefix; table = table; message = message; out = out; places = places }))
+    (places_of addresses)
+sign_of words = None
+
+-- the words after `drill`: at most 10,000 sessions, and at most 100,000 events
+abbrev pub drill_of : List (List ℕ) → Option Row
+drill_of (number ∷ sessions ∷ events ∷ []) =
+    elim (number_of number) [
+      | None ↦ None
+      | Some number ↦ elim (number_within 0 10000 sessions) [
+        | None ↦ None
+        | Some sessions ↦ option_map (λ events. Drill number sessions events) (number_within 0 100000 events)
+      ]
+    ]
+drill_of words = None
+
 -- the words of a command, its name first
 abbrev pub row_of : List (List ℕ) → Option Row
 row_of [] = None
@@ -137,7 +211,9 @@ row_of (name ∷ words) =
     if bytes_eq name (codes "enrol") then enrol_of words else
     if bytes_eq name (codes "migrate") then migrate_of words else
     if bytes_eq name (codes "approve") then approve_of words else
-    if bytes_eq name (codes "trustee") then trustee_of words else None
+    if bytes_eq name (codes "trustee") then trustee_of words else
+    if bytes_eq name (codes "sign") then sign_of words else
+    if bytes_eq name (codes "drill") then drill_of words else None
 
 -- the command that the words are, if they are one: none where a word begins with `-`
 unfoldable pub command_of : List (List ℕ) → Option Row
@@ -152,3 +228,5 @@ OutputsDiffer (Enrol file journal) = ⊤
 OutputsDiffer (Migrate share journal new) = ⊤
 OutputsDiffer (Approve share book message) = ⊤
 OutputsDiffer (Trustee words) = ⊤
+OutputsDiffer (Sign words) = ⊤
+OutputsDiffer (Drill number sessions events) = ⊤

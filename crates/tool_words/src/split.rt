@@ -1,5 +1,8 @@
 //! The split of the words by `clap`.
 
+use crate::drill_words::DrillWords;
+use crate::places::Places;
+use crate::sign_words::SignWords;
 use crate::trustee_words::TrusteeWords;
 use crate::words::{Command, DealWords, number_of, number_within};
 use clap::{Arg, ArgAction, ArgMatches, Command as Parser, Error};
@@ -17,6 +20,10 @@ const ENROL: [&str; 2] = ["file", "journal"];
 const MIGRATE: [&str; 3] = ["share", "journal", "new"];
 
 const APPROVE: [&str; 3] = ["share", "book", "message"];
+
+const SIGN: [&str; 4] = ["prefix", "table", "message", "out"];
+
+const DRILL: [&str; 3] = ["number", "sessions", "events"];
 
 const TRUSTEE: [&str; 5] = ["share", "journal", "place", "workers", "connections"];
 
@@ -41,6 +48,14 @@ fn optional_word<'a>(alloc: Global, name: &'a str) -> Arg<'a> {
     Arg::new(alloc, name).required(false).action(ArgAction::Set)
 }
 
+/// The address words of a command, one to twelve of them.
+fn addresses<'a>(alloc: Global) -> Arg<'a> {
+    Arg::new(alloc, "addresses")
+        .required(true)
+        .action(ArgAction::Append)
+        .num_args(1..=12)
+}
+
 /// The parser of all commands. It has no help and no version.
 fn commands<'a>(alloc: Global) -> Result<Parser<'a>, Error> {
     let parser = Parser::new(alloc, "rikselbe")
@@ -55,7 +70,9 @@ fn commands<'a>(alloc: Global) -> Result<Parser<'a>, Error> {
         .subcommand(command(alloc, "enrol", &ENROL)?)?
         .subcommand(command(alloc, "migrate", &MIGRATE)?)?
         .subcommand(command(alloc, "approve", &APPROVE)?)?
-        .subcommand(command(alloc, "trustee", &TRUSTEE)?.arg(optional_word(alloc, "book"))?)?;
+        .subcommand(command(alloc, "trustee", &TRUSTEE)?.arg(optional_word(alloc, "book"))?)?
+        .subcommand(command(alloc, "sign", &SIGN)?.arg(addresses(alloc))?)?
+        .subcommand(command(alloc, "drill", &DRILL)?)?;
     Ok(parser)
 }
 
@@ -70,6 +87,8 @@ pub(crate) fn split(alloc: Global, words: &[String]) -> Result<Option<Command<'_
         Some(("migrate", found)) => migrate_of(found),
         Some(("approve", found)) => approve_of(found),
         Some(("trustee", found)) => trustee_of(found),
+        Some(("sign", found)) => sign_of(found, words),
+        Some(("drill", found)) => drill_of(found),
         _ => None,
     };
     Ok(command)
@@ -142,4 +161,39 @@ fn trustee_of<'a>(found: &ArgMatches<'a>) -> Option<Command<'a>> {
         connections: number_within(found.get_str("connections")?, 1, u32::MAX)?,
         book: found.get_str("book"),
     }))
+}
+
+/// The words of `sign`.
+fn sign_of<'a>(found: &ArgMatches<'a>, words: &'a [String]) -> Option<Command<'a>> {
+    Some(Command::Sign(SignWords {
+        prefix: found.get_str("prefix")?,
+        table: found.get_str("table")?,
+        message: found.get_str("message")?,
+        out: found.get_str("out")?,
+        places: places_of(found, words)?,
+    }))
+}
+
+/// The words of `drill`.
+fn drill_of<'a>(found: &ArgMatches<'a>) -> Option<Command<'a>> {
+    Some(Command::Drill(DrillWords {
+        number: number_of(found.get_str("number")?)?,
+        sessions: number_within(found.get_str("sessions")?, 0, 10_000)?,
+        events: number_within(found.get_str("events")?, 0, 100_000)?,
+    }))
+}
+
+/// The places that the last words name, where they are the address words that were split off.
+fn places_of<'a>(found: &ArgMatches<'a>, words: &'a [String]) -> Option<Places<'a>> {
+    let split = found.get_strs("addresses")?;
+    let last = words.get(words.len().checked_sub(split.len())?..)?;
+    if last
+        .iter()
+        .zip(split)
+        .all(|(word, text)| word.as_str() == *text)
+    {
+        Places::of(last)
+    } else {
+        None
+    }
 }

@@ -1,5 +1,6 @@
 //! Tests of what no contract says: that `clap` splits the words.
 
+use crate::sign_words::SignWords;
 use crate::split::split;
 use crate::trustee_words::TrusteeWords;
 use crate::words::{Command, DealWords};
@@ -79,6 +80,11 @@ fn clap_splits_the_words_of_a_dealing(rt: HostRuntime) -> Result<(), AllocError>
     });
     let found = split(rt.alloc(), words.as_slice());
     assert!(rt; matches!(found, Ok(Some(split)) if split == command));
+    Ok(())
+}
+
+#[test]
+fn clap_splits_the_words_of_a_rehearsal(rt: HostRuntime) -> Result<(), AllocError> {
     let words = words_of(rt.alloc(), &["rehearse", "e", "m", "k", "s"])?;
     let command = Command::Rehearse {
         entropy: "e",
@@ -89,4 +95,33 @@ fn clap_splits_the_words_of_a_dealing(rt: HostRuntime) -> Result<(), AllocError>
     let found = split(rt.alloc(), words.as_slice());
     assert!(rt; matches!(found, Ok(Some(split)) if split == command));
     Ok(())
+}
+
+#[test]
+fn clap_splits_the_words_of_signing(rt: HostRuntime) -> Result<(), AllocError> {
+    let lists: [&'static [&'static str]; 2] = [
+        &["sign", "p", "t", "m", "o", "07=h:7"],
+        &[
+            "sign", "p", "t", "m", "o", "2=b", "1=a", "3=c", "4=d", "5=e", "6=f", "7=h:7", "8=h",
+            "9=i", "10=j", "11=k", "12=l",
+        ],
+    ];
+    for texts in lists {
+        let words = words_of(rt.alloc(), texts)?;
+        let found = split(rt.alloc(), words.as_slice());
+        assert!(rt;
+            matches!(found, Ok(Some(Command::Sign(sign))) if are_split(&sign, texts.len() - 5))
+        );
+    }
+    Ok(())
+}
+
+/// Whether the words are those of the test, with this number of address words.
+fn are_split(sign: &SignWords<'_>, count: usize) -> bool {
+    sign.prefix == "p"
+        && sign.table == "t"
+        && sign.message == "m"
+        && sign.out == "o"
+        && sign.places.words.len() == count
+        && sign.places.list()[6] == Some("h:7")
 }

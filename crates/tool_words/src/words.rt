@@ -3,10 +3,14 @@
 ghost use Rattle.std.specs.Prelude.{◌≡◌, ◌≤◌, IfSome, map, option_map, string_bytes};
 ghost use Rattle.std.specs.Char.{is_ascii_digit};
 ghost use Rattle.std.specs.List.{list_all, list_any};
-ghost use Rattle.tool_words.specs.Words.{approve_of, command_of, deal_of, enrol_of, is_option, migrate_of, number_of};
-ghost use Rattle.tool_words.specs.Words.{number_within, rehearse_of, row_of, trustee_of, trustee_with, verify_of};
+ghost use Rattle.tool_words.specs.Words.{approve_of, command_of, deal_of, drill_of, enrol_of, is_option, migrate_of};
+ghost use Rattle.tool_words.specs.Words.{number_of, number_within, rehearse_of, row_of, sign_of, trustee_of};
+ghost use Rattle.tool_words.specs.Words.{trustee_with, verify_of};
 ghost use Rattle.tool_words.specs.Rows.{row};
 
+use crate::drill_words::DrillWords;
+use crate::places::Places;
+use crate::sign_words::SignWords;
 use crate::split::split;
 use crate::trustee_words::TrusteeWords;
 use std::alloc::Global;
@@ -80,15 +84,20 @@ pub enum Command<'a> {
     },
     /// Serves a trustee.
     Trustee(TrusteeWords<'a>),
+    /// Signs a message.
+    Sign(SignWords<'a>),
+    /// Runs sessions in memory under a schedule of events.
+    Drill(DrillWords),
 }
 
 /// The command that the words are, if they are one. The rule of the words decides, and `clap` splits them: its split
-/// is taken where it is the rule's.
+/// is taken where it is the rule's. Address words stay those that were given.
 pub fn command_of(alloc: Global, words: &[String]) -> Option<Command<'_>>
     ensures { option_map row result ≡ command_of (map string_bytes words.now) }
 {
     let ruled = ruled_command(words)?;
     match split(alloc, words) {
+        Ok(Some(Command::Sign(_))) => Some(ruled),
         Ok(Some(command)) if command == ruled => Some(command),
         _ => Some(ruled),
     }
@@ -131,6 +140,8 @@ fn row_of(words: &[String]) -> Option<Command<'_>>
         "migrate" => migrate_of(rest),
         "approve" => approve_of(rest),
         "trustee" => trustee_of(rest),
+        "sign" => sign_of(rest),
+        "drill" => drill_of(rest),
         _ => None,
     }
 }
@@ -272,6 +283,39 @@ fn trustee_with<'a>(
         workers: number_within(workers, 1, 64)?,
         connections: number_within(connections, 1, u32::MAX)?,
         book,
+    }))
+}
+
+/// The words after `sign`. What the names of the files that it reads begin with is not empty.
+fn sign_of(words: &[String]) -> Option<Command<'_>>
+    ensures { option_map row result ≡ sign_of (map string_bytes words.now) }
+{
+    let [prefix, table, message, out, addresses @ ..] = words else {
+        return None;
+    };
+    if prefix.as_str().is_empty() {
+        return None;
+    }
+    Some(Command::Sign(SignWords {
+        prefix: prefix.as_str(),
+        table: table.as_str(),
+        message: message.as_str(),
+        out: out.as_str(),
+        places: Places::of(addresses)?,
+    }))
+}
+
+/// The words after `drill`.
+fn drill_of(words: &[String]) -> Option<Command<'_>>
+    ensures { option_map row result ≡ drill_of (map string_bytes words.now) }
+{
+    let [number, sessions, events] = words else {
+        return None;
+    };
+    Some(Command::Drill(DrillWords {
+        number: number_of(number.as_str())?,
+        sessions: number_within(sessions.as_str(), 0, 10_000)?,
+        events: number_within(events.as_str(), 0, 100_000)?,
     }))
 }
 

@@ -2,6 +2,8 @@ use Rattle.std.proofs.Common.{◌≡◌, ◌⊎◌, List, [], refl}
 use Rattle.tool_base.specs.Ending as ending
 use Rattle.tool_base.specs.World.{from_to}
 use Rattle.tool_base.proofs.Writing.{ends_untouched}
+use Rattle.tool_base.proofs.Runs.{calm_none}
+use Rattle.tool_run.specs.Drill.{DrillEnds}
 use Rattle.tool_run.specs.Verify.{VerifyEnds}
 use Rattle.tool_run.proofs.tool.run_command.Goals as goal
 
@@ -33,3 +35,14 @@ returns-in-Approve-clause-ended g c = rw c.in-Approve.is (record { run = c.appro
 
 pub returns-in-Trustee-clause-ended : goal.returns-in-Trustee-clause-ended
 returns-in-Trustee-clause-ended g c = rw c.in-Trustee.is c.serve_trustee.ensures
+
+pub returns-in-Sign-clause-ended : goal.returns-in-Sign-clause-ended
+returns-in-Sign-clause-ended g c = rw c.in-Sign.is c.sign.ensures
+
+pub returns-in-Drill-clause-ended : goal.returns-in-Drill-clause-ended
+returns-in-Drill-clause-ended g c =
+    rw c.in-Drill.is (record {
+      run = ends_untouched _ _ (calm_none _) (λ end written. DrillEnds c.in-Drill.words.number c.in-Drill.words.sessions c.in-Drill.words.events end × (written ≡ [])) _
+          (c.drill_sessions.ensures, refl);
+      net = refl;
+    })

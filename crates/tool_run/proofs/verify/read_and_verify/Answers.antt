@@ -1,8 +1,14 @@
 use Rattle.std.proofs.lemmas.Result.{err_from_is_err_and}
 use Rattle.tool_run.specs.Verify.{verified}
 use Rattle.tool_base.proofs.Runs.{calm_none, calm_on, onward_none, onward_on, part_of}
-use Rattle.tool_run.proofs.Verifying.{message_not_read, signature_not_read}
+use Rattle.tool_run.proofs.Verifying.{key_not_read, message_not_read, signature_not_read}
 use Rattle.tool_run.proofs.verify.read_and_verify.Goals as goal
+
+pub returns-in_err-public-clause-refused : goal.returns-in_err-public-clause-refused
+returns-in_err-public-clause-refused g c =
+    let p = err_from_is_err_and c.from_residual.result c.from_residual.ensures.1 in
+    let read = c.in_err-public.ensures in
+    rw (p.1, p.2) (key_not_read _ _ _ _ _ (read.refused c.args.store.now c.read_key_file.new.store (part_of _ _ _ _ (calm_none _) (onward_none _))))
 
 pub returns-in_err-text-clause-refused : goal.returns-in_err-text-clause-refused
 returns-in_err-text-clause-refused g c =

@@ -6,7 +6,7 @@ use Rattle.trustee_service.specs.Trustees.{trustee_state}
 use Rattle.tool_words.specs.Rows.{trustee_words}
 use Rattle.tool_base.specs.Endings.{ending}
 use Rattle.tool_service.specs.Nets.{no_memory, no_ports}
-use Rattle.tool_service.proofs.Backs.{net_back}
+use Rattle.tool_base.proofs.Nets.{net_back}
 use Rattle.tool_service.proofs.Serving.{dated_by, net_ends, not_true, ports_many}
 use Rattle.tool_service.proofs.nets.serve_net.Goals as goal
 

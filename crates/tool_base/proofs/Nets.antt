@@ -1,7 +1,13 @@
 -- Ports of a net, out and back.
-use Rattle.std.proofs.Common.{◌≡◌, ◌+◌, ◌-◌, ℕ, List, length, Option, ◌∙◌, arith}
+use Rattle.std.proofs.Common.{◌≡◌, ◌+◌, ◌-◌, ℕ, List, length, Option, refl, ◌∙◌, arith}
 use Rattle.stream_io.specs.Net.{Gathers, MakesPorts, NetOnward, NetState, PortState, SameNet}
-use Rattle.tool_service.specs.Nets.{IsNetBack}
+use Rattle.tool_base.specs.World.{IsNetBack}
+
+pub net_none : (net : NetState) → IsNetBack net net
+net_none net = record {
+  onward = record { told = refl; steady = refl; count = omega arith; port_count = omega arith };
+  out = λ told. refl;
+}
 
 pub net_same : (old new : NetState) → SameNet old new → NetOnward old new → IsNetBack old new
 net_same old new same onward = record { onward = onward; out = λ told. same.out }

@@ -1,0 +1,40 @@
+-- The head of a reference that is read on its own.
+use Rattle.std.proofs.Common.{◌≡◌, ◌<◌, ◌≤◌, ◌∙◌, ℕ, List, ◌++◌, length, take, drop, Some, None, refl, sym, ap, arith}
+use Rattle.std.proofs.lemmas.Bool.{le-ltb, lt-ltb}
+use Rattle.std.proofs.lemmas.List.{length-drop, take-append-drop}
+use Rattle.share_files.specs.Head.{short_fault}
+use Rattle.share_files.specs.Reference.{reference_fault, reference_head, reference_head_fault, reference_length}
+use Rattle.share_files.specs.Sets.{CanBeDealt}
+use Rattle.share_files.specs.declared.faults.FileFault.{FileFault}
+use Rattle.share_files.specs.declared.faults.FileFault.TheVariants.{Length}
+use Rattle.share_files.specs.declared.reference.RefHeader.{RefHeader}
+use Rattle.share_files.proofs.FirstFault.{first_fault-failed, first_fault-passed}
+use Rattle.tool_desk.specs.Reference.{IsNoReference, IsReferenceOf}
+
+-- a file that is shorter than its head
+pub too_short : (bytes : List ℕ) (n : ℕ) → n ≡ length bytes → n < 32 → IsNoReference (Length n 32) bytes
+unfolding reference_fault
+too_short bytes n is short =
+    let test : short_fault 32 bytes ≡ Some (Length n 32) = rw (is, lt-ltb (length bytes) 32 (rw is at short)) refl in
+    record { fault_is = first_fault-failed _ _ _ test }
+
+-- a head that is refused in a file of this length
+pub head_refused : (bytes head : List ℕ) (n : ℕ) (fault : FileFault) → n ≡ length bytes → 32 ≤ n → head ≡ take 32 bytes
+    → reference_head_fault head n ≡ Some fault → IsNoReference fault bytes
+unfolding reference_fault
+head_refused bytes head n fault is long front refused =
+    let test : short_fault 32 bytes ≡ None = rw (le-ltb (length bytes) 32 (rw is at long)) refl in
+    let rest : reference_head_fault (take 32 bytes) (length bytes) ≡ Some fault = rw (front, is) at refused in
+    record { fault_is = first_fault-passed _ _ test ∙ first_fault-failed _ _ _ rest }
+
+-- a head that is read in a file of this length
+pub head_read : (bytes head : List ℕ) (n : ℕ) (header : RefHeader) → n ≡ length bytes → head ≡ take 32 bytes
+    → head ≡ reference_head header → n ≡ reference_length header → CanBeDealt header.params → IsReferenceOf header bytes
+head_read bytes head n header is front parts size dealt = record {
+  leaves = drop 32 bytes;
+  layout = record {
+    dealt = dealt;
+    leaves_are = omega (arith, is, size, length-drop 32 bytes);
+    parts = sym (take-append-drop 32 bytes) ∙ ap (λ start. start ++ drop 32 bytes) (sym front ∙ parts);
+  };
+}

@@ -1,0 +1,5 @@
+pub mod Grammars
+pub mod Heads
+pub mod Keys
+pub mod Placing
+pub mod Views

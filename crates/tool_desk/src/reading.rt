@@ -1,0 +1,66 @@
+//! Files of a dealing that are read whole.
+
+ghost use Rattle.std.specs.Prelude.{◌≡◌, IfOk, IfErr};
+ghost use Rattle.tool_base.specs.Endings.{ending};
+ghost use Rattle.tool_base.specs.World.{IsCalm, IsPart, from_to};
+ghost use Rattle.tool_desk.specs.Key.{FailsKey, IsKeyRead};
+ghost use Rattle.tool_desk.specs.Tree.{FailsTree, IsTreeRead};
+
+use crate::tree::DealtTree;
+use lms_bytes::{PublicKey, read_public};
+use memory::NoMemory;
+use merkle_path::Tree;
+use share_files::read_tree;
+use std::alloc::Global;
+use stream_io::Store;
+use tool_base::{Ending, FILE_LIMIT, read_file, unreadable};
+
+/// Reads a public key.
+pub fn read_key_file<S: Store>(
+    alloc: Global,
+    store: &mut S,
+    name: &str,
+) -> Result<PublicKey, Ending>
+    ensures key { (first last : S)
+        → IsPart (S.state first) (S.state store.old) (S.state store.new) (S.state last)
+        → IfOk result (IsKeyRead (from_to (S.state first) (S.state last)) name.now) }
+    ensures refused { (first last : S)
+        → IsPart (S.state first) (S.state store.old) (S.state store.new) (S.state last)
+        → IfErr result (λ end. FailsKey (from_to (S.state first) (S.state last)) name.now (ending end)) }
+    ensures calm { IsCalm (S.state store.old) (S.state store.new) }
+{
+    let bytes = read_file(alloc, store, name, FILE_LIMIT)?;
+    match read_public(&bytes) {
+        Ok(key) => Ok(key),
+        Err(fault) => Err(unreadable(alloc, name, fault.number())),
+    }
+}
+
+/// Reads a tree file.
+pub fn read_tree_file<S: Store>(
+    alloc: Global,
+    store: &mut S,
+    name: &str,
+) -> Result<DealtTree, Ending>
+    ensures tree { (first last : S)
+        → IsPart (S.state first) (S.state store.old) (S.state store.new) (S.state last)
+        → IfOk result (IsTreeRead (from_to (S.state first) (S.state last)) name.now) }
+    ensures refused { (first last : S)
+        → IsPart (S.state first) (S.state store.old) (S.state store.new) (S.state last)
+        → IfErr result (λ end. FailsTree (from_to (S.state first) (S.state last)) name.now (ending end)) }
+    ensures calm { IsCalm (S.state store.old) (S.state store.new) }
+{
+    let bytes = read_file(alloc, store, name, FILE_LIMIT)?;
+    let view = match read_tree(&bytes) {
+        Ok(view) => view,
+        Err(fault) => return Err(unreadable(alloc, name, fault.number())),
+    };
+    match Tree::of_nodes(alloc, &view.params, view.nodes) {
+        Ok(nodes) => Ok(DealtTree {
+            params: view.params,
+            id: view.id,
+            nodes,
+        }),
+        Err(NoMemory) => Err(Ending::NoMemory),
+    }
+}

@@ -1,0 +1,11 @@
+pub mod Causes
+pub mod Dealt
+pub mod Exacts
+pub mod Leases
+pub mod Overs
+pub mod Ports
+pub mod Signs
+pub mod Tables
+pub mod Views
+pub mod Whole
+pub mod Writes

@@ -1,0 +1,9 @@
+pub mod Faults
+pub mod Tables
+pub mod Ports
+pub mod Leases
+pub mod Signs
+pub mod Tasks
+pub mod Writes
+pub mod Sign
+pub mod Dealt

@@ -1,0 +1,43 @@
+//! What follows from the definitions. No function here does anything.
+
+ghost use Rattle.std.specs.Prelude.{◌≡◌, ℕ, List, Ok};
+ghost use Rattle.aggregator_node.specs.Runs.{CellsRead, HasRun};
+ghost use Rattle.aggregator_node.specs.declared.desk.Address.{Address};
+ghost use Rattle.disk_trait.specs.Faults.{Rose};
+ghost use Rattle.lms_verify.specs.UndividedKey.{UndividedKey, rfc_signature};
+ghost use Rattle.merkle_path.specs.Tree.{TreeNodes};
+ghost use Rattle.reference_value.specs.Dealing.{Dealing, leaf_randomizer};
+ghost use Rattle.session_core.specs.State.{State};
+ghost use Rattle.stream_io.specs.Net.{PortState};
+ghost use Rattle.tool_base.specs.Ending as ending;
+ghost use Rattle.tool_base.specs.Touched.{DeviceRose};
+ghost use Rattle.tool_base.specs.World.{from_to};
+ghost use Rattle.tool_signing.specs.Dealt.{IsDealt};
+ghost use Rattle.tool_signing.specs.Ports.{NetRun};
+ghost use Rattle.tool_signing.specs.Sign.{SigningRun};
+ghost use Rattle.tool_words.specs.Words.{SignWords};
+
+use stream_io::Store;
+
+/// The causes of three ends of `sign`: the store fails only where its count of faults rose, a device only where that of
+/// its disks and views rose, and the net only where its count of failed ports rose.
+pub fn causes<S: Store>(before: &S, after: &S)
+    ensures store { (words : SignWords) (net : NetRun)
+        → SigningRun words (from_to (S.state before.now) (S.state after.now)) net ending.StoreFailed
+        → Rose (S.state before.now).count (S.state after.now).count }
+    ensures device { (words : SignWords) (net : NetRun)
+        → SigningRun words (from_to (S.state before.now) (S.state after.now)) net ending.DeviceFailed
+        → DeviceRose (from_to (S.state before.now) (S.state after.now)) }
+    ensures net { (words : SignWords) (net : NetRun)
+        → SigningRun words (from_to (S.state before.now) (S.state after.now)) net ending.NetFailed
+        → Rose net.before.port_count net.after.port_count }
+{}
+
+/// A signature of a session over what a dealer made is that of the undivided key, for the session's leaf, the dealer's
+/// randomizer and the message.
+pub fn dealt_signature()
+    ensures { (d : Dealing) (key : UndividedKey) (addresses : List Address) (tree : TreeNodes) (reads : CellsRead)
+        (message : List ℕ) (before now : PortState) (s last : State) (bytes : List ℕ)
+        → HasRun addresses tree reads message before now s last (Ok bytes) → IsDealt d key reads tree message s last
+        → bytes ≡ rfc_signature key s.leaf (leaf_randomizer d s.leaf) message }
+{}

@@ -1,0 +1,9 @@
+//! The command that signs: one session over a port, with a leaf of a table.
+#![tactic(auto)]
+
+mod command;
+mod faults;
+pub mod laws;
+mod session;
+
+pub use command::sign;

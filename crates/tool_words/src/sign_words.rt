@@ -1,0 +1,18 @@
+//! The words after `sign`.
+
+use crate::places::Places;
+
+/// The words after `sign`.
+#[derive(Clone, Copy, Debug, PartialEq, Eq)]
+pub struct SignWords<'a> {
+    /// What the names of the key's, the tree's and the reference file begin with.
+    pub prefix: &'a str,
+    /// The name of the leaf table.
+    pub table: &'a str,
+    /// The name of the message's file.
+    pub message: &'a str,
+    /// The name that the signature is written under.
+    pub out: &'a str,
+    /// The places of trustees.
+    pub places: Places<'a>,
+}
