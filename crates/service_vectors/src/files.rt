@@ -41,14 +41,14 @@ fn long_asks(alloc: Global, front: &[u8]) -> Result<Vec<u8>, NoMemory> {
 /// A book of the trustee of this share, each slot of which lists another id: the header as the formats have it, and
 /// slots of which gate A is open and gate B is not.
 fn full_book(alloc: Global, share: &[u8]) -> Result<Vec<u8>, NoMemory> {
-    let mut book = vec![in alloc; 0; BLOCK]?;
-    let (number, set) = (share.get(5), share.get(8..32));
-    if let (Some(number), Some(set), Some(front)) = (number, set, book.get_mut(..32)) {
-        front[0] = 0xa7;
-        front[4] = 3;
-        front[5] = *number;
-        front[8..].copy_from_slice(set);
+    let mut header = [0; BLOCK];
+    header[0] = 0xa7;
+    header[4] = 3;
+    if let (Some(number), Some(set)) = (share.get(5), share.get(8..32)) {
+        header[5] = *number;
+        header[8..32].copy_from_slice(set);
     }
+    let mut book = Vec::from_slice(alloc, &header)?;
     for slot in 0..SLOTS {
         book.extend_from_slice(&[0xb1, 0, 0, 0])?;
         book.extend_from_slice(&slot.to_be_bytes())?;

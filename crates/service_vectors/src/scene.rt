@@ -47,7 +47,7 @@ fn link_of(alloc: Global, store: &MemStore, talk: &Talk) -> Result<MemLink, NoMe
 }
 
 /// A net that offers the place `here`, at whose ports these links wait, one at each. Where that is asked for, accepting
-/// fails at the second connection of the first port.
+/// fails at the first port.
 pub(crate) fn net_of(
     alloc: Global,
     store: &MemStore,
@@ -60,7 +60,7 @@ pub(crate) fn net_of(
     for (index, talk) in talks.iter().enumerate() {
         let mut script = PortScript::new(alloc);
         if deaf && index == 0 {
-            script.failing.push(1)?;
+            script.failing.push(0)?;
         }
         script.waiting.push(link_of(alloc, store, talk)?)?;
         scripts.push(script)?;

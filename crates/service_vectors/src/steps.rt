@@ -329,7 +329,7 @@ pub(crate) const FULL: &[Step] = &[Step {
     files: &[],
 }];
 
-/// Two workers. Accepting fails at the second connection of the first port: the other worker goes on.
+/// Two workers. Accepting fails at the first port: the other worker goes on.
 pub(crate) const DEAF: &[Step] = &[
     Step {
         words: "enrol share1 deaf1",

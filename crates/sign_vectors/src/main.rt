@@ -65,6 +65,7 @@ fn store_of_files(rt: HostRuntime) -> io::Result<MemStore> {
 
 /// A command over the store, or over the one whose files were changed, with a fault of a link or of a view. Where many
 /// are run in turn, a line is printed where it is another one than the one before.
+#[derive(Drop)]
 struct Run {
     step: Step,
     changed: bool,

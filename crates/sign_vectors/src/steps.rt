@@ -35,38 +35,61 @@ pub(crate) struct Step {
 /// How many bytes the reply to an ask of round one has, for hashes of 32 bytes.
 pub(crate) const FIRST_REPLY: usize = 97;
 
-/// A trustee who replies as another implementation's did.
-const fn peer(place: &'static str, replies: &'static str, asks: &'static str) -> Peer {
-    Peer {
-        place,
-        given: Given::File(replies),
-        asks: Some(asks),
-    }
-}
-
-/// The trustees 1, 2 and 3 of a session.
+/// The trustees 1, 2 and 3 of a session, who reply as another implementation's did.
 const SESSION: [Peer; 3] = [
-    peer("one", "replies1", "asks1"),
-    peer("two", "replies2", "asks2"),
-    peer("three", "replies3", "asks3"),
+    Peer {
+        place: "one",
+        given: Given::File("replies1"),
+        asks: Some("asks1"),
+    },
+    Peer {
+        place: "two",
+        given: Given::File("replies2"),
+        asks: Some("asks2"),
+    },
+    Peer {
+        place: "three",
+        given: Given::File("replies3"),
+        asks: Some("asks3"),
+    },
 ];
 
 /// The same over hashes of 24 bytes.
 const SESSION_24: [Peer; 3] = [
-    peer("one", "replies1.24", "asks1.24"),
-    peer("two", "replies2.24", "asks2.24"),
-    peer("three", "replies3.24", "asks3.24"),
+    Peer {
+        place: "one",
+        given: Given::File("replies1.24"),
+        asks: Some("asks1.24"),
+    },
+    Peer {
+        place: "two",
+        given: Given::File("replies2.24"),
+        asks: Some("asks2.24"),
+    },
+    Peer {
+        place: "three",
+        given: Given::File("replies3.24"),
+        asks: Some("asks3.24"),
+    },
 ];
 
 /// The link to trustee 2 ends behind its first reply.
 const LOST: [Peer; 3] = [
-    SESSION[0],
+    Peer {
+        place: "one",
+        given: Given::File("replies1"),
+        asks: Some("asks1"),
+    },
     Peer {
         place: "two",
         given: Given::Cut("replies2", FIRST_REPLY),
         asks: Some("asks2"),
     },
-    SESSION[2],
+    Peer {
+        place: "three",
+        given: Given::File("replies3"),
+        asks: Some("asks3"),
+    },
 ];
 
 /// Trustee 1 sends replies of trustee 2 first: seven are passed over.
@@ -76,8 +99,16 @@ const SEVEN: [Peer; 3] = [
         given: Given::Behind("replies2", 7, "replies1"),
         asks: Some("asks1"),
     },
-    SESSION[1],
-    SESSION[2],
+    Peer {
+        place: "two",
+        given: Given::File("replies2"),
+        asks: Some("asks2"),
+    },
+    Peer {
+        place: "three",
+        given: Given::File("replies3"),
+        asks: Some("asks3"),
+    },
 ];
 
 /// The same with eight.
@@ -87,8 +118,16 @@ const EIGHT: [Peer; 3] = [
         given: Given::Behind("replies2", 8, "replies1"),
         asks: None,
     },
-    SESSION[1],
-    SESSION[2],
+    Peer {
+        place: "two",
+        given: Given::File("replies2"),
+        asks: Some("asks2"),
+    },
+    Peer {
+        place: "three",
+        given: Given::File("replies3"),
+        asks: Some("asks3"),
+    },
 ];
 
 /// The link to trustee 1 gives a frame of no kind.
@@ -98,60 +137,151 @@ const GARBLED: [Peer; 1] = [Peer {
     asks: None,
 }];
 
-/// A command whose files are not looked at, with nobody to be dialled.
-const fn alone(words: &'static str) -> Step {
+/// The trustees of a session, whose asks are not looked at.
+const QUIET: [Peer; 3] = [
+    Peer {
+        place: "one",
+        given: Given::File("replies1"),
+        asks: None,
+    },
+    Peer {
+        place: "two",
+        given: Given::File("replies2"),
+        asks: None,
+    },
+    Peer {
+        place: "three",
+        given: Given::File("replies3"),
+        asks: None,
+    },
+];
+
+/// A key of 32-byte hashes: signed, and signed again; then outputs that are there, members that are no coalition, files
+/// that are not there or no table, a message that is too long, and words that are no command.
+pub(crate) const SIGN: &[Step] = &[
     Step {
-        words,
+        words: "deal entropy 5 3 5 3 A",
         peers: &[],
         out: None,
-    }
-}
-
-/// A key of 32-byte hashes: signed, and signed again.
-pub(crate) const SIGN: &[Step] = &[
-    alone("deal entropy 5 3 5 3 A"),
-    alone("enrol A.ref table"),
+    },
+    Step {
+        words: "enrol A.ref table",
+        peers: &[],
+        out: None,
+    },
     Step {
         words: "sign A table message out 1=one 2=two 3=three",
         peers: &SESSION,
         out: Some(("out", "signature")),
     },
-    alone("verify A.pub message out"),
+    Step {
+        words: "verify A.pub message out",
+        peers: &[],
+        out: None,
+    },
     Step {
         words: "sign A table message again 03=three 1=one 2=two",
         peers: &SESSION,
         out: Some(("again", "signature")),
     },
-    alone("sign A table message out 1=one 2=two 3=three"),
-    alone("sign A table message pair 1=one 2=two"),
-    alone("sign A table message four 1=one 2=two 3=three 4=four"),
-    alone("sign A none message more 1=one 2=two 3=three"),
-    alone("sign A A.tree message more 1=one 2=two 3=three"),
-    alone("sign A table none more 1=one 2=two 3=three"),
-    alone("sign A table long more 1=one 2=two 3=three"),
-    alone("sign X table message more 1=one 2=two 3=three"),
-    alone("sign A table message more 1=one 2=two 1=three"),
-    alone("sign A table message more 1=one 2=two 13=three"),
-    alone("sign A table message more 1=one 2=two 3="),
-    alone("sign A table message more"),
+    Step {
+        words: "sign A table message out 1=one 2=two 3=three",
+        peers: &[],
+        out: None,
+    },
+    Step {
+        words: "sign A table message pair 1=one 2=two",
+        peers: &[],
+        out: None,
+    },
+    Step {
+        words: "sign A table message four 1=one 2=two 3=three 4=four",
+        peers: &[],
+        out: None,
+    },
+    Step {
+        words: "sign A none message more 1=one 2=two 3=three",
+        peers: &[],
+        out: None,
+    },
+    Step {
+        words: "sign A A.tree message more 1=one 2=two 3=three",
+        peers: &[],
+        out: None,
+    },
+    Step {
+        words: "sign A table none more 1=one 2=two 3=three",
+        peers: &[],
+        out: None,
+    },
+    Step {
+        words: "sign A table long more 1=one 2=two 3=three",
+        peers: &[],
+        out: None,
+    },
+    Step {
+        words: "sign X table message more 1=one 2=two 3=three",
+        peers: &[],
+        out: None,
+    },
+    Step {
+        words: "sign A table message more 1=one 2=two 1=three",
+        peers: &[],
+        out: None,
+    },
+    Step {
+        words: "sign A table message more 1=one 2=two 13=three",
+        peers: &[],
+        out: None,
+    },
+    Step {
+        words: "sign A table message more 1=one 2=two 3=",
+        peers: &[],
+        out: None,
+    },
+    Step {
+        words: "sign A table message more",
+        peers: &[],
+        out: None,
+    },
 ];
 
 /// A key of 24-byte hashes.
 pub(crate) const SIGN_24: &[Step] = &[
-    alone("deal entropy 10 7 5 3 B"),
-    alone("enrol B.ref table.24"),
+    Step {
+        words: "deal entropy 10 7 5 3 B",
+        peers: &[],
+        out: None,
+    },
+    Step {
+        words: "enrol B.ref table.24",
+        peers: &[],
+        out: None,
+    },
     Step {
         words: "sign B table.24 message out.24 1=one 2=two 3=three",
         peers: &SESSION_24,
         out: Some(("out.24", "signature.24")),
     },
-    alone("verify B.pub message out.24"),
-    alone("sign A table.24 message more 1=one 2=two 3=three"),
+    Step {
+        words: "verify B.pub message out.24",
+        peers: &[],
+        out: None,
+    },
+    Step {
+        words: "sign A table.24 message more 1=one 2=two 3=three",
+        peers: &[],
+        out: None,
+    },
 ];
 
 /// Trustees that are lost, that stray, that send garbage, or who are not there; then all is well with the same leaf.
 pub(crate) const LOSE: &[Step] = &[
-    alone("enrol A.ref lost"),
+    Step {
+        words: "enrol A.ref lost",
+        peers: &[],
+        out: None,
+    },
     Step {
         words: "sign A lost message lost.out 1=one 2=two 3=three",
         peers: &LOST,
@@ -167,7 +297,11 @@ pub(crate) const LOSE: &[Step] = &[
         peers: &GARBLED,
         out: Some(("lost.out", "none")),
     },
-    alone("sign A lost message lost.out 1=one 2=two 3=three"),
+    Step {
+        words: "sign A lost message lost.out 1=one 2=two 3=three",
+        peers: &[],
+        out: None,
+    },
     Step {
         words: "sign A lost message lost.out 1=one 2=two 3=three",
         peers: &SEVEN,
@@ -177,12 +311,36 @@ pub(crate) const LOSE: &[Step] = &[
 
 /// Files that are not those of one dealing, or not whole.
 pub(crate) const CHANGED: &[Step] = &[
-    alone("sign OtherTree table message more 1=one 2=two 3=three"),
-    alone("sign OtherReference table message more 1=one 2=two 3=three"),
-    alone("sign ShortReference table message more 1=one 2=two 3=three"),
-    alone("sign NoReference table message more 1=one 2=two 3=three"),
-    alone("sign ShortTree table message more 1=one 2=two 3=three"),
-    alone("sign ShortKey table message more 1=one 2=two 3=three"),
+    Step {
+        words: "sign OtherTree table message more 1=one 2=two 3=three",
+        peers: &[],
+        out: None,
+    },
+    Step {
+        words: "sign OtherReference table message more 1=one 2=two 3=three",
+        peers: &[],
+        out: None,
+    },
+    Step {
+        words: "sign ShortReference table message more 1=one 2=two 3=three",
+        peers: &[],
+        out: None,
+    },
+    Step {
+        words: "sign NoReference table message more 1=one 2=two 3=three",
+        peers: &[],
+        out: None,
+    },
+    Step {
+        words: "sign ShortTree table message more 1=one 2=two 3=three",
+        peers: &[],
+        out: None,
+    },
+    Step {
+        words: "sign ShortKey table message more 1=one 2=two 3=three",
+        peers: &[],
+        out: None,
+    },
     Step {
         words: "sign ChangedReference table message more 1=one 2=two 3=three",
         peers: &SESSION,
@@ -192,34 +350,26 @@ pub(crate) const CHANGED: &[Step] = &[
 
 /// A command whose links fail, each under an output of its own.
 pub(crate) const FAULTY_LINKS: [Step; 3] = [
-    faulty("sign A lost message f1 1=one 2=two 3=three"),
-    faulty("sign A lost message f2 1=one 2=two 3=three"),
-    faulty("sign A lost message f3 1=one 2=two 3=three"),
+    Step {
+        words: "sign A lost message f1 1=one 2=two 3=three",
+        peers: &QUIET,
+        out: None,
+    },
+    Step {
+        words: "sign A lost message f2 1=one 2=two 3=three",
+        peers: &QUIET,
+        out: None,
+    },
+    Step {
+        words: "sign A lost message f3 1=one 2=two 3=three",
+        peers: &QUIET,
+        out: None,
+    },
 ];
 
 /// The same of one whose view fails.
-pub(crate) const FAULTY_VIEW: Step = faulty("sign A lost message f4 1=one 2=two 3=three");
-
-/// A command over a session whose files are not looked at.
-const fn faulty(words: &'static str) -> Step {
-    Step {
-        words,
-        peers: &QUIET,
-        out: None,
-    }
-}
-
-/// The trustees of a session, whose asks are not looked at.
-const QUIET: [Peer; 3] = [
-    quiet("one", "replies1"),
-    quiet("two", "replies2"),
-    quiet("three", "replies3"),
-];
-
-const fn quiet(place: &'static str, replies: &'static str) -> Peer {
-    Peer {
-        place,
-        given: Given::File(replies),
-        asks: None,
-    }
-}
+pub(crate) const FAULTY_VIEW: Step = Step {
+    words: "sign A lost message f4 1=one 2=two 3=three",
+    peers: &QUIET,
+    out: None,
+};
