@@ -5,7 +5,7 @@ use Rattle.std.specs.Prelude.{codes}
 use Rattle.std.specs.Option.{option_map}
 use Rattle.std.specs.Str.{bytes_eq}
 use Rattle.std.proofs.lemmas.Slice.Eq.{bytes_eq-Decides}
-use Rattle.tool_words.specs.Words.{Approve, Deal, DealWords, Drill, Enrol, Migrate, OutputsDiffer, Rehearse, Row, Sign, SignWords, Trustee, TrusteeWords, Verify, approve_of, command_of, deal_of, drill_of, enrol_of, is_option, migrate_of, number_of, number_within, places_of, rehearse_of, row_of, sign_of, trustee_of, verify_of}
+use Rattle.tool_words.specs.Words.{Aggregate, AggregateWords, Approve, Deal, DealWords, Drill, Enrol, Migrate, OutputsDiffer, Rehearse, Row, Sign, SignWords, Trustee, TrusteeWords, Verify, aggregate_of, approve_of, command_of, deal_of, drill_of, enrol_of, is_option, migrate_of, number_of, number_within, places_of, rehearse_of, row_of, sign_of, trustee_of, verify_of}
 
 -- of two rows the one that the test takes
 taken : (test : Bool) (a b : Option Row) (row : Row) → ((r : Row) → a ≡ Some r → OutputsDiffer r) → ((r : Row) → b ≡ Some r → OutputsDiffer r)
@@ -143,6 +143,32 @@ sign_differ (a ∷ b ∷ c ∷ []) row is = absurd (cc)
 sign_differ (a ∷ b ∷ c ∷ d ∷ more) row is =
     taken (length a == 0) None _ row none (with_places a b c d (places_of more)) is
 
+-- with places or none, and two numbers or fewer
+with_members : (prefix table place : List ℕ) (workers connections : Option ℕ) (places : Option (List (Option (List ℕ)))) (row : Row)
+    → elim workers [
+      | None ↦ None
+      | Some workers ↦ elim connections [
+        | None ↦ None
+        | Some connections ↦ option_map (λ places. Aggregate (record { prefix = prefix; table = table; place = place; workers = workers; connections = connections; places = places })) places
+      ]
+    ] ≡ Some row → OutputsDiffer row
+with_members prefix table place None connections places row is = absurd (cc)
+with_members prefix table place (Some workers) None places row is = absurd (cc)
+with_members prefix table place (Some workers) (Some connections) None row is = absurd (cc)
+with_members prefix table place (Some workers) (Some connections) (Some places) row is =
+    let words : AggregateWords = record { prefix = prefix; table = table; place = place; workers = workers; connections = connections; places = places } in
+    let same : Aggregate words ≡ row = cc in
+    subst OutputsDiffer same tt
+
+aggregate_differ : (words : List (List ℕ)) (row : Row) → aggregate_of words ≡ Some row → OutputsDiffer row
+aggregate_differ [] row is = absurd (cc)
+aggregate_differ (a ∷ []) row is = absurd (cc)
+aggregate_differ (a ∷ b ∷ []) row is = absurd (cc)
+aggregate_differ (a ∷ b ∷ c ∷ []) row is = absurd (cc)
+aggregate_differ (a ∷ b ∷ c ∷ d ∷ []) row is = absurd (cc)
+aggregate_differ (a ∷ b ∷ c ∷ d ∷ e ∷ more) row is =
+    taken (length a == 0) None _ row none (with_members a b c (number_within 1 64 d) (number_within 1 (2 ^ 32 - 1) e) (places_of more)) is
+
 -- with three numbers or fewer
 with_drill : (number sessions events : Option ℕ) (row : Row)
     → elim number [
@@ -176,7 +202,8 @@ row_differs (name ∷ words) row is =
     (λ row is. taken (bytes_eq name (codes "approve")) (approve_of words) _ row (approve_differ words)
     (λ row is. taken (bytes_eq name (codes "trustee")) (trustee_of words) _ row (trustee_differ words)
     (λ row is. taken (bytes_eq name (codes "sign")) (sign_of words) _ row (sign_differ words)
-    (λ row is. taken (bytes_eq name (codes "drill")) (drill_of words) None row (drill_differ words) none is) is) is) is) is) is) is) is) is
+    (λ row is. taken (bytes_eq name (codes "aggregate")) (aggregate_of words) _ row (aggregate_differ words)
+    (λ row is. taken (bytes_eq name (codes "drill")) (drill_of words) None row (drill_differ words) none is) is) is) is) is) is) is) is) is) is
 
 pub outputs_differ : (words : List (List ℕ)) (row : Row) → command_of words ≡ Some row → OutputsDiffer row
 unfolding command_of

@@ -1,4 +1,4 @@
 pub mod Addresses
 pub mod Commands
-pub mod Numbers
+pub mod Digits
 pub mod Options

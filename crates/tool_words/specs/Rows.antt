@@ -3,10 +3,11 @@ use Rattle.std.specs.Prelude.{map, string_bytes}
 use Rattle.std.specs.Option.{option_map}
 use Rattle.tool_words.specs.Words.{Row, places_named}
 use Rattle.tool_words.specs.Words as words
-use Rattle.tool_words.specs.declared.words.Command.{Command}
-use Rattle.tool_words.specs.declared.words.Command.TheVariants.{Verify, Rehearse, Deal, Enrol, Migrate, Approve}
-use Rattle.tool_words.specs.declared.words.Command.TheVariants.{Trustee, Sign, Drill}
-use Rattle.tool_words.specs.declared.words.DealWords.{DealWords}
+use Rattle.tool_words.specs.declared.command.Command.{Command}
+use Rattle.tool_words.specs.declared.command.Command.TheVariants.{Verify, Rehearse, Deal, Enrol, Migrate, Approve}
+use Rattle.tool_words.specs.declared.command.Command.TheVariants.{Trustee, Sign, Aggregate, Drill}
+use Rattle.tool_words.specs.declared.aggregate_words.AggregateWords.{AggregateWords}
+use Rattle.tool_words.specs.declared.deal_words.DealWords.{DealWords}
 use Rattle.tool_words.specs.declared.sign_words.SignWords.{SignWords}
 use Rattle.tool_words.specs.declared.trustee_words.TrusteeWords.{TrusteeWords}
 
@@ -42,6 +43,17 @@ sign_words sign = record {
   places = places_named (map string_bytes sign.places.words.now);
 }
 
+-- the words of `aggregate`, each as its bytes
+abbrev pub aggregate_words : AggregateWords → words.AggregateWords
+aggregate_words aggregate = record {
+  prefix = aggregate.prefix.now;
+  table = aggregate.table.now;
+  place = aggregate.place.now;
+  workers = aggregate.workers;
+  connections = aggregate.connections;
+  places = places_named (map string_bytes aggregate.places.words.now);
+}
+
 -- the bytes of the command's words
 abbrev pub row : Command → Row
 row (Verify key message signature) = words.Verify key.now message.now signature.now
@@ -53,4 +65,5 @@ row (Migrate share journal new) = words.Migrate share.now journal.now new.now
 row (Approve share book message) = words.Approve share.now book.now message.now
 row (Trustee trustee) = words.Trustee (trustee_words trustee)
 row (Sign sign) = words.Sign (sign_words sign)
+row (Aggregate aggregate) = words.Aggregate (aggregate_words aggregate)
 row (Drill drill) = words.Drill drill.number drill.sessions drill.events

@@ -33,6 +33,15 @@ pub record SignWords : Type 0 where
   pub out : List ℕ
   pub places : List (Option (List ℕ))
 
+-- the words after `aggregate`: the place of trustee t, or none, at t - 1
+pub record AggregateWords : Type 0 where
+  pub prefix : List ℕ
+  pub table : List ℕ
+  pub place : List ℕ
+  pub workers : ℕ
+  pub connections : ℕ
+  pub places : List (Option (List ℕ))
+
 -- a command with its words
 pub data Row : Type 0 where
   Verify : (key message signature : List ℕ) → Row
@@ -43,6 +52,7 @@ pub data Row : Type 0 where
   Approve : (share book message : List ℕ) → Row
   Trustee : (words : TrusteeWords) → Row
   Sign : (words : SignWords) → Row
+  Aggregate : (words : AggregateWords) → Row
   Drill : (number sessions events : ℕ) → Row
 
 -- the byte of `-`
@@ -189,6 +199,29 @@ sign_of (prefix ∷ table ∷ message ∷ out ∷ addresses) =
     (places_of addresses)
 sign_of words = None
 
+-- the words after `aggregate`: the names of the files that it reads begin with some byte, and there are 1 to 64
+-- workers, with 1 to 2^32 - 1 connections each
+abbrev pub aggregate_of : List (List ℕ) → Option Row
+aggregate_of (prefix ∷ table ∷ place ∷ workers ∷ connections ∷ addresses) =
+    if length prefix == 0 then None else
+    elim (number_within 1 64 workers) [
+      | None ↦ None
+      | Some workers ↦ elim (number_within 1 (2 ^ 32 - 1) connections) [
+        | None ↦ None
+        | Some connections ↦ option_map
+            (λ places. Aggregate (record {
+              prefix = prefix;
+              table = table;
+              place = place;
+              workers = workers;
+              connections = connections;
+              places = places;
+            }))
+            (places_of addresses)
+      ]
+    ]
+aggregate_of words = None
+
 -- the words after `drill`: at most 10,000 sessions, and at most 100,000 events
 abbrev pub drill_of : List (List ℕ) → Option Row
 drill_of (number ∷ sessions ∷ events ∷ []) =
@@ -213,6 +246,7 @@ row_of (name ∷ words) =
     if bytes_eq name (codes "approve") then approve_of words else
     if bytes_eq name (codes "trustee") then trustee_of words else
     if bytes_eq name (codes "sign") then sign_of words else
+    if bytes_eq name (codes "aggregate") then aggregate_of words else
     if bytes_eq name (codes "drill") then drill_of words else None
 
 -- the command that the words are, if they are one: none where a word begins with `-`
@@ -229,4 +263,5 @@ OutputsDiffer (Migrate share journal new) = ⊤
 OutputsDiffer (Approve share book message) = ⊤
 OutputsDiffer (Trustee words) = ⊤
 OutputsDiffer (Sign words) = ⊤
+OutputsDiffer (Aggregate words) = ⊤
 OutputsDiffer (Drill number sessions events) = ⊤

@@ -3,10 +3,10 @@
 ghost use Rattle.std.specs.Prelude.{◌≡◌, ◌≤◌, ◌-◌, IfSome, None, Some, if◌then◌else◌, map, option_map, string_bytes};
 ghost use Rattle.tool_words.specs.Words.{HasPlaces, address_of, places_named, places_of, with_address, with_addresses};
 
-use crate::words::number_within;
+use crate::numbers::number_within;
 
 /// The places of trustees, as one to twelve address words name them.
-#[derive(Clone, Copy, Debug, PartialEq, Eq)]
+#[derive(Clone, Copy)]
 pub struct Places<'a> {
     /// The address words.
     pub words: &'a [String],

@@ -3,7 +3,7 @@
 use crate::places::Places;
 
 /// The words after `sign`.
-#[derive(Clone, Copy, Debug, PartialEq, Eq)]
+#[derive(Clone, Copy)]
 pub struct SignWords<'a> {
     /// What the names of the key's, the tree's and the reference file begin with.
     pub prefix: &'a str,

@@ -1,116 +1,34 @@
-//! The words of a command.
+//! The rule of the words: which of them are a command.
 
-ghost use Rattle.std.specs.Prelude.{◌≡◌, ◌≤◌, IfSome, map, option_map, string_bytes};
-ghost use Rattle.std.specs.Char.{is_ascii_digit};
-ghost use Rattle.std.specs.List.{list_all, list_any};
-ghost use Rattle.tool_words.specs.Words.{approve_of, command_of, deal_of, drill_of, enrol_of, is_option, migrate_of};
-ghost use Rattle.tool_words.specs.Words.{number_of, number_within, rehearse_of, row_of, sign_of, trustee_of};
-ghost use Rattle.tool_words.specs.Words.{trustee_with, verify_of};
+ghost use Rattle.std.specs.Prelude.{◌≡◌, map, option_map, string_bytes};
+ghost use Rattle.std.specs.List.{list_any};
+ghost use Rattle.tool_words.specs.Words.{aggregate_of, approve_of, command_of, deal_of, drill_of, enrol_of, is_option};
+ghost use Rattle.tool_words.specs.Words.{migrate_of, rehearse_of, row_of, sign_of, trustee_of, trustee_with, verify_of};
 ghost use Rattle.tool_words.specs.Rows.{row};
 
+use crate::aggregate_words::AggregateWords;
+use crate::command::Command;
+use crate::deal_words::DealWords;
 use crate::drill_words::DrillWords;
+use crate::numbers::{number_of, number_within};
 use crate::places::Places;
 use crate::sign_words::SignWords;
 use crate::split::split;
 use crate::trustee_words::TrusteeWords;
 use std::alloc::Global;
 
-/// The words after `deal`.
-#[derive(Clone, Copy, Debug, PartialEq, Eq)]
-pub struct DealWords<'a> {
-    /// The name of the entropy's file.
-    pub entropy: &'a str,
-    /// The LMS typecode.
-    pub lms: u32,
-    /// The LM-OTS typecode.
-    pub ots: u32,
-    /// The number of trustees.
-    pub n: u32,
-    /// How many of them sign together.
-    pub k: u32,
-    /// What the names of the outputs begin with.
-    pub prefix: &'a str,
-}
-
-/// A command with its words.
-#[derive(Clone, Copy, Debug, PartialEq, Eq)]
-pub enum Command<'a> {
-    /// Verifies a signature of a message under a key.
-    Verify {
-        /// The name of the key's file.
-        key: &'a str,
-        /// The name of the message's file.
-        message: &'a str,
-        /// The name of the signature's file.
-        signature: &'a str,
-    },
-    /// Deals a key to two trustees and signs with its first leaf, in memory.
-    Rehearse {
-        /// The name of the entropy's file.
-        entropy: &'a str,
-        /// The name of the message's file.
-        message: &'a str,
-        /// The name that the public key is written under.
-        key_out: &'a str,
-        /// The name that the signature is written under, another one.
-        signature_out: &'a str,
-    },
-    /// Deals a key.
-    Deal(DealWords<'a>),
-    /// Makes the journal of a trustee, or the leaf table of an aggregator.
-    Enrol {
-        /// The name of the trustee's share, or of the reference file.
-        file: &'a str,
-        /// The name that the journal or the table is made under.
-        journal: &'a str,
-    },
-    /// Copies a journal of version 1 into one of version 2.
-    Migrate {
-        /// The name of the share's file.
-        share: &'a str,
-        /// The name of the journal.
-        journal: &'a str,
-        /// The name that the copy is made under.
-        new: &'a str,
-    },
-    /// Lists a message in a book of approved messages.
-    Approve {
-        /// The name of the share's file.
-        share: &'a str,
-        /// The name of the book.
-        book: &'a str,
-        /// The name of the message's file.
-        message: &'a str,
-    },
-    /// Serves a trustee.
-    Trustee(TrusteeWords<'a>),
-    /// Signs a message.
-    Sign(SignWords<'a>),
-    /// Runs sessions in memory under a schedule of events.
-    Drill(DrillWords),
-}
-
-/// The command that the words are, if they are one. The rule of the words decides, and `clap` splits them: its split
-/// is taken where it is the rule's. Address words stay those that were given.
+/// The command that the words are, if they are one. The rule of the words decides, and `clap` splits them: a word of
+/// its split is taken where it is the word of the rule. Numbers and address words are read from those that were given.
 pub fn command_of(alloc: Global, words: &[String]) -> Option<Command<'_>>
-    ensures { option_map row result ≡ command_of (map string_bytes words.now) }
-{
-    let ruled = ruled_command(words)?;
-    match split(alloc, words) {
-        Ok(Some(Command::Sign(_))) => Some(ruled),
-        Ok(Some(command)) if command == ruled => Some(command),
-        _ => Some(ruled),
-    }
-}
-
-/// The command that the words are by the rule, if they are one.
-fn ruled_command(words: &[String]) -> Option<Command<'_>>
     ensures { option_map row result ≡ command_of (map string_bytes words.now) }
 {
     if has_option(words) {
         return None;
     }
-    row_of(words)
+    match split(alloc, words) {
+        Ok(split) => row_of(words, split.as_slice()),
+        Err(_) => row_of(words, &[]),
+    }
 }
 
 /// Whether a word begins with `-`.
@@ -128,40 +46,41 @@ fn is_option(word: &str) -> bool
 }
 
 /// The words of a command, its name first.
-fn row_of(words: &[String]) -> Option<Command<'_>>
+fn row_of<'a>(words: &'a [String], split: &[&'a str]) -> Option<Command<'a>>
     ensures { option_map row result ≡ row_of (map string_bytes words.now) }
 {
     let (name, rest) = words.split_first()?;
-    match name.as_str() {
-        "verify" => verify_of(rest),
-        "rehearse" => rehearse_of(rest),
-        "deal" => deal_of(rest),
-        "enrol" => enrol_of(rest),
-        "migrate" => migrate_of(rest),
-        "approve" => approve_of(rest),
-        "trustee" => trustee_of(rest),
-        "sign" => sign_of(rest),
+    match word_at(split, 0, name.as_str()) {
+        "verify" => verify_of(rest, split),
+        "rehearse" => rehearse_of(rest, split),
+        "deal" => deal_of(rest, split),
+        "enrol" => enrol_of(rest, split),
+        "migrate" => migrate_of(rest, split),
+        "approve" => approve_of(rest, split),
+        "trustee" => trustee_of(rest, split),
+        "sign" => sign_of(rest, split),
+        "aggregate" => aggregate_of(rest, split),
         "drill" => drill_of(rest),
         _ => None,
     }
 }
 
 /// The words after `verify`.
-fn verify_of(words: &[String]) -> Option<Command<'_>>
+fn verify_of<'a>(words: &'a [String], split: &[&'a str]) -> Option<Command<'a>>
     ensures { option_map row result ≡ verify_of (map string_bytes words.now) }
 {
     let [key, message, signature] = words else {
         return None;
     };
     Some(Command::Verify {
-        key: key.as_str(),
-        message: message.as_str(),
-        signature: signature.as_str(),
+        key: word_at(split, 1, key.as_str()),
+        message: word_at(split, 2, message.as_str()),
+        signature: word_at(split, 3, signature.as_str()),
     })
 }
 
 /// The words after `rehearse`.
-fn rehearse_of(words: &[String]) -> Option<Command<'_>>
+fn rehearse_of<'a>(words: &'a [String], split: &[&'a str]) -> Option<Command<'a>>
     ensures { option_map row result ≡ rehearse_of (map string_bytes words.now) }
 {
     let [entropy, message, key_out, signature_out] = words else {
@@ -171,15 +90,15 @@ fn rehearse_of(words: &[String]) -> Option<Command<'_>>
         return None;
     }
     Some(Command::Rehearse {
-        entropy: entropy.as_str(),
-        message: message.as_str(),
-        key_out: key_out.as_str(),
-        signature_out: signature_out.as_str(),
+        entropy: word_at(split, 1, entropy.as_str()),
+        message: word_at(split, 2, message.as_str()),
+        key_out: word_at(split, 3, key_out.as_str()),
+        signature_out: word_at(split, 4, signature_out.as_str()),
     })
 }
 
 /// The words after `deal`. What the names of the outputs begin with is not empty.
-fn deal_of(words: &[String]) -> Option<Command<'_>>
+fn deal_of<'a>(words: &'a [String], split: &[&'a str]) -> Option<Command<'a>>
     ensures { option_map row result ≡ deal_of (map string_bytes words.now) }
 {
     let [entropy, lms, ots, n, k, prefix] = words else {
@@ -189,76 +108,76 @@ fn deal_of(words: &[String]) -> Option<Command<'_>>
         return None;
     }
     Some(Command::Deal(DealWords {
-        entropy: entropy.as_str(),
+        entropy: word_at(split, 1, entropy.as_str()),
         lms: number_of(lms.as_str())?,
         ots: number_of(ots.as_str())?,
         n: number_of(n.as_str())?,
         k: number_of(k.as_str())?,
-        prefix: prefix.as_str(),
+        prefix: word_at(split, 6, prefix.as_str()),
     }))
 }
 
 /// The words after `enrol`.
-fn enrol_of(words: &[String]) -> Option<Command<'_>>
+fn enrol_of<'a>(words: &'a [String], split: &[&'a str]) -> Option<Command<'a>>
     ensures { option_map row result ≡ enrol_of (map string_bytes words.now) }
 {
     let [file, journal] = words else {
         return None;
     };
     Some(Command::Enrol {
-        file: file.as_str(),
-        journal: journal.as_str(),
+        file: word_at(split, 1, file.as_str()),
+        journal: word_at(split, 2, journal.as_str()),
     })
 }
 
 /// The words after `migrate`.
-fn migrate_of(words: &[String]) -> Option<Command<'_>>
+fn migrate_of<'a>(words: &'a [String], split: &[&'a str]) -> Option<Command<'a>>
     ensures { option_map row result ≡ migrate_of (map string_bytes words.now) }
 {
     let [share, journal, new] = words else {
         return None;
     };
     Some(Command::Migrate {
-        share: share.as_str(),
-        journal: journal.as_str(),
-        new: new.as_str(),
+        share: word_at(split, 1, share.as_str()),
+        journal: word_at(split, 2, journal.as_str()),
+        new: word_at(split, 3, new.as_str()),
     })
 }
 
 /// The words after `approve`.
-fn approve_of(words: &[String]) -> Option<Command<'_>>
+fn approve_of<'a>(words: &'a [String], split: &[&'a str]) -> Option<Command<'a>>
     ensures { option_map row result ≡ approve_of (map string_bytes words.now) }
 {
     let [share, book, message] = words else {
         return None;
     };
     Some(Command::Approve {
-        share: share.as_str(),
-        book: book.as_str(),
-        message: message.as_str(),
+        share: word_at(split, 1, share.as_str()),
+        book: word_at(split, 2, book.as_str()),
+        message: word_at(split, 3, message.as_str()),
     })
 }
 
 /// The words after `trustee`.
-fn trustee_of(words: &[String]) -> Option<Command<'_>>
+fn trustee_of<'a>(words: &'a [String], split: &[&'a str]) -> Option<Command<'a>>
     ensures { option_map row result ≡ trustee_of (map string_bytes words.now) }
 {
     match words {
         [share, journal, place, workers, connections] => trustee_with(
-            share.as_str(),
-            journal.as_str(),
-            place.as_str(),
+            word_at(split, 1, share.as_str()),
+            word_at(split, 2, journal.as_str()),
+            word_at(split, 3, place.as_str()),
             workers.as_str(),
             connections.as_str(),
             None,
         ),
         [share, journal, place, workers, connections, book] => trustee_with(
-            share.as_str(),
-            journal.as_str(),
-            place.as_str(),
+            word_at(split, 1, share.as_str()),
+            word_at(split, 2, journal.as_str()),
+            word_at(split, 3, place.as_str()),
             workers.as_str(),
             connections.as_str(),
-            Some(book.as_str()),
+            Some(word_at(split, 6, book.as_str())),
         ),
         _ => None,
     }
@@ -287,7 +206,7 @@ fn trustee_with<'a>(
 }
 
 /// The words after `sign`. What the names of the files that it reads begin with is not empty.
-fn sign_of(words: &[String]) -> Option<Command<'_>>
+fn sign_of<'a>(words: &'a [String], split: &[&'a str]) -> Option<Command<'a>>
     ensures { option_map row result ≡ sign_of (map string_bytes words.now) }
 {
     let [prefix, table, message, out, addresses @ ..] = words else {
@@ -296,12 +215,36 @@ fn sign_of(words: &[String]) -> Option<Command<'_>>
     if prefix.as_str().is_empty() {
         return None;
     }
+    let places = Places::of(addresses)?;
     Some(Command::Sign(SignWords {
-        prefix: prefix.as_str(),
-        table: table.as_str(),
-        message: message.as_str(),
-        out: out.as_str(),
-        places: Places::of(addresses)?,
+        prefix: word_at(split, 1, prefix.as_str()),
+        table: word_at(split, 2, table.as_str()),
+        message: word_at(split, 3, message.as_str()),
+        out: word_at(split, 4, out.as_str()),
+        places,
+    }))
+}
+
+/// The words after `aggregate`. What the names of the files that it reads begin with is not empty.
+fn aggregate_of<'a>(words: &'a [String], split: &[&'a str]) -> Option<Command<'a>>
+    ensures { option_map row result ≡ aggregate_of (map string_bytes words.now) }
+{
+    let [prefix, table, place, workers, connections, addresses @ ..] = words else {
+        return None;
+    };
+    if prefix.as_str().is_empty() {
+        return None;
+    }
+    let workers = number_within(workers.as_str(), 1, 64)?;
+    let connections = number_within(connections.as_str(), 1, u32::MAX)?;
+    let places = Places::of(addresses)?;
+    Some(Command::Aggregate(AggregateWords {
+        prefix: word_at(split, 1, prefix.as_str()),
+        table: word_at(split, 2, table.as_str()),
+        place: word_at(split, 3, place.as_str()),
+        workers,
+        connections,
+        places,
     }))
 }
 
@@ -319,32 +262,12 @@ fn drill_of(words: &[String]) -> Option<Command<'_>>
     }))
 }
 
-/// The number that a word is, if it is one from `least` to `most`.
-pub(crate) fn number_within(word: &str, least: u32, most: u32) -> Option<u32>
-    ensures number { result ≡ number_within least most word.now }
-    ensures within { IfSome result (λ number. (least ≤ number) × (number ≤ most)) }
+/// The word of the split at this place, where it is this word; else the word itself.
+fn word_at<'a>(split: &[&'a str], place: usize, word: &'a str) -> &'a str
+    ensures { result.now ≡ word.now }
 {
-    let number = number_of(word)?;
-    if least <= number && number <= most {
-        Some(number)
-    } else {
-        None
+    match split.get(place) {
+        Some(found) if *found == word => found,
+        _ => word,
     }
-}
-
-/// The number that a word is: one to ten decimal digits of a number below 2^32.
-pub(crate) fn number_of(word: &str) -> Option<u32>
-    ensures { result ≡ number_of word.now }
-{
-    if word.len() > 10 || !is_decimal(word) {
-        return None;
-    }
-    word.parse().ok()
-}
-
-/// Whether the word has decimal digits alone.
-fn is_decimal(word: &str) -> bool
-    ensures { result ≡ list_all is_ascii_digit word.now }
-{
-    word.as_bytes().iter().all(|digit| digit.is_ascii_digit())
 }

@@ -1,7 +1,7 @@
 use Rattle.std.proofs.Common.{◌∙◌, arith}
-use Rattle.tool_words.proofs.Numbers.{all_digits, long_none, number_read, other_none}
-use Rattle.tool_words.proofs.words.number_of.Goals as goal
-use Rattle.tool_words.proofs.words.number_of.Goals.{then-word-gt10-via-then-word-gt10, then-word-gt10-via-else-word-gt10+then-not-is_decimal}
+use Rattle.tool_words.proofs.Digits.{all_digits, long_none, number_read, other_none}
+use Rattle.tool_words.proofs.numbers.number_of.Goals as goal
+use Rattle.tool_words.proofs.numbers.number_of.Goals.{then-word-gt10-via-then-word-gt10, then-word-gt10-via-else-word-gt10+then-not-is_decimal}
 
 pub returns-then-word-gt10 : goal.returns-then-word-gt10
 returns-then-word-gt10 c =

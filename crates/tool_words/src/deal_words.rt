@@ -1,0 +1,18 @@
+//! The words after `deal`.
+
+/// The words after `deal`.
+#[derive(Clone, Copy)]
+pub struct DealWords<'a> {
+    /// The name of the entropy's file.
+    pub entropy: &'a str,
+    /// The LMS typecode.
+    pub lms: u32,
+    /// The LM-OTS typecode.
+    pub ots: u32,
+    /// The number of trustees.
+    pub n: u32,
+    /// How many of them sign together.
+    pub k: u32,
+    /// What the names of the outputs begin with.
+    pub prefix: &'a str,
+}
