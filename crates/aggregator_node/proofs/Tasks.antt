@@ -24,7 +24,7 @@ onward-then a b c x y = record {
 }
 
 pub dials-then : (a b c : PortState) → OnlyDials a b → OnlyDials b c → OnlyDials a c
-dials-then a b c x y = record { onward = onward-then a b c x.onward y.onward; talks = y.talks ∙ x.talks }
+dials-then a b c x y = record { onward = onward-then a b c x.onward y.onward; talks = y.talks ∙ x.talks; accepting = y.accepting ∙ x.accepting }
 
 pub same-then : (a b c : State) → SameAsk a b → SameAsk b c → SameAsk a c
 same-then a b c x y = record {

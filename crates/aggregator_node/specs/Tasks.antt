@@ -36,3 +36,4 @@ pub record IsExact {C : Type 0} (c : cells.Ghosts C) (f : faults.Ghosts C) (r : 
 pub record OnlyDials (old new : PortState) : Type 0 where
   pub onward : PortOnward old new
   pub talks : new.talks ≡ old.talks
+  pub accepting : new.accept_count ≡ old.accept_count

@@ -58,6 +58,7 @@ pub fn run_session<R: Cells, P: Port>(
     ensures reference { result ≡ Err (SignFault.Session Reference) → Rose (R.count cells.old) (R.count cells.new) }
     ensures succeeds { IsExact R.Cells.own R.Faults cells.old → result ≢ Err (SignFault.Session Reference) }
     ensures onward { PortOnward (P.state port.old) (P.state port.new) }
+    ensures accepting { (P.state port.new).accept_count ≡ (P.state port.old).accept_count }
     ensures stays { CellsStay R.Cells.own R.Faults cells.old cells.new }
 {
     let members = members_of(alloc, desk.plan, session.leaf())?;
@@ -107,6 +108,7 @@ fn hang_up_all<P: Port>(port: &mut P, mut links: Vec<P::Link>)
     ensures kept { IsTrue (P.state port.old).told → (P.state port.new).talks
         ≡ (P.state port.old).talks ++ map (λ link. P.Link.talk link) links.items }
     ensures onward { PortOnward (P.state port.old) (P.state port.new) }
+    ensures accepting { (P.state port.new).accept_count ≡ (P.state port.old).accept_count }
 {
     for _ in 0..links.len() {
         port.hang_up(links.remove(0));

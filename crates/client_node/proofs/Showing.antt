@@ -1,10 +1,10 @@
 -- What signing shows in the log.
-use Rattle.std.proofs.Common.{◌≡◌, ◌⊎◌, ◌+◌, ◌^◌, ◌≤◌, ◌<◌, ℕ, List, [], ◌∷◌, ◌++◌, length, drop, None, Some, Option, IfSome, Result, Ok, Err, is_some, if◌then◌else◌, refl, sym, ap, ◌∙◌, subst, arith, inl, inr, append-nil}
+use Rattle.std.proofs.Common.{◌≡◌, ◌⊎◌, ◌+◌, ◌^◌, ◌≤◌, ◌<◌, ℕ, List, [], ◌∷◌, ◌++◌, length, drop, None, Some, Option, IfSome, Result, Ok, Err, is_some, if◌then◌else◌, refl, sym, ap, ◌∙◌, subst, arith, inl, inr, append_assoc, append-nil}
 use Rattle.std.proofs.Math.Seq.{drop-append_seam, drop-length}
 use mathlib.Core.List.{IsPrefix}
 use Rattle.aggregator_node.specs.Runs.{CellsRead}
 use Rattle.aggregator_node.specs.declared.fault.SignFault.{SignFault}
-use Rattle.client_node.specs.Logs.{BurningShows, DiskFailed, IsBurning, LeaseShows, Refuses, Shows, SlotDamaged}
+use Rattle.client_node.specs.Logs.{BurningShows, DiskFailed, IsBurning, LeaseShows, Refuses, Shown, SlotDamaged}
 use Rattle.client_node.specs.Logs as logs
 use Rattle.client_node.specs.Signing.{Burning, LeaseTurn, SignsInTurns, asked, no_turn}
 use Rattle.client_node.specs.Signing as signing
@@ -173,7 +173,7 @@ abbrev TurnShows : PlanNumbers → List ℕ → MessageId → (old new : Seen Le
 TurnShows plan members message old new (Ok leaf) =
     (added : List Lease) × LeaseShows plan members message old.log new.log leaf added × (new.floor ≡ 0 → new.own ≡ old.own ++ added)
     × (new.draws ≡ old.draws + 1) × (new.greatest < 2 ^ 62) × (old.rises ≤ new.rises)
-TurnShows plan members message old new (Err fault) = Shows plan members message old new (Err fault)
+TurnShows plan members message old new (Err fault) = Shown plan members message old new (Err fault)
 
 named-plan : (plan : PlanNumbers) (name : Option TableName) (mine : TableName) → Some mine ≡ name → IfSome name (λ n. n.plan ≡ plan) → mine.plan ≡ plan
 named-plan plan name mine named is = subst (λ (o : Option TableName). IfSome o (λ n. n.plan ≡ plan)) (sym named) is
@@ -186,13 +186,14 @@ asked-answers plan members message old new before after answer is t a =
 
 turn-shows : (plan : PlanNumbers) (members : List ℕ) (message : MessageId) (old new : Seen Lease TableName) (result : Result ℕ SignFault)
     → IfSome old.name (λ n. n.plan ≡ plan) → LeaseTurn members message old new result → TurnShows plan members message old new result
-turn-shows plan members message old new result is (no_turn t) = logs.no_turn t
+turn-shows plan members message old new result is (no_turn t) =
+    record { added = []; shows = logs.no_turn t; own = λ zero. t.own ∙ sym (append-nil old.own) }
 turn-shows plan members message old new result is (asked before after (Ok leaf) t a) =
     let shown = asked-answers plan members message old new before after (Ok leaf) is t a in
     (shown.0, shown.1, shown.2, t.draws, t.fresh, rises-on t a.entered)
 turn-shows plan members message old new result is (asked before after (Err why) t a) =
     let shown = asked-answers plan members message old new before after (Err why) is t a in
-    logs.refused why shown.0 t.draws shown.1
+    record { added = []; shows = logs.refused why shown.0 t.draws; own = λ zero. shown.1 zero ∙ sym (append-nil old.own) }
 
 -- what burning, or none, shows
 record BurnShows (first old new : Seen Lease TableName) (leaf : ℕ) (spent : Option ℕ) : Type 0 where
@@ -254,12 +255,16 @@ longer plan members message old log more leaf added l on = record {
 
 pub shows : (plan : PlanNumbers) (desk : DeskState) (reads : CellsRead) (members message : List ℕ) (old : Seen Lease TableName) (port : PortState) (new : Seen Lease TableName) (now : PortState)
     (result : Result Signature SignFault) → IfSome old.name (λ n. n.plan ≡ plan) → SignsInTurns desk reads members message old port new now result
-    → Shows plan members (message_id message) old new result
-shows plan desk reads members message old port new now result is (signing.too_long long unread) = logs.too_long (length message) refl
+    → Shown plan members (message_id message) old new result
+shows plan desk reads members message old port new now result is (signing.too_long long unread) =
+    record { added = []; shows = logs.too_long (length message) refl; own = λ zero. sym (append-nil old.own) }
 shows plan desk reads members message old port new now result is (signing.not_leased last fault short unread turn) =
     turn-shows plan members (message_id message) old last (Err fault) is turn
 shows plan desk reads members message old port new now result is (signing.leased leaf mid last after outcome short turn runs burns) =
     let l = turn-shows plan members (message_id message) old mid (Ok leaf) is turn in
     let b = burn-shows old mid last leaf (message_id message) (spent_by outcome) l.3 l.4 l.5 burns in
-    logs.leased leaf l.0 b.burning outcome (longer plan members (message_id message) old.log mid.log last.log leaf l.0 l.1 b.log) b.draws b.shows b.is
-    (λ zero. b.own zero ∙ ap (λ (o : List Lease). o ++ b.burning) (l.2 (let f = b.floor in omega (arith, f, zero))))
+    record {
+      added = l.0 ++ b.burning;
+      shows = logs.leased leaf l.0 b.burning outcome (longer plan members (message_id message) old.log mid.log last.log leaf l.0 l.1 b.log) b.draws b.shows b.is;
+      own = λ zero. b.own zero ∙ ap (λ (o : List Lease). o ++ b.burning) (l.2 (let f = b.floor in omega (arith, f, zero))) ∙ append_assoc old.own l.0 b.burning;
+    }

@@ -1,5 +1,6 @@
 -- A client's connection: its requests are read one after the other, and each is signed and answered.
-use Rattle.std.specs.Prelude.{◌≡◌, ◌≢◌, ◌+◌, ◌++◌, ℕ, Bool, List, Option, None, Some, Result, Ok, Err, IfOk, IsTrue}
+use Rattle.std.specs.Prelude.{◌≡◌, ◌≢◌, ◌+◌, ◌++◌, ℕ, Bool, List, [], ◌∷◌, length, Option, None, Some, Result, Ok, Err}
+use Rattle.std.specs.Prelude.{IfOk, IsTrue}
 use Rattle.aggregator_node.specs.declared.fault.SignFault.{SignFault}
 use Rattle.aggregator_node.specs.declared.fault.SignFault.TheVariants as sign
 use Rattle.client_node.specs.Failures.{failure_of}
@@ -21,6 +22,7 @@ use Rattle.round_frames.specs.declared.fault.FrameFault.TheVariants as frame
 use Rattle.session_core.specs.declared.faults.SessionFault as session
 use Rattle.session_core.specs.declared.faults.SessionFault.TheVariants.{MemberRefused, Missing, Reference, SpentLeaf}
 use Rattle.session_core.specs.declared.faults.SessionFault.TheVariants.{WrongCheck, WrongRoot}
+use Rattle.share_files.specs.Reference.{leaves_length}
 use Rattle.stream_io.specs.Net.{PortState}
 use Rattle.stream_io.specs.Store.{RisesWhere}
 use Rattle.stream_io.specs.Talk.{OnlyRead, OnlyWrote, Talk, WrotePart}
@@ -95,49 +97,92 @@ pub record FailedToReply (old new : Talk) (bytes : List ℕ) : Type 0 where
   pub only : OnlyWrote old new
   pub rose : Rose old.count new.count
 
--- what signing a message made of pass, port and cells, and its outcome
-pub record IsSigned (desk : DeskState) (told : Bool) (leaves : List ℕ) (old new : Stand) (members message : List ℕ)
-    (outcome : Result Signature SignFault) : Type 0 where
-  pub read : List ℕ
-  pub read_is : IsTrue told → read ≡ leaves
-  pub signs : SignsInTurns desk (record { told = told; leaves = read; before = old.faults; now = new.faults }) members
-      message old.pass old.port new.pass new.port outcome
-  pub shows : Shows desk.plan members (message_id message) old.pass new.pass outcome
-  pub accepted : IfOk outcome (λ signature. AcceptsAt desk.key message signature.bytes signature.leaf)
-  pub port : PortCauses old.port new.port outcome
-  pub reference : outcome ≡ Err (sign.Session Reference) → Rose old.faults new.faults
+-- the reference that is read: whether it is told, whether its calls fail for their arguments alone, and its leaves
+pub record ReferenceState : Type 0 where
+  pub told : Bool
+  pub steady : Bool
+  pub leaves : List ℕ
 
--- a request was read and signed, and is still to be answered
-pub record Exchange (desk : DeskState) (told : Bool) (leaves : List ℕ) (old new : Stand)
-    (outcome : Result Signature SignFault) : Type 0 where
+-- the reference gives what it has whenever it is asked: a steady one that tells all leaves
+pub record IsExact (desk : DeskState) (reference : ReferenceState) : Type 0 where
+  pub steady : IsTrue reference.steady
+  pub told : IsTrue reference.told
+  pub whole : length reference.leaves ≡ leaves_length desk.key.params desk.plan
+
+-- the same reference at a later time
+pub record SameReference (old new : ReferenceState) : Type 0 where
+  pub told : new.told ≡ old.told
+  pub steady : new.steady ≡ old.steady
+  pub leaves : IsTrue old.told → new.leaves ≡ old.leaves
+
+-- a request that was read: these trustees were to sign this message. What came of it, and the entries that it added.
+pub record Request : Type 0 where
   pub members : List ℕ
   pub message : List ℕ
-  pub request : RequestRead old.talk new.talk members message
-  pub signed : IsSigned desk told leaves old new members message outcome
+  pub outcome : Result Signature SignFault
+  pub added : List Lease
 
--- One request: how many replies were written whole, and how the connection ends behind it, if it does. The cells that
--- are read have these leaves, if they are told.
-pub data Answers (desk : DeskState) (told : Bool) (leaves : List ℕ) (old : Stand)
-    : ℕ → Option ServedEnd → Stand → Type 0 where
+-- What signing the message of a request made of pass, port and cells. Before the first fault the pass has added just
+-- the entries of the request. The reference is found unread only where its count rose, and never where it gives what
+-- it has.
+pub record IsSigned (desk : DeskState) (reference : ReferenceState) (old new : Stand) (request : Request) : Type 0 where
+  pub read : List ℕ
+  pub read_is : IsTrue reference.told → read ≡ reference.leaves
+  pub signs : SignsInTurns desk
+      (record { told = reference.told; leaves = read; before = old.faults; now = new.faults }) request.members
+      request.message old.pass old.port new.pass new.port request.outcome
+  pub shows : Shows desk.plan request.members (message_id request.message) old.pass new.pass request.outcome
+      request.added
+  pub own : new.pass.floor ≡ 0 → new.pass.own ≡ old.pass.own ++ request.added
+  pub accepted : IfOk request.outcome
+      (λ signature. AcceptsAt desk.key request.message signature.bytes signature.leaf)
+  pub port : PortCauses old.port new.port request.outcome
+  pub rises : request.outcome ≡ Err (sign.Session Reference) → Rose old.faults new.faults
+  pub succeeds : IsExact desk reference → request.outcome ≢ Err (sign.Session Reference)
+
+-- a request was read and signed, and is still to be answered
+pub record Exchange (desk : DeskState) (reference : ReferenceState) (old new : Stand) (request : Request) : Type 0 where
+  pub read : RequestRead old.talk new.talk request.members request.message
+  pub signed : IsSigned desk reference old new request
+
+-- One request: what it was, if it was read whole, how many replies were written whole, and how the connection ends
+-- behind it, if it does.
+pub data Answers (desk : DeskState) (reference : ReferenceState) (old : Stand)
+    : List Request → ℕ → Option ServedEnd → Stand → Type 0 where
   no_request : (talk : Talk) (fault : FrameFault) → fault ≢ frame.NoMemory → NoRequest old.talk talk fault
-      → Answers desk told leaves old 0 (Some (end_by fault)) (record old { talk = talk })
+      → Answers desk reference old [] 0 (Some (end_by fault)) (record old { talk = talk })
   no_room : (mid talk : Talk) → NoRoom old.talk mid → HasReplied mid talk (reply_frame (Err sign.NoMemory))
-      → Answers desk told leaves old 1 (Some (Frame frame.NoMemory)) (record old { talk = talk })
+      → Answers desk reference old [] 1 (Some (Frame frame.NoMemory)) (record old { talk = talk })
   no_room_unanswered : (mid talk : Talk) → NoRoom old.talk mid
       → FailedToReply mid talk (reply_frame (Err sign.NoMemory))
-      → Answers desk told leaves old 0 (Some WriteFailed) (record old { talk = talk })
-  answered : (mid : Stand) (talk : Talk) (outcome : Result Signature SignFault)
-      → Exchange desk told leaves old mid outcome → HasReplied mid.talk talk (reply_frame outcome)
-      → Answers desk told leaves old 1 (end_after outcome) (record mid { talk = talk })
-  unanswered : (mid : Stand) (talk : Talk) (outcome : Result Signature SignFault)
-      → Exchange desk told leaves old mid outcome → FailedToReply mid.talk talk (reply_frame outcome)
-      → Answers desk told leaves old 0 (Some WriteFailed) (record mid { talk = talk })
+      → Answers desk reference old [] 0 (Some WriteFailed) (record old { talk = talk })
+  answered : (mid : Stand) (talk : Talk) (request : Request) → Exchange desk reference old mid request
+      → HasReplied mid.talk talk (reply_frame request.outcome)
+      → Answers desk reference old (request ∷ []) 1 (end_after request.outcome) (record mid { talk = talk })
+  unanswered : (mid : Stand) (talk : Talk) (request : Request) → Exchange desk reference old mid request
+      → FailedToReply mid.talk talk (reply_frame request.outcome)
+      → Answers desk reference old (request ∷ []) 0 (Some WriteFailed) (record mid { talk = talk })
 
--- A connection from where it stands: its requests in their order, with how many replies were written whole in all, and
--- how it ended: by a request that was the last, or since it was full.
-pub data Serves (desk : DeskState) (told : Bool) (leaves : List ℕ) : Stand → ℕ → ServedEnd → Stand → Type 0 where
-  ended : (old new : Stand) (replies : ℕ) (end : ServedEnd) → Answers desk told leaves old replies (Some end) new
-      → Serves desk told leaves old replies end new
-  more : (old mid new : Stand) (replies others : ℕ) (end : ServedEnd) → Answers desk told leaves old replies None mid
-      → Serves desk told leaves mid others end new → Serves desk told leaves old (replies + others) end new
-  full : (old : Stand) → Serves desk told leaves old 0 Full old
+-- internal: the same, with the request that there was
+pub record HasAnswered (desk : DeskState) (reference : ReferenceState) (old new : Stand) (replies : ℕ)
+    (ended : Option ServedEnd) : Type 0 where
+  pub requests : List Request
+  pub answers : Answers desk reference old requests replies ended new
+
+-- A connection from where it stands: the requests that were read whole, in their order, how many replies were written
+-- whole in all, and how it ended: by a request that was the last, or since it was full.
+pub data Serves (desk : DeskState) (reference : ReferenceState)
+    : Stand → List Request → ℕ → ServedEnd → Stand → Type 0 where
+  ended : (old new : Stand) (requests : List Request) (replies : ℕ) (end : ServedEnd)
+      → Answers desk reference old requests replies (Some end) new
+      → Serves desk reference old requests replies end new
+  more : (old mid new : Stand) (requests others : List Request) (replies later : ℕ) (end : ServedEnd)
+      → Answers desk reference old requests replies None mid → Serves desk reference mid others later end new
+      → Serves desk reference old (requests ++ others) (replies + later) end new
+  full : (old : Stand) → Serves desk reference old [] 0 Full old
+
+-- the same, with the requests that there were
+pub record HasServed (desk : DeskState) (reference : ReferenceState) (old new : Stand) (replies : ℕ) (end : ServedEnd)
+    : Type 0 where
+  pub requests : List Request
+  pub serves : Serves desk reference old requests replies end new

@@ -60,18 +60,24 @@ abbrev pub IsBurning : Option ℕ → ℕ → List Lease → Type 0
 IsBurning None leaf entries = entries ≡ []
 IsBurning (Some member) leaf entries = (entries ≡ []) ⊎ (entries ≡ Burnt leaf ∷ [])
 
--- What signing a message with these members shows in a pass, by its outcome. A ticket is drawn for the lease, and a
--- second one exactly where a member has spent the leaf. Before the first fault the own entries are those of the lease
--- and of the burning alone.
+-- What signing a message with these members shows in a pass, by its outcome, and the entries that it added. A ticket is
+-- drawn for the lease, and a second one exactly where a member has spent the leaf. What is added are the entry of the
+-- lease and that of the burning alone.
 pub data Shows (plan : PlanNumbers) (members : List ℕ) (message : MessageId) (old new : Seen Lease TableName)
-    : Result Signature SignFault → Type 0 where
-  too_long : (got : ℕ) → new ≡ old → Shows plan members message old new (Err (TooLong got))
-  no_turn : NotTurned old new → Shows plan members message old new (Err Worn)
+    : Result Signature SignFault → List Lease → Type 0 where
+  too_long : (got : ℕ) → new ≡ old → Shows plan members message old new (Err (TooLong got)) []
+  no_turn : NotTurned old new → Shows plan members message old new (Err Worn) []
   refused : (why : TableFault) → Refuses plan members message old new why → new.draws ≡ old.draws + 1
-      → (new.floor ≡ 0 → new.own ≡ old.own) → Shows plan members message old new (Err (Table why))
+      → Shows plan members message old new (Err (Table why)) []
   leased : (leaf : ℕ) (added burning : List Lease) (result : Result (List ℕ) SignFault)
       → LeaseShows plan members message old.log new.log leaf added
       → new.draws ≡ old.draws + (if is_some (spent_by result) then 2 else 1)
       → IfSome (spent_by result) (λ member. BurningShows old new leaf) → IsBurning (spent_by result) leaf burning
-      → (new.floor ≡ 0 → new.own ≡ old.own ++ added ++ burning)
-      → Shows plan members message old new (signed_with leaf result)
+      → Shows plan members message old new (signed_with leaf result) (added ++ burning)
+
+-- the same with what was added, which before the first fault is all that the pass has added of its own
+pub record Shown (plan : PlanNumbers) (members : List ℕ) (message : MessageId) (old new : Seen Lease TableName)
+    (outcome : Result Signature SignFault) : Type 0 where
+  pub added : List Lease
+  pub shows : Shows plan members message old new outcome added
+  pub own : new.floor ≡ 0 → new.own ≡ old.own ++ added

@@ -1,7 +1,7 @@
 //! Connections of clients.
 
 ghost use Rattle.std.specs.Prelude.{◌≡◌, ◌≢◌, ◌≤◌, ◌<◌, ◌^◌, ◌++◌, None, Some, length, IfOk, IsTrue, MatchResult};
-ghost use Rattle.client_node.specs.Clients.{Answers, Serves, end_after, reply_frame};
+ghost use Rattle.client_node.specs.Clients.{HasAnswered, HasServed, end_after, reply_frame};
 ghost use Rattle.client_node.specs.Turns.{IsIdle};
 ghost use Rattle.disk_trait.specs.Faults.{HasCause};
 ghost use Rattle.leased_session.specs.Signing.{desk_state, signature_in};
@@ -55,10 +55,11 @@ pub fn serve_client<R: Cells, D: Disk, P: Port, L: Source + Sink>(
     requires cells { (R.set cells.old ≡ desk.now.key.now.params) × (R.plan cells.old ≡ desk.now.plan.now) }
     requires tree { (desk.now.tree.now.n ≡ desk.now.key.now.params.n)
         × (desk.now.tree.now.h ≡ desk.now.key.now.params.h) }
-    ensures serves { Serves (desk_state desk.now) (R.told cells.old) (R.leaves cells.old)
+    ensures serves { HasServed (desk_state desk.now)
+        (record { told = R.told cells.old; steady = R.steady cells.old; leaves = R.leaves cells.old })
         (record { pass = pass.old; port = P.state port.old; faults = R.count cells.old; talk = L.talk link.old })
-        result.frames result.ended
-        (record { pass = pass.new; port = P.state port.new; faults = R.count cells.new; talk = L.talk link.new }) }
+        (record { pass = pass.new; port = P.state port.new; faults = R.count cells.new; talk = L.talk link.new })
+        result.frames result.ended }
     ensures most { result.frames ≤ 65536 }
     ensures full { result.ended ≡ ServedEnd.Full → result.frames ≡ 65536 }
     ensures answers { IsTrue (L.steady link.old) → result.ended ≢ ServedEnd.Frame FrameFault.ReadFault }
@@ -96,10 +97,11 @@ fn answer_next<R: Cells, D: Disk, P: Port, L: Source + Sink>(
     requires cells { (R.set cells.old ≡ desk.now.key.now.params) × (R.plan cells.old ≡ desk.now.plan.now) }
     requires tree { (desk.now.tree.now.n ≡ desk.now.key.now.params.n)
         × (desk.now.tree.now.h ≡ desk.now.key.now.params.h) }
-    ensures answers { Answers (desk_state desk.now) (R.told cells.old) (R.leaves cells.old)
+    ensures answers { HasAnswered (desk_state desk.now)
+        (record { told = R.told cells.old; steady = R.steady cells.old; leaves = R.leaves cells.old })
         (record { pass = pass.old; port = P.state port.old; faults = R.count cells.old; talk = L.talk link.old })
-        result.replies result.ended
-        (record { pass = pass.new; port = P.state port.new; faults = R.count cells.new; talk = L.talk link.new }) }
+        (record { pass = pass.new; port = P.state port.new; faults = R.count cells.new; talk = L.talk link.new })
+        result.replies result.ended }
     ensures most { result.replies ≤ 1 }
     ensures one { result.ended ≡ None → result.replies ≡ 1 }
     ensures open { result.ended ≢ Some ServedEnd.Full }

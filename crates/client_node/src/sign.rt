@@ -2,7 +2,7 @@
 
 ghost use Rattle.std.specs.Prelude.{◌≡◌, IfOk};
 ghost use Rattle.aggregator_node.specs.Runs.{reads_of};
-ghost use Rattle.client_node.specs.Logs.{Shows};
+ghost use Rattle.client_node.specs.Logs.{Shown};
 ghost use Rattle.client_node.specs.Signing.{SignsInTurns};
 ghost use Rattle.client_node.specs.Turns.{IsIdle};
 ghost use Rattle.leased_session.specs.Causes.{PortCauses, ReferenceCauses};
@@ -44,7 +44,7 @@ pub fn sign_one<R: Cells, D: Disk, P: Port>(
         × (desk.now.tree.now.h ≡ desk.now.key.now.params.h) }
     ensures signs { SignsInTurns (desk_state desk.now) (reads_of R.Cells.own R.Faults cells.old cells.new) members
         message.now pass.old (P.state port.old) pass.new (P.state port.new) (signature_in result) }
-    ensures shows { Shows desk.now.plan.now members (message_id message.now) pass.old pass.new
+    ensures shows { Shown desk.now.plan.now members (message_id message.now) pass.old pass.new
         (signature_in result) }
     ensures accepted { IfOk result (λ signed.
         AcceptsAt desk.now.key.now message.now signed.bytes.items signed.leaf) }

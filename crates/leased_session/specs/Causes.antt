@@ -12,11 +12,12 @@ use Rattle.reference_value.specs.declared.cells.Cells as cells
 use Rattle.session_core.specs.declared.faults.SessionFault.TheVariants.{Reference}
 use Rattle.stream_io.specs.Net.{PortOnward, PortState}
 
--- Nobody fails to be dialled unless the port's count rose, and no read fails at a steady port.
+-- Nobody fails to be dialled unless the port's count rose, and no read fails at a steady port. No link is accepted.
 pub record PortCauses {V : Type 0} (before now : PortState) (result : Result V SignFault) : Type 0 where
   pub dialled : LostBy DialFailed result → Rose before.count now.count
   pub reads : IsTrue before.steady → ¬ LostBy ReadFailed result
   pub onward : PortOnward before now
+  pub accepting : now.accept_count ≡ before.accept_count
 
 -- the reference is found unread only where the count of the cells rose, and never where they give what they have
 pub record ReferenceCauses {C V : Type 0} (c : cells.Ghosts C) (f : faults.Ghosts C) (old new : C)

@@ -10,5 +10,6 @@ invariant-loop g l =
     record {
       all : IsTrue (state l.fn.port).told → (state l.port).talks ++ map talk l.links.items ≡ (state l.fn.port).talks ++ map talk l.fn.links.items;
       onward : PortOnward (state l.fn.port) (state l.port);
+      accepting : (state l.port).accept_count ≡ (state l.fn.port).accept_count;
       many : l.links.len + l.counter ≡ l.end;
     }
