@@ -1,3 +1,4 @@
+pub mod Doubts
 pub mod Causes
 pub mod Dealt
 pub mod Exacts

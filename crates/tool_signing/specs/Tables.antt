@@ -1,8 +1,8 @@
 -- Leaf tables that a command signs with, by their files.
 use Rattle.std.specs.Prelude.{◌≡◌, ◌^◌, ℕ, List, length, None, Some, IsTrue}
 use Rattle.coalition_map.specs.Coalitions.{PlanNumbers}
-use Rattle.leaf_table.specs.Entries.{OneLease}
 use Rattle.leaf_table.specs.Loading.{IsTableFile, entries_of}
+use Rattle.leaf_table.specs.Runs.{KeepsOneLease}
 use Rattle.leaf_table.specs.State.{StandsFor, TableState}
 use Rattle.leaf_table.specs.declared.lease.Lease.{Lease}
 use Rattle.leaf_table.specs.declared.table.TableName.{TableName}
@@ -37,7 +37,7 @@ pub record StandsAs (header : Header) (plan : PlanNumbers) (state : TableState) 
   pub stands : StandsFor file state
 
 -- The table of this name stands for this state at the end, in each image that a crash may leave too. Each leaf is for
--- one message.
+-- one message, also where an entry is in doubt.
 pub record LeavesTable (store : StoreRun) (name : List ℕ) (header : Header) (plan : PlanNumbers) (state : TableState)
     : Type 0 where
   pub file : List ℕ
@@ -46,7 +46,7 @@ pub record LeavesTable (store : StoreRun) (name : List ℕ) (header : Header) (p
   pub images : IsTrue store.before.told → IsTrue (store.before.disks name).honest → (image : List ℕ)
       → store.after.leaves name image → StandsAs header plan state image
   pub many : length state.slots ≡ 2 ^ plan.h
-  pub one_lease : OneLease state.entries
+  pub one_lease : KeepsOneLease state
 
 -- what the disk of a table is for good
 abbrev pub handed_of : TableName → Handed

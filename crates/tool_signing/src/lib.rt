@@ -7,3 +7,4 @@ pub mod laws;
 mod session;
 
 pub use command::sign;
+pub use session::table_header;

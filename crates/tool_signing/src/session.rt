@@ -26,7 +26,7 @@ use tool_base::Ending;
 use tool_disks::end_of_slots;
 
 /// The header of the leaf table of a key.
-fn table_header(key: &PublicKey) -> Header
+pub fn table_header(key: &PublicKey) -> Header
     ensures { result ≡ table_header key.now }
 {
     Header {
