@@ -1,0 +1,14 @@
+pub mod Completeness
+pub mod Dialling
+pub mod Ends
+pub mod FilesRead
+pub mod Grants
+pub mod Hearing
+pub mod Leaves
+pub mod Parses
+pub mod RoundOne
+pub mod RoundTwo
+pub mod Seats
+pub mod Sessions
+pub mod Sets
+pub mod Tasks

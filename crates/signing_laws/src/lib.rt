@@ -1,0 +1,4 @@
+//! That a signature comes where all is well.
+#![tactic(auto)]
+
+pub mod laws;
