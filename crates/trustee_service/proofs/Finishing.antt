@@ -34,7 +34,7 @@ pub record ClosedBy (lock : Lock Entry TrusteeName) (pass : Seen Entry TrusteeNa
   pub rises : pass.floor ≡ lock.opening_number + pass.rises
   pub entries : (test : Entry → Bool) → count_by test pass.log ≡ count_by test lock.opening_log + count_by test pass.own
 
-small-ticket : (draws greatest first most : ℕ) → (0 < draws → greatest < first + draws) → (draws ≡ 0 → greatest ≡ 0) → first ≡ 0 → draws ≤ most → most ≤ 2 ^ 54 → greatest < 2 ^ 62
+pub small-ticket : (draws greatest first most : ℕ) → (0 < draws → greatest < first + draws) → (draws ≡ 0 → greatest ≡ 0) → first ≡ 0 → draws ≤ most → most ≤ 2 ^ 60 → greatest < 2 ^ 62
 small-ticket draws greatest first most some none start few bound =
     dite (dec_le 1 draws)
     (λ drawn. let is = some drawn in omega (arith, is, start, few, bound))

@@ -21,7 +21,7 @@ use Rattle.turn_lock.specs.Pass.{SamePass, Seen, first_pass, longer_of}
 use Rattle.turn_lock.proofs.Prefixes.{prefix_all, prefix_whole}
 
 -- each of two logs that met begins the longer one
-begins-left : (xs ys : List Entry) → IsPrefix xs ys ⊎ IsPrefix ys xs → IsPrefix xs (longer_of xs ys)
+pub begins-left : {A : Type 0} (xs ys : List A) → IsPrefix xs ys ⊎ IsPrefix ys xs → IsPrefix xs (longer_of xs ys)
 begins-left xs ys one =
     let Is : Bool → Type 0 = λ b. (nat_lt (length xs) (length ys) ≡ b) → IsPrefix xs (cond b ys xs) in
     let all = elim (nat_lt (length xs) (length ys)) as Is [
@@ -29,7 +29,7 @@ begins-left xs ys one =
       | false ↦ λ is. prefix_all xs xs refl
     ] in all refl
 
-begins-right : (xs ys : List Entry) → IsPrefix xs ys ⊎ IsPrefix ys xs → IsPrefix ys (longer_of xs ys)
+pub begins-right : {A : Type 0} (xs ys : List A) → IsPrefix xs ys ⊎ IsPrefix ys xs → IsPrefix ys (longer_of xs ys)
 begins-right xs ys one =
     let Is : Bool → Type 0 = λ b. (nat_lt (length xs) (length ys) ≡ b) → IsPrefix ys (cond b ys xs) in
     let all = elim (nat_lt (length xs) (length ys)) as Is [
@@ -38,7 +38,7 @@ begins-right xs ys one =
     ] in all refl
 
 -- what a meeting tells
-pub record MetBy (old other new : Seen Entry TrusteeName) : Type 0 where
+pub record MetBy {E N : Type 0} (old other new : Seen E N) : Type 0 where
   pub one_log : IsPrefix old.log other.log ⊎ IsPrefix other.log old.log
   pub log : new.log ≡ longer_of old.log other.log
   pub floor : new.floor ≡ max old.floor other.floor

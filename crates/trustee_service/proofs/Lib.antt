@@ -1,6 +1,6 @@
-mod Standing
-mod Gathering
+pub mod Standing
+pub mod Gathering
 mod Joining
-mod Finishing
+pub mod Finishing
 mod Running
 mod Opening

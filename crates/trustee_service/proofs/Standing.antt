@@ -13,13 +13,13 @@ none-of (x ∷ xs) is = absurd (omega (arith, is))
 
 module _ {W : Type 0} where
   -- of two lists that one worker ends, those before it and the worker agree
-  same-front : (xs ys : List W) (x y : W) → xs ++ x ∷ [] ≡ ys ++ y ∷ [] → xs ≡ ys
+  pub same-front : (xs ys : List W) (x y : W) → xs ++ x ∷ [] ≡ ys ++ y ∷ [] → xs ≡ ys
   same-front xs ys x y is =
       let sizes = ap length is in
       let size : length ys ≡ length xs = omega (arith, sizes, length-append xs (x ∷ []), length-append ys (y ∷ [])) in
       sym (take_at xs (x ∷ []) (length xs) refl) ∙ ap (take (length xs)) is ∙ take_at ys (y ∷ []) (length xs) size
 
-  same-last : (xs ys : List W) (x y : W) → xs ++ x ∷ [] ≡ ys ++ y ∷ [] → x ≡ y
+  pub same-last : (xs ys : List W) (x y : W) → xs ++ x ∷ [] ≡ ys ++ y ∷ [] → x ≡ y
   same-last xs ys x y is =
       let front = same-front xs ys x y is in
       let whole : xs ++ x ∷ [] ≡ xs ++ y ∷ [] = is ∙ ap (λ (l : List W). l ++ y ∷ []) (sym front) in

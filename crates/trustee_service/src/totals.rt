@@ -13,7 +13,7 @@ pub struct Totals {
 
 impl Totals {
     /// Adds what one more worker did.
-    pub(crate) fn add(&mut self, connections: u32, frames: u32)
+    pub fn add(&mut self, connections: u32, frames: u32)
         ensures connections { self.new.connections ≡ min (self.old.connections + connections) (2 ^ 32 - 1) }
         ensures frames { self.new.frames ≡ min (self.old.frames + frames) (2 ^ 32 - 1) }
     {

@@ -1,0 +1,4 @@
+pub mod Posts
+pub mod Ports
+pub mod Workers
+pub mod Gathered
