@@ -72,7 +72,7 @@ fn is_of_key(key: &PublicKey, params: &Params, id: &KeyId) -> bool
 }
 
 /// The end where the file of a dealing with this suffix is of another key, of this identifier.
-fn other_key(alloc: Global, prefix: &str, suffix: &str, id: KeyId) -> Ending
+pub fn other_key(alloc: Global, prefix: &str, suffix: &str, id: KeyId) -> Ending
     ensures { (ending result ≡ spec.NoMemory) ⊎ (ending result ≡ spec.Unreadable (prefix.now ++ suffix.now) 7) }
 {
     let fault = FileFault::OtherKey { got: id };
