@@ -7,6 +7,7 @@ use Rattle.tool_base.specs.Ending.{Ending, Usage, NoMemory, status_of, line_of}
 use Rattle.tool_run.specs.Deal.{DealEnds}
 use Rattle.tool_base.specs.Outputs.{EndsWith}
 use Rattle.tool_base.specs.Touched.{EndsTouching}
+use Rattle.tool_clients.specs.Aggregate.{AggregateRun}
 use Rattle.tool_journals.specs.Approve.{ApproveEnds}
 use Rattle.tool_journals.specs.Enrol.{EnrolEnds}
 use Rattle.tool_journals.specs.Migrate.{MigrateEnds}
@@ -16,8 +17,8 @@ use Rattle.tool_run.specs.Verify.{VerifyEnds}
 use Rattle.tool_service.specs.Trustee.{TrusteeRun}
 use Rattle.tool_signing.specs.Ports.{over_net}
 use Rattle.tool_signing.specs.Sign.{SigningRun}
-use Rattle.tool_words.specs.Words.{Row, Verify, Rehearse, Deal, Enrol, Migrate, Approve, Trustee, Sign, Drill}
-use Rattle.tool_words.specs.Words.{SignWords, command_of}
+use Rattle.tool_words.specs.Words.{Row, Verify, Rehearse, Deal, Enrol, Migrate, Approve, Trustee, Sign, Aggregate}
+use Rattle.tool_words.specs.Words.{AggregateWords, Drill, SignWords, command_of}
 use Rattle.tool_base.specs.World.{AllBack, Onward, Outside, OutputRun, StoreRun, World, from_to}
 
 -- a command that works on the store alone: the net is as it was
@@ -28,6 +29,10 @@ pub record OnStore (Run : StoreRun → Ending → Type 0) (before after : Outsid
 -- the command that signs: it works on the store, over the net
 abbrev pub Signs : SignWords → Outside → Outside → Ending → Type 0
 Signs words before after = SigningRun words (from_to before.store after.store) (over_net before.net after.net)
+
+-- the command that signs for clients: likewise
+abbrev pub Aggregates : AggregateWords → Outside → Outside → Ending → Type 0
+Aggregates words before after = AggregateRun words (from_to before.store after.store) (over_net before.net after.net)
 
 -- what a command does and how it ends, by the rules of that command
 abbrev pub CommandRun : Row → Outside → Outside → Ending → Type 0
@@ -41,6 +46,7 @@ CommandRun (Migrate share journal new) = OnStore (λ store. EndsTouching (Migrat
 CommandRun (Approve share book message) = OnStore (λ store. EndsTouching (ApproveEnds store share book message) store)
 CommandRun (Trustee words) = TrusteeRun words
 CommandRun (Sign words) = Signs words
+CommandRun (Aggregate words) = Aggregates words
 CommandRun (Drill number sessions events) =
     OnStore (λ store. EndsWith (λ end written. DrillEnds number sessions events end × (written ≡ [])) store)
 

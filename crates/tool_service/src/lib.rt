@@ -4,4 +4,5 @@
 mod nets;
 mod trustee;
 
+pub use nets::end_of_service;
 pub use trustee::serve_trustee;

@@ -73,7 +73,7 @@ pub(crate) fn serve_net<R: Threads + Wait + Sync, D: Disk + Send, N: Net, T: Clo
 }
 
 /// The end of a service over these ports.
-fn end_of_service<P: Port>(ports: &[P], totals: Result<Totals, NoMemory>) -> Ending
+pub fn end_of_service<P: Port>(ports: &[P], totals: Result<Totals, NoMemory>) -> Ending
     ensures ends { ServiceEnds (map P.state ports.now) totals (ending result) }
 {
     match totals {

@@ -39,6 +39,9 @@ returns-in-Trustee-clause-ended g c = rw c.in-Trustee.is c.serve_trustee.ensures
 pub returns-in-Sign-clause-ended : goal.returns-in-Sign-clause-ended
 returns-in-Sign-clause-ended g c = rw c.in-Sign.is c.sign.ensures
 
+pub returns-in-Aggregate-clause-ended : goal.returns-in-Aggregate-clause-ended
+returns-in-Aggregate-clause-ended g c = rw c.in-Aggregate.is c.aggregate.ensures
+
 pub returns-in-Drill-clause-ended : goal.returns-in-Drill-clause-ended
 returns-in-Drill-clause-ended g c =
     rw c.in-Drill.is (record {

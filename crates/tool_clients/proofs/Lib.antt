@@ -1,0 +1,4 @@
+mod Places
+mod Nets
+mod Tables
+mod Whole

@@ -1,0 +1,7 @@
+//! The command that signs for clients over the ports of a net.
+#![tactic(auto)]
+
+mod command;
+mod serving;
+
+pub use command::aggregate;
