@@ -8,11 +8,13 @@ use Rattle.reference_value.proofs.Reference.{length-reference}
 use Rattle.share_files.specs.Reference.{leaves_length}
 use Rattle.share_files.specs.declared.share.Share.{Share}
 use Rattle.dealer.specs.Dealt.{IsDealt}
-use Rattle.dealer.specs.Entropy.{dealing_of, trustee_key}
+use Rattle.dealer.specs.Entropy.{dealing_of, id_in, seed_in, trustee_key}
 use Rattle.dealer.specs.Faults.{HasFault, bad_entropy, same_keys, too_high, too_wide}
 use Rattle.dealer.specs.declared.dealing.Dealt.{Dealt}
 use Rattle.dealer.specs.declared.faults.DealFault.{DealFault}
 use Rattle.drill_events.specs.Draws.{bytes_of, draw_at, entropy_of}
+use Rattle.lms_bytes.proofs.Parts.{length-bytes_at}
+use Rattle.drill.specs.Keys.{HasDealing}
 
 -- the plan of a drill
 abbrev pub three : PlanNumbers
@@ -127,6 +129,25 @@ desk-of params plan entropy dealt n p h is dealt_is =
       levels = rw dealt_is.tree h;
       count = shares-count dealt.shares.items (rw is at dealt_is.shares.members);
       shares = rw same dealt_is.shares.params;
+    }
+
+-- the dealing that a desk's key is from
+pub own-dealing : (params : Params) (plan : PlanNumbers) (entropy : List ℕ) (number : ℕ) (dealt : Dealt) → params.n ≡ 32 → entropy ≡ entropy_of number
+    → IsDealt (dealing_of params plan entropy) dealt → HasDealing plan dealt
+own-dealing params plan entropy number dealt n drawn is =
+    let size : length entropy ≡ 176 = ap length drawn ∙ length-entropy number in
+    record {
+      dealing = dealing_of params plan entropy;
+      key = record {
+        params = params;
+        id = id_in entropy;
+        seed = seed_in params.n entropy;
+        id_length = length-bytes_at entropy 0 16 (omega arith);
+        seed_length = length-bytes_at entropy 16 params.n (omega arith);
+      };
+      plan_is = refl;
+      dealt_is = is;
+      key_is = record { params = refl; id = refl; seed = refl };
     }
 
 pub coalition-below : (i : ℕ) → i % 3 < count_of three

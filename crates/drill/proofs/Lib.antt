@@ -3,3 +3,14 @@ pub mod Asked
 pub mod Tables
 pub mod Counting
 pub mod Seating
+pub mod Rounds
+pub mod Going
+pub mod Turning
+pub mod Replying
+pub mod Stepping
+pub mod Leasing
+pub mod Noting
+pub mod Starting
+pub mod Seated
+pub mod Finishing
+pub mod Beginning

@@ -1,5 +1,6 @@
 -- What comes of a drill.
-use Rattle.std.specs.Prelude.{◌≡◌, ◌≤◌, ◌+◌, ◌==◌, ℕ, if◌then◌else◌}
+use Rattle.std.specs.Prelude.{◌≡◌, ◌<◌, ◌≤◌, ◌+◌, ◌==◌, ℕ, if◌then◌else◌}
+use Rattle.drill.specs.Ids.{DifferentIds}
 use Rattle.drill_events.specs.Draws.{events_of}
 use Rattle.drill_events.specs.Events.{is_cut, is_restart}
 use Rattle.drill_summary.specs.declared.summary.Summary.{Summary}
@@ -8,12 +9,21 @@ use Rattle.drill_summary.specs.declared.summary.Summary.{Summary}
 abbrev pub events_in : ℕ → ℕ → ℕ
 events_in sessions events = if sessions == 0 then 0 else events
 
+-- Every session has signed or was refused, and where there are sessions some have signed. Each ask was granted or
+-- stopped a disk. No trustee was seen to open a leaf under two digests, nor any leaf where no session has signed.
+pub record IsComplete (sessions : ℕ) (summary : Summary) : Type 0 where
+  pub ends : summary.signed + summary.refused ≡ sessions
+  pub some : 0 < sessions → 0 < summary.signed
+  pub asks : summary.granted + summary.cuts ≡ summary.asks
+  pub most : summary.most ≡ (if summary.signed == 0 then 0 else 1)
+
 -- The summary counts the sessions that were asked for, and none is signed and refused. Each ask was granted, stopped a
 -- disk, or was refused; a disk stopped only in events of that kind, and a trustee was loaded anew in each event of that
--- kind.
+-- kind. Where no two of the sessions' messages have one id, it is complete.
 pub record IsSummary (number sessions events : ℕ) (summary : Summary) : Type 0 where
   pub sessions_are : summary.sessions ≡ sessions
   pub ends : summary.signed + summary.refused ≤ sessions
   pub parts : summary.granted + summary.cuts ≤ summary.asks
   pub cuts_in : summary.cuts ≤ events_of is_cut number (events_in sessions events)
   pub restarts_are : summary.restarts ≡ events_of is_restart number (events_in sessions events)
+  pub complete : DifferentIds sessions → IsComplete sessions summary

@@ -1,9 +1,13 @@
 //! What a session asks next.
 
-ghost use Rattle.std.specs.Prelude.{◌≡◌, ◌≢◌, ◌<◌, ◌≤◌, ℕ, length, Contains, None, IfNone, IfSome, IsTrue};
+ghost use Rattle.std.specs.Prelude.{◌≡◌, ◌≢◌, ◌<◌, ◌≤◌, ℕ, length, Contains, None, IfNone, IfSome, IsSome, IsTrue};
 ghost use Rattle.coalition_map.specs.Coalitions.{leaf_members};
-ghost use Rattle.session_core.specs.Asks.{kept_masks};
+ghost use Rattle.drill.specs.Courses.{AllKept, IsNext};
+ghost use Rattle.drill_trustees.specs.Trustees.{IsTrustee};
+ghost use Rattle.reference_value.specs.Places.{tag_in};
+ghost use Rattle.session_core.specs.Asks.{ask_with, kept_masks};
 ghost use Rattle.session_core.specs.State.{round_of};
+ghost use Rattle.session_core.specs.Verdicts.{digest_of};
 
 use crate::desk::Desk;
 use lms_bytes::{Ask, Val};
@@ -39,9 +43,7 @@ pub(crate) fn next_member(session: &Session) -> Option<u8>
     ensures least { IfSome result (λ t. (u : ℕ) → 1 ≤ u → u < t
         → Contains (leaf_members session.now.plan session.now.leaf) u
         → kept_masks session.now (round_of session.now) u ≢ None) }
-    ensures none { IfNone result ((u : ℕ) → 1 ≤ u → u ≤ 3
-        → Contains (leaf_members session.now.plan session.now.leaf) u
-        → kept_masks session.now (round_of session.now) u ≢ None) }
+    ensures none { IfNone result (AllKept session.now) }
 {
     'trustees: for t in 1..4 {
         if awaits(session, t) {
@@ -55,6 +57,7 @@ pub(crate) fn next_member(session: &Session) -> Option<u8>
 fn digest_of(desk: &Desk, session: &Session, message: &[u8]) -> Val
     requires { session.now.key ≡ desk.now.dealt.public }
     ensures length { length result ≡ 32 }
+    ensures digest { IsSome session.now.c → result ≡ digest_of session.now message.now }
 {
     let params = desk.params();
     // A randomizer has the length of a hash value.
@@ -72,6 +75,9 @@ fn ask_of(desk: &Desk, session: &Session, member: u8, message: &[u8]) -> Ask
     requires member { Contains (leaf_members session.now.plan session.now.leaf) member }
     ensures c { IfSome result.second (λ second. length second.c ≡ 32) }
     ensures digest { IfSome result.second (λ second. length second.digest ≡ 32) }
+    ensures ask { result ≡ ask_with session.now
+        (tag_in session.now.key.params session.now.plan desk.now.dealt.reference.items session.now.leaf member)
+        (digest_of session.now message.now) }
 {
     let digest = digest_of(desk, session, message);
     // A randomizer has the length of a hash value.
@@ -90,6 +96,8 @@ pub(crate) fn next_ask(desk: &Desk, session: &Session, message: &[u8]) -> Option
     ensures within { IfSome result (λ next. (1 ≤ next.member) × (next.member ≤ 3)) }
     ensures c { IfSome result (λ next. IfSome next.ask.second (λ second. length second.c ≡ 32)) }
     ensures digest { IfSome result (λ next. IfSome next.ask.second (λ second. length second.digest ≡ 32)) }
+    ensures next { IfSome result (IsNext desk.now session.now message.now) }
+    ensures none { IfNone result (AllKept session.now) }
 {
     match next_member(session) {
         Some(member) => Some(NextAsk {

@@ -1,12 +1,19 @@
 //! The events of a drill.
 
-ghost use Rattle.std.specs.Prelude.{◌≡◌, ◌<◌, ◌≤◌, ◌+◌, ℕ, length, IfOk, IfSome, if◌then◌else◌};
+ghost use Rattle.std.specs.Prelude.{◌≡◌, ◌≢◌, ◌<◌, ◌≤◌, ◌+◌, ℕ, suc, length, IfOk, IfSome, IsTrue, if◌then◌else◌};
+ghost use Rattle.drill.specs.Courses.{AreFree, Awaits, HaveShares, IsGoing, IsGood, IsOnCourse, IsSettled, Moves};
+ghost use Rattle.drill.specs.Courses.{IsNextOf, Opens, StaysGood, Stepped, next_step, steps_in, uses_of};
 ghost use Rattle.drill.specs.Drills.{AtMost, IsFor};
+ghost use Rattle.drill.specs.Ids.{DifferentIds};
+ghost use Rattle.drill.specs.Keys.{HasDealing};
+ghost use Rattle.drill.specs.Openings.{AreOwn};
 ghost use Rattle.drill.specs.Seats.{Fits, IsOf};
 ghost use Rattle.drill_events.specs.Events.{is_cut};
-ghost use Rattle.drill_trustees.specs.Trustees.{SameShares};
+ghost use Rattle.drill_trustees.specs.Trustees.{SameShares, leaf_at};
+ghost use Rattle.leaf_table.specs.Entries.{LeafUse};
 ghost use Rattle.leaf_table.specs.Table.{plan_of};
 ghost use Rattle.lms_bytes.specs.declared.ask.Second.{Second};
+ghost use Rattle.reference_value.specs.Dealing.{Dealing};
 
 use crate::asks::{NextAsk, next_ask};
 use crate::desk::Desk;
@@ -27,6 +34,7 @@ use std::mem;
 fn one(granted: bool) -> Asks
     ensures bound { AtMost 1 result }
     ensures cut { result.cut ≡ 0 }
+    ensures granted { IsTrue granted → result.granted + result.cut ≡ result.put }
 {
     Asks {
         put: 1,
@@ -38,6 +46,7 @@ fn one(granted: bool) -> Asks
 /// An ask that may have stopped a disk.
 fn one_of(answer: &Answer) -> Asks
     ensures bound { AtMost 1 result }
+    ensures parts { answer.now ≢ Answer.Refused → result.granted + result.cut ≡ result.put }
 {
     match answer {
         Answer::Granted(_) => one(true),
@@ -56,6 +65,8 @@ fn sum(first: &Asks, second: &Asks) -> Asks
     requires second { AtMost 1 second.now }
     ensures bound { AtMost 2 result }
     ensures cut { result.cut ≡ first.now.cut + second.now.cut }
+    ensures parts { first.now.granted + first.now.cut ≡ first.now.put
+        → second.now.granted + second.now.cut ≡ second.now.put → result.granted + result.cut ≡ result.put }
 {
     Asks {
         put: first.put + second.put,
@@ -70,6 +81,7 @@ fn next_of(desk: &Desk, seat: &Seat, i: u32) -> Option<NextAsk>
     ensures within { IfSome result (λ next. (1 ≤ next.member) × (next.member ≤ 3)) }
     ensures c { IfSome result (λ next. IfSome next.ask.second (λ (second : Second). length second.c ≡ 32)) }
     ensures digest { IfSome result (λ next. IfSome next.ask.second (λ (second : Second). length second.digest ≡ 32)) }
+    ensures next { IfSome result (λ next. IsNextOf desk.now i next seat.now) }
 {
     match seat {
         Seat::Running(session) => next_ask(desk, session, &message_of(i)),
@@ -91,6 +103,15 @@ fn step_running(
     ensures bound { IfOk result (λ all. AtMost 1 all.2) }
     ensures cut { IfOk result (λ all. all.2.cut ≡ 0) }
     ensures shares { IfOk result (λ all. SameShares trustees all.0) }
+    ensures goes { (own : HasDealing desk.now.plan desk.now.dealt) (map : ℕ → LeafUse)
+        → HaveShares own.dealing trustees → IsOnCourse desk.now own.dealing i map (leaf_at trustees) session
+        → ((t : ℕ) × Awaits session t) → IfOk result (λ all.
+        Moves desk.now own.dealing i map map trustees all.0 (suc (steps_in session)) all.1 all.2) }
+    ensures openings { (own : HasDealing desk.now.plan desk.now.dealt) (map : ℕ → LeafUse) (count : ℕ)
+        → i < count → DifferentIds count → HaveShares own.dealing trustees
+        → IsOnCourse desk.now own.dealing i map (leaf_at trustees) session → ((t : ℕ) × Awaits session t)
+        → AreOwn desk.now own.dealing count map openings.old.list.items → IfOk result (λ all.
+        Opens desk.now own.dealing count map openings.old.list.items openings.new.list.items all.1) }
 {
     let message = message_of(i);
     let Some(next) = next_ask(desk, &session, &message) else {
@@ -118,6 +139,19 @@ fn step_seat(
     ensures fits { IfOk result (λ all. Fits desk.now.dealt.public desk.now.plan i all.1) }
     ensures bound { IfOk result (λ all. AtMost 1 all.2) }
     ensures cut { IfOk result (λ all. all.2.cut ≡ 0) }
+    ensures goes { (own : HasDealing desk.now.plan desk.now.dealt) → HaveShares own.dealing trustees
+        → IsSettled table.old → AreFree (uses_of table.old) (leaf_at trustees)
+        → IsGoing desk.now own.dealing i (uses_of table.old) (leaf_at trustees) seat → IfOk result (λ all.
+        Moves desk.now own.dealing i (uses_of table.old) (uses_of table.new) trustees all.0 (next_step seat)
+        all.1 all.2) }
+    ensures settled { (d : Dealing) → IsSettled table.old
+        → IsGoing desk.now d i (uses_of table.old) (leaf_at trustees) seat → IsSettled table.new }
+    ensures openings { (own : HasDealing desk.now.plan desk.now.dealt) (count : ℕ) → i < count → DifferentIds count
+        → HaveShares own.dealing trustees
+        → IsGoing desk.now own.dealing i (uses_of table.old) (leaf_at trustees) seat
+        → Opens desk.now own.dealing count (uses_of table.old) openings.old.list.items openings.old.list.items seat
+        → IfOk result (λ all. Opens desk.now own.dealing count (uses_of table.old) openings.old.list.items
+        openings.new.list.items all.1) }
 {
     match seat {
         Seat::Running(session) => step_running(alloc, desk, trustees, openings, session, i),
@@ -143,6 +177,8 @@ pub(crate) fn step(
     ensures count { IfOk result (λ pair. length pair.0.seats.items ≡ length drill.seats.items) }
     ensures bound { IfOk result (λ pair. AtMost 1 pair.1) }
     ensures cut { IfOk result (λ pair. pair.1.cut ≡ 0) }
+    ensures goes { (own : HasDealing desk.now.plan desk.now.dealt) → IsGood desk.now own.dealing drill
+        → IfOk result (λ pair. Stepped desk.now own.dealing i drill pair.0 pair.1) }
 {
     let Drill {
         trustees,
@@ -179,6 +215,8 @@ fn ask_and_drop(desk: &Desk, drill: Drill, i: u32) -> Result<(Drill, Asks), NoMe
     ensures count { IfOk result (λ pair. length pair.0.seats.items ≡ length drill.seats.items) }
     ensures bound { IfOk result (λ pair. AtMost 1 pair.1) }
     ensures cut { IfOk result (λ pair. pair.1.cut ≡ 0) }
+    ensures goes { (own : HasDealing desk.now.plan desk.now.dealt) → IsGood desk.now own.dealing drill
+        → IfOk result (λ pair. StaysGood desk.now own.dealing pair.0 pair.1) }
 {
     let Some(next) = next_of(desk, &drill.seats[i as usize], i) else {
         return Ok((drill, NO_ASKS));
@@ -207,6 +245,8 @@ fn ask_twice(alloc: Global, desk: &Desk, drill: Drill, i: u32) -> Result<(Drill,
     ensures count { IfOk result (λ pair. length pair.0.seats.items ≡ length drill.seats.items) }
     ensures bound { IfOk result (λ pair. AtMost 2 pair.1) }
     ensures cut { IfOk result (λ pair. pair.1.cut ≡ 0) }
+    ensures goes { (own : HasDealing desk.now.plan desk.now.dealt) → IsGood desk.now own.dealing drill
+        → IfOk result (λ pair. StaysGood desk.now own.dealing pair.0 pair.1) }
 {
     if next_of(desk, &drill.seats[i as usize], i).is_none() {
         return Ok((drill, NO_ASKS));
@@ -229,6 +269,8 @@ fn cut(
     ensures is_for { IfOk result (λ pair. IsFor desk.now pair.0) }
     ensures count { IfOk result (λ pair. length pair.0.seats.items ≡ length drill.seats.items) }
     ensures bound { IfOk result (λ pair. AtMost 1 pair.1) }
+    ensures goes { (own : HasDealing desk.now.plan desk.now.dealt) → IsGood desk.now own.dealing drill
+        → IfOk result (λ pair. StaysGood desk.now own.dealing pair.0 pair.1) }
 {
     let Some(next) = next_of(desk, &drill.seats[i as usize], i) else {
         return Ok((drill, NO_ASKS));
@@ -240,9 +282,8 @@ fn cut(
         mut openings,
     } = drill;
     let (trustees, answer) = trustees.cut(alloc, next.member, &next.ask, pick)?;
-    if let Answer::Granted(_) = &answer {
-        openings.note(next.member, &next.ask)?;
-    }
+    let granted = matches!(&answer, Answer::Granted(_));
+    openings.note(next.member, &next.ask, granted)?;
     let drill = Drill {
         trustees,
         table,
@@ -257,6 +298,8 @@ fn restarted(alloc: Global, desk: &Desk, drill: Drill, pick: u32) -> Result<Dril
     requires is_for { IsFor desk.now drill }
     ensures is_for { IfOk result (IsFor desk.now) }
     ensures count { IfOk result (λ after. length after.seats.items ≡ length drill.seats.items) }
+    ensures good { (own : HasDealing desk.now.plan desk.now.dealt) → IsGood desk.now own.dealing drill
+        → IfOk result (IsGood desk.now own.dealing) }
 {
     let Drill {
         trustees,
@@ -288,6 +331,8 @@ pub(crate) fn play(
     ensures count { IfOk result (λ pair. length pair.0.seats.items ≡ length drill.seats.items) }
     ensures bound { IfOk result (λ pair. AtMost 2 pair.1) }
     ensures cut { IfOk result (λ pair. pair.1.cut ≤ (if is_cut event then 1 else 0)) }
+    ensures goes { (own : HasDealing desk.now.plan desk.now.dealt) → IsGood desk.now own.dealing drill
+        → IfOk result (λ pair. StaysGood desk.now own.dealing pair.0 pair.1) }
 {
     match event {
         Event::Step => {

@@ -2,7 +2,9 @@
 
 ghost use Rattle.std.specs.Prelude.{◌≡◌, ◌*◌, length, IfOk, IfSome};
 ghost use Rattle.lms_bytes.specs.Bytes.{joined};
-ghost use Rattle.session_core.specs.State.{SameAsk};
+ghost use Rattle.drill.specs.Courses.{head_with, masks_joined};
+ghost use Rattle.session_core.specs.Replies.{with_delivery};
+ghost use Rattle.session_core.specs.State.{IsSession, SameAsk};
 ghost use Rattle.trustee_core.specs.Grants.{ask_of, mask_of, masks_of as mask_count_of};
 
 use crate::asks::NextAsk;
@@ -33,8 +35,7 @@ fn write_masks(share: &Share, grant: &Grant, out: &mut [u8])
 /// The masks of a grant, one behind the other.
 pub(crate) fn masks_of(alloc: Global, share: &Share, grant: &Grant) -> Result<Vec<u8>, NoMemory>
     requires { IfSome (ask_of grant.now).second (λ second. length second.digest ≡ share.now.params.n) }
-    ensures { IfOk result (λ masks. masks.items ≡ joined (mask_of share.now (ask_of grant.now))
-        (mask_count_of share.now.params (ask_of grant.now))) }
+    ensures { IfOk result (λ masks. masks.items ≡ masks_joined share.now (ask_of grant.now)) }
 {
     let count = mask_count(&share.params, grant);
     let mut masks = vec![in alloc; 0; share.params.n as usize * count as usize]?;
@@ -43,7 +44,9 @@ pub(crate) fn masks_of(alloc: Global, share: &Share, grant: &Grant) -> Result<Ve
 }
 
 /// The head of a reply with masks.
-pub(crate) fn head_of(params: &Params, member: u8, ask: &Ask) -> ReplyHead {
+pub(crate) fn head_of(params: &Params, member: u8, ask: &Ask) -> ReplyHead
+    ensures { result ≡ head_with params.now member ask.now }
+{
     let (round, c) = match &ask.second {
         None => (1, Val::cut(&[0; 32], params.n)),
         Some(second) => (2, second.c),
@@ -70,8 +73,14 @@ pub(crate) fn take_masks(
 ) -> Result<(), NoMemory>
     requires { IfSome (ask_of grant.now).second (λ second. length second.digest ≡ share.now.params.n) }
     ensures same { SameAsk session.old session.new }
+    ensures taken { IfOk result (λ _. session.new ≡ with_delivery session.old
+        (head_with desk.now.dealt.public.params next.now.member next.now.ask)
+        (masks_joined share.now (ask_of grant.now))) }
+    ensures session { IfOk result (λ _. IsSession session.new) }
 {
     let masks = masks_of(alloc, share, grant)?;
     session.take(&head_of(desk.params(), next.member, &next.ask), &masks);
+    // What is true of every session.
+    let _round = session.round();
     Ok(())
 }

@@ -1,9 +1,12 @@
 //! The run of a drill.
 
-ghost use Rattle.std.specs.Prelude.{◌≡◌, ◌≤◌, ◌<◌, ◌+◌, ◌*◌, ℕ, length, IfOk, if◌then◌else◌};
+ghost use Rattle.std.specs.Prelude.{◌≡◌, ◌≤◌, ◌<◌, ◌+◌, ◌*◌, ℕ, length, slice_index_or, All, IfOk, if◌then◌else◌};
+ghost use Rattle.drill.specs.Courses.{AreFinished, HasEnded, HasSigned, IsFinished, IsGood, IsWell};
 ghost use Rattle.drill.specs.Drills.{IsFor};
+ghost use Rattle.drill.specs.Keys.{HasDealing};
 ghost use Rattle.drill.specs.Summaries.{IsSummary, events_in};
 ghost use Rattle.drill.specs.Tallies.{IsWithin};
+ghost use Rattle.drill.specs.declared.seat.Seat.{Seat as Place};
 ghost use Rattle.drill_events.specs.Draws.{event_at, events_of, state_at};
 ghost use Rattle.drill_events.specs.Events.{is_cut, is_restart};
 
@@ -56,6 +59,8 @@ fn play_next(
     ensures restarts { (number i : ℕ) → generator.old.state ≡ state_at number i
         → IfOk result (λ _. tally.new.restarts
         ≡ tally.old.restarts + (if is_restart (event_at number i).event then 1 else 0)) }
+    ensures well { (own : HasDealing desk.now.plan desk.now.dealt) → IsWell desk.now own.dealing drill tally.old
+        → IfOk result (λ after. IsWell desk.now own.dealing after tally.new) }
 {
     let schedule = Schedule::draw(generator);
     tally.add_restart(schedule.event);
@@ -85,6 +90,8 @@ fn play_all(
         → IfOk result (λ pair. pair.1.cuts ≤ events_of is_cut number events) }
     ensures restarts { (number : ℕ) → generator.old.state ≡ state_at number 176
         → IfOk result (λ pair. pair.1.restarts ≡ events_of is_restart number events) }
+    ensures well { (own : HasDealing desk.now.plan desk.now.dealt) → IsGood desk.now own.dealing drill
+        → IfOk result (λ pair. IsWell desk.now own.dealing pair.0 pair.1) }
 {
     let mut drill = drill;
     let mut tally = NOTHING;
@@ -113,6 +120,8 @@ fn play_events(
         → IfOk result (λ pair. pair.1.cuts ≤ events_of is_cut number (events_in sessions events)) }
     ensures restarts { (number : ℕ) → generator.old.state ≡ state_at number 176
         → IfOk result (λ pair. pair.1.restarts ≡ events_of is_restart number (events_in sessions events)) }
+    ensures well { (own : HasDealing desk.now.plan desk.now.dealt) → IsGood desk.now own.dealing drill
+        → IfOk result (λ pair. IsWell desk.now own.dealing pair.0 pair.1) }
 {
     if sessions == 0 {
         return Ok((drill, NOTHING));
@@ -138,6 +147,8 @@ fn finish_session(
     ensures within { IsWithin (tally.old.asks + 5) tally.new }
     ensures cuts { tally.new.cuts ≡ tally.old.cuts }
     ensures restarts { tally.new.restarts ≡ tally.old.restarts }
+    ensures well { (own : HasDealing desk.now.plan desk.now.dealt) → IsWell desk.now own.dealing drill tally.old
+        → IfOk result (λ after. IsFinished desk.now own.dealing i drill after tally.new) }
 {
     let mut drill = drill;
     'steps: for taken in 0..5u32 {
@@ -165,6 +176,8 @@ fn finish_all(
     ensures parts { tally.new.granted + tally.new.cuts ≤ tally.new.asks }
     ensures cuts { tally.new.cuts ≡ tally.old.cuts }
     ensures restarts { tally.new.restarts ≡ tally.old.restarts }
+    ensures well { (own : HasDealing desk.now.plan desk.now.dealt) → IsWell desk.now own.dealing drill tally.old
+        → IfOk result (λ after. AreFinished desk.now own.dealing sessions after tally.new) }
 {
     let mut drill = drill;
     'sessions: for i in 0..sessions {
@@ -176,7 +189,11 @@ fn finish_all(
 /// How many sessions signed, and how many were refused.
 fn count_ends(seats: &[Seat]) -> (u32, u32)
     requires { length seats.now ≤ 10000 }
-    ensures { result.0 + result.1 ≤ length seats.now }
+    ensures within { result.0 + result.1 ≤ length seats.now }
+    ensures all { All HasEnded seats.now → result.0 + result.1 ≡ length seats.now }
+    ensures none { All (λ (seat : Place). HasSigned seat → ⊥) seats.now → result.0 ≡ 0 }
+    ensures some { (i : ℕ) (none : Place) → i < length seats.now → HasSigned (slice_index_or seats.now i none)
+        → 0 < result.0 }
 {
     let mut signed = 0;
     let mut refused = 0;

@@ -1,10 +1,19 @@
 //! The steps of one session.
 
-ghost use Rattle.std.specs.Prelude.{◌≡◌, ◌≤◌, length, IfOk, IfSome, IsSome, None};
+ghost use Rattle.std.specs.Prelude.{◌≡◌, ◌⊎◌, ◌<◌, ◌≤◌, ℕ, suc, length, IfOk, IfSome, IfErr, IsErr, IsSome, None};
+ghost use Rattle.std.specs.Prelude.{Ok, OnOk};
+ghost use Rattle.drill.specs.Courses.{AllKept, AreFree, GoesTo, HasSigned, HaveShares, IsBare, IsGranted};
+ghost use Rattle.drill.specs.Courses.{IsOnCourse, IsSettled, Moves, steps_in, uses_of};
+ghost use Rattle.drill.specs.Keys.{HasDealing};
+ghost use Rattle.drill.specs.Openings.{Notes};
 ghost use Rattle.drill.specs.Seats.{Fits, IsOf};
 ghost use Rattle.drill_events.specs.Draws.{message_bytes};
-ghost use Rattle.drill_trustees.specs.Trustees.{SameShares};
+ghost use Rattle.drill_trustees.specs.Members.{MayAsk, state_after};
+ghost use Rattle.drill_trustees.specs.Trustees.{SameShares, SetsAt, leaf_at, share_at};
+ghost use Rattle.drill_trustees.specs.declared.trustees.Trustees.{Trustees};
+ghost use Rattle.leaf_table.specs.Entries.{LeafUse};
 ghost use Rattle.leaf_table.specs.Table.{plan_of};
+ghost use Rattle.opening_journal.specs.Entries.{LeafState};
 ghost use Rattle.trustee_core.specs.Grants.{ask_of};
 
 use crate::asks::{NextAsk, next_member};
@@ -35,11 +44,22 @@ pub(crate) fn lease(
     requires message { message.now ≡ message_bytes i }
     ensures plan { plan_of table.new ≡ desk.now.plan }
     ensures fits { IfOk result (Fits desk.now.dealt.public desk.now.plan i) }
+    ensures goes { (own : HasDealing desk.now.plan desk.now.dealt) (old : Trustees) → HaveShares own.dealing old
+        → IsSettled table.old → AreFree (uses_of table.old) (leaf_at old) → IsBare i (uses_of table.old)
+        → IfOk result (λ seat. Moves desk.now own.dealing i (uses_of table.old) (uses_of table.new) old old 1 seat
+        (record { put = 0; granted = 0; cut = 0 })) }
+    ensures settled { IsSettled table.old → IsBare i (uses_of table.old) → IsSettled table.new }
+    ensures unsigned { IfOk result (λ seat. HasSigned seat → ⊥) }
 {
     let members = desk.plan.members(i % 3);
     let id = MessageId::of(message);
     match table.lease(members, &id) {
-        Ok(leaf) => Ok(Seat::Running(Session::start(alloc, desk.key(), &desk.plan, leaf, &id)?)),
+        Ok(leaf) => {
+            let session = Session::start(alloc, desk.key(), &desk.plan, leaf, &id)?;
+            // What is true of every session.
+            let _round = session.round();
+            Ok(Seat::Running(session))
+        }
         Err(_) => Ok(Seat::Refused),
     }
 }
@@ -56,6 +76,9 @@ pub(crate) fn advance(
     requires message { message.now ≡ message_bytes i }
     requires of { IsOf desk.now.dealt.public desk.now.plan i session }
     ensures fits { IfOk result (Fits desk.now.dealt.public desk.now.plan i) }
+    ensures goes { (own : HasDealing desk.now.plan desk.now.dealt) (map : ℕ → LeafUse) (leaves : ℕ → ℕ → LeafState)
+        → IsOnCourse desk.now own.dealing i map leaves session
+        → IfOk result (GoesTo desk.now own.dealing i map leaves (steps_in session)) }
 {
     if next_member(&session).is_some() {
         return Ok(Seat::Running(session));
@@ -71,6 +94,9 @@ fn turn(desk: &Desk, mut session: Session, i: u32) -> Seat
     requires round { session.c ≡ None }
     requires of { IsOf desk.now.dealt.public desk.now.plan i session }
     ensures fits { Fits desk.now.dealt.public desk.now.plan i result }
+    ensures goes { (own : HasDealing desk.now.plan desk.now.dealt) (map : ℕ → LeafUse) (leaves : ℕ → ℕ → LeafState)
+        → IsOnCourse desk.now own.dealing i map leaves session → AllKept session
+        → GoesTo desk.now own.dealing i map leaves (steps_in session) result }
 {
     let mut cells = Whole::new(desk.params(), &desk.plan, &desk.dealt.reference);
     match session.turn(&mut cells) {
@@ -91,10 +117,23 @@ fn finish(
     requires message { message.now ≡ message_bytes i }
     requires of { IsOf desk.now.dealt.public desk.now.plan i session.now }
     ensures fits { IfOk result (Fits desk.now.dealt.public desk.now.plan i) }
+    ensures goes { (own : HasDealing desk.now.plan desk.now.dealt) (map : ℕ → LeafUse) (leaves : ℕ → ℕ → LeafState)
+        → IsOnCourse desk.now own.dealing i map leaves session.now → AllKept session.now
+        → IfOk result (GoesTo desk.now own.dealing i map leaves (steps_in session.now)) }
 {
     let mut cells = Whole::new(desk.params(), &desk.plan, &desk.dealt.reference);
-    match session.finish(alloc, &mut cells, &desk.dealt.tree, message) {
-        Ok(_) => Ok(Seat::Signed(session.leaf())),
+    let signed = session.finish(alloc, &mut cells, &desk.dealt.tree, message);
+    ended(session.leaf(), signed)
+}
+
+/// Where a session ends: it has signed with its leaf, or is refused.
+fn ended(leaf: u32, signed: Result<Vec<u8>, SessionFault>) -> Result<Seat, NoMemory>
+    ensures signed { OnOk signed (result ≡ Ok (Seat.Signed leaf)) }
+    ensures memory { IfErr signed (λ fault. fault ≡ SessionFault.NoMemory → IsErr result) }
+    ensures ended { IfOk result (λ seat. (seat ≡ Seat.Signed leaf) ⊎ (seat ≡ Seat.Refused)) }
+{
+    match signed {
+        Ok(_) => Ok(Seat::Signed(leaf)),
         Err(SessionFault::NoMemory) => Err(NoMemory),
         Err(_) => Ok(Seat::Refused),
     }
@@ -116,6 +155,9 @@ pub(crate) fn answered(
     requires message { message.now ≡ message_bytes i }
     requires of { IsOf desk.now.dealt.public desk.now.plan i session }
     ensures fits { IfOk result (Fits desk.now.dealt.public desk.now.plan i) }
+    ensures goes { (own : HasDealing desk.now.plan desk.now.dealt) (map : ℕ → LeafUse) (old : Trustees)
+        → IsGranted desk.now own.dealing i map old trustees.now session next.now grant
+        → IfOk result (GoesTo desk.now own.dealing i map (leaf_at trustees.now) (suc (steps_in session))) }
 {
     let Some(grant) = grant else {
         return Ok(Seat::Refused);
@@ -142,10 +184,16 @@ pub(crate) fn put_ask(
     requires digest { IfSome next.now.ask.second (λ second. length second.digest ≡ 32) }
     ensures shares { IfOk result (λ pair. SameShares trustees pair.0) }
     ensures ask { IfOk result (λ pair. IfSome pair.1 (λ grant. ask_of grant ≡ next.now.ask)) }
+    ensures granted { MayAsk (share_at trustees next.now.member) (leaf_at trustees next.now.member) next.now.ask
+        → IfOk result (λ pair. IsSome pair.1) }
+    ensures sets { MayAsk (share_at trustees next.now.member) (leaf_at trustees next.now.member) next.now.ask
+        → IfOk result (λ pair. SetsAt trustees pair.0 next.now.member next.now.ask.leaf (state_after next.now.ask)) }
+    ensures notes { IfOk result (λ _.
+        Notes openings.old.list.items next.now.member next.now.ask openings.new.list.items) }
+    ensures some { IfOk result (λ pair. IsSome pair.1 → IsSome next.now.ask.second
+        → 0 < length openings.new.list.items) }
 {
     let (trustees, grant) = trustees.ask(next.member, &next.ask);
-    if grant.is_some() {
-        openings.note(next.member, &next.ask)?;
-    }
+    openings.note(next.member, &next.ask, grant.is_some())?;
     Ok((trustees, grant))
 }

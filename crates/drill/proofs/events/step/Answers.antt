@@ -1,6 +1,9 @@
-use Rattle.std.proofs.Common.{sym, ◌∙◌, subst}
+use Rattle.std.proofs.Common.{arith, length, sym, ◌∙◌, refl, subst}
+use Rattle.drill_trustees.specs.Trustees.{leaf_at}
+use Rattle.drill.specs.Courses.{HasSigned, IsGoing, uses_of}
 use Rattle.drill.specs.Seats.{Fits}
 use Rattle.drill.specs.declared.seat.Seat.{Seat}
+use Rattle.drill.proofs.Seated.{get_or-any, stepped}
 use Rattle.drill.proofs.Seating.{set-fits}
 use Rattle.drill.proofs.events.step.Goals as goal
 
@@ -15,3 +18,19 @@ returns-clause-is_for c = record {
   seats = set-fits c.args.desk.now.dealt.public c.args.desk.now.plan c.args.drill.seats.items c.args.i c.replace-seat.new.dest c.in_ok-trustees.seat
       c.requires.is_for.seats c.requires.within c.in_ok-trustees.ensures.fits;
 }
+
+pub returns-clause-goes : goal.returns-clause-goes
+returns-clause-goes c = λ own good.
+    let was = c.replace-seat.ensures.value ∙ c.index_mut.ensures.value in
+    let going = subst (λ (x : Seat). IsGoing c.args.desk.now own.dealing c.args.i (uses_of c.args.drill.table) (leaf_at c.args.drill.trustees) x) (sym was)
+    (good.seats c.args.i c.index_mut.result.now c.requires.within) in
+    let moves = c.in_ok-trustees.ensures.goes own good.shares good.table good.free going in
+    let settled = c.step_seat.ensures.settled own.dealing good.table going in
+    stepped c.args.desk.now own c.args.i c.args.drill _ c.replace-seat.result c.replace-seat.new.dest c.in_ok-trustees.seat _ good c.requires.within
+    (was ∙ get_or-any c.args.drill.seats.items c.args.i c.index_mut.result.now c.replace-seat.result c.requires.within) settled moves refl
+    (c.in_ok-trustees.ensures.openings own (length c.args.drill.seats.items) c.requires.within good.different good.shares going
+    (record {
+      own = good.openings;
+      keeps = omega arith;
+      some = λ has. good.some c.args.i c.index_mut.result.now c.requires.within (subst HasSigned was has);
+    }))

@@ -1,5 +1,12 @@
-use Rattle.std.proofs.Common.{◌+◌, ◌≤◌}
+use Rattle.std.proofs.Common.{◌+◌, ◌<◌, ◌≤◌, ◌≡◌, ℕ, All, get_or}
+use Rattle.drill.specs.Courses.{HasEnded, HasSigned}
+use Rattle.drill.specs.declared.seat.Seat.{Seat as Place}
 use Rattle.drill.proofs.run.count_ends.Given as goal
 
 abbrev pub invariant-seats : goal.invariant-seats
-invariant-seats l = l.signed + l.refused ≤ l.i
+invariant-seats l = record {
+  within : l.signed + l.refused ≤ l.i;
+  all : All HasEnded l.fn.seats → l.signed + l.refused ≡ l.i;
+  none : All (λ (seat : Place). HasSigned seat → ⊥) l.fn.seats → l.signed ≡ 0;
+  some : (k : ℕ) (none : Place) → k < l.i → HasSigned (get_or l.fn.seats k none) → 0 < l.signed;
+}

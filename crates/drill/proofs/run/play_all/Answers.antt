@@ -1,4 +1,4 @@
-use Rattle.std.proofs.Common.{◌≡◌, ◌≤◌, ◌+◌, ◌*◌, ℕ, sym, subst, arith}
+use Rattle.std.proofs.Common.{◌≡◌, ◌≤◌, ◌+◌, ◌*◌, ℕ, refl, sym, subst, arith}
 use Rattle.drill_events.specs.Draws.{event_at, events_of}
 use Rattle.drill_events.specs.Events.{is_cut, is_restart}
 use Rattle.drill.proofs.Counting.{events-more, events-none, one-or-none, state-more}
@@ -10,6 +10,7 @@ events-init c = record {
   is_for = c.requires.is_for;
   count = c.requires.count;
   within = record { asks = omega arith; parts = omega arith };
+  well = λ own good. record { good = good; parts = refl };
   few = omega arith;
   state = λ number is. is;
   cuts = λ number is. omega arith;
@@ -30,6 +31,7 @@ events-preserved c =
       is_for = e.is_for;
       count = e.count;
       within = record { asks = omega arith; parts = now.parts };
+      well = λ own good. e.well own (before.well own good);
       few = omega arith;
       state = λ number is. state-more number c.events.done _ (c.play_next.ensures.state number (176 + 3 * c.events.done) (before.state number is));
       cuts = λ number is.

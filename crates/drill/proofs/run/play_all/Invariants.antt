@@ -1,4 +1,6 @@
 use Rattle.std.proofs.Common.{◌≡◌, ◌≤◌, ◌+◌, ◌*◌, ℕ, length}
+use Rattle.drill.specs.Courses.{IsGood, IsWell}
+use Rattle.drill.specs.Keys.{HasDealing}
 use Rattle.drill.specs.Drills.{IsFor}
 use Rattle.drill.specs.Tallies.{IsWithin}
 use Rattle.drill_events.specs.Draws.{events_of, state_at}
@@ -11,6 +13,7 @@ invariant-events l = record {
   is_for : IsFor l.desk l.drill;
   count : length l.drill.seats.items ≡ l.sessions;
   within : IsWithin (2 * l.done) l.tally;
+  well : (own : HasDealing l.desk.plan l.desk.dealt) → IsGood l.desk own.dealing l.fn.drill → IsWell l.desk own.dealing l.drill l.tally;
   few : l.tally.restarts ≤ l.done;
   state : (number : ℕ) → l.fn.generator.state ≡ state_at number 176 → l.generator.state ≡ state_at number (176 + 3 * l.done);
   cuts : (number : ℕ) → l.fn.generator.state ≡ state_at number 176 → l.tally.cuts ≤ events_of is_cut number l.done;

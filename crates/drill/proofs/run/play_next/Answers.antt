@@ -16,3 +16,16 @@ returns-clause-restarts c = λ number i is.
     let s = c.draw-schedule.ensures.schedule number i is in
     subst (λ (x : Schedule). c.add.new.self.restarts ≡ c.args.tally.now.restarts + (if is_restart x.event then 1 else 0)) s
     (c.add.ensures.restarts ∙ c.add_restart.ensures.restarts)
+
+pub returns-clause-well : goal.returns-clause-well
+returns-clause-well c = λ own well.
+    let played = c.in_ok-played.ensures.goes own well.good in
+    let parts = played.parts in
+    let was = well.parts in
+    let a = c.add.ensures.asks in
+    let b = c.add.ensures.granted in
+    let d = c.add.ensures.cuts in
+    let e = c.add_restart.ensures.asks in
+    let f = c.add_restart.ensures.granted in
+    let g = c.add_restart.ensures.cuts in
+    record { good = played.good; parts = omega arith }

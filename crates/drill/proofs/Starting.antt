@@ -1,0 +1,127 @@
+-- A session that starts, and one that puts its next ask.
+use Rattle.std.proofs.Common.{◌≡◌, ◌≢◌, ◌<◌, ◌%◌, ◌+◌, ℕ, suc, List, [], ◌∷◌, All, None, map, inl, inr, refl, sym, ◌∙◌, ap, subst, arith}
+use Rattle.std.proofs.lemmas.Bool.{cases_eq}
+use Rattle.std.proofs.lemmas.List.Elements.{All-cons, All-head, All-nil, All-tail}
+use Rattle.coalition_map.specs.Coalitions.{leaf_members}
+use Rattle.drill_events.specs.Draws.{message_bytes}
+use Rattle.drill_trustees.specs.Members.{state_after, state_before}
+use Rattle.drill_trustees.specs.Trustees.{IsTrustee, SameShares, SetsAt, leaf_at}
+use Rattle.drill_trustees.specs.declared.trustees.Trustees.{Trustees}
+use Rattle.leaf_table.specs.Entries.{IsLeased, LeafUse}
+use Rattle.lms_bytes.specs.MessageId.{message_id}
+use Rattle.lms_bytes.specs.declared.ask.Ask.{Ask}
+use Rattle.opening_journal.specs.Entries as journals
+use Rattle.opening_journal.specs.Entries.{LeafState}
+use Rattle.reference_value.specs.Dealing.{Dealing}
+use Rattle.session_core.specs.Asks.{ask_with}
+use Rattle.session_core.specs.Seats.{Seat, empty_seat}
+use Rattle.session_core.specs.State.{IsSession, State, seats_of, started}
+use Rattle.session_core.specs.Verdicts.{digest_of}
+use Rattle.share_files.specs.declared.share.Share.{Share}
+use Rattle.drill.specs.Courses.{AllKept, AreFree, Awaits, GoesTo, Grows, HaveShares, IsGoing, IsNext, IsOnCourse, IsShareOf, Moves, asked, count_filled, steps_in}
+use Rattle.drill.specs.Ids.{id_of}
+use Rattle.drill.specs.declared.asks.NextAsk.{NextAsk}
+use Rattle.drill.specs.declared.desk.Desk.{Desk}
+use Rattle.drill.specs.declared.seat.Seat.{Seat as Place}
+use Rattle.drill.specs.declared.state.Asks.{Asks}
+use Rattle.drill.specs.declared.seat.Seat.TheVariants.{Running}
+use Rattle.drill.proofs.Going.{StandsAt, after-any, course, trustee-of}
+use Rattle.drill.proofs.Desks.{three}
+use Rattle.drill.proofs.Leasing.{IsNew}
+use Rattle.drill.proofs.Rounds.{by-round, first-member, kept-one, pair-of, second-member}
+use Rattle.drill.proofs.Turning.{no-reply, none-filled}
+
+all-empty : (room : ℕ) (members : List ℕ) → All (λ (seat : Seat). seat.code ≡ None) (map (empty_seat room) members)
+all-empty room [] = All-nil (λ (seat : Seat). seat.code ≡ None)
+all-empty room (t ∷ members) = All-cons (λ (seat : Seat). seat.code ≡ None) (empty_seat room t) (map (empty_seat room) members) refl (all-empty room members)
+
+before-first : (tag digest : List ℕ) (s : State) → s.c ≡ None → state_before (ask_with s tag digest) ≡ journals.IsFree
+before-first tag digest = by-round (λ s. s.c ≡ None → state_before (ask_with s tag digest) ≡ journals.IsFree)
+    (λ key plan leaf id first second none. refl) (λ key plan leaf id c first second none. absurd (cc))
+
+first-steps : (s : State) → s.c ≡ None → steps_in s ≡ 1 + count_filled (seats_of s)
+first-steps s none = rw none refl
+
+-- a session that was just started
+pub record Starts (desk : Desk) (d : Dealing) (i : ℕ) (uses : ℕ → LeafUse) (leaves : ℕ → ℕ → LeafState) (s : State) : Type 0 where
+  pub going : IsGoing desk d i uses leaves (Running s)
+  pub steps : steps_in s ≡ 1
+
+pub starts : (desk : Desk) (d : Dealing) (i : ℕ) (uses : ℕ → LeafUse) (leaves : ℕ → ℕ → LeafState) (leaf : ℕ) → IsSession (started desk.dealt.public desk.plan leaf (message_id (message_bytes i)))
+    → leaf % 3 ≡ i % 3 → uses leaf ≡ IsLeased (id_of i) → ((t : ℕ) → IsTrustee t → leaves t leaf ≡ journals.IsFree)
+    → Starts desk d i uses leaves (started desk.dealt.public desk.plan leaf (message_id (message_bytes i)))
+starts desk d i uses leaves leaf session own leased free =
+    let s = started desk.dealt.public desk.plan leaf (message_id (message_bytes i)) in
+    let m = message_bytes i in
+    let q = pair-of s session desk.plan_is in
+    let N = λ (seat : Seat). seat.code ≡ None in
+    let empty : All N (q.x ∷ q.y ∷ []) = subst (λ (l : List Seat). All N l) q.seats (all-empty _ (leaf_members desk.plan leaf)) in
+    let ex : q.x.code ≡ None = All-head N q.x (q.y ∷ []) empty in
+    let ey : q.y.code ≡ None = All-head N q.y [] (All-tail N q.x (q.y ∷ []) empty) in
+    let before = sym (before-first [] (digest_of s m) s refl) in
+    let sx : StandsAt leaves s m q.x = record { may = inl (free q.x.member (trustee-of s q q.x.member (first-member s q)) ∙ before); kept = λ some. absurd (some (no-reply q.x ex)) } in
+    let sy : StandsAt leaves s m q.y = record { may = inl (free q.y.member (trustee-of s q q.y.member (second-member s q)) ∙ before); kept = λ some. absurd (some (no-reply q.y ey)) } in
+    record {
+      going = (
+        course desk d i uses leaves s q session (record { key_is = refl; plan_is = refl; message_is = refl }) own leased tt (inl ex) (inl ey) sx sy,
+        (q.x.member, (first-member s q, kept-one s q ∙ no-reply q.x ex)),
+      );
+      steps = first-steps s refl ∙ ap (λ (n : ℕ). 1 + n) (ap count_filled q.seats ∙ none-filled q.x q.y ex ey);
+    }
+
+pub same-shares : (d : Dealing) (old new : Trustees) → HaveShares d old → SameShares old new → HaveShares d new
+same-shares d old new shares same t trustee = subst (λ (x : Share). IsShareOf d t x) (sym (same t trustee)) (shares t trustee)
+
+-- what an ask sets, in terms of the session
+pub sets-for : (desk : Desk) (s : State) (m : List ℕ) (next : NextAsk) (old new : Trustees) → IsNext desk s m next
+    → SetsAt old new next.member next.ask.leaf (state_after next.ask) → SetsAt old new next.member s.leaf (state_after (asked s m))
+sets-for desk s m next old new is sets =
+    let leaf : next.ask.leaf ≡ s.leaf = ap (λ (a : Ask). a.leaf) is.ask in
+    let state : state_after next.ask ≡ state_after (asked s m) = ap state_after is.ask ∙ after-any _ [] (digest_of s m) s in
+    subst (λ (q : ℕ). SetsAt old new next.member q (state_after (asked s m))) leaf (subst (λ (x : LeafState). SetsAt old new next.member next.ask.leaf x) state sets)
+
+-- no leaf but the session's changes
+pub others-stay : (old new : Trustees) (member leaf i : ℕ) (state : LeafState) (uses : ℕ → LeafUse) → SetsAt old new member leaf state → uses leaf ≡ IsLeased (id_of i) → IsTrustee member
+    → (t q : ℕ) → IsTrustee t → q < 32 → uses q ≢ IsLeased (id_of i) → leaf_at new t q ≡ leaf_at old t q
+others-stay old new member leaf i state uses sets leased trustee t q own within other = elim (cases_eq t member) [
+  | inl e ↦
+      subst (λ (u : ℕ). leaf_at new u q ≡ leaf_at old u q) (sym e)
+      (sets.leaves q within (λ same. other (ap uses same ∙ leased)))
+  | inr e ↦ sets.others t q own e
+]
+
+pub lease-moves : (desk : Desk) (d : Dealing) (i : ℕ) (uses after : ℕ → LeafUse) (old : Trustees) (leaf : ℕ) (s : State) → HaveShares d old → AreFree uses (leaf_at old)
+    → Grows i uses after → IsNew i uses after leaf → s ≡ started desk.dealt.public desk.plan leaf (message_id (message_bytes i)) → IsSession s
+    → Moves desk d i uses after old old 1 (Running s) (record { put = 0; granted = 0; cut = 0 })
+lease-moves desk d i uses after old leaf s shares free grows new same session =
+    let st = starts desk d i after (leaf_at old) leaf (subst (λ (z : State). IsSession z) same session) new.own new.leased (λ t own. free t leaf own new.within new.was) in
+    let steps : steps_in s ≡ 1 = ap steps_in same ∙ st.steps in
+    record {
+      grows = grows;
+      going = subst (λ (z : State). IsGoing desk d i after (leaf_at old) (Running z)) (sym same) st.going;
+      least = omega arith;
+      shares = shares;
+      stays = λ t q own within other. refl;
+      parts = refl;
+    }
+
+-- where a member is awaited there is a next ask
+pub not-all : (s : State) → IsSession s → s.plan ≡ three → ((t : ℕ) × Awaits s t) → AllKept s → ⊥
+not-all s session plan awaited all =
+    let t = trustee-of s (pair-of s session plan) awaited.0 awaited.1.0 in
+    all awaited.0 t.low t.high awaited.1.0 awaited.1.1
+
+-- a session's next ask, granted and taken
+pub ask-moves : (desk : Desk) (d : Dealing) (i : ℕ) (uses : ℕ → LeafUse) (old new : Trustees) (s : State) (next : NextAsk) (place : Place) (asks : Asks)
+    → IsOnCourse desk d i uses (leaf_at old) s → IsNext desk s (message_bytes i) next → HaveShares d new → SetsAt old new next.member s.leaf (state_after (asked s (message_bytes i)))
+    → GoesTo desk d i uses (leaf_at new) (suc (steps_in s)) place → asks.granted + asks.cut ≡ asks.put → Moves desk d i uses uses old new (suc (steps_in s)) place asks
+ask-moves desk d i uses old new s next place asks course is shares sets goes parts =
+    let steps = goes.steps_are in
+    record {
+      grows = λ q within. inl refl;
+      going = goes.going;
+      least = omega arith;
+      shares = shares;
+      stays = others-stay old new next.member s.leaf i (state_after (asked s (message_bytes i))) uses sets course.leased is.trustee;
+      parts = parts;
+    }

@@ -1,0 +1,36 @@
+use Rattle.std.proofs.Common.{◌≡◌, ◌≤◌, ◌∙◌, ℕ, get_or, inl, inr, sym, subst, arith}
+use Rattle.std.proofs.lemmas.Bool.{cases_eq}
+use Rattle.drill.specs.Courses.{AreFinished, steps_of}
+use Rattle.drill.specs.declared.seat.Seat.{Seat as Place}
+use Rattle.drill.proofs.run.finish_all.Goals as goal
+
+pub sessions-preserved : goal.sessions-preserved
+sessions-preserved c =
+    let before = c.sessions.invariant in
+    let e = c.in_ok-drill.ensures in
+    let t = c.finish_session.ensures in
+    let low = before.within.asks in
+    let now = t.within.asks in
+    let after = c.in_ok-drill.drill in
+    record {
+      is_for = e.is_for;
+      count = e.count ∙ before.count;
+      well = λ own well.
+          let f = before.well own well in
+          let g = e.well own f.well in
+          record {
+            well = g.well;
+            ended = λ j none inside. elim (cases_eq j c.sessions.i) [
+              | inl same ↦ subst (λ (k : ℕ). 5 ≤ steps_of (get_or after.seats.items k none)) (sym same) (g.ended none)
+              | inr other ↦ subst (λ (x : Place). 5 ≤ steps_of x) (sym (g.others j none other)) (f.ended j none (omega arith))
+            ];
+          };
+      within = record { asks = omega arith; parts = t.within.parts };
+      cuts = t.cuts ∙ before.cuts;
+      restarts = t.restarts ∙ before.restarts;
+    }
+
+pub returns-clause-well : goal.returns-clause-well
+returns-clause-well c = λ own well.
+    let all : c.sessions.i ≡ c.args.sessions = omega arith in
+    subst (λ (n : ℕ). AreFinished c.args.desk.now own.dealing n c.sessions.drill c.sessions.tally) all (c.sessions.invariant.well own well)

@@ -1,0 +1,10 @@
+use Rattle.std.proofs.Common.{List, subst}
+use Rattle.drill_trustees.specs.Trustees.{AreNew}
+use Rattle.share_files.specs.declared.share.Share.{Share}
+use Rattle.drill.proofs.Beginning.{begins}
+use Rattle.drill.proofs.start.start.Goals as goal
+
+pub returns-clause-good : goal.returns-clause-good
+returns-clause-good c = λ own different.
+    let new = subst (λ (l : List Share). AreNew l c.in_ok-new.field-0) c.deref.ensures.value c.in_ok-new.ensures in
+    begins c.args.desk.now own _ (rw c.in_ok-waiting.ensures.count different) new c.in_ok-new_table.ensures.settled c.in_ok-new_table.ensures.free c.in_ok-waiting.ensures.waiting c.new-2.ensures

@@ -1,0 +1,29 @@
+use Rattle.std.proofs.Common.{◌∙◌, ℕ, Option, IfOk, subst, ap}
+use Rattle.drill_trustees.specs.Trustees.{leaf_at}
+use Rattle.session_core.specs.Replies.{with_delivery}
+use Rattle.share_files.specs.declared.share.Share.{Share}
+use Rattle.trustee_core.specs.Grants.{ask_of}
+use Rattle.trustee_core.specs.declared.grant.Grant.{Grant}
+use Rattle.drill.specs.Courses.{GoesTo, IsGranted, head_with, masks_joined}
+use Rattle.drill.proofs.Replying.{reply-taken}
+use Rattle.drill.proofs.Stepping.{took-steps}
+use Rattle.drill.proofs.steps.answered.Goals as goal
+
+pub returns-clause-goes : goal.returns-clause-goes
+returns-clause-goes c = λ own map old granted.
+    let desk = c.args.desk.now in
+    let i = c.args.i in
+    let s = c.args.session in
+    let next = c.args.next.now in
+    let new = c.args.trustees.now in
+    let after = c.take_masks.new.session in
+    let grant = c.in-Some.grant in
+    let same = c.take_masks.ensures.same in
+    let of = c.requires.of in
+    let g = subst (λ (o : Option Grant). IsGranted desk own.dealing i map old new s next o) c.in-Some.is granted in
+    let taken = c.in_ok-take_masks.ensures.taken
+    ∙ ap (λ (share : Share). with_delivery s (head_with desk.dealt.public.params next.member next.ask) (masks_joined share (ask_of grant))) c.share.ensures.share in
+    let took = reply-taken desk own i map old new s after next grant g same c.in_ok-take_masks.ensures.session
+    (record { key_is = same.key ∙ of.key_is; plan_is = same.plan ∙ of.plan_is; message_is = same.message ∙ of.message_is }) taken in
+    subst (λ (steps : ℕ). IfOk c.advance.result (GoesTo desk own.dealing i map (leaf_at new) steps)) (took-steps s after same.c took.filled)
+    (c.advance.ensures.goes own map (leaf_at new) took.course)
