@@ -5,10 +5,12 @@
 #![tactic(auto)]
 
 mod changed;
+mod failing;
 mod scene;
 mod steps;
 
 use changed::changed_store;
+use failing::{Failing, failing_store};
 use host_io::FileStore;
 use memory::NoMemory;
 use memory_io::MemSink;
@@ -16,6 +18,8 @@ use memory_store::MemStore;
 use scene::{made, net_of, print_outcome, words_of};
 use std::alloc::Global;
 use std::io::{self, ErrorKind};
+use std::sync::Wait;
+use std::thread::Threads;
 use steps::Step;
 use stream_io::Store;
 use tool_run::{MemClocks, run_tool};
@@ -47,6 +51,11 @@ const FILE_LIMIT: u64 = 1 << 16;
 const LINK_CALLS: u64 = 24;
 
 const VIEW_CALLS: u64 = 90;
+
+/// More calls than `sign` makes of the store and of the table's disk.
+const STORE_CALLS: u64 = 8;
+
+const DISK_CALLS: u64 = 80;
 
 /// The store of these files, and of a message that is too long by one byte.
 fn store_of_files(rt: HostRuntime) -> io::Result<MemStore> {
@@ -124,30 +133,83 @@ fn all_runs(alloc: Global) -> Result<Vec<Run>, NoMemory> {
     Ok(runs)
 }
 
+/// Runs a command over a store. It prints the outcome where the line is another one than the last one, or where this is
+/// the only command of its kind, and answers the line.
+fn run_step<R: Threads + Wait + Sync>(
+    rt: &R,
+    host: HostRuntime,
+    store: &mut MemStore,
+    run: &Run,
+    last: &str,
+) -> io::Result<String> {
+    let alloc = host.alloc();
+    let words = words_of(alloc, run.step.words)?;
+    let mut net = made(net_of(alloc, store, run.step.peers, run.link_fault))?;
+    let mut out = made(MemSink::new(alloc, 200, 7, Vec::new(alloc)))?;
+    let mut clocks = MemClocks::new(0);
+    let status = run_tool(
+        rt,
+        alloc,
+        words.as_slice(),
+        store,
+        &mut net,
+        &mut clocks,
+        &mut out,
+    );
+    if !run.one_of_many || out.written() != last.as_bytes() {
+        print_outcome(host, store, &net, &run.step, (out.written(), status))?;
+    }
+    Ok(String::from_utf8_lossy(alloc, out.written())?)
+}
+
+/// Signs with a store of which one call fails, and again. It prints an outcome where its line is another one than the
+/// last time, and answers both lines.
+fn sign_twice<R: Threads + Wait + Sync>(
+    rt: &R,
+    host: HostRuntime,
+    from: &MemStore,
+    failing: Failing,
+    last: &(String, String),
+) -> io::Result<(String, String)> {
+    let mut store = made(failing_store(host.alloc(), from, failing))?;
+    let run = Run {
+        step: steps::FAULTY_STORE,
+        changed: false,
+        link_fault: None,
+        view_fault: None,
+        one_of_many: true,
+    };
+    let first = run_step(rt, host, &mut store, &run, last.0.as_str())?;
+    let second = run_step(rt, host, &mut store, &run, last.1.as_str())?;
+    Ok((first, second))
+}
+
+/// Signs with each call of the store failing in turn, and with each call of the disk of the table.
+fn sign_with_faults<R: Threads + Wait + Sync>(
+    rt: &R,
+    host: HostRuntime,
+    store: &MemStore,
+) -> io::Result<()> {
+    let mut last = (String::new(host.alloc()), String::new(host.alloc()));
+    for call in 0..STORE_CALLS {
+        last = sign_twice(rt, host, store, Failing::Store(call), &last)?;
+    }
+    for call in 0..DISK_CALLS {
+        last = sign_twice(rt, host, store, Failing::Disk(call), &last)?;
+    }
+    Ok(())
+}
+
 fn main(rt: HostRuntime) -> io::Result<()> {
     let mut store = store_of_files(rt)?;
     let mut last = String::new(rt.alloc());
     for run in &made(all_runs(rt.alloc()))? {
         if run.changed && store.bytes("OtherTree.pub").is_none() {
+            sign_with_faults(&rt, rt, &store)?;
             store = made(changed_store(rt.alloc(), &store))?;
         }
-        let words = words_of(rt.alloc(), run.step.words)?;
-        let mut net = made(net_of(rt.alloc(), &store, run.step.peers, run.link_fault))?;
-        let mut out = made(MemSink::new(rt.alloc(), 200, 7, Vec::new(rt.alloc())))?;
         store.fail_views(run.view_fault.unwrap_or(u64::MAX));
-        let status = run_tool(
-            &rt,
-            rt.alloc(),
-            words.as_slice(),
-            &mut store,
-            &mut net,
-            &mut MemClocks::new(0),
-            &mut out,
-        );
-        if !run.one_of_many || out.written() != last.as_bytes() {
-            print_outcome(rt, &store, &net, &run.step, (out.written(), status))?;
-        }
-        last = String::from_utf8_lossy(rt.alloc(), out.written())?;
+        last = run_step(&rt, rt, &mut store, run, last.as_str())?;
     }
     Ok(())
 }

@@ -278,6 +278,11 @@ pub(crate) const SIGN_24: &[Step] = &[
 /// Trustees that are lost, that stray, that send garbage, or who are not there; then all is well with the same leaf.
 pub(crate) const LOSE: &[Step] = &[
     Step {
+        words: "enrol A.ref fresh",
+        peers: &[],
+        out: None,
+    },
+    Step {
         words: "enrol A.ref lost",
         peers: &[],
         out: None,
@@ -370,6 +375,13 @@ pub(crate) const FAULTY_LINKS: [Step; 3] = [
 /// The same of one whose view fails.
 pub(crate) const FAULTY_VIEW: Step = Step {
     words: "sign A lost message f4 1=one 2=two 3=three",
+    peers: &QUIET,
+    out: None,
+};
+
+/// The same of one whose store or whose table's disk fails, with a table that leases nothing yet.
+pub(crate) const FAULTY_STORE: Step = Step {
+    words: "sign A fresh message f5 1=one 2=two 3=three",
     peers: &QUIET,
     out: None,
 };
