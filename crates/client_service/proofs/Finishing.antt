@@ -1,5 +1,5 @@
 -- The lock is ended.
-use Rattle.std.proofs.Common.{◌≡◌, ◌+◌, ◌*◌, ◌^◌, ◌≤◌, ◌<◌, ℕ, Bool, List, Option, Some, All, length, sym, ap, ◌∙◌, subst, arith}
+use Rattle.std.proofs.Common.{◌≡◌, ◌+◌, ◌*◌, ◌^◌, ◌≤◌, ◌<◌, ℕ, List, Option, Some, All, length, sym, ap, ◌∙◌, subst, arith}
 use Rattle.std.specs.Prelude.{count_by}
 use Rattle.std.proofs.lemmas.List.{length-map}
 use Rattle.client_node.specs.Turns.{HasSteadyDisk}
@@ -12,7 +12,7 @@ use Rattle.leased_session.specs.Tables.{TableSeen}
 use Rattle.trustee_service.specs.declared.totals.Totals.{Totals}
 use Rattle.trustee_service.proofs.Finishing.{small-ticket}
 use Rattle.turn_lock.specs.Lock.{Lock}
-use Rattle.turn_lock.specs.Pass.{Seen}
+use Rattle.turn_lock.specs.Pass.{IsWhole, Seen}
 
 -- what a lock was made with
 pub record OpenedBy (lock : Lock Lease TableName) (old : TableSeen) : Type 0 where
@@ -26,10 +26,7 @@ pub record ClosedBy (lock : Lock Lease TableName) (pass : Seen Lease TableName) 
   pub log : new.state.entries ≡ pass.log
   pub number : new.faults ≡ pass.floor
   pub name : Some new.name ≡ pass.name
-  pub tickets : 0 < pass.draws → pass.greatest < lock.first_ticket + pass.draws
-  pub no_ticket : pass.draws ≡ 0 → pass.greatest ≡ 0
-  pub rises : pass.floor ≡ lock.opening_number + pass.rises
-  pub entries : (test : Lease → Bool) → count_by test pass.log ≡ count_by test lock.opening_log + count_by test pass.own
+  pub whole : IsWhole lock pass
 
 module _ (desk : DeskState) (asked : ℕ) (lock : Lock Lease TableName) (old new : TableSeen) (pass : Seen Lease TableName) (olds news : List Place) (totals : Totals)
     (opened : OpenedBy lock old) (closed : ClosedBy lock pass new) where
@@ -39,14 +36,14 @@ module _ (desk : DeskState) (asked : ℕ) (lock : Lock Lease TableName) (old new
       let most = all.done.most in
       let drawn = all.done.draws in
       let count : length all.runs ≡ length olds = sym (length-map all.runs (λ (run : PortRun). run.before)) ∙ ap length all.before in
-      small-ticket pass.draws pass.greatest lock.first_ticket (2 * length (requests_in all.runs)) closed.tickets closed.no_ticket opened.first drawn
+      small-ticket lock pass (2 * length (requests_in all.runs)) closed.whole opened.first drawn
       (omega (arith, most, count, few))
 
   pub ends-served : Gathered desk asked lock pass olds news totals → length olds ≤ 64 → ServedClients desk asked old new olds news totals
   ends-served all few =
       let fresh = small all few in
       let number = closed.number in
-      let rose = closed.rises in
+      let rose = closed.whole.rises in
       let first = opened.number in
       record {
         runs = all.runs;
@@ -62,7 +59,7 @@ module _ (desk : DeskState) (asked : ℕ) (lock : Lock Lease TableName) (old new
         };
         adds = λ zero test.
             let own = all.done.own (sym number ∙ zero) in
-            ap (count_by test) closed.log ∙ closed.entries test
+            ap (count_by test) closed.log ∙ closed.whole.entries test
             ∙ (λ i. count_by test (opened.log i) + count_by test (own i));
         totals_are = all.totals_are;
       }

@@ -20,9 +20,9 @@ use Rattle.stream_io.specs.Net.{PortOnward, PortState}
 use Rattle.trustee_node.proofs.Prefixes.{prefix-same, prefix-then}
 use Rattle.trustee_service.specs.Ports.{PortEnds, failed, full, none_waits}
 use Rattle.trustee_service.specs.declared.totals.Totals.{Totals}
-use Rattle.trustee_service.proofs.Gathering.{MetBy, begins-left, begins-right}
+use Rattle.trustee_service.proofs.Gathering.{begins-left, begins-right}
 use Rattle.turn_lock.specs.Lock.{Lock}
-use Rattle.turn_lock.specs.Pass.{Seen, first_pass}
+use Rattle.turn_lock.specs.Pass.{Joins, Seen, first_pass}
 
 -- what a worker's connections made of its pass and of the count of its reference
 pub works-go : (desk : DeskState) (reference : ReferenceState) (old new : Post) (served : List Connection) → Works desk reference old served new
@@ -151,7 +151,7 @@ module _ (desk : DeskState) (asked : ℕ) where
 
   -- one more worker
   pub gathered-more : (lock : Lock Lease TableName) (old new : Seen Lease TableName) (olds news : List Place) (totals sums : Totals) (place : Place) (worker : WorkerState)
-      → Gathered desk asked lock old olds news totals → IsDone desk asked (first_pass lock) place worker → MetBy old worker.post.pass new
+      → Gathered desk asked lock old olds news totals → IsDone desk asked (first_pass lock) place worker → Joins old worker.post.pass new
       → sums.connections ≡ min (totals.connections + worker.connections) (2 ^ 32 - 1) → sums.frames ≡ min (totals.frames + worker.frames) (2 ^ 32 - 1)
       → Gathered desk asked lock new (olds ++ place ∷ []) (news ++ after worker ∷ []) sums
   gathered-more lock old new olds news totals sums place worker a done met connections frames =

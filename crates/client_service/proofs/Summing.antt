@@ -12,9 +12,8 @@ use Rattle.client_service.proofs.Statuses.{with_status-append}
 use Rattle.leaf_table.specs.declared.lease.Lease.{Lease}
 use Rattle.leaf_table.specs.declared.table.TableName.{TableName}
 use Rattle.leased_session.specs.Signing.{DeskState}
-use Rattle.trustee_service.proofs.Gathering.{MetBy}
 use Rattle.turn_lock.specs.Lock.{Lock}
-use Rattle.turn_lock.specs.Pass.{Seen}
+use Rattle.turn_lock.specs.Pass.{Joins, Seen}
 
 -- what is true of all of two lists is true of all of each
 all-left : {A : Type 0} (P : A → Type 0) (xs ys : List A) → All P (xs ++ ys) → All P xs
@@ -32,7 +31,7 @@ status-append : (status : ℕ) (runs more : List PortRun) → with_status status
 status-append status runs more = ap (with_status status) (requests-append runs more) ∙ with_status-append status (requests_in runs) (requests_in more)
 
 pub done-join : (desk : DeskState) (lock : Lock Lease TableName) (old other new : Seen Lease TableName) (runs more : List PortRun) → HasDone desk lock old runs
-    → HasDone desk lock other more → MetBy old other new → HasDone desk lock new (runs ++ more)
+    → HasDone desk lock other more → Joins old other new → HasDone desk lock new (runs ++ more)
 done-join desk lock old other new runs more a b met =
     let floor = met.floor in
     let greatest = met.greatest in

@@ -1,5 +1,5 @@
 -- The lock is ended.
-use Rattle.std.proofs.Common.{◌≡◌, ◌+◌, ◌^◌, ◌≤◌, ◌<◌, ℕ, Bool, List, Option, Some, All, length, sym, ap, ◌∙◌, subst, arith}
+use Rattle.std.proofs.Common.{◌≡◌, ◌+◌, ◌^◌, ◌≤◌, ◌<◌, ℕ, List, Option, Some, All, length, sym, ap, ◌∙◌, subst, arith}
 use Rattle.std.specs.Prelude.{count_by}
 use Rattle.std.proofs.lemmas.List.{length-map}
 use mathlib.Core.Logic.{dite}
@@ -15,7 +15,7 @@ use Rattle.trustee_service.specs.Ports.{IsPortRun, PortRun, ServedPorts, turns_i
 use Rattle.trustee_service.specs.Trustees.{TrusteeState}
 use Rattle.trustee_service.specs.declared.totals.Totals.{Totals}
 use Rattle.turn_lock.specs.Lock.{Lock}
-use Rattle.turn_lock.specs.Pass.{Seen}
+use Rattle.turn_lock.specs.Pass.{IsWhole, Seen}
 
 -- what a lock was made with
 pub record OpenedBy (lock : Lock Entry TrusteeName) (old : TrusteeState) : Type 0 where
@@ -29,16 +29,15 @@ pub record ClosedBy (lock : Lock Entry TrusteeName) (pass : Seen Entry TrusteeNa
   pub log : new.entries ≡ pass.log
   pub number : new.faults ≡ pass.floor
   pub name : Some new.name ≡ pass.name
-  pub tickets : 0 < pass.draws → pass.greatest < lock.first_ticket + pass.draws
-  pub no_ticket : pass.draws ≡ 0 → pass.greatest ≡ 0
-  pub rises : pass.floor ≡ lock.opening_number + pass.rises
-  pub entries : (test : Entry → Bool) → count_by test pass.log ≡ count_by test lock.opening_log + count_by test pass.own
+  pub whole : IsWhole lock pass
 
-pub small-ticket : (draws greatest first most : ℕ) → (0 < draws → greatest < first + draws) → (draws ≡ 0 → greatest ≡ 0) → first ≡ 0 → draws ≤ most → most ≤ 2 ^ 60 → greatest < 2 ^ 62
-small-ticket draws greatest first most some none start few bound =
-    dite (dec_le 1 draws)
-    (λ drawn. let is = some drawn in omega (arith, is, start, few, bound))
-    (λ never. let zero : draws ≡ 0 = omega arith in let is = none zero in omega (arith, is))
+-- who drew so few tickets drew no worn one
+pub small-ticket : {E N : Type 0} (lock : Lock E N) (pass : Seen E N) (most : ℕ) → IsWhole lock pass → lock.first_ticket ≡ 0 → pass.draws ≤ most → most ≤ 2 ^ 60
+    → pass.greatest < 2 ^ 62
+small-ticket lock pass most whole start few bound =
+    dite (dec_le 1 pass.draws)
+    (λ drawn. let is = whole.tickets drawn in omega (arith, is, start, few, bound))
+    (λ never. let zero : pass.draws ≡ 0 = omega arith in let is = whole.no_ticket zero in omega (arith, is))
 
 module _ (share : Share) (ids : Option (List (List ℕ))) (asked : ℕ) (lock : Lock Entry TrusteeName) (old new : TrusteeState) (pass : Seen Entry TrusteeName)
     (olds news : List PortState) (clocks : List ClockState) (totals : Totals) (opened : OpenedBy lock old) (closed : ClosedBy lock pass new) where
@@ -47,13 +46,13 @@ module _ (share : Share) (ids : Option (List (List ℕ))) (asked : ℕ) (lock : 
       let most = all.most in
       let drawn = all.draws.most in
       let count : length all.runs ≡ length olds = sym (length-map all.runs (λ (run : PortRun). run.before)) ∙ ap length all.before in
-      small-ticket pass.draws pass.greatest lock.first_ticket (length (turns_in all.runs)) closed.tickets closed.no_ticket opened.first (omega (arith, drawn)) (omega (arith, most, count, few))
+      small-ticket lock pass (length (turns_in all.runs)) closed.whole opened.first (omega (arith, drawn)) (omega (arith, most, count, few))
 
   pub ends-served : Gathered share ids asked lock pass olds news clocks totals → length olds ≤ 64 → ServedPorts share ids asked old new olds news clocks totals
   ends-served all few =
       let fresh = small all few in
       let number = closed.number in
-      let rose = closed.rises in
+      let rose = closed.whole.rises in
       let first = opened.number in
       record {
         runs = all.runs;
@@ -71,7 +70,7 @@ module _ (share : Share) (ids : Option (List (List ℕ))) (asked : ℕ) (lock : 
         };
         adds = λ zero test.
             let own = all.own (sym number ∙ zero) in
-            ap (count_by test) closed.log ∙ closed.entries test
+            ap (count_by test) closed.log ∙ closed.whole.entries test
             ∙ (λ i. count_by test (opened.log i) + count_by test (own i));
         totals_are = all.totals_are;
       }

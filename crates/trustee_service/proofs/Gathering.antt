@@ -17,7 +17,7 @@ use Rattle.trustee_service.specs.Gathered.{Gathered, IsDone}
 use Rattle.trustee_service.specs.Ports.{IsPortRun, PortEnds, PortRun, failed, full, none_waits, turns_in}
 use Rattle.trustee_service.specs.declared.totals.Totals.{Totals}
 use Rattle.turn_lock.specs.Lock.{Lock}
-use Rattle.turn_lock.specs.Pass.{SamePass, Seen, first_pass, longer_of}
+use Rattle.turn_lock.specs.Pass.{Joins, Seen, first_pass, longer_of}
 use Rattle.turn_lock.proofs.Prefixes.{prefix_all, prefix_whole}
 
 -- each of two logs that met begins the longer one
@@ -36,18 +36,6 @@ begins-right xs ys one =
       | true ↦ λ is. prefix_all ys ys refl
       | false ↦ λ is. elim one [ inl p ↦ prefix_all ys xs (sym (prefix_whole xs ys p (let le : length ys ≤ length xs = grind (arith, is) in omega arith))) | inr q ↦ q ]
     ] in all refl
-
--- what a meeting tells
-pub record MetBy {E N : Type 0} (old other new : Seen E N) : Type 0 where
-  pub one_log : IsPrefix old.log other.log ⊎ IsPrefix other.log old.log
-  pub log : new.log ≡ longer_of old.log other.log
-  pub floor : new.floor ≡ max old.floor other.floor
-  pub rises : new.rises ≡ old.rises + other.rises
-  pub draws : new.draws ≡ old.draws + other.draws
-  pub own : new.own ≡ old.own ++ other.own
-  pub greatest : new.greatest ≡ max old.greatest other.greatest
-  pub joined : new.joined ≡ old.joined + other.joined
-  pub same : SamePass old new
 
 -- the turns of connections
 few-turns : (share : Share) (told : Bool) (served : List Connection) → All (IsConnection share told) served → length (turns_of served) ≤ 65536 * length served
@@ -195,7 +183,7 @@ module _ (share : Share) (ids : Option (List (List ℕ))) where
     -- one more worker
     pub gathered-more : (lock : Lock Entry TrusteeName) (old new : Seen Entry TrusteeName) (olds news : List PortState) (clocks : List ClockState) (totals sums : Totals)
         (port : PortState) (clock : ClockState) (worker : WorkerState)
-        → Gathered share ids asked lock old olds news clocks totals → IsDone share ids asked (first_pass lock) port clock worker → MetBy old worker.pass new
+        → Gathered share ids asked lock old olds news clocks totals → IsDone share ids asked (first_pass lock) port clock worker → Joins old worker.pass new
         → sums.connections ≡ min (totals.connections + worker.connections) (2 ^ 32 - 1) → sums.frames ≡ min (totals.frames + worker.frames) (2 ^ 32 - 1)
         → Gathered share ids asked lock new (olds ++ port ∷ []) (news ++ worker.port ∷ []) (clocks ++ clock ∷ []) sums
     gathered-more lock old new olds news clocks totals sums port clock worker a done met connections frames =

@@ -1,6 +1,7 @@
 -- Each step keeps the rule of a lock's table, and tells what it is said to tell.
-use Rattle.std.proofs.Common.{◌≡◌, ◌≢◌, ℕ, zero, suc, ◌+◌, ◌%◌, ◌^◌, ◌<◌, ◌≤◌, ◌⊎◌, max, Bool, true, false, nat_lt, cond, List, [], ◌∷◌, ◌++◌, length, drop, set, count_by, Option, Some, None, refl, sym, ap, ◌∙◌, subst, inl, inr, ⊎_elim, arith, le_refl}
+use Rattle.std.proofs.Common.{◌≡◌, ◌≢◌, ℕ, zero, suc, ◌+◌, ◌%◌, ◌^◌, ◌<◌, ◌≤◌, ◌⊎◌, max, Bool, true, false, nat_lt, cond, List, [], ◌∷◌, ◌++◌, length, drop, set, get_or, replicate, count_by, Option, Some, None, refl, sym, ap, ◌∙◌, subst, inl, inr, ⊎_elim, arith, le_refl}
 use Rattle.std.proofs.Math.Nat.{mod-eq_of_lt}
+use Rattle.std.proofs.lemmas.List.{length-set, length-replicate}
 use Rattle.std.proofs.Math.Seq.{drop-append_seam}
 use mathlib.Core.Logic.{dite}
 use mathlib.Core.Option.{none, some, some-injective, some-ne-none}
@@ -16,10 +17,10 @@ use Rattle.turn_lock.specs.declared.view.Stage.{Stage}
 use Rattle.turn_lock.specs.declared.view.Stage.TheVariants.{Idle, Waiting, Holding}
 use Rattle.turn_lock.specs.Known.{starting, rest_of, one_of, both_of, spent, drawn_by, holding, given, compared, worn_parts}
 use Rattle.turn_lock.specs.Turned.{HasTicket, total, Stands, IsBlank, Knows, Turned}
-use Rattle.turn_lock.specs.Plays.{KnowsAll, Drew, Compared, Looked, PassedOn}
+use Rattle.turn_lock.specs.Plays.{KnowsAll, Called, Drew, Compared, Looked, PassedOn}
 use Rattle.turn_lock.proofs.Prefixes.{prefix_all, prefix_none, prefix_trans, prefix_length, prefix_both, longer_prefix, shorter_prefix, shorter_is, longer_left, longer_right}
 use Rattle.turn_lock.proofs.Totals.{total_set, total_snoc, total_zero, total_none, total_one, total_at, count_append, worn_parts-fresh, worn_parts-worn, worn_parts-both}
-use Rattle.turn_lock.proofs.Rule.{idle_not_held, waits_not_held, waits_not_idle, get_elem-below, same_at, idle_has_none, stands_more, below_next, waiting_on, old_seat, IsOut, rebuilt, still_known, next_small, Goes, home_stays, unmoved, same_low}
+use Rattle.turn_lock.proofs.Rule.{idle_not_held, waits_not_held, waits_not_idle, get_elem-below, same_at, idle_has_none, stands_more, below_next, waiting_on, old_seat, IsOut, rebuilt, still_known, next_small, Goes, home_stays, stirred, unmoved, same_low}
 
 abbrev ticket_of : Stage → ℕ
 ticket_of Idle = 0
@@ -167,7 +168,7 @@ module _ {T E N : Type 0} (entries : T → List E) (number : T → ℕ) (name : 
       (λ lt. omega arith)
 
   drawn_rule : (s : S) (r : Rule s) (id : ℕ) (v : K) → get_elem? s.views id ≡ some v → v.stage ≡ Idle → v.greatest < 2 ^ 62 → 0 < v.parts → v.greatest ≤ r.next → (b : Bool)
-      → Rule record { words = (r.next + 1) ∷ r.serving ∷ []; homes = s.homes; views = set s.views id (drawn_with v r.next b) }
+      → Rule record { words = (r.next + 1) ∷ r.serving ∷ r.parked; homes = s.homes; views = set s.views id (drawn_with v r.next b) }
   drawn_rule s r id v at idle fresh part above b =
       let w : K = drawn_with v r.next b in
       let not_held : (t : ℕ) → v.stage ≡ Holding t → ⊥ = λ t h. idle_not_held t (sym idle ∙ h) in
@@ -197,7 +198,7 @@ module _ {T E N : Type 0} (entries : T → List E) (number : T → ℕ) (name : 
         drawn_by me.0 r.next,
         keeps,
         tt,
-        subst (λ (x : ℕ). Rule record { words = x ∷ r.serving ∷ []; homes = s.homes; views = set s.views id (drawn_by me.0 r.next) }) (sym e) rule,
+        subst (λ (x : ℕ). Rule record { words = x ∷ r.serving ∷ r.parked; homes = s.homes; views = set s.views id (drawn_by me.0 r.next) }) (sym e) rule,
         record {
           slots = refl;
           view = refl;
@@ -209,7 +210,7 @@ module _ {T E N : Type 0} (entries : T → List E) (number : T → ℕ) (name : 
 
   -- looking: the ticket that is served is one seat's alone
   found_turn : (slots id t : ℕ) (me : Me (Option T) K) (st : Step (Option T)) (s : S) (r : Rule s) → get_elem? s.views id ≡ some me.0 → me.0.stage ≡ Waiting t → r.serving ≡ t
-      → Goes entries number name o s 1 id me (λ n. n) (Looked entries number name st me) (r.next ∷ r.serving ∷ [])
+      → Goes entries number name o s 1 id me (λ n. n) (Looked entries number name st me) (r.next ∷ r.serving ∷ r.parked)
   found_turn slots id t me st s r at waits here = ⊎_elim
       (λ (p : (v : T) × (s.homes ≡ some (Some v) ∷ []) × (entries v ≡ r.all) × (number v ≡ r.most) × (Some (name v) ≡ o.name)).
       let v : T = p.0 in
@@ -307,6 +308,20 @@ module _ {T E N : Type 0} (entries : T → List E) (number : T → ℕ) (name : 
         },
       ))
 
+  -- calling
+  called : (slots id k : ℕ) (me : Me (Option T) K) (st : Step (Option T)) → Allows Rule slots id me (suc (suc k)) (λ n. (n + 1) % 2 ^ 64) (Called st me)
+  called slots id k me st s r _ at _ = subst (Goes entries number name o s (suc (suc k)) id me (λ n. (n + 1) % 2 ^ 64) (Called st me)) (sym r.words) (
+    me.0,
+    keeps,
+    tt,
+    stirred entries number name o s r id me.0 at (set r.parked k ((get_or r.parked k 0 + 1) % 2 ^ 64)) (length-set r.parked k ((get_or r.parked k 0 + 1) % 2 ^ 64) ∙ r.parks),
+    refl,
+  )
+
+  pub calls : (slots id i k : ℕ) (me : Me (Option T) K) (st : Step (Option T)) → i ≡ 2 + k → Allows Rule slots id me i (λ n. (n + 1) % 2 ^ 64) (Called st me)
+  calls slots id i k me st is = let e : suc (suc k) ≡ i = omega (arith, is) in
+      subst (λ (i : ℕ). Allows Rule slots id me i (λ n. (n + 1) % 2 ^ 64) (Called st me)) e (called slots id k me st)
+
   -- passing on
   pub passes_on : (slots id t : ℕ) (me : Me (Option T) K) (st : Step (Option T)) (v : T) → me.0.stage ≡ Holding t → me.1 ≡ (0, Some v) ∷ [] → 0 < me.0.parts → IsPrefix me.0.log (entries v) → me.0.floor ≤ number v
       → Some (name v) ≡ me.0.opening.name → Allows Rule slots id me 1 (λ n. (n + 1) % 2 ^ 64) (PassedOn entries number st me)
@@ -364,7 +379,7 @@ module _ {T E N : Type 0} (entries : T → List E) (number : T → ℕ) (name : 
         w,
         gives,
         tt,
-        subst (λ (x : ℕ × List (mo.Option (Option T))). Rule record { words = r.next ∷ x.0 ∷ []; homes = x.1; views = set s.views id w }) (λ i. (sym e i, sym back i)) rule,
+        subst (λ (x : ℕ × List (mo.Option (Option T))). Rule record { words = r.next ∷ x.0 ∷ r.parked; homes = x.1; views = set s.views id w }) (λ i. (sym e i, sym back i)) rule,
         (λ u is. let same : v ≡ u = slot_value v u (sym out ∙ is) in (ap (λ (c : List (ℕ × Option T)). carried_after c gives) out, ap (λ (x : T). given me.0 (entries x) (number x)) same)),
       ))
 
@@ -404,9 +419,11 @@ module _ {T E N : Type 0} (entries : T → List E) (number : T → ℕ) (name : 
       record {
         next = r.next;
         serving = r.serving;
+        parked = r.parked;
         all = r.all;
         most = r.most;
         words = r.words;
+        parks = r.parks;
         order = r.order;
         home = ⊎_elim inl (λ (p : IsOut entries number name o r.serving s.homes s.views).
             let other : p.1.0 ≢ id = λ e. not_held r.serving (ap (λ (x : K). x.stage) (same_at s.views id p.1.0 v p.1.1 at p.1.2 (sym e)) ∙ p.1.3) in
@@ -481,9 +498,11 @@ module _ {T E N : Type 0} (entries : T → List E) (number : T → ℕ) (name : 
       record {
         next = r.next;
         serving = r.serving;
+        parked = r.parked;
         all = r.all;
         most = r.most;
         words = r.words;
+        parks = r.parks;
         order = r.order;
         home = ⊎_elim inl (λ (p : IsOut entries number name o r.serving s.homes s.views).
             let n = not_here p.1.1 p.1.0 r.serving p.1.2 (subst (λ (x : Stage). HasTicket x r.serving) (sym p.1.3) refl) in
@@ -511,7 +530,7 @@ module _ {T E N : Type 0} (entries : T → List E) (number : T → ℕ) (name : 
       }
 
   -- a new table
-  pub opens : (v : T) → entries v ≡ o.entries → number v ≡ o.number → Some (name v) ≡ o.name → 0 < o.passes → o.passes ≤ 4096 → o.first ≤ 2 ^ 62 → Rule (opening (o.first ∷ o.first ∷ []) (Some v ∷ []) (starting o))
+  pub opens : (v : T) → entries v ≡ o.entries → number v ≡ o.number → Some (name v) ≡ o.name → 0 < o.passes → o.passes ≤ 4096 → o.first ≤ 2 ^ 62 → Rule (opening (replicate 66 o.first) (Some v ∷ []) (starting o))
   opens v same_entries same_number same_name part few low =
       let d : K = starting o in
       let k : Knows o o.first o.first o.entries o.number d = record {
@@ -530,9 +549,11 @@ module _ {T E N : Type 0} (entries : T → List E) (number : T → ℕ) (name : 
       record {
         next = o.first;
         serving = o.first;
+        parked = replicate 64 o.first;
         all = o.entries;
         most = o.number;
         words = refl;
+        parks = length-replicate 64 o.first;
         order = le_refl o.first;
         home = inl (v, refl, same_entries, same_number, same_name);
         each_seat = λ j e at. subst (λ (x : K). Knows o o.first o.first o.entries o.number x) (only j e at) k;

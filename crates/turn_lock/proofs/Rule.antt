@@ -102,13 +102,15 @@ module _ {T E N : Type 0} (entries : T → List E) (number : T → ℕ) (name : 
   pub rebuilt : (s : S) (r : Rule s) (id : ℕ) (v w : K) → get_elem? s.views id ≡ some v → (n t : ℕ) (all : List E) (most : ℕ) (homes : List (mo.Option (Option T)))
       → t ≤ n → Home t all most homes (set s.views id w) → Knows o n t all most w → ((j : ℕ) (d : K) → j ≢ id → get_elem? s.views j ≡ some d → Knows o n t all most d)
       → ((j : ℕ) (d : K) (u : ℕ) → j ≢ id → get_elem? s.views j ≡ some d → HasTicket w.stage u → HasTicket d.stage u → ⊥)
-      → Adds s r id v w n all most → Rule record { words = n ∷ t ∷ []; homes = homes; views = set s.views id w }
+      → Adds s r id v w n all most → Rule record { words = n ∷ t ∷ r.parked; homes = homes; views = set s.views id w }
   rebuilt s r id v w at n t all most homes order home mine others apart adds = record {
     next = n;
     serving = t;
+    parked = r.parked;
     all = all;
     most = most;
     words = refl;
+    parks = r.parks;
     order = order;
     home = home;
     each_seat = λ j d e. ⊎_elim (λ (p : (j ≡ id) × (w ≡ d)). subst (λ (x : K). Knows o n t all most x) p.1 mine) (λ (p : (j ≢ id) × (get_elem? s.views j ≡ some d)). others j d p.0 p.1) (at_set s.views id j w d e);
@@ -154,10 +156,32 @@ module _ {T E N : Type 0} (entries : T → List E) (number : T → ℕ) (name : 
       inr (p.0, (p.1.0, p.1.1, set_else s.views id p.1.0 w (λ (e : p.1.0 ≡ id). idle r.serving (ap (λ (x : K). x.stage) (same_at s.views id p.1.0 v p.1.1 at p.1.2 (sym e)) ∙ p.1.3)) ∙ p.1.2, p.1.3)))
       r.home
 
-  -- a step that changes nothing
-  pub unmoved : (s : S) (r : Rule s) (id : ℕ) (me : K) → get_elem? s.views id ≡ some me → Rule record { words = r.next ∷ r.serving ∷ []; homes = s.homes; views = set s.views id me }
-  unmoved s r id me at = subst (λ (vs : List K). Rule record { words = r.next ∷ r.serving ∷ []; homes = s.homes; views = vs }) (sym (set_again s.views id me at))
-      (subst (λ (ws : List ℕ). Rule record { words = ws; homes = s.homes; views = s.views }) r.words r)
+  -- a step that changes the words on which seats wait, or nothing
+  pub stirred : (s : S) (r : Rule s) (id : ℕ) (me : K) → get_elem? s.views id ≡ some me → (parked : List ℕ) → length parked ≡ 64
+      → Rule record { words = r.next ∷ r.serving ∷ parked; homes = s.homes; views = set s.views id me }
+  stirred s r id me at parked parks = subst (λ (vs : List K). Rule record { words = r.next ∷ r.serving ∷ parked; homes = s.homes; views = vs }) (sym (set_again s.views id me at)) record {
+    next = r.next;
+    serving = r.serving;
+    parked = parked;
+    all = r.all;
+    most = r.most;
+    words = refl;
+    parks = parks;
+    order = r.order;
+    home = r.home;
+    each_seat = r.each_seat;
+    apart = r.apart;
+    whole = r.whole;
+    small = r.small;
+    drawn = r.drawn;
+    low = r.low;
+    risen = r.risen;
+    added = r.added;
+    knower = r.knower;
+  }
+
+  pub unmoved : (s : S) (r : Rule s) (id : ℕ) (me : K) → get_elem? s.views id ≡ some me → Rule record { words = r.next ∷ r.serving ∷ r.parked; homes = s.homes; views = set s.views id me }
+  unmoved s r id me at = stirred s r id me at r.parked r.parks
 
   -- the sum of worn parts, where this seat's stay as they were
   pub same_low : (ds : List K) (id n : ℕ) (v w : K) → get_elem? ds id ≡ some v → worn_parts w ≡ worn_parts v → n ≤ 2 ^ 62 + total worn_parts ds → n ≤ 2 ^ 62 + total worn_parts (set ds id w)

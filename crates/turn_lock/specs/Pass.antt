@@ -1,5 +1,7 @@
 -- What a pass of a lock has seen.
-use Rattle.std.specs.Prelude.{◌≡◌, ℕ, ◌+◌, ◌<◌, Bool, false, List, [], length, count_by, Option, nat_lt, if◌then◌else◌}
+use Rattle.std.specs.Prelude.{◌≡◌, ℕ, ◌+◌, ◌-◌, ◌^◌, ◌<◌, ◌≤◌, ◌⊎◌, max, Bool, true, false, List, [], ◌++◌, length}
+use Rattle.std.specs.Prelude.{drop, count_by, Option, Some, nat_lt, if◌then◌else◌}
+use mathlib.Core.List.{IsPrefix}
 use Rattle.turn_lock.specs.Lock.{Lock}
 
 -- A pass: its lock, the seven parts of what it has seen, how many passes are joined in it, and whether it holds the
@@ -45,13 +47,73 @@ module _ {E N : Type 0} where
     pub lock : new.lock ≡ old.lock
     pub name : new.name ≡ old.name
 
+  -- A turn begins, at a value with these entries, this number and this name: it goes on from what the pass had seen,
+  -- and the pass has seen it now. The ticket of the turn is below 2^62.
+  pub record Takes (entries : List E) (number : ℕ) (name : N) (old new : Seen E N) : Type 0 where
+    pub begins : IsPrefix old.log entries
+    pub reaches : old.floor ≤ number
+    pub named : Some name ≡ old.name
+    pub log : new.log ≡ entries
+    pub floor : new.floor ≡ number
+    pub turn : new.in_turn ≡ true
+    pub fresh : new.greatest < 2 ^ 62
+
+  -- no turn begins, since the pass has drawn a ticket of 2^62 or more: it has seen nothing more
+  pub record IsWornOut (old new : Seen E N) : Type 0 where
+    pub log : new.log ≡ old.log
+    pub floor : new.floor ≡ old.floor
+    pub turn : new.in_turn ≡ false
+    pub worn : 2 ^ 62 ≤ new.greatest
+
+  -- A ticket is drawn, which is then the greatest; a pass that is worn draws none. Where all passes of the lock are
+  -- joined in this one, the ticket is the first one and as many more as were drawn.
+  pub record DrawsOne (lock : Lock E N) (old new : Seen E N) : Type 0 where
+    pub draws : old.greatest < 2 ^ 62 → new.draws ≡ old.draws + 1
+    pub still_worn : 2 ^ 62 ≤ old.greatest → new ≡ old
+    pub greatest : old.greatest ≤ new.greatest
+    pub next : old.greatest < 2 ^ 62 → old.joined ≡ lock.passes → new.greatest ≡ lock.first_ticket + old.draws
+
+  -- what stays as it is where a turn is taken: what the turns of the pass did
+  pub record SameDone (old new : Seen E N) : Type 0 where
+    pub rises : new.rises ≡ old.rises
+    pub own : new.own ≡ old.own
+    pub joined : new.joined ≡ old.joined
+    pub same : SamePass old new
+
+  -- A turn ends, at a value with these entries and this number: what it added to the log, and by how much the number
+  -- rose in it, is the pass's own.
+  pub record Gives (entries : List E) (number : ℕ) (old new : Seen E N) : Type 0 where
+    pub log : new.log ≡ entries
+    pub floor : new.floor ≡ number
+    pub rises : new.rises ≡ old.rises + (number - old.floor)
+    pub own : new.own ≡ old.own ++ drop (length old.log) entries
+    pub turn : new.in_turn ≡ false
+
+  -- what stays as it is where a turn is given back: the tickets of the pass
+  pub record SameDrawn (old new : Seen E N) : Type 0 where
+    pub draws : new.draws ≡ old.draws
+    pub greatest : new.greatest ≡ old.greatest
+    pub joined : new.joined ≡ old.joined
+    pub same : SamePass old new
+
+  -- another pass is joined in this one: of their two logs one begins the other, and the longer is kept
+  pub record Joins (old other new : Seen E N) : Type 0 where
+    pub one_log : IsPrefix old.log other.log ⊎ IsPrefix other.log old.log
+    pub log : new.log ≡ longer_of old.log other.log
+    pub floor : new.floor ≡ max old.floor other.floor
+    pub rises : new.rises ≡ old.rises + other.rises
+    pub draws : new.draws ≡ old.draws + other.draws
+    pub own : new.own ≡ old.own ++ other.own
+    pub greatest : new.greatest ≡ max old.greatest other.greatest
+    pub joined : new.joined ≡ old.joined + other.joined
+    pub same : SamePass old new
+
   -- what is true of the pass in which all passes of the lock are joined
-  pub record IsWhole (pass : Seen E N) : Type 0 where
+  pub record IsWhole (lock : Lock E N) (pass : Seen E N) : Type 0 where
     -- each ticket that was drawn is below the next one
-    pub tickets : 0 < pass.draws → pass.greatest < pass.lock.first_ticket + pass.draws
+    pub tickets : 0 < pass.draws → pass.greatest < lock.first_ticket + pass.draws
     pub no_ticket : pass.draws ≡ 0 → pass.greatest ≡ 0
     -- the number rose in turns alone
-    pub rises : pass.floor ≡ pass.lock.opening_number + pass.rises
+    pub rises : pass.floor ≡ lock.opening_number + pass.rises
     -- each entry stands in the log as often as in the first list and the own entries together
-    pub entries : (test : E → Bool)
-        → count_by test pass.log ≡ count_by test pass.lock.opening_log + count_by test pass.own
+    pub entries : (test : E → Bool) → count_by test pass.log ≡ count_by test lock.opening_log + count_by test pass.own

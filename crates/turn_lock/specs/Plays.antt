@@ -22,6 +22,11 @@ pub record Drew {T E N : Type 0} (st : Step (Option T)) (m : Me (Option T) (Know
   pub above : m.0.greatest ≤ found
   pub next : m.0.parts ≡ m.0.opening.passes → found ≡ m.0.opening.first + m.0.draws
 
+-- nothing changes for the seat
+abbrev pub Called : {T E N : Type 0} → Step (Option T) → Me (Option T) (Known E N) → ℕ → Me (Option T) (Known E N)
+    → Type 0
+Called st m found m' = m' ≡ m
+
 -- after a meeting, of the two logs one begins the other
 pub record Compared {T E N : Type 0} (st : Step (Option T)) (m : Me (Option T) (Known E N))
     (found : ℕ) (m' : Me (Option T) (Known E N)) : Type 0 where

@@ -1,5 +1,5 @@
--- The rule of a lock's table. Word 0 is the next ticket, word 1 the ticket that is served, and slot 0 has the value
--- where no seat holds the turn.
+-- The rule of a lock's table. Word 0 is the next ticket, word 1 the ticket that is served, the 64 words behind them are
+-- there to be parked on and may have any value, and slot 0 has the value where no seat holds the turn.
 use Rattle.std.specs.Prelude.{◌≡◌, ℕ, ◌+◌, ◌^◌, ◌<◌, ◌≤◌, ◌⊎◌, Bool, List, [], ◌∷◌, length, count_by, Option, Some}
 use mathlib.Core.Option.{none, some}
 use mathlib.Core.List.{IsPrefix}
@@ -48,14 +48,17 @@ module _ {E N : Type 0} where
     pub stands : Stands next serving all most d d.stage
     pub blank : d.parts ≡ 0 → IsBlank d
 
--- the rule, for the next ticket, the one that is served, the log of all turns, and the number of the last one
+-- the rule, for the next ticket, the one that is served, the words to park on, the log of all turns, and the number of
+-- the last one
 pub record Turned {T E N : Type 0} (entries : T → List E) (number : T → ℕ) (name : T → N)
     (o : Opening E N) (s : State (Option T) (Known E N)) : Type 0 where
   pub next : ℕ
   pub serving : ℕ
+  pub parked : List ℕ
   pub all : List E
   pub most : ℕ
-  pub words : s.words ≡ next ∷ serving ∷ []
+  pub words : s.words ≡ next ∷ serving ∷ parked
+  pub parks : length parked ≡ 64
   pub order : serving ≤ next
   -- the value is at home, and stands for the log; or a seat holds the turn
   pub home : ((v : T) × (s.homes ≡ some (Some v) ∷ []) × (entries v ≡ all) × (number v ≡ most)

@@ -1,11 +1,11 @@
 //! The lock and its passes.
 #![tactic(auto)]
 
-ghost use Rattle.std.specs.Prelude.{◌≡◌, ◌+◌, ◌-◌, ◌^◌, ◌<◌, ◌≤◌, ◌⊎◌, max, true, false, Bool, [], ◌++◌, length, drop};
-ghost use Rattle.std.specs.Prelude.{count_by, IfOk, IfErr, MatchResult, is_ok, All, vec_len, vec_capacity};
+ghost use Rattle.std.specs.Prelude.{◌≡◌, ◌^◌, ◌<◌, ◌≤◌, true, false, [], Some, IfOk, IfErr, All, vec_len, vec_capacity};
 ghost use mathlib.Core.List.{IsPrefix};
 ghost use Rattle.turn_lock.specs.Known.{opening_of, starting, one_of, lock_of};
-ghost use Rattle.turn_lock.specs.Pass.{first_pass, longer_of, SamePass, IsWhole};
+ghost use Rattle.turn_lock.specs.Pass.{first_pass, Takes, IsWornOut, DrawsOne, SameDone, Gives, SameDrawn, Joins};
+ghost use Rattle.turn_lock.specs.Pass.{IsWhole};
 
 use crate::kept::Kept;
 use crate::steps;
@@ -45,7 +45,7 @@ impl<T: Kept> Model for TurnLock<T> {
         lock_of l.table.shared.table_id
         (opening_of T.entries T.number T.name key.value.value key.first key.passes) };
 
-    ghost invariant = { λ l. (l.table.shared.table_id.words ≡ 2) × (l.table.shared.table_id.slots ≡ 1) };
+    ghost invariant = { λ l. (l.table.shared.table_id.words ≡ 66) × (l.table.shared.table_id.slots ≡ 1) };
 }
 
 /// What takes turns of a lock. Contracts see it as a `Seen` of `specs/Pass.antt`: its lock, what it has seen of the
@@ -108,30 +108,10 @@ impl<T: Kept> TurnLock<T> {
     pub fn take(&self, rt: &impl Wait, pass: &mut Pass<T>) -> Result<T, Worn>
         requires lock { pass.old.lock ≡ self.now }
         requires idle { pass.old.in_turn ≡ false }
-
-        // The value goes on from what the pass had seen.
-        ensures begins { IfOk result (λ v. IsPrefix pass.old.log (T.entries v)) }
-        ensures reaches { IfOk result (λ v. pass.old.floor ≤ T.number v) }
-        ensures named { IfOk result (λ v. Some (T.name v) ≡ pass.old.name) }
-
-        // The pass has seen the value, and holds the turn. A worn one sees nothing.
-        ensures log { MatchResult result (λ v. pass.new.log ≡ T.entries v) (λ _. pass.new.log ≡ pass.old.log) }
-        ensures floor { MatchResult result (λ v. pass.new.floor ≡ T.number v) (λ _. pass.new.floor ≡ pass.old.floor) }
-        ensures turn { pass.new.in_turn ≡ is_ok result }
-
-        // A ticket that is drawn is then the greatest. Where all passes are joined in this one, it is the first ticket
-        // and as many more as were drawn.
-        ensures worn { MatchResult result (λ _. pass.new.greatest < 2 ^ 62) (λ _. 2 ^ 62 ≤ pass.new.greatest) }
-        ensures draws { pass.old.greatest < 2 ^ 62 → pass.new.draws ≡ pass.old.draws + 1 }
-        ensures still_worn { 2 ^ 62 ≤ pass.old.greatest → pass.new ≡ pass.old }
-        ensures greatest { pass.old.greatest ≤ pass.new.greatest }
-        ensures next { pass.old.greatest < 2 ^ 62 → pass.old.joined ≡ self.now.passes
-            → pass.new.greatest ≡ self.now.first_ticket + pass.old.draws }
-
-        ensures rises { pass.new.rises ≡ pass.old.rises }
-        ensures own { pass.new.own ≡ pass.old.own }
-        ensures joined { pass.new.joined ≡ pass.old.joined }
-        ensures same { SamePass pass.old pass.new }
+        ensures taken { IfOk result (λ v. Takes (T.entries v) (T.number v) (T.name v) pass.old pass.new) }
+        ensures worn { IfErr result (λ _. IsWornOut pass.old pass.new) }
+        ensures draws { DrawsOne self.now pass.old pass.new }
+        ensures stays { SameDone pass.old pass.new }
     {
         if pass.greatest >= WORN_FROM {
             return Err(Worn);
@@ -151,15 +131,8 @@ impl<T: Kept> TurnLock<T> {
         requires begins { IsPrefix pass.old.log (T.entries value) }
         requires reaches { pass.old.floor ≤ T.number value }
         requires named { Some (T.name value) ≡ pass.old.name }
-        ensures log { pass.new.log ≡ T.entries value }
-        ensures floor { pass.new.floor ≡ T.number value }
-        ensures rises { pass.new.rises ≡ pass.old.rises + (T.number value - pass.old.floor) }
-        ensures own { pass.new.own ≡ pass.old.own ++ drop (length pass.old.log) (T.entries value) }
-        ensures turn { pass.new.in_turn ≡ false }
-        ensures draws { pass.new.draws ≡ pass.old.draws }
-        ensures greatest { pass.new.greatest ≡ pass.old.greatest }
-        ensures joined { pass.new.joined ≡ pass.old.joined }
-        ensures same { SamePass pass.old pass.new }
+        ensures gives { Gives (T.entries value) (T.number value) pass.old pass.new }
+        ensures stays { SameDrawn pass.old pass.new }
     {
         steps::pass_on(&self.table.shared, &mut pass.seat, value);
     }
@@ -168,19 +141,11 @@ impl<T: Kept> TurnLock<T> {
     pub fn meet(&self, pass: &mut Pass<T>, other: Pass<T>)
         requires lock { (pass.old.lock ≡ self.now) × (other.lock ≡ self.now) }
         requires idle { (pass.old.in_turn ≡ false) × (other.in_turn ≡ false) }
-        ensures one_log { IsPrefix pass.old.log other.log ⊎ IsPrefix other.log pass.old.log }
-        ensures log { pass.new.log ≡ longer_of pass.old.log other.log }
-        ensures floor { pass.new.floor ≡ max pass.old.floor other.floor }
-        ensures rises { pass.new.rises ≡ pass.old.rises + other.rises }
-        ensures draws { pass.new.draws ≡ pass.old.draws + other.draws }
-        ensures own { pass.new.own ≡ pass.old.own ++ other.own }
-        ensures greatest { pass.new.greatest ≡ max pass.old.greatest other.greatest }
-        ensures joined { pass.new.joined ≡ pass.old.joined + other.joined }
+        ensures joins { Joins pass.old other pass.new }
         ensures turn { pass.new.in_turn ≡ false }
-        ensures same { SamePass pass.old pass.new }
 
         // Once all passes are joined, the sums are the lock's.
-        ensures whole { pass.new.joined ≡ self.now.passes → IsWhole pass.new }
+        ensures whole { pass.new.joined ≡ self.now.passes → IsWhole self.now pass.new }
     {
         let Pass {
             seat,
@@ -207,14 +172,7 @@ impl<T: Kept> TurnLock<T> {
         ensures log { T.entries result ≡ pass.log }
         ensures number { T.number result ≡ pass.floor }
         ensures named { Some (T.name result) ≡ pass.name }
-
-        // Each ticket that was drawn is below the next one. The number rose in turns alone, and in turns alone entries
-        // were added.
-        ensures tickets { 0 < pass.draws → pass.greatest < self.first_ticket + pass.draws }
-        ensures no_ticket { pass.draws ≡ 0 → pass.greatest ≡ 0 }
-        ensures rises { pass.floor ≡ self.opening_number + pass.rises }
-        ensures entries { (test : T.Entry → Bool)
-            → count_by test pass.log ≡ count_by test self.opening_log + count_by test pass.own }
+        ensures whole { IsWhole self pass }
     {
         let TurnLock { table } = self;
         let Pass {
@@ -247,7 +205,7 @@ fn deal<T: Kept>(
     count: u32,
     mut passes: Vec<Pass<T>>,
 ) -> Vec<Pass<T>>
-    requires table { (seat.table_id ≡ words.now.table_id) × (words.now.table_id.words ≡ 2) }
+    requires table { (seat.table_id ≡ words.now.table_id) × (words.now.table_id.words ≡ 66) }
     requires seat { seat.me ≡ (starting seat.me.0.opening, []) }
     requires count { (0 < count) × (count ≡ seat.me.0.opening.passes) }
     requires room { (vec_len passes ≡ 0) × (count ≤ vec_capacity passes) }

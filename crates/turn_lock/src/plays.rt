@@ -52,6 +52,15 @@ impl<T: Kept> Play<Option<T>, Known<T::Entry, T::Name>> for PassOn<T> {
     ghost then = { PassedOn T.entries T.number };
 }
 
+/// Calling who waits for a turn.
+pub struct Call;
+
+impl<T: Kept> Play<Option<T>, Known<T::Entry, T::Name>> for Call {
+    ghost use Rattle.turn_lock.specs.Plays.{Called};
+
+    ghost then = { Called };
+}
+
 /// Comparing two logs after a meeting.
 pub struct Compare;
 

@@ -1,7 +1,7 @@
-//! The steps of a turn, on the two words and the slot of a lock's table.
+//! The steps of a turn, on the words and the slot of a lock's table.
 #![tactic(auto)]
 
-ghost use Rattle.std.specs.Prelude.{◌≡◌, ◌≢◌, ℕ, ◌+◌, ◌^◌, ◌<◌, ◌≤◌, [], ◌∷◌, None, Some, IfOk, IfErr};
+ghost use Rattle.std.specs.Prelude.{◌≡◌, ◌≢◌, ℕ, ◌+◌, ◌%◌, ◌^◌, ◌<◌, ◌≤◌, [], ◌∷◌, None, Some, IfOk, IfErr};
 ghost use mathlib.Core.List.{IsPrefix};
 ghost use Rattle.turn_lock.specs.Known.{opening_of, starting, holding, given, rest_of, one_of, both_of, compared};
 ghost use Rattle.turn_lock.specs.Known.{drawn_by};
@@ -9,7 +9,7 @@ ghost use Rattle.turn_lock.specs.Plays.{KnowsAll};
 ghost use Rattle.turn_lock.specs.declared.view.Stage.TheVariants.{Idle, Waiting, Holding};
 
 use crate::kept::Kept;
-use crate::plays::{Compare, Draw, Look, PassOn, SplitOff, TakeIn, Turns};
+use crate::plays::{Call, Compare, Draw, Look, PassOn, SplitOff, TakeIn, Turns};
 use crate::view::{Known, Start};
 use atomic_table::{Seat, Shared, Table};
 use std::alloc::Global;
@@ -20,6 +20,15 @@ const TICKET: usize = 0;
 
 /// The word of the ticket that is served.
 const SERVING: usize = 1;
+
+/// The first of the words on which those who wait are parked.
+const PARKING: usize = 2;
+
+/// How many these words are.
+const PARKED: usize = 64;
+
+/// All words of a lock.
+const WORDS: usize = PARKING + PARKED;
 
 /// The slot of the value.
 const VALUE: usize = 0;
@@ -49,7 +58,7 @@ pub fn open<T: Kept>(alloc: Global, value: T, start: &Start<T>) -> Result<(Home<
     requires value { start.now.value.value ≡ value }
     requires passes { (0 < start.now.passes) × (start.now.passes ≤ 4096) }
     requires first { start.now.first ≤ 2 ^ 62 }
-    ensures table { IfOk result (λ r. (r.0.shared.table_id.words ≡ 2) × (r.0.shared.table_id.slots ≡ 1)
+    ensures table { IfOk result (λ r. (r.0.shared.table_id.words ≡ 66) × (r.0.shared.table_id.slots ≡ 1)
         × (r.0.shared.key ≡ start.now) × (r.1.table_id ≡ r.0.shared.table_id)) }
     ensures seat { IfOk result (λ r. r.1.me
         ≡ (starting (opening_of T.entries T.number T.name value start.now.first start.now.passes), [])) }
@@ -63,7 +72,7 @@ pub fn open<T: Kept>(alloc: Global, value: T, start: &Start<T>) -> Result<(Home<
         };
         return Err(value);
     }
-    match Table::new(alloc, &[start.first, start.first], slots, start) {
+    match Table::new(alloc, &[start.first; WORDS], slots, start) {
         Ok(made) => Ok(made),
         Err(mut refused) => {
             let Some(Some(value)) = refused.slots.pop() else {
@@ -77,7 +86,7 @@ pub fn open<T: Kept>(alloc: Global, value: T, start: &Start<T>) -> Result<(Home<
 
 /// Draws a ticket.
 pub fn draw<T: Kept>(words: &Words<T>, seat: &mut Place<T>) -> u64
-    requires table { (seat.old.table_id ≡ words.now.table_id) × (words.now.table_id.words ≡ 2) }
+    requires table { (seat.old.table_id ≡ words.now.table_id) × (words.now.table_id.words ≡ 66) }
     requires idle { (seat.old.me.0.stage ≡ Idle) × (seat.old.me.0.greatest < 2 ^ 62) × (0 < seat.old.me.0.parts) }
     ensures table { seat.new.table_id ≡ seat.old.table_id }
     ensures slots { seat.new.me.1 ≡ seat.old.me.1 }
@@ -89,9 +98,16 @@ pub fn draw<T: Kept>(words: &Words<T>, seat: &mut Place<T>) -> u64
     words.fetch_add::<Draw>(seat, TICKET, 1)
 }
 
+/// The word on which the waiter of this ticket is parked.
+fn parking_of(ticket: u64) -> usize
+    ensures { result ≡ 2 + ticket % 64 }
+{
+    PARKING + (ticket % PARKED as u64) as usize
+}
+
 /// Waits until the ticket is served, and takes the value out.
 pub fn wait<T: Kept>(rt: &impl Wait, words: &Words<T>, seat: &mut Place<T>, ticket: u64) -> T
-    requires table { (seat.old.table_id ≡ words.now.table_id) × (words.now.table_id.words ≡ 2) }
+    requires table { (seat.old.table_id ≡ words.now.table_id) × (words.now.table_id.words ≡ 66) }
     requires waits { (seat.old.me.0.stage ≡ Waiting ticket) × (seat.old.me.1 ≡ []) }
     ensures table { seat.new.table_id ≡ seat.old.table_id }
     ensures out { seat.new.me.1 ≡ (0, None) ∷ [] }
@@ -100,21 +116,24 @@ pub fn wait<T: Kept>(rt: &impl Wait, words: &Words<T>, seat: &mut Place<T>, tick
     ensures reached { seat.old.me.0.floor ≤ T.number result }
     ensures named { Some (T.name result) ≡ seat.old.me.0.opening.name }
 {
+    let parking = parking_of(ticket);
     'waits: for _ in rt.forever() {
-        let served = look(words, seat, ticket);
-        if served == ticket {
+        // The parking word is read before the turn is looked at: whoever makes it this ticket's turn later changes the
+        // word after that, so that no wake is lost.
+        let parked = words.peek(parking);
+        if look(words, seat, ticket) == ticket {
             let taken = words.exchange(seat, VALUE, None);
             let Some(value) = taken else { unreachable!() };
             return value;
         }
-        words.park(rt, SERVING, (served % (1 << 32)) as u32);
+        words.park(rt, parking, (parked % (1 << 32)) as u32);
     }
     unreachable!()
 }
 
 // Which ticket is served. Where it is this one, the slot is out with the seat.
 fn look<T: Kept>(words: &Words<T>, seat: &mut Place<T>, ticket: u64) -> u64
-    requires table { (seat.old.table_id ≡ words.now.table_id) × (words.now.table_id.words ≡ 2) }
+    requires table { (seat.old.table_id ≡ words.now.table_id) × (words.now.table_id.words ≡ 66) }
     requires waits { (seat.old.me.0.stage ≡ Waiting ticket) × (seat.old.me.1 ≡ []) }
     ensures table { seat.new.table_id ≡ seat.old.table_id }
     ensures served { result ≡ ticket
@@ -129,7 +148,7 @@ fn look<T: Kept>(words: &Words<T>, seat: &mut Place<T>, ticket: u64) -> u64
 
 /// Puts the value back, and passes the turn on.
 pub fn pass_on<T: Kept>(words: &Words<T>, seat: &mut Place<T>, value: T)
-    requires table { (seat.old.table_id ≡ words.now.table_id) × (words.now.table_id.words ≡ 2) }
+    requires table { (seat.old.table_id ≡ words.now.table_id) × (words.now.table_id.words ≡ 66) }
     requires holds { ((t : ℕ) × (seat.old.me.0.stage ≡ Holding t)) × (seat.old.me.1 ≡ (0, None) ∷ [])
         × (0 < seat.old.me.0.parts) }
     requires begins { IsPrefix seat.old.me.0.log (T.entries value) }
@@ -140,13 +159,24 @@ pub fn pass_on<T: Kept>(words: &Words<T>, seat: &mut Place<T>, value: T)
 {
     let empty = words.exchange(seat, VALUE, Some(value));
     let None = empty else { unreachable!() };
-    words.fetch_add::<PassOn<T>>(seat, SERVING, 1);
-    words.wake_all(SERVING);
+    let served = words.fetch_add::<PassOn<T>>(seat, SERVING, 1);
+    call(words, seat, served.wrapping_add(1));
+}
+
+/// Wakes the waiter of this ticket, and those whose tickets have the same word.
+fn call<T: Kept>(words: &Words<T>, seat: &mut Place<T>, ticket: u64)
+    requires table { (seat.old.table_id ≡ words.now.table_id) × (words.now.table_id.words ≡ 66) }
+    ensures table { seat.new.table_id ≡ seat.old.table_id }
+    ensures seat { seat.new.me ≡ seat.old.me }
+{
+    let parking = parking_of(ticket);
+    words.fetch_add::<Call>(seat, parking, 1);
+    words.wake_all(parking);
 }
 
 /// Splits a pass off.
 pub fn split<T: Kept>(words: &Words<T>, seat: &mut Place<T>) -> Place<T>
-    requires table { (seat.old.table_id ≡ words.now.table_id) × (words.now.table_id.words ≡ 2) }
+    requires table { (seat.old.table_id ≡ words.now.table_id) × (words.now.table_id.words ≡ 66) }
     requires idle { (seat.old.me.0.stage ≡ Idle) × (seat.old.me.0.greatest < 2 ^ 62) × (1 < seat.old.me.0.parts) }
     ensures table { (seat.new.table_id ≡ seat.old.table_id) × (result.table_id ≡ seat.old.table_id) }
     ensures left { seat.new.me ≡ (rest_of seat.old.me.0, seat.old.me.1) }
@@ -158,7 +188,7 @@ pub fn split<T: Kept>(words: &Words<T>, seat: &mut Place<T>) -> Place<T>
 /// Joins another pass, and compares the two logs.
 pub fn join<T: Kept>(words: &Words<T>, seat: &mut Place<T>, other: Place<T>)
     requires table { (seat.old.table_id ≡ words.now.table_id) × (other.table_id ≡ words.now.table_id)
-        × (words.now.table_id.words ≡ 2) }
+        × (words.now.table_id.words ≡ 66) }
     requires idle { (seat.old.me.0.stage ≡ Idle) × (seat.old.me.1 ≡ []) × (0 < seat.old.me.0.parts) }
     requires idle_too { (other.me.0.stage ≡ Idle) × (other.me.1 ≡ []) }
     ensures table { seat.new.table_id ≡ seat.old.table_id }
@@ -174,7 +204,7 @@ pub fn join<T: Kept>(words: &Words<T>, seat: &mut Place<T>, other: Place<T>)
 
 /// Takes the value out of the table for good.
 pub fn close<T: Kept>(table: Home<T>, seat: Place<T>) -> T
-    requires table { (seat.table_id ≡ table.shared.table_id) × (table.shared.table_id.words ≡ 2)
+    requires table { (seat.table_id ≡ table.shared.table_id) × (table.shared.table_id.words ≡ 66)
         × (table.shared.table_id.slots ≡ 1) }
     requires all { (seat.me.0.parts ≡ table.shared.key.passes) × (0 < seat.me.0.parts) }
     requires idle { seat.me.0.stage ≡ Idle }

@@ -4,8 +4,7 @@ use Rattle.client_service.specs.Ports.{Place, places_of}
 use Rattle.client_service.specs.Workers.{worker_state}
 use Rattle.client_service.proofs.Gathering.{gathered-more}
 use Rattle.client_service.proofs.Standing.{place_of, places-push}
-use Rattle.trustee_service.proofs.Gathering.{MetBy}
-use Rattle.turn_lock.specs.Pass.{Seen}
+use Rattle.turn_lock.specs.Pass.{Joins, Seen}
 use Rattle.client_service.proofs.gather.take_in.Goals as goal
 
 pub returns-clause-gathered : goal.returns-clause-gathered
@@ -15,7 +14,6 @@ returns-clause-gathered g c =
     let places = places_of g.X.Cells g.X.Faults port in
     let lock = c.args.lock.now in
     let b = c.begin-other.ensures in
-    let e = c.meet.ensures in
     let worker = c.args.worker in
     let ports = c.args.ports.now.items in
     let own = c.args.cells.now.items in
@@ -24,18 +22,7 @@ returns-clause-gathered g c =
     let news : places c.begin-other.new.ports.items c.begin-other.new.cells.items ≡ places ports own ++ here ∷ [] =
     (λ i. places (b.port i) (b.own i)) ∙ places-push g.X.Cells g.X.Faults port ports own worker.port worker.own same in
     λ desk asked olds old before done.
-    let met : MetBy c.args.pass.now c.begin-other.result.0 c.meet.new.pass = record {
-      one_log = e.one_log;
-      log = e.log;
-      floor = e.floor;
-      rises = e.rises;
-      draws = e.draws;
-      own = e.own;
-      greatest = e.greatest;
-      joined = e.joined;
-      same = e.same;
-    } in
-    let met_worker = subst (λ (p : Seen _ _). MetBy c.args.pass.now p c.meet.new.pass) b.pass met in
-    let all = gathered-more desk asked lock c.args.pass.now c.meet.new.pass olds (places ports own) c.args.totals.now c.add.new.self old (state worker) before done met_worker
+    let joins = subst (λ (p : Seen _ _). Joins c.args.pass.now p c.meet.new.pass) b.pass c.meet.ensures.joins in
+    let all = gathered-more desk asked lock c.args.pass.now c.meet.new.pass olds (places ports own) c.args.totals.now c.add.new.self old (state worker) before done joins
     (let a = c.add.ensures.connections in let n = b.totals.0 in omega (arith, a, n)) (let a = c.add.ensures.frames in let n = b.totals.1 in omega (arith, a, n)) in
     subst (λ (l : List Place). Gathered desk asked lock c.meet.new.pass (olds ++ old ∷ []) l c.add.new.self) (sym news) all

@@ -68,7 +68,7 @@ returns-clause-served g c =
     ends-served desk asked lock (table_seen c.args.table) (table_seen c.close.result) c.gather-pass.result.0 olds
     (places c.gather-pass.new.ports.items c.gather-pass.new.cells.items) c.gather-pass.result.1
     record { log = opening.0; number = opening.1; name = opening.2; first = c.in-Ok-new.ensures.numbers.0 }
-    record { log = end.log; number = end.number; name = end.named; tickets = end.tickets; no_ticket = end.no_ticket; rises = end.rises; entries = end.entries }
+    record { log = end.log; number = end.number; name = end.named; whole = end.whole }
     all
     (
     let n = ports.ok.0 in

@@ -3,8 +3,8 @@ use Rattle.std.proofs.lemmas.List.{map-append}
 use Rattle.stream_io.specs.Net.{PortState}
 use Rattle.trustee_node.specs.Workers.{worker_state}
 use Rattle.trustee_service.specs.Gathered.{Gathered}
-use Rattle.trustee_service.proofs.Gathering.{MetBy, gathered-more}
-use Rattle.turn_lock.specs.Pass.{Seen}
+use Rattle.trustee_service.proofs.Gathering.{gathered-more}
+use Rattle.turn_lock.specs.Pass.{Joins, Seen}
 use Rattle.trustee_service.proofs.gather.take_in.Goals as goal
 
 pub returns-clause-gathered : goal.returns-clause-gathered
@@ -13,24 +13,12 @@ returns-clause-gathered g c =
     let port = g.P.Port.state in
     let lock = c.args.lock.now in
     let b = c.begin-other.ensures in
-    let e = c.meet.ensures in
     let worker = c.args.worker in
     let same : c.begin-other.result.0 ≡ worker.pass = b.pass in
     let news : map port c.begin-other.new.ports.items ≡ map port c.args.ports.now.items ++ port worker.port ∷ [] =
     ap (map port) b.port ∙ map-append port c.args.ports.now.items (worker.port ∷ []) in
     λ share ids asked olds clocks old clock before done.
-    let met : MetBy c.args.pass.now c.begin-other.result.0 c.meet.new.pass = record {
-      one_log = e.one_log;
-      log = e.log;
-      floor = e.floor;
-      rises = e.rises;
-      draws = e.draws;
-      own = e.own;
-      greatest = e.greatest;
-      joined = e.joined;
-      same = e.same;
-    } in
-    let met_worker = subst (λ (p : Seen _ _). MetBy c.args.pass.now p c.meet.new.pass) same met in
-    let all = gathered-more share ids asked lock c.args.pass.now c.meet.new.pass olds (map port c.args.ports.now.items) clocks c.args.totals.now c.add.new.self old clock (state worker) before done met_worker
+    let joins = subst (λ (p : Seen _ _). Joins c.args.pass.now p c.meet.new.pass) same c.meet.ensures.joins in
+    let all = gathered-more share ids asked lock c.args.pass.now c.meet.new.pass olds (map port c.args.ports.now.items) clocks c.args.totals.now c.add.new.self old clock (state worker) before done joins
     (let a = c.add.ensures.connections in let n = b.totals.0 in omega (arith, a, n)) (let a = c.add.ensures.frames in let n = b.totals.1 in omega (arith, a, n)) in
     subst (λ (l : List PortState). Gathered share ids asked lock c.meet.new.pass (olds ++ old ∷ []) l (clocks ++ clock ∷ []) c.add.new.self) (sym news) all

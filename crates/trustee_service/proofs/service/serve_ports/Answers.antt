@@ -66,5 +66,5 @@ returns-clause-served g c =
     let end = c.close.ensures in
     ends-served share ids asked lock (trustee_state c.args.trustee) (trustee_state c.close.result) c.gather-pass.result.0 olds (map port c.gather-pass.new.ports.items) clocks c.gather-pass.result.1
     record { log = opening.0; number = opening.1; name = opening.2; first = c.in-Ok-new.ensures.numbers.0 }
-    record { log = end.log; number = end.number; name = end.named; tickets = end.tickets; no_ticket = end.no_ticket; rises = end.rises; entries = end.entries }
+    record { log = end.log; number = end.number; name = end.named; whole = end.whole }
     all (let many = length-map c.args.ports.now.items port in let n = c.args.ports.now.ok.0 in let few = c.requires.ports.1 in omega (arith, many, n, few))

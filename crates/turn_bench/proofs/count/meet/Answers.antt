@@ -14,7 +14,7 @@ pub returns : goal.returns
 returns c =
     let one = c.requires.pass in
     let two = c.requires.other in
-    let met = c.meet.ensures in record {
+    let met = c.meet.ensures.joins in record {
       of = search rules;
       idle = search rules;
       draws = both_bounded _ _ _ _ _ _ c.args.each met.draws met.joined one.draws two.draws;
