@@ -241,10 +241,6 @@ module _ {C : Type 0} {k : cells.Ghosts C} {f : faults.Ghosts C} {x y : C} where
     whole = ap (length {A = ℕ}) (stays.leaves exact.told) ∙ whole-as _ _ _ _ _ exact.whole (sym stays.set) (sym stays.plan);
   }
 
-module _ {C : Type 0} {k : cells.Ghosts C} {f : faults.Ghosts C} {x y z : C} where
-  pub stays-as : y ≡ x → CellsStay k f y z → CellsStay k f x z
-  stays-as is stays = subst (λ (w : C). CellsStay k f w z) is stays
-
 module _ {C : Type 0} (told : C → Bool) (leaves : C → List ℕ) (x y : C) (kept now : State) where
   pub joined-as : y ≡ x → (IsTrue (told y) → now ≡ record kept { c = Some (joined_c kept (leaves y)) }) → IsTrue (told x) → now ≡ record kept { c = Some (joined_c kept (leaves x)) }
   joined-as is joined = subst (λ (w : C). IsTrue (told w) → now ≡ record kept { c = Some (joined_c kept (leaves w)) }) is joined

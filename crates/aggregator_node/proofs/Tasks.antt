@@ -8,7 +8,6 @@ use Rattle.aggregator_node.specs.declared.fault.SignFault.{SignFault}
 use Rattle.aggregator_node.specs.declared.fault.Why.{Why}
 use Rattle.disk_trait.specs.Faults.{Rose}
 use Rattle.disk_trait.specs.declared.faults.Faults as faults
-use Rattle.reference_value.specs.Stay.{CellsStay}
 use Rattle.reference_value.specs.declared.cells.Cells as cells
 use Rattle.session_core.specs.State.{SameAsk, State}
 use Rattle.stream_io.specs.Talk.{Talk}
@@ -53,13 +52,3 @@ lost-as {V} {W} why r q x y is same was lost =
     let here : IsLostBy why x = subst (λ (z : Result V SignFault). LostBy why z) is lost in
     let there : IsLostBy why y = subst (IsLostBy why) same here in
     subst (λ (z : Result W SignFault). LostBy why z) (sym was) there
-
-module _ {C : Type 0} {k : cells.Ghosts C} {f : faults.Ghosts C} {x y z : C} where
-  pub stays-then : CellsStay k f x y → CellsStay k f y z → CellsStay k f x z
-  stays-then a b = record {
-    set = b.set ∙ a.set;
-    plan = b.plan ∙ a.plan;
-    told = b.told ∙ a.told;
-    steady = b.steady ∙ a.steady;
-    leaves = λ told. b.leaves (a.told ∙ told) ∙ a.leaves told;
-  }

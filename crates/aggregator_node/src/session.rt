@@ -9,7 +9,7 @@ ghost use Rattle.aggregator_node.specs.Runs.{bytes_in, first_frame, reads_of};
 ghost use Rattle.aggregator_node.specs.Tasks.{IsExact, IsTask, MayRun, OnlyDials};
 ghost use Rattle.coalition_map.specs.Coalitions.{leaf_members};
 ghost use Rattle.disk_trait.specs.Faults.{Rose};
-ghost use Rattle.reference_value.specs.Stay.{CellsStay};
+ghost use Rattle.reference_value.specs.Stay.{CellsOnward, CellsStay};
 ghost use Rattle.session_core.specs.State.{SameAsk};
 ghost use Rattle.session_core.specs.Verdicts.{AreMasks, digest_of};
 ghost use Rattle.session_core.specs.declared.faults.SessionFault.TheVariants.{Reference};
@@ -144,8 +144,7 @@ fn ask_all<R: Cells, P: Port>(
     ensures succeeds { IsExact R.Cells.own R.Faults cells.old → result ≢ Err (SignFault.Session Reference) }
     ensures port { OnlyDials (P.state port.old) (P.state port.new) }
     ensures same { SameSession session.old session.new }
-    ensures count { R.count cells.old ≤ R.count cells.new }
-    ensures stays { CellsStay R.Cells.own R.Faults cells.old cells.new }
+    ensures onward { CellsOnward R.Cells.own R.Faults cells.old cells.new }
 {
     dial_all(task, cells, port, session, links, room)?;
     session.turn(cells)?;
@@ -216,8 +215,8 @@ fn dial_member<R: Cells, P: Port>(
     ensures port { OnlyDials (P.state port.old) (P.state port.new) }
     ensures same { SameAsk session.old session.new }
     ensures cells { cells.new ≡ cells.old }
-    ensures space { vec_capacity links.new ≡ vec_capacity links.old }
-    ensures added { OnOk result (vec_len links.new ≡ vec_len links.old + 1) }
+    ensures links { (vec_capacity links.new ≡ vec_capacity links.old)
+        × OnOk result (vec_len links.new ≡ vec_len links.old + 1) }
 {
     let params = &task.desk.key.params;
     // The ask of round one has no digest.
@@ -265,8 +264,7 @@ fn ask_again<R: Cells, L: Source + Sink>(
     ensures reads { All (λ link. IsTrue (L.steady link)) links.old.items → ¬ LostBy Why.ReadFailed result }
     ensures dialled { ¬ LostBy Why.DialFailed result }
     ensures same { SameAsk session.old session.new }
-    ensures count { R.count cells.old ≤ R.count cells.new }
-    ensures stays { CellsStay R.Cells.own R.Faults cells.old cells.new }
+    ensures onward { CellsOnward R.Cells.own R.Faults cells.old cells.new }
 {
     'members: for i in 0..task.members.len() {
         let member = task.members[i];
@@ -302,8 +300,7 @@ fn ask_once_more<R: Cells, L: Source + Sink>(
     ensures dialled { ¬ LostBy Why.DialFailed result }
     ensures steady { L.steady link.new ≡ L.steady link.old }
     ensures same { SameAsk session.old session.new }
-    ensures count { R.count cells.old ≤ R.count cells.new }
-    ensures stays { CellsStay R.Cells.own R.Faults cells.old cells.new }
+    ensures onward { CellsOnward R.Cells.own R.Faults cells.old cells.new }
 {
     let ask = session.ask(cells, member, digest)?;
     ask_member(

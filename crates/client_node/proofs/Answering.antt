@@ -1,5 +1,5 @@
 -- One request of a client, read, signed and answered.
-use Rattle.std.proofs.Common.{◌≡◌, ◌≢◌, ◌++◌, ℕ, List, [], ◌∷◌, length, Option, Some, Result, Ok, Err, IfOk, MatchResult, IsTrue, refl, sym, ap, ◌∙◌}
+use Rattle.std.proofs.Common.{◌≡◌, ◌≢◌, ◌++◌, ℕ, List, [], ◌∷◌, length, Option, Some, Result, Ok, Err, IfOk, MatchResult, IsTrue, sym, ap, ◌∙◌}
 use Rattle.aggregator_node.specs.Tasks as tasks
 use Rattle.aggregator_node.specs.declared.fault.SignFault.{SignFault}
 use Rattle.aggregator_node.specs.declared.fault.SignFault.TheVariants as sign
@@ -13,16 +13,14 @@ use Rattle.leased_session.specs.Signing.{DeskState, Signature, signature_in}
 use Rattle.leased_session.specs.declared.sign.Signed.{Signed}
 use Rattle.lms_bytes.specs.declared.public_key.PublicKey.{PublicKey}
 use Rattle.lms_verify.specs.Accepts.{AcceptsAt}
-use Rattle.round_frames.specs.declared.fault.FrameFault.{FrameFault}
 use Rattle.round_frames.specs.declared.fault.FrameFault.TheVariants as frame
 use Rattle.session_core.specs.declared.faults.SessionFault.TheVariants.{Reference}
 use Rattle.share_files.specs.Reference.{leaves_length}
 use Rattle.stream_io.specs.Net.{PortState}
 use Rattle.stream_io.specs.Talk.{OnlyWrote, Talk, WrotePart}
 use Rattle.stream_io.specs.declared.failed.Failed.{Failed}
-use Rattle.trustee_node.specs.Connections.{end_by}
 use Rattle.trustee_node.specs.declared.served.ServedEnd.{ServedEnd}
-use Rattle.trustee_node.specs.declared.served.ServedEnd.TheVariants.{Frame, Full, WriteFailed}
+use Rattle.trustee_node.specs.declared.served.ServedEnd.TheVariants.{WriteFailed}
 
 -- what is said of an answer is said of its signature
 pub accepted_as : (key : PublicKey) (message : List ℕ) (result : Result Signed SignFault) → IfOk result (λ signed. AcceptsAt key message signed.bytes.items signed.leaf)
@@ -68,28 +66,6 @@ module _ (desk : DeskState) (reference : ReferenceState) (old : Stand) where
   room_answered mid talk (Err failed) replies ended room wrote only cause is =
       rw (is.0, is.1) (no_room_unanswered mid talk room (record { wrote = wrote; only = only; rose = cause.failed }))
 
--- no fault of a frame fills a connection
-pub never_full : (fault : FrameFault) → Some (end_by fault) ≢ Some Full
-never_full frame.End is = absurd (cc)
-never_full frame.Cut is = absurd (cc)
-never_full frame.Magic is = absurd (cc)
-never_full (frame.Kind got) is = absurd (cc)
-never_full (frame.TooLong got) is = absurd (cc)
-never_full frame.Shape is = absurd (cc)
-never_full frame.ReadFault is = absurd (cc)
-never_full frame.NoMemory is = absurd (cc)
-
--- only a read that fails ends a connection so
-pub read_end : (fault : FrameFault) → Some (end_by fault) ≡ Some (Frame frame.ReadFault) → fault ≡ frame.ReadFault
-read_end frame.End is = absurd (cc)
-read_end frame.Cut is = absurd (cc)
-read_end frame.Magic is = absurd (cc)
-read_end (frame.Kind got) is = absurd (cc)
-read_end (frame.TooLong got) is = absurd (cc)
-read_end frame.Shape is = absurd (cc)
-read_end frame.ReadFault is = refl
-read_end frame.NoMemory is = absurd (cc)
-
 exact_then : (desk : DeskState) (old new : ReferenceState) → SameReference old new → IsExact desk old → IsExact desk new
 exact_then desk old new same is = record {
   steady = rw same.steady is.steady;
@@ -130,15 +106,6 @@ answers_told desk before reference old _ _ replies ended same (unanswered mid ta
     unanswered mid talk request (exchange_told desk before reference old mid request same exchange) failed
 
 module _ {C : Type 0} (c : cells.Ghosts C) (f : faults.Ghosts C) where
-  pub stays_then : (old mid new : C) → CellsStay c f old mid → CellsStay c f mid new → CellsStay c f old new
-  stays_then old mid new a b = record {
-    set = b.set ∙ a.set;
-    plan = b.plan ∙ a.plan;
-    told = b.told ∙ a.told;
-    steady = b.steady ∙ a.steady;
-    leaves = λ told. b.leaves (rw a.told told) ∙ a.leaves told;
-  }
-
   -- what cells are as a reference
   abbrev pub reference_of : C → ReferenceState
   reference_of r = record { told = c.told r; steady = f.steady r; leaves = c.leaves r }

@@ -1,12 +1,12 @@
 -- Turns of a leaf table under a lock.
-use Rattle.std.proofs.Common.{◌≡◌, ◌+◌, ◌-◌, ◌^◌, ◌≤◌, ◌<◌, ℕ, false, List, [], ◌∷◌, ◌++◌, length, drop, None, Some, Option, IfSome, Result, refl, sym, ap, ◌∙◌, subst, arith, inl, inr, append-nil, append_assoc}
+use Rattle.std.proofs.Common.{◌≡◌, ℕ, false, List, [], ◌∷◌, ◌++◌, length, drop, None, Some, Option, IfSome, Result, refl, sym, ap, ◌∙◌, subst, arith, inl, inr, append-nil, append_assoc}
 use mathlib.Core.List.{IsPrefix}
 use Rattle.client_node.specs.Turns.{IsIdle, NotTurned, Turned}
 use Rattle.coalition_map.specs.Coalitions.{PlanNumbers}
 use Rattle.disk_trait.specs.declared.disk.Pages as pages
 use Rattle.disk_trait.specs.declared.faults.Faults as faults
 use Rattle.leaf_table.specs.Entries.{OneLease}
-use Rattle.leaf_table.specs.Leasing.{Burns, Leases, WasLeasedFor}
+use Rattle.leaf_table.specs.Leasing.{Burns, Leases}
 use Rattle.leaf_table.specs.Leasing as leasing
 use Rattle.leaf_table.specs.State.{SettlesTo, TableState}
 use Rattle.leaf_table.specs.Table.{faults_of, plan_of, state_of}
@@ -18,7 +18,7 @@ use Rattle.leaf_table.proofs.Held.{holds}
 use Rattle.leased_session.specs.Tables.{TableSeen, name_of}
 use Rattle.lms_bytes.specs.declared.message.MessageId.{MessageId}
 use Rattle.turn_lock.specs.Lock.{Lock}
-use Rattle.turn_lock.specs.Pass.{SamePass, Seen}
+use Rattle.turn_lock.specs.Pass.{DrawsOne, Gives, IsWornOut, SameDone, SameDrawn, SamePass, Seen, Takes}
 
 -- lists that begin others
 pub prefix-is : {A : Type 0} (xs ys : List A) → xs ≡ ys → IsPrefix xs ys
@@ -53,31 +53,6 @@ burns-on before after (leasing.unsettled doubt) = prefix-is before.entries befor
 burns-on before after (leasing.unwritten settled s map) = settles-on before settled s
 burns-on before after (leasing.damaged a b doubted doubt neither) = prefix-is before.entries before.entries refl
 
--- what taking the value tells, and what giving it back tells
-pub record Took (old mid : Seen Lease TableName) (before : List Lease) (number : ℕ) : Type 0 where
-  pub begins : IsPrefix old.log before
-  pub reaches : old.floor ≤ number
-  pub log : mid.log ≡ before
-  pub floor : mid.floor ≡ number
-  pub fresh : mid.greatest < 2 ^ 62
-  pub draws : old.greatest < 2 ^ 62 → mid.draws ≡ old.draws + 1
-  pub greatest : old.greatest ≤ mid.greatest
-  pub rises : mid.rises ≡ old.rises
-  pub own : mid.own ≡ old.own
-  pub joined : mid.joined ≡ old.joined
-  pub same : SamePass old mid
-
-pub record Gave (mid new : Seen Lease TableName) (after : List Lease) (number : ℕ) : Type 0 where
-  pub log : new.log ≡ after
-  pub floor : new.floor ≡ number
-  pub rises : new.rises ≡ mid.rises + (number - mid.floor)
-  pub own : new.own ≡ mid.own ++ drop (length mid.log) after
-  pub idle : new.in_turn ≡ false
-  pub draws : new.draws ≡ mid.draws
-  pub greatest : new.greatest ≡ mid.greatest
-  pub joined : new.joined ≡ mid.joined
-  pub same : SamePass mid new
-
 pub same-then : (old mid new : Seen Lease TableName) → SamePass old mid → SamePass mid new → SamePass old new
 same-then old mid new a b = record { lock = b.lock ∙ a.lock; name = b.name ∙ a.name }
 
@@ -86,43 +61,41 @@ pub idle-again : (lock : Lock Lease TableName) (plan : PlanNumbers) (old new : S
 idle-again lock plan old new is same idle =
     (same.lock ∙ is.0, idle, subst (λ (o : Option TableName). IfSome o (λ name. name.plan ≡ plan)) (sym same.name) is.2)
 
-pub took-gave : (old mid new : Seen Lease TableName) (before after : TableSeen) → Took old mid before.state.entries before.faults → Gave mid new after.state.entries after.faults
-    → Some before.name ≡ old.name → (before.faults ≡ 0 → before.state.doubt ≡ None) → Turned old new before after
-took-gave old mid new before after a b named sure = record {
-  begins = a.begins;
-  reaches = a.reaches;
-  named = named;
+pub took-gave : (lock : Lock Lease TableName) (old mid new : Seen Lease TableName) (before after : TableSeen)
+    → Takes before.state.entries before.faults before.name old mid → DrawsOne lock old mid → SameDone old mid
+    → Gives after.state.entries after.faults mid new → SameDrawn mid new → (before.faults ≡ 0 → before.state.doubt ≡ None) → Turned old new before after
+took-gave lock old mid new before after takes draws done gives drawn sure = record {
+  begins = takes.begins;
+  reaches = takes.reaches;
+  named = takes.named;
   sure = sure;
-  log = b.log;
-  floor = b.floor;
-  rises = (let r = b.rises in let s = a.rises in let t = a.floor in omega (arith, r, s, t));
-  own = b.own ∙ (λ i. a.own i ++ drop (length (a.log i)) after.state.entries);
-  draws = (let p = a.greatest in let q = a.fresh in let d = a.draws (omega (arith, p, q)) in let e = b.draws in omega (arith, d, e));
-  greatest = (let p = a.greatest in let q = b.greatest in omega (arith, p, q));
-  fresh = (let p = a.fresh in let q = b.greatest in omega (arith, p, q));
-  same = same-then old mid new a.same b.same;
-  joined = b.joined ∙ a.joined;
-  idle = b.idle;
+  log = gives.log;
+  floor = gives.floor;
+  rises = (let r = gives.rises in let s = done.rises in let t = takes.floor in omega (arith, r, s, t));
+  own = gives.own ∙ (λ i. done.own i ++ drop (length (takes.log i)) after.state.entries);
+  draws = (let p = draws.greatest in let q = takes.fresh in let d = draws.draws (omega (arith, p, q)) in let e = drawn.draws in omega (arith, d, e));
+  greatest = (let p = draws.greatest in let q = drawn.greatest in omega (arith, p, q));
+  fresh = (let p = takes.fresh in let q = drawn.greatest in omega (arith, p, q));
+  same = same-then old mid new done.same drawn.same;
+  joined = drawn.joined ∙ done.joined;
+  idle = gives.turn;
 }
 
 -- a pass that got no turn
-pub none-taken : (old new : Seen Lease TableName) → new.log ≡ old.log → new.floor ≡ old.floor → new.rises ≡ old.rises → new.own ≡ old.own
-    → (old.greatest < 2 ^ 62 → new.draws ≡ old.draws + 1) → (2 ^ 62 ≤ old.greatest → new ≡ old) → old.greatest ≤ new.greatest → 2 ^ 62 ≤ new.greatest
-    → SamePass old new → new.joined ≡ old.joined → new.in_turn ≡ false → NotTurned old new
-none-taken old new log floor rises own draws still greatest worn same joined idle =
-    record {
-      log = log;
-      floor = floor;
-      rises = rises;
-      own = own;
-      drawn = draws;
-      still = still;
-      greatest = greatest;
-      worn = worn;
-      same = same;
-      joined = joined;
-      idle = idle;
-    }
+pub none-taken : (lock : Lock Lease TableName) (old new : Seen Lease TableName) → IsWornOut old new → DrawsOne lock old new → SameDone old new → NotTurned old new
+none-taken lock old new out draws done = record {
+  log = out.log;
+  floor = out.floor;
+  rises = done.rises;
+  own = done.own;
+  drawn = draws.draws;
+  still = draws.still_worn;
+  greatest = draws.greatest;
+  worn = out.worn;
+  same = done.same;
+  joined = done.joined;
+  idle = out.turn;
+}
 
 module _ {D : Type 0} {p : pages.Ghosts D} {f : faults.Ghosts D} where
   -- no entry is in doubt before the first fault

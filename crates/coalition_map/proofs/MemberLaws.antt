@@ -1,5 +1,5 @@
 -- What follows from the definitions of sets of trustees.
-use Rattle.std.proofs.Common.{◌≡◌, ◌⊎◌, inl, inr, ◌≢◌, ℕ, zero, suc, ◌+◌, ◌-◌, ◌*◌, ◌/◌, ◌%◌, ◌^◌, ◌<◌, ◌≤◌, eqb, List, [], ◌∷◌, ◌++◌, length, refl, sym, ◌∙◌, ap, arith, add-one, lit<, pow-suc, Contains, All, ltb}
+use Rattle.std.proofs.Common.{◌≡◌, ◌⊎◌, inl, inr, ℕ, zero, suc, ◌+◌, ◌-◌, ◌*◌, ◌/◌, ◌%◌, ◌^◌, ◌<◌, ◌≤◌, List, [], ◌∷◌, ◌++◌, length, refl, sym, ◌∙◌, ap, arith, add-one, lit<, pow-suc, Contains, All, ltb}
 use Rattle.std.proofs.Math.Nat.{pow-le-pow_right}
 use Rattle.std.proofs.lemmas.Bool.{cases_order, lt-ltb, le-ltb, cases_eq, cond-true, cond-false}
 use Rattle.std.proofs.lemmas.Nat.{ones_cat}
@@ -189,16 +189,6 @@ IsAscendingIn-trustees_from a (suc m) b =
       | inl e ↦ rw (trustees_from-in a m b e) (omega arith, omega arith, rw s ih)
       | inr e ↦ rw (trustees_from-out a m b e, s) (IsAscendingIn-lower a (a + 1) (a + 1 + m) (trustees_from (a + 1) m (b / 2)) (omega arith) ih)
     ]
-
-pub IsAscendingIn-member_numbers : (b : ℕ) → IsAscendingIn 1 17 (member_numbers b)
-unfolding member_numbers
-IsAscendingIn-member_numbers b = IsAscendingIn-trustees_from 1 16 b
-
--- a lower end for each
-pub IsAscendingIn-upper : (a e f : ℕ) (l : List ℕ) → IsAscendingIn a e l → All (λ t. t < f) l → IsAscendingIn a f l
-IsAscendingIn-upper a e f [] asc h = tt
-IsAscendingIn-upper a e f (x ∷ xs) asc h =
-    (asc.0, All-contains (λ t. t < f) (x ∷ xs) x h (Contains-first x xs), IsAscendingIn-upper (x + 1) e f xs asc.2 (λ k d lt. h (suc k) d (omega arith)))
 
 -- the bits of trustees below 1 + e are below 2 ^ e
 pow_more : (a b : ℕ) → a ≤ b → 2 ^ a ≤ 2 ^ b

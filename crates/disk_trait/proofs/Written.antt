@@ -4,9 +4,6 @@ use Rattle.std.proofs.lemmas.List.{places, same_lists}
 use Rattle.disk_trait.specs.Images.{written}
 
 module _ {A : Type 0} (xs ys : List A) (at : ℕ) (within : at ≤ length xs) where
-  pub length-written : length (written xs at ys) ≡ max (length xs) (at + length ys)
-  length-written = grind (arith, places)
-
   pub written_before : (k : ℕ) (d : A) → k < at → get_or (written xs at ys) k d ≡ get_or xs k d
   written_before k d before = grind (arith, places)
 

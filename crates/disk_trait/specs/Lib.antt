@@ -1,3 +1,4 @@
+pub mod Disks
 pub mod Faults
 pub mod Generator
 pub mod Images

@@ -2,6 +2,7 @@
 
 ghost use Rattle.std.specs.Prelude.{◌≡◌, ◌↔◌, ◌+◌, ◌≤◌, ℕ, Bool, false, List, length, take, drop, IsTrue, IsOk, IfOk};
 ghost use Rattle.std.specs.Prelude.{OnOk, OnErr};
+ghost use Rattle.disk_trait.specs.Disks.{SameKind};
 ghost use Rattle.disk_trait.specs.Faults.{HasCause};
 ghost use Rattle.disk_trait.specs.Images.{written, Torn, Follows, Only};
 
@@ -39,10 +40,7 @@ pub trait Pages: Faults {
         ensures same { IsTrue (told self.old) → reads self.new ≡ reads self.old }
         ensures images { IsTrue (honest self.old)
             → (image : List ℕ) → may_leave self.new image ↔ may_leave self.old image }
-        ensures stays_told { told self.new ≡ told self.old }
-        ensures stays_honest { honest self.new ≡ honest self.old }
-        ensures stays_steady { Self.steady self.new ≡ Self.steady self.old }
-        ensures stays_room { room self.new ≡ room self.old };
+        ensures stays { SameKind told honest Self.steady room self.old self.new };
 
     /// The bytes from a place on, as many as `out` has. A read past the end fails.
     /// After a failed read `out` holds any bytes.
@@ -58,10 +56,7 @@ pub trait Pages: Faults {
         ensures same { IsTrue (told self.old) → reads self.new ≡ reads self.old }
         ensures images { IsTrue (honest self.old)
             → (image : List ℕ) → may_leave self.new image ↔ may_leave self.old image }
-        ensures stays_told { told self.new ≡ told self.old }
-        ensures stays_honest { honest self.new ≡ honest self.old }
-        ensures stays_steady { Self.steady self.new ≡ Self.steady self.old }
-        ensures stays_room { room self.new ≡ room self.old };
+        ensures stays { SameKind told honest Self.steady room self.old self.new };
 }
 
 /// A disk that is read and written. Until a sync succeeds, a crash may leave any bytes in each
@@ -89,10 +84,7 @@ pub trait Disk: Pages {
             → IsOk result }
         ensures cause { HasCause (Self.count self.old) (Self.count self.new) result }
 
-        ensures stays_told { Self.told self.new ≡ Self.told self.old }
-        ensures stays_honest { Self.honest self.new ≡ Self.honest self.old }
-        ensures stays_steady { Self.steady self.new ≡ Self.steady self.old }
-        ensures stays_room { Self.room self.new ≡ Self.room self.old };
+        ensures stays { SameKind Self.told Self.honest Self.steady Self.room self.old self.new };
 
     /// Makes what was written stable. What is there has room, also after a failed sync.
     fn sync(&mut self) -> Result<(), DiskFault>
@@ -107,10 +99,7 @@ pub trait Disk: Pages {
         ensures succeeds { IsTrue (Self.steady self.old) → IsOk result }
         ensures cause { HasCause (Self.count self.old) (Self.count self.new) result }
 
-        ensures stays_told { Self.told self.new ≡ Self.told self.old }
-        ensures stays_honest { Self.honest self.new ≡ Self.honest self.old }
-        ensures stays_steady { Self.steady self.new ≡ Self.steady self.old }
-        ensures stays_room { Self.room self.new ≡ Self.room self.old };
+        ensures stays { SameKind Self.told Self.honest Self.steady Self.room self.old self.new };
 
     /// What a read gives is an image, so a disk that was all stable leaves just that.
     ghost leaves_reads: { (disk : Self) → IsTrue (Self.honest disk) → IsTrue (Self.told disk)

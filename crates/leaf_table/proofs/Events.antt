@@ -1,5 +1,5 @@
 -- The events of a call from those of its steps.
-use Rattle.std.proofs.Common.{◌≡◌, ◌≢◌, ◌^◌, ◌<◌, ℕ, List, Option, None, Some, Result, Ok, Err, true, length, inl, inr, refl, sym, ◌∙◌, ap, subst, arith}
+use Rattle.std.proofs.Common.{◌≡◌, ◌^◌, ◌<◌, ℕ, List, Option, None, Some, Result, Ok, Err, true, length, inl, inr, refl, sym, ◌∙◌, ap, subst}
 use Rattle.std.specs.Prelude.{IfNone, IfOk, IfSome}
 use Rattle.std.proofs.lemmas.Bool.{cases_eq}
 use Rattle.coalition_map.specs.Coalitions.{IsLeafAfter, PlanNumbers}
@@ -39,12 +39,6 @@ module _ (plan : PlanNumbers) (c : ℕ) (slots : List Slot) (entries : List Leas
   pub none-of : (wanted : LeafUse) → HasNone plan c (λ q. use_of_slot (slot_in slots q)) wanted → HasNone plan c (map_of entries) wanted
   none-of wanted none leaf own is = none leaf own (here leaf own ∙ is)
 
-  -- no leaf before the least free one is free
-  pub passed-least : (leaf : ℕ) → IsLeast plan c (map_of entries) IsFree leaf
-      → (other : ℕ) → IsLeafAfter plan c None other → other < leaf → slot_in slots other ≢ Free
-  passed-least leaf least other own before free =
-      let from = least.least other own (sym (here other own) ∙ ap use_of_slot free) in omega (arith, before, from)
-
   pub found-least-of : (wanted : LeafUse) (found : Option ℕ) → IsFound plan slots c wanted found → IfSome found (IsLeast plan c (map_of entries) wanted)
   found-least-of wanted None is = tt
   found-least-of wanted (Some leaf) is = least-of wanted leaf is
@@ -52,10 +46,6 @@ module _ (plan : PlanNumbers) (c : ℕ) (slots : List Slot) (entries : List Leas
   pub found-none-of : (wanted : LeafUse) (found : Option ℕ) → IsFound plan slots c wanted found → IfNone found (HasNone plan c (map_of entries) wanted)
   found-none-of wanted None is = none-of wanted is
   found-none-of wanted (Some leaf) is = tt
-
-pub if-some : (o : Option ℕ) (P Q : ℕ → Type 0) → ((x : ℕ) → P x → Q x) → IfSome o P → IfSome o Q
-if-some None P Q on h = h
-if-some (Some x) P Q on h = on x h
 
 pub if-none : (o : Option ℕ) (P Q : Type 0) → (P → Q) → IfNone o P → IfNone o Q
 if-none None P Q on h = on h

@@ -5,7 +5,7 @@ use Rattle.std.proofs.lemmas.List.{get_or-set_same, get_or-set_other, length-set
 use Rattle.std.proofs.lemmas.List.Sums.{sum_by-set}
 use Rattle.leaf_table.specs.Entries.{leaf_of, map_of, may_follow, use_after}
 use Rattle.leaf_table.specs.Slots.{lease_of_slot, may_become, room_in, room_of, use_of_slot}
-use Rattle.leaf_table.specs.State.{IsSound, TableState, lease_of, with_doubt, with_lease, without_doubt}
+use Rattle.leaf_table.specs.State.{IsSound, TableState, lease_of, with_doubt, with_lease}
 use Rattle.leaf_table.specs.declared.lease.Lease.{Lease}
 use Rattle.leaf_table.specs.declared.lease.Lease.TheVariants.{Leased, Burnt}
 use Rattle.leaf_table.proofs.Legal.{legal-more}
@@ -96,15 +96,6 @@ sound-doubt state leaf slot within sound may makes =
       next = λ doubted is. subst (λ (d : Doubted). may_become (slot_in state.slots d.slot) d.after ≡ true) (same doubted is) may;
       makes = λ doubted is. subst (λ (d : Doubted). use_after (lease_of d) ≡ use_of_slot d.after) (same doubted is) makes;
     }
-
-pub sound-settled : (state : TableState) → IsSound state → IsSound (without_doubt state)
-sound-settled state sound = record {
-  slots = sound.slots;
-  legal = sound.legal;
-  within = λ doubted is. absurd (cc);
-  next = λ doubted is. absurd (cc);
-  makes = λ doubted is. absurd (cc);
-}
 
 -- the put in doubt is made
 pub sound-with_made : (state : TableState) (doubted : Doubted) → IsSound state → state.doubt ≡ Some doubted

@@ -1,6 +1,6 @@
 -- The walk over the leaves of a coalition to its least free one.
-use Rattle.std.proofs.Common.{◌≡◌, ◌≢◌, ◌↔◌, ℕ, ◌^◌, ◌+◌, ◌-◌, ◌%◌, ◌<◌, ◌≤◌, nat_eq, true, false, List, length, get_or, set, Option, None, Some, inl, inr, refl, sym, ◌∙◌, ap, subst, arith, ⊎_elim}
-use Rattle.std.specs.Prelude.{IfSome, IsNone, MatchOption}
+use Rattle.std.proofs.Common.{◌≡◌, ◌≢◌, ℕ, ◌^◌, ◌+◌, ◌-◌, ◌%◌, ◌<◌, ◌≤◌, nat_eq, true, false, List, length, get_or, set, Option, None, Some, inl, inr, refl, sym, ◌∙◌, ap, subst, arith, ⊎_elim}
+use Rattle.std.specs.Prelude.{IfSome, MatchOption}
 use Rattle.std.specs.Option.{option_eq}
 use Rattle.std.proofs.lemmas.Bool.{cases_eq, cases_lt}
 use Rattle.std.proofs.lemmas.Cmp.{nat_eq_equiv}
@@ -26,24 +26,6 @@ module _ (plan : PlanNumbers) (slots : List Slot) (c : ℕ) where
   Seeks next = MatchOption next (IsFound plan slots c IsFree None)
       (λ leaf. IsLeafAfter plan c None leaf
       × ((other : ℕ) → IsLeafAfter plan c None other → other < leaf → slot_in slots other ≢ Free))
-
-  pub seeks : (after next : Option ℕ) → IfSome after (IsPassed plan slots c) → IfSome next (λ q. IsLeafAfter plan c after q)
-      → IfSome next (λ q. (r : ℕ) → IsLeafAfter plan c after r → q ≤ r) → (IsNone next ↔ ((q : ℕ) → ¬ IsLeafAfter plan c after q))
-      → Seeks next
-  seeks None None passed own least none = λ leaf is used. none.0 refl leaf is
-  seeks None (Some leaf) passed own least none = (own, λ other is before free. let from = least other is in omega (arith, before, from))
-  seeks (Some last) None passed own least none = λ leaf is used. ⊎_elim
-      (λ (behind : last < leaf). none.0 refl leaf (record { leaf = is.leaf; own = is.own; later = behind }))
-      (λ (upto : leaf ≤ last). passed leaf is upto (free-use (slot_in slots leaf) used))
-      (cases_lt last leaf)
-  seeks (Some last) (Some leaf) passed own least none = (
-    record { leaf = own.leaf; own = own.own; later = tt },
-    λ other is before free. ⊎_elim
-        (λ (behind : last < other).
-        let from = least other (record { leaf = is.leaf; own = is.own; later = behind }) in omega (arith, before, from))
-        (λ (upto : other ≤ last). passed other is upto free)
-        (cases_lt last other),
-  )
 
   -- the walk stops at a free leaf
   pub stops : (leaf : ℕ) → Seeks (Some leaf) → slot_in slots leaf ≡ Free → IsFound plan slots c IsFree (Some leaf)

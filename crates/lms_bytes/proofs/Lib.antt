@@ -1,4 +1,3 @@
-pub mod Coef
 pub mod Examples
 pub mod Joined
 pub mod Layouts

@@ -1,12 +1,12 @@
 -- The entries beside the slots, through puts and settling.
-use Rattle.std.proofs.Common.{◌≡◌, ◌≢◌, ◌⊎◌, ℕ, ◌+◌, ◌<◌, ◌≤◌, List, [], ◌∷◌, ◌++◌, Option, None, Some, Result, Ok, Err, IsSome, length, get_or, set, sum_by, refl, sym, ◌∙◌, ap, subst, inl, inr, arith, length-append}
+use Rattle.std.proofs.Common.{◌≡◌, ℕ, ◌+◌, ◌<◌, ◌≤◌, List, [], ◌∷◌, ◌++◌, Option, None, Some, length, set, refl, sym, ◌∙◌, ap, subst, inl, inr, arith}
 use Rattle.std.proofs.lemmas.Bool.{cases_eq}
 use Rattle.std.proofs.lemmas.List.{get_or-set_same, get_or-set_other, length-set}
 use Rattle.std.proofs.lemmas.List.Sums.{sum_by-set}
 use Rattle.lms_bytes.specs.HashLength.{IsHashLength}
 use Rattle.lms_bytes.specs.MessageId.{message_id_bytes}
 use Rattle.opening_journal.specs.Answers.{HasSizes}
-use Rattle.opening_journal.specs.Entries.{Adds, HasEntries, IsLegalList, IsOpened, JournalState, StandsFor, leaf_of, map_of, state_after, state_before, state_of_slot}
+use Rattle.opening_journal.specs.Entries.{Adds, HasEntries, IsLegalList, IsOpened, StandsFor, leaf_of, map_of, state_after, state_before, state_of_slot}
 use Rattle.opening_journal.specs.EntrySlots.{room_in, room_of, slot_before, slot_with}
 use Rattle.opening_journal.specs.Inside.{HaveEntries, IsHeld}
 use Rattle.opening_journal.specs.declared.entry.Entry.{Entry}
@@ -93,20 +93,6 @@ module _ (n : ℕ) (slots : List Slot) (entries : List Entry) (entry : Entry) (w
           after = λ other is_other. subst (λ (e : Entry). state_of_slot n (slot_with e) ≡ state_after e) (same other is_other) after;
           adds = λ other is_other. subst (λ (e : Entry). Adds e (map_of entries (leaf_of e))) (same other is_other) adds;
         })
-
-pub held-sure : (n : ℕ) (new : CacheState) (entries : List Entry) → new.doubt ≡ None → HaveEntries n new.slots entries → IsLegalList entries → IsHeld n new entries None
-held-sure n new entries sure have legal = record {
-  slots = have;
-  legal = legal;
-  none = λ no. sure;
-  some = λ other is_other. absurd (cc);
-  after = λ other is_other. absurd (cc);
-  adds = λ other is_other. absurd (cc);
-}
-
-pub held-dropped : (n : ℕ) (old new : CacheState) (entries : List Entry) (doubt : Option Entry) → IsHeld n old entries doubt → new ≡ settled_with old.slots → IsHeld n new entries None
-held-dropped n old new entries doubt held is =
-    subst (λ (s : CacheState). IsHeld n s entries None) (sym is) (held-sure n (settled_with old.slots) entries refl held.slots held.legal)
 
 -- the put in doubt is that of the entry in doubt
 pub put-is : (n : ℕ) (cache : CacheState) (entries : List Entry) (doubt : Option Entry) (entry : Entry) (doubted : Doubted) → IsHeld n cache entries doubt → doubt ≡ Some entry → cache.doubt ≡ Some doubted → doubted ≡ put_of entry

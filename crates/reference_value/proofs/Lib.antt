@@ -5,3 +5,4 @@ pub mod Members
 pub mod Reference
 pub mod Unmasking
 pub mod Pads
+pub mod Staying

@@ -4,6 +4,7 @@ ghost use Rattle.std.specs.Prelude.{◌≡◌, ℕ, ◌<◌, ◌≤◌, ◌^◌,
 ghost use Rattle.coalition_map.specs.Coalitions.{PlanNumbers, leaf_members};
 ghost use Rattle.disk_trait.specs.Faults.{HasCause};
 ghost use Rattle.lms_bytes.specs.declared.params.Params.{Params};
+ghost use Rattle.reference_value.specs.Kinds.{StayAs};
 ghost use Rattle.reference_value.specs.Places.{cell_in, randomizer_in, tag_in};
 ghost use Rattle.share_files.specs.Reference.{leaves_length};
 
@@ -43,11 +44,7 @@ pub trait Cells: Faults {
             → length (leaves self.old) ≡ leaves_length (set self.old) (plan self.old) → IsOk result }
         ensures cause { HasCause (Self.count self.old) (Self.count self.new) result }
 
-        ensures same { IsTrue (told self.old) → leaves self.new ≡ leaves self.old }
-        ensures stays_set { set self.new ≡ set self.old }
-        ensures stays_plan { plan self.new ≡ plan self.old }
-        ensures stays_told { told self.new ≡ told self.old }
-        ensures stays_steady { Self.steady self.new ≡ Self.steady self.old };
+        ensures stays { StayAs set plan told Self.steady leaves self.old self.new };
 
     /// The randomizer of leaf `q`, masked, `n` bytes.
     fn randomizer(&mut self, q: u32) -> Result<Val, RefFault>
@@ -59,11 +56,7 @@ pub trait Cells: Faults {
             → length (leaves self.old) ≡ leaves_length (set self.old) (plan self.old) → IsOk result }
         ensures cause { HasCause (Self.count self.old) (Self.count self.new) result }
 
-        ensures same { IsTrue (told self.old) → leaves self.new ≡ leaves self.old }
-        ensures stays_set { set self.new ≡ set self.old }
-        ensures stays_plan { plan self.new ≡ plan self.old }
-        ensures stays_told { told self.new ≡ told self.old }
-        ensures stays_steady { Self.steady self.new ≡ Self.steady self.old };
+        ensures stays { StayAs set plan told Self.steady leaves self.old self.new };
 
     /// The check tag of leaf `q` for its member `t`.
     fn tag(&mut self, q: u32, t: u8) -> Result<[u8; 32], RefFault>
@@ -75,9 +68,5 @@ pub trait Cells: Faults {
             → length (leaves self.old) ≡ leaves_length (set self.old) (plan self.old) → IsOk result }
         ensures cause { HasCause (Self.count self.old) (Self.count self.new) result }
 
-        ensures same { IsTrue (told self.old) → leaves self.new ≡ leaves self.old }
-        ensures stays_set { set self.new ≡ set self.old }
-        ensures stays_plan { plan self.new ≡ plan self.old }
-        ensures stays_told { told self.new ≡ told self.old }
-        ensures stays_steady { Self.steady self.new ≡ Self.steady self.old };
+        ensures stays { StayAs set plan told Self.steady leaves self.old self.new };
 }

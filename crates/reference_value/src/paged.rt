@@ -1,6 +1,7 @@
 //! A reference that is read from pages, value by value.
 
 ghost use Rattle.std.specs.Prelude.{◌≡◌, ◌+◌, ◌<◌, ◌≤◌, ◌^◌, length, drop, IsTrue, IsOk, IfOk, OnOk, OnErr};
+ghost use Rattle.disk_trait.specs.Disks.{SameKind};
 ghost use Rattle.disk_trait.specs.Faults.{HasCause};
 ghost use Rattle.lms_bytes.specs.Bytes.{bytes_at};
 ghost use Rattle.lms_bytes.specs.HashLength.{IsHashLength};
@@ -92,8 +93,7 @@ fn read_behind_header<V: Pages>(pages: &mut V, place: usize, out: &mut [u8]) -> 
         → place + length out.old ≤ length (drop 32 (V.reads pages.old)) → IsOk result }
     ensures cause { HasCause (V.count pages.old) (V.count pages.new) result }
     ensures same { IsTrue (V.told pages.old) → V.reads pages.new ≡ V.reads pages.old }
-    ensures stays_told { V.told pages.new ≡ V.told pages.old }
-    ensures stays_steady { V.steady pages.new ≡ V.steady pages.old }
+    ensures stays { SameKind V.told V.honest V.steady V.room pages.old pages.new }
 {
     match pages.read_at((HEAD + place) as u64, out) {
         Ok(()) => Ok(()),
@@ -112,8 +112,7 @@ fn read_value<V: Pages>(pages: &mut V, place: usize, n: u8) -> Result<Val, RefFa
         → place + n ≤ length (drop 32 (V.reads pages.old)) → IsOk result }
     ensures cause { HasCause (V.count pages.old) (V.count pages.new) result }
     ensures same { IsTrue (V.told pages.old) → V.reads pages.new ≡ V.reads pages.old }
-    ensures stays_told { V.told pages.new ≡ V.told pages.old }
-    ensures stays_steady { V.steady pages.new ≡ V.steady pages.old }
+    ensures stays { SameKind V.told V.honest V.steady V.room pages.old pages.new }
 {
     let mut buffer = [0; 32];
     let value = &mut buffer[..n as usize];

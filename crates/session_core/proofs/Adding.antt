@@ -1,5 +1,5 @@
 -- A string that another is added to, byte by byte.
-use Rattle.std.proofs.Common.{◌≡◌, ℕ, ◌+◌, ◌<◌, List, length, take, drop, set, get_or, bit_xor, refl, sym, ◌∙◌, arith, length-set, take_all}
+use Rattle.std.proofs.Common.{◌≡◌, ℕ, ◌+◌, ◌<◌, List, length, take, drop, set, get_or, bit_xor, refl, sym, ◌∙◌, arith, length-set}
 use Rattle.std.proofs.lemmas.List.{take_more_set, drop-set-lt, drop_more}
 use Rattle.lms_bytes.specs.Bytes.{xor}
 use Rattle.lms_bytes.proofs.Xor.{xor_take_more}
@@ -9,9 +9,6 @@ pub record IsAdding (old body out : List ℕ) (i : ℕ) : Type 0 where
   pub size : length out ≡ length old
   pub done : take i out ≡ xor (take i old) (take i body)
   pub rest : drop i out ≡ drop i old
-
-pub adding-none : (old body : List ℕ) → IsAdding old body old 0
-adding-none old body = record { size = refl; done = refl; rest = refl }
 
 heads : (a b : List ℕ) (i : ℕ) → i < length a → i < length b → drop i a ≡ drop i b → (get_or a i 0 ≡ get_or b i 0) × (drop (i + 1) a ≡ drop (i + 1) b)
 heads a b i in-a in-b same =
@@ -30,8 +27,3 @@ adding-more old body out i inside even a =
       done = rw (take_more_set out i (bit_xor (get_or out i 0) (get_or body i 0)) (omega arith), a.done, xor_take_more i old body (omega arith) inside, here.0) refl;
       rest = rw (drop-set-lt (i + 1) out i (bit_xor (get_or out i 0) (get_or body i 0)) (omega arith)) here.1;
     }
-
-pub adding-all : (old body out : List ℕ) (i : ℕ) → i ≡ length body → length body ≡ length old → IsAdding old body out i → out ≡ xor old body
-adding-all old body out i all even a =
-    let size = a.size in
-    sym (take_all i out (omega arith)) ∙ (a.done ∙ rw (take_all i old (omega arith), take_all i body (omega arith)) refl)

@@ -10,7 +10,7 @@ ghost use Rattle.lms_verify.specs.Accepts.{AcceptsAt};
 ghost use Rattle.lms_verify.specs.UndividedKey.{UndividedKey, rfc_signature};
 ghost use Rattle.merkle_path.specs.Tree.{path_at};
 ghost use Rattle.reference_value.specs.Dealing.{Dealing, leaf_randomizer, reference};
-ghost use Rattle.reference_value.specs.Stay.{CellsStay};
+ghost use Rattle.reference_value.specs.Stay.{CellsOnward};
 ghost use Rattle.session_core.specs.Dealing.{FirstMasks, IsAnswered, IsOfDealing};
 ghost use Rattle.session_core.specs.Judging.{round_fault};
 ghost use Rattle.session_core.specs.State.{IsSession, asked_c, turned};
@@ -50,8 +50,7 @@ impl Session {
         ensures succeeds { IsTrue (R.steady cells.old) → IsTrue (R.told cells.old)
             → length (R.leaves cells.old) ≡ leaves_length self.old.key.params self.old.plan
             → round_fault self.old [] ≡ None → IsOk result }
-        ensures count { R.count cells.old ≤ R.count cells.new }
-        ensures stays { CellsStay R.Cells.own R.Faults cells.old cells.new }
+        ensures onward { CellsOnward R.Cells.own R.Faults cells.old cells.new }
     {
         let zeros = self.asked_c();
         if let Some(fault) = self.round_fault(&zeros) {
@@ -73,8 +72,7 @@ impl Session {
             × Rose (R.count cells.old) (R.count cells.new)) }
         ensures succeeds { IsTrue (R.steady cells.old) → IsTrue (R.told cells.old)
             → length (R.leaves cells.old) ≡ leaves_length self.now.key.params self.now.plan → IsOk result }
-        ensures count { R.count cells.old ≤ R.count cells.new }
-        ensures stays { CellsStay R.Cells.own R.Faults cells.old cells.new }
+        ensures onward { CellsOnward R.Cells.own R.Faults cells.old cells.new }
     {
         let sum = sum_of_values(&self.first, self.key.params.n);
         Ok(join_randomizer(cells, self.leaf, &sum)?)
@@ -105,8 +103,7 @@ impl Session {
             → length (R.leaves cells.old) ≡ leaves_length self.now.key.params self.now.plan
             → round_fault self.now (digest_of self.now message.now) ≡ None
             → IfErr result (λ fault. fault ≢ SessionFault.Reference) }
-        ensures count { R.count cells.old ≤ R.count cells.new }
-        ensures stays { CellsStay R.Cells.own R.Faults cells.old cells.new }
+        ensures onward { CellsOnward R.Cells.own R.Faults cells.old cells.new }
         ensures dealt { (d : Dealing) (key : UndividedKey) → IsTrue (R.told cells.old)
             → IsAnswered d key self.now (digest_of self.now message.now) (R.leaves cells.old) tree.now
             → MatchResult result
@@ -141,8 +138,7 @@ impl Session {
             → length (R.leaves cells.old) ≡ leaves_length self.now.key.params self.now.plan
             → round_fault self.now (digest_of self.now message.now) ≡ None
             → IfErr result (λ fault. fault ≢ SessionFault.Reference) }
-        ensures count { R.count cells.old ≤ R.count cells.new }
-        ensures stays { CellsStay R.Cells.own R.Faults cells.old cells.new }
+        ensures onward { CellsOnward R.Cells.own R.Faults cells.old cells.new }
     {
         let c = self.asked_c();
         let digest = MessageHash::of(&self.key.params, &self.key.id, self.leaf, &c, message);
@@ -171,8 +167,7 @@ impl Session {
         ensures read { IsTrue (R.steady cells.old) → IsTrue (R.told cells.old)
             → length (R.leaves cells.old) ≡ leaves_length self.now.key.params self.now.plan
             → IfErr result (λ fault. fault ≢ SessionFault.Reference) }
-        ensures count { R.count cells.old ≤ R.count cells.new }
-        ensures stays { CellsStay R.Cells.own R.Faults cells.old cells.new }
+        ensures onward { CellsOnward R.Cells.own R.Faults cells.old cells.new }
     {
         let params = &self.key.params;
         let length = params.n as usize * params.p as usize;

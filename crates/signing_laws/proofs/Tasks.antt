@@ -4,7 +4,7 @@ use Rattle.std.specs.Option.{option_map}
 use Rattle.std.proofs.Math.Nat.{pow-le-pow_right}
 use Rattle.std.proofs.lemmas.List.{get_or_default}
 use Rattle.coalition_map.specs.Coalitions.{PlanNumbers, coalitions}
-use Rattle.dealer.specs.Dealt.{dealt_root, dealt_tree}
+use Rattle.dealer.specs.Dealt.{dealt_tree}
 use Rattle.dealer.specs.Files.{public_file, reference_file, tree_file}
 use Rattle.leaf_table.specs.Leasing as leasing
 use Rattle.lms_bytes.specs.HashLength.{IsHashLength}
@@ -33,7 +33,7 @@ use Rattle.tool_desk.specs.Members.{IsCoalition, members_placed}
 use Rattle.tool_desk.specs.Tree.{tree_bytes, tree_file_fault}
 use Rattle.tool_desk.specs.declared.files.KeyFiles.{KeyFiles}
 use Rattle.tool_signing.specs.Ports.{NetRun}
-use Rattle.tool_signing.specs.Tasks.{FailsTask, HasFiles, IsTask, LacksTask, message_limit}
+use Rattle.tool_signing.specs.Tasks.{FailsTask, HasFiles, LacksTask, message_limit}
 use Rattle.tool_signing.specs.Tasks as tasks
 use Rattle.tool_words.specs.Words.{SignWords}
 use Rattle.signing_laws.specs.AllIsWell.{HasDealtFiles, IsDealing, NothingFails}
@@ -75,9 +75,6 @@ module _ (d : Dealing) (key : UndividedKey) (dealing : IsDealing d key) where
 
   pub id-length : length d.id ≡ 16
   id-length = ap length (sym dealing.own.id) ∙ key.id_length
-
-  root-is : public.root ≡ dealt_root d
-  root-is = rw (dealing.own.params, dealing.own.id, dealing.own.seed) refl
 
   pub public-is : public_file d ≡ public_bytes public
   public-is = rw (← dealing.own.params, ← dealing.own.id, ← dealing.own.seed) refl

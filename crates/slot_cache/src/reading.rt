@@ -3,7 +3,7 @@
 ghost use Rattle.std.specs.Prelude.{◌≡◌, ◌≢◌, ◌<◌, ℕ, length, replicate, false, slice_index_or, Err, IsOk, IfOk, IfErr};
 ghost use Rattle.std.specs.Prelude.{OnOk};
 ghost use Rattle.disk_trait.specs.Faults.{HasCause};
-ghost use Rattle.slot_cache.specs.Reading.{IsReadRefused, IsSlotRefused, refused_by};
+ghost use Rattle.slot_cache.specs.Reading.{IsReadRefused, IsSlotRefused, LooksOnly, refused_by};
 ghost use Rattle.slot_cache.specs.State.{IsWhole, slot_in};
 ghost use Rattle.slot_file.specs.Copies.{is_damaged};
 ghost use Rattle.slot_file.specs.Disks.{RisesAt, Unwritten};
@@ -44,11 +44,9 @@ fn read_slot<D: Disk>(slots: &mut Slots<D>, slot: u32) -> Result<Slot, CacheLoad
     ensures shows { IsTold slots.old → IfOk result (λ found. found ≡ slot_now slots.old slot) }
     ensures sound { IfOk result (λ found. is_damaged found ≡ false) }
     ensures refused { IsTold slots.old → IfErr result (IsSlotRefused slot (slot_now slots.old slot)) }
-    ensures unwritten { Unwritten D.Pages.own D.Faults (disk_of slots.old) (disk_of slots.new) }
-    ensures doubt { doubt_of slots.old ≡ Doubt.Nowhere → doubt_of slots.new ≡ Doubt.Nowhere }
+    ensures looks { LooksOnly slots.old slots.new }
     ensures succeeds { IsSteady slots.old → IsTold slots.old → result ≢ Err CacheLoad.Device }
     ensures cause { RisesAt (faults_of slots.old) (faults_of slots.new) result (Err CacheLoad.Device) }
-    ensures stays { Stays slots.old slots.new }
 {
     match slots.look(slot) {
         Ok(Slot::Damaged { a, b }) => Err(CacheLoad::Damaged { slot, a, b }),
@@ -70,11 +68,9 @@ pub(crate) fn read_slots<D: Disk>(
     ensures refused { IsTold slots.old
         → IfErr result (IsReadRefused (header_of slots.old).version (length out.old.items) (file_of slots.old)) }
     ensures size { length out.new.items ≡ length out.old.items }
-    ensures unwritten { Unwritten D.Pages.own D.Faults (disk_of slots.old) (disk_of slots.new) }
-    ensures doubt { doubt_of slots.old ≡ Doubt.Nowhere → doubt_of slots.new ≡ Doubt.Nowhere }
+    ensures looks { LooksOnly slots.old slots.new }
     ensures succeeds { IsSteady slots.old → IsTold slots.old → result ≢ Err CacheLoad.Device }
     ensures cause { RisesAt (faults_of slots.old) (faults_of slots.new) result (Err CacheLoad.Device) }
-    ensures stays { Stays slots.old slots.new }
 {
     for slot in 0..slots.count() {
         match read_slot(slots, slot) {

@@ -1,11 +1,11 @@
 -- A write within a slot leaves a file what it is.
-use Rattle.std.proofs.Common.{ℕ, ◌+◌, ◌<◌, ◌≤◌, List, [], ◌∷◌, length, refl, ◌∙◌, arith, inl, inr}
+use Rattle.std.proofs.Common.{ℕ, ◌+◌, ◌<◌, ◌≤◌, List, length, refl, ◌∙◌, arith, inl, inr}
 use Rattle.std.proofs.Math.Nat.{mul-le-mul_left}
 use Rattle.disk_trait.specs.Images.{written}
 use Rattle.slot_file.specs.declared.header.Header.{Header}
 use Rattle.slot_file.specs.Layout.{slot_size, slot_start, file_size}
 use Rattle.slot_file.specs.Files.{IsFile}
-use Rattle.slot_file.specs.Gated.{Gated, gated}
+use Rattle.slot_file.specs.Gated.{Gated}
 use Rattle.slot_file.proofs.Parts.{Outside, outside_torn, outside_written, outside_both, outside_wider}
 use Rattle.slot_file.proofs.Puts.{header-outside, opens-outside}
 
@@ -45,7 +45,3 @@ module _ (header : Header) (count at : ℕ) (body : List ℕ) (gate_at gate : �
     | inl torn ↦ stays at (length body) new behind (outside_torn at (length body) old new (omega (arith, file.size)) torn)
     | inr torn ↦ both new (outside_torn gate_at 1 mid new (omega (arith, file.size, out_mid.size)) torn)
   ]
-
-  pub gated_done : IsFile header count (gated at body gate_at gate old)
-  unfolding mid
-  gated_done = both (gated at body gate_at gate old) (outside_written gate_at 1 (gate ∷ []) mid refl (omega (arith, file.size, out_mid.size)))

@@ -1,5 +1,5 @@
 -- Parts of a file that a write leaves as they were.
-use Rattle.std.proofs.Common.{◌≡◌, ◌⊎◌, ℕ, ◌+◌, ◌-◌, ◌<◌, ◌≤◌, List, length, [], ◌∷◌, get_or, drop, refl, sym, ◌∙◌, ap, arith, inl, inr, length-take, length-drop, get_or-take, get_or-drop}
+use Rattle.std.proofs.Common.{◌≡◌, ◌⊎◌, ℕ, ◌+◌, ◌-◌, ◌<◌, ◌≤◌, List, length, [], ◌∷◌, get_or, drop, sym, ◌∙◌, ap, arith, inl, inr, length-take, length-drop, get_or-take, get_or-drop}
 use Rattle.std.proofs.lemmas.Bool.{cases_lt}
 use Rattle.std.proofs.lemmas.List.{places, same_lists, get_or_past, get_or_default}
 use Rattle.disk_trait.specs.Images.{written, Torn}
@@ -9,9 +9,6 @@ use Rattle.slot_file.specs.Layout.{part}
 pub record Outside (at n : ℕ) (old new : List ℕ) : Type 0 where
   pub size : length new ≡ length old
   pub same : (k : ℕ) → (k < at) ⊎ (at + n ≤ k) → get_or new k 0 ≡ get_or old k 0
-
-pub outside_same : (at n : ℕ) (file : List ℕ) → Outside at n file file
-outside_same at n file = record { size = refl; same = λ k place. refl }
 
 pub outside_torn : (at n : ℕ) (old new : List ℕ) → at + n ≤ length old → Torn at n old new → Outside at n old new
 outside_torn at n old new fits torn =

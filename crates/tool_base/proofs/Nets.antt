@@ -1,6 +1,6 @@
 -- Ports of a net, out and back.
 use Rattle.std.proofs.Common.{◌≡◌, ◌+◌, ◌-◌, ℕ, List, length, Option, refl, ◌∙◌, arith}
-use Rattle.stream_io.specs.Net.{Gathers, MakesPorts, NetOnward, NetState, PortState, SameNet}
+use Rattle.stream_io.specs.Net.{Gathers, MakesPorts, NetOnward, NetState, PortState}
 use Rattle.tool_base.specs.World.{IsNetBack}
 
 pub net_none : (net : NetState) → IsNetBack net net
@@ -8,9 +8,6 @@ net_none net = record {
   onward = record { told = refl; steady = refl; count = omega arith; port_count = omega arith };
   out = λ told. refl;
 }
-
-pub net_same : (old new : NetState) → SameNet old new → NetOnward old new → IsNetBack old new
-net_same old new same onward = record { onward = onward; out = λ told. same.out }
 
 net_onward : (a b c : NetState) → NetOnward a b → NetOnward b c → NetOnward a c
 net_onward a b c one two = record {

@@ -50,13 +50,6 @@ back_calm a b calm = record {
   views = λ told. calm.same.loans.views;
 }
 
-pub back_on : (a b c : StoreState) → IsCalm a b → IsBack b c → IsBack a c
-back_on a b c one two = record {
-  onward = onward_on a b c one.onward two.onward;
-  out = λ told name. rw (← one.same.names.out) (two.out (rw one.onward.told told) name);
-  views = λ told. two.views (rw one.onward.told told) ∙ one.same.loans.views;
-}
-
 pub back_written : (first now after : StoreState) (name bytes : List ℕ) → IsBack first now → Written now name bytes after → StoreOnward now after → IsBack first after
 back_written first now after name bytes back step onward = record {
   onward = onward_on first now after back.onward onward;

@@ -1,5 +1,5 @@
 -- Views that go out one after the other, and come back.
-use Rattle.std.proofs.Common.{◌≡◌, ◌↔◌, ◌+◌, ◌-◌, ◌^◌, ◌≤◌, min, ℕ, false, List, [], ◌∷◌, length, map, All, Some, IsTrue, refl, sym, ap, ◌∙◌, ◌++◌, subst, arith, append_assoc, append-nil, length-append}
+use Rattle.std.proofs.Common.{◌≡◌, ◌+◌, ◌-◌, ℕ, false, List, [], ◌∷◌, length, map, All, IsTrue, refl, sym, ap, ◌∙◌, ◌++◌, subst, arith, append_assoc, append-nil, length-append}
 use Rattle.std.proofs.lemmas.List.{length-map}
 use Rattle.std.proofs.lemmas.List.Elements.{All-cons, All-nil, All-push, All-weaker}
 use Rattle.std.specs.Str.{bytes_eq}
@@ -14,7 +14,7 @@ use Rattle.tool_base.specs.World.{IsCalm, IsRead, Failed, from_to}
 use Rattle.tool_desk.specs.Reference.{FailsReference, IsNoReference, IsReferenceOf, device, no_memory, no_view, not_in_grammar}
 use Rattle.tool_disks.specs.Disks.{DeviceFails}
 use Rattle.tool_disks.specs.Loads.{ReadsAs}
-use Rattle.tool_views.specs.Views.{AddsCells, CellsOut, IsViewOf, ViewsBack, ViewsOut, sum_of}
+use Rattle.tool_views.specs.Views.{AddsCells, CellsOut, IsViewOf, ViewsBack, ViewsOut}
 
 pub out_none : (a : StoreState) → ViewsOut a 0 a
 out_none a = record {
@@ -85,15 +85,6 @@ module _ (a b c d : StoreState) (count : ℕ) (out : ViewsOut a count b) (later 
   fails_out name _ (not_in_grammar fault reads) = not_in_grammar fault (reads_out name (IsNoReference fault) reads)
   fails_out name _ (device fails) = device (device_out fails)
   fails_out name _ no_memory = no_memory
-
--- views that come back, one after the other
-pub back_none : (a : StoreState) → ViewsBack a [] a
-back_none a = record {
-  names = record { file = refl; leaves = λ name image. (λ x. x, λ x. x); out = refl };
-  rise = omega arith;
-  views = λ told. (omega arith);
-  onward = onward_none a;
-}
 
 -- all are back
 pub all_back : (a c d : StoreState) (count : ℕ) (counts : List ℕ) → ViewsOut a count c → ViewsBack c counts d → length counts ≡ count → Keeps [] a d

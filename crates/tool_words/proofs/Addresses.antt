@@ -1,10 +1,5 @@
 -- Address words, and the places that they name.
 use Rattle.std.proofs.Common.{◌≡◌, ◌≤◌, ◌<◌, ◌-◌, ◌+◌, ◌==◌, ◌&&◌, nat_le, leb-true, le-leb, ℕ, Bool, true, false, List, [], ◌∷◌, length, map, drop, get_or, set, replicate, Option, None, Some, is_some, if◌then◌else◌, refl, sym, ◌∙◌, ap, arith, add-one, subst}
-use Rattle.std.specs.Prelude.{String, string_bytes}
-use Rattle.std.specs.Global.{Global}
-use Rattle.std.specs.Cmp.{first_so, second_so}
-use Rattle.std.specs.Cmp.Lexicographic.{pointwise, same_text}
-use Rattle.std.specs.String.{string_eq}
 use Rattle.std.specs.List.{All, after_first, before_first, list_any, position_or_len}
 use Rattle.std.specs.Option.{ForSome, option_and_then, option_map, unwrap_or}
 use Rattle.std.proofs.lemmas.List.Elements.{All-replicate, All-set}
@@ -219,12 +214,3 @@ named words places some few is =
     let all : places_of words ≡ Some places = sym (counted words some few) ∙ is in
     let same : places ≡ places_named words = ap (λ p. unwrap_or p []) (sym all) in
     (subst HasPlaces same (has_places words places some is), ap Some (sym same) ∙ sym all)
-
--- words that are equal as strings have the same bytes
-pub same_words : (xs ys : List (String Global)) → pointwise string_eq xs ys ≡ true → map string_bytes xs ≡ map string_bytes ys
-same_words [] [] is = refl
-same_words [] (y ∷ ys) is = absurd (cc)
-same_words (x ∷ xs) [] is = absurd (cc)
-same_words (x ∷ xs) (y ∷ ys) is =
-    λ i. (same_text (string_bytes x) (string_bytes y) (sym (first_so (string_eq x y) (pointwise string_eq xs ys) is)) i)
-    ∷ (same_words xs ys (second_so (string_eq x y) (pointwise string_eq xs ys) is) i)

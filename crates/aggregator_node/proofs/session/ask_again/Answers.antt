@@ -4,7 +4,8 @@ use Rattle.std.proofs.lemmas.List.Elements.{All-set}
 use Rattle.std.proofs.lemmas.Result.{err_from_is_err_and}
 use Rattle.aggregator_node.proofs.Frames.{asked-as}
 use Rattle.aggregator_node.proofs.Rounds.{ok-is, second-done, second-ends, second-more, second-refuses}
-use Rattle.aggregator_node.proofs.Tasks.{same-then, stays-then}
+use Rattle.aggregator_node.proofs.Tasks.{same-then}
+use Rattle.reference_value.proofs.Staying.{stays-then}
 use Rattle.aggregator_node.proofs.session.ask_again.Goals as goal
 
 pub returns-in_err-ask_once_more-clause-run : goal.returns-in_err-ask_once_more-clause-run
@@ -41,8 +42,8 @@ members-preserved g c =
           All-set is_steady c.members.links.items c.members.i c.ask_once_more.new.link
           (a.steady ∙ (ap (λ (l : _). g.L.Faults.steady l) c.index_mut.ensures.value ∙ before c.members.i c.index_mut.result.now inside)) before;
       same = same-then _ _ _ v.same a.same;
-      count = (let x = v.count in let y = a.count in omega arith);
-      stays = stays-then v.stays a.stays;
+      count = (let x = v.count in let y = a.onward.count in omega arith);
+      stays = stays-then v.stays a.onward.stays;
     }
 
 pub returns-clause-run : goal.returns-clause-run

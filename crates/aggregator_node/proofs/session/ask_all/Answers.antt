@@ -4,8 +4,8 @@ use Rattle.std.proofs.lemmas.Result.{err_from_is_err_and}
 use Rattle.session_core.specs.State.{State}
 use Rattle.session_core.specs.declared.faults.SessionFault.TheVariants.{Reference}
 use Rattle.aggregator_node.specs.Runs.{judged_in_one, judged_in_two, lost_in_one, lost_in_two, signed}
-use Rattle.aggregator_node.proofs.Sessions.{count-as, dealt-as, err-as, exact-as, exact-stays, fails-as, fails-reference, first-as, first-not, joined-as, none-of, opens, run-as, same-err, second-end, sign-reference, stays-as, stops-later, stops-reference, whole-as}
-use Rattle.aggregator_node.proofs.Tasks.{stays-then}
+use Rattle.aggregator_node.proofs.Sessions.{count-as, dealt-as, err-as, exact-as, exact-stays, fails-as, fails-reference, first-as, first-not, joined-as, none-of, opens, run-as, same-err, second-end, sign-reference, stops-later, stops-reference, whole-as}
+use Rattle.reference_value.proofs.Staying.{stays-as, stays-then}
 use Rattle.lms_bytes.specs.declared.public_key.PublicKey.{PublicKey}
 use Rattle.session_core.specs.Verdicts.{digest_of, joined_bytes}
 use Rattle.session_core.specs.Dealing.{IsAnswered}
@@ -63,7 +63,7 @@ returns-in_err-ask_again-clause-run g c =
     let d = c.dial_all.ensures in
     let t = c.in_ok-turn.ensures in
     let many = length-map c.dial_all.new.links.items g.P.Link.Stream.talk in
-    let stays = stays-as d.cells t.stays in
+    let stays = stays-as d.cells t.onward.stays in
     rw (p.1, p.2) (lost_in_two _ _ c.turn.new.self c.ask_again.new.session c.in_err-ask_again.field-0.0
     (opens _ _ _ c.args.session.now c.dial_all.new.session c.turn.new.self _ _ _ _ c.requires.task.all d.run c.in_ok-dial_all.was c.in_ok-dial_all.ensures.whole (search rules) t.turned
     (joined-as g.R.Cells.told g.R.Cells.leaves _ _ c.dial_all.new.session c.turn.new.self d.cells t.joined)
@@ -77,10 +77,10 @@ returns-in_err-finish-clause-run g c =
     let t = c.in_ok-turn.ensures in
     let a = c.ask_again.ensures in
     let many = length-map c.dial_all.new.links.items g.P.Link.Stream.talk in
-    let stays = stays-as d.cells t.stays in
-    let later = stays-then stays a.stays in
+    let stays = stays-as d.cells t.onward.stays in
+    let later = stays-then stays a.onward.stays in
     let count = g.R.Faults.count in
-    let le : count c.args.cells.now ≤ count c.ask_again.new.cells = (let x = ap count d.cells in let y = t.count in let z = a.count in omega arith) in
+    let le : count c.args.cells.now ≤ count c.ask_again.new.cells = (let x = ap count d.cells in let y = t.onward.count in let z = a.onward.count in omega arith) in
     rw (p.1, p.2) (judged_in_two _ _ c.turn.new.self c.ask_again.new.session c.in_err-finish.field-0.0
     (opens _ _ _ c.args.session.now c.dial_all.new.session c.turn.new.self _ _ _ _ c.requires.task.all d.run c.in_ok-dial_all.was c.in_ok-dial_all.ensures.whole (search rules) t.turned
     (joined-as g.R.Cells.told g.R.Cells.leaves _ _ c.dial_all.new.session c.turn.new.self d.cells t.joined)
@@ -95,7 +95,7 @@ returns-in_err-finish-clause-reference g c is =
     let t = c.in_ok-turn.ensures in
     let a = c.ask_again.ensures in
     let count = g.R.Faults.count in
-    let le : count c.args.cells.now ≤ count c.ask_again.new.cells = (let x = ap count d.cells in let y = t.count in let z = a.count in omega arith) in
+    let le : count c.args.cells.now ≤ count c.ask_again.new.cells = (let x = ap count d.cells in let y = t.onward.count in let z = a.onward.count in omega arith) in
     let both = fails-reference _ c.args.task.now.message.now _ _ _ _ _ c.in_err-finish.ensures.cause (same-err _ _ _ _ p.1 p.2 is) in
     let rose = both.1 in
     omega arith
@@ -106,7 +106,7 @@ returns-in_err-finish-clause-succeeds g c exact is =
     let d = c.dial_all.ensures in
     let t = c.in_ok-turn.ensures in
     let a = c.ask_again.ensures in
-    let stays = stays-then (stays-as d.cells t.stays) a.stays in
+    let stays = stays-then (stays-as d.cells t.onward.stays) a.onward.stays in
     let e = exact-stays stays exact in
     let key = a.same.key ∙ (ap (λ (x : State). x.key) t.turned.same ∙ d.same.key) in
     let plans = a.same.plan ∙ (ap (λ (x : State). x.plan) t.turned.same ∙ d.same.plan) in
@@ -123,8 +123,8 @@ returns-clause-run g c =
     let a = c.ask_again.ensures in
     let f = c.in_ok-finish.ensures in
     let many = length-map c.dial_all.new.links.items g.P.Link.Stream.talk in
-    let stays = stays-as d.cells t.stays in
-    let later = stays-then stays a.stays in
+    let stays = stays-as d.cells t.onward.stays in
+    let later = stays-then stays a.onward.stays in
     let message = c.args.task.now.message.now in
     let tree = c.args.task.now.desk.now.tree.now in
     let kept = c.ask_again.new.session in
@@ -139,3 +139,15 @@ returns-clause-run g c =
       joined = λ told. f.joined (later.told ∙ told) ∙ ap (λ (l : List ℕ). joined_bytes kept l tree message) (later.leaves told);
       dealt = λ told d key answered. f.dealt d key (later.told ∙ told) (subst (λ (l : List ℕ). IsAnswered d key kept (digest_of kept message) l tree) (sym (later.leaves told)) answered);
     })
+
+pub returns-clause-onward : goal.returns-clause-onward
+returns-clause-onward g c =
+    let d = c.dial_all.ensures in
+    let t = c.in_ok-turn.ensures.onward in
+    let a = c.ask_again.ensures.onward in
+    let f = c.in_ok-finish.ensures.onward in
+    let count = g.R.Faults.count in
+    record {
+      stays = stays-then (stays-then (stays-as d.cells t.stays) a.stays) f.stays;
+      count = (let x = ap count d.cells in let y = t.count in let z = a.count in let u = f.count in omega arith);
+    }

@@ -54,8 +54,8 @@ members-preserved g c =
       run = first-more c.args.task.now.desk.now.addresses.now (first_frame c.args.session.now) (g.P.Port.state c.args.port.now) c.args.session.now c.args.task.now.members.now
           (g.P.Port.state c.members.port) c.members.session c.members.i 0 _ _ (g.P.Port.state c.dial_member.new.port) c.dial_member.new.session c.dial_member.result
           c.members-test.true v.run (called-as _ _ (frame-same _ _ v.same) d.called) (ok-is _ _ true c.in_ok-dial_member.was c.if-not-branch.false);
-      many = (let a = v.many in let b = c.in_ok-dial_member.ensures.added in omega arith);
-      room = (let a = v.room in let b = d.space in omega arith);
+      many = (let a = v.many in let b = c.in_ok-dial_member.ensures.links.1 in omega arith);
+      room = (let a = v.room in let b = d.links.0 in omega arith);
       steady = λ s. d.steady (v.port.onward.steady ∙ s) (v.steady s);
       port = dials-then _ _ _ v.port d.port;
       same = same-then _ _ _ v.same d.same;

@@ -1,13 +1,14 @@
 use Rattle.std.proofs.Common.{◌≡◌, ◌+◌, ◌∙◌, arith, refl}
 use Rattle.client_node.specs.Clients.{ended, full, more}
-use Rattle.client_node.proofs.Answering.{answers_told, same_cells, stays_then}
+use Rattle.reference_value.proofs.Staying.{stays-then}
+use Rattle.client_node.proofs.Answering.{answers_told, same_cells}
 use Rattle.client_node.proofs.client.serve_client.Goals as goal
 
 pub returns-in-Some-clause-serves : goal.returns-in-Some-clause-serves
 returns-in-Some-clause-serves g c =
     let v = c.requests.invariant in
     let step = c.answer_next-step.ensures in
-    v.goes _ _ _ _ (ended _ _ _ _ _ (rw c.in-Some.is at (answers_told _ _ _ _ _ _ _ _ (same_cells _ _ _ _ v.stays) step.answers.answers)))
+    v.goes _ _ _ _ (ended _ _ _ _ _ (rw c.in-Some.is at (answers_told _ _ _ _ _ _ _ _ (same_cells g.R.Cells g.R.Faults _ _ v.stays) step.answers.answers)))
 
 pub returns-clause-serves : goal.returns-clause-serves
 returns-clause-serves g c =
@@ -24,10 +25,10 @@ requests-preserved g c =
       goes = λ others replies end last served.
           let whole : c.requests.frames + (c.answer_next-step.result.replies + replies) ≡ c.requests.frames + c.answer_next-step.result.replies + replies = omega arith in
           rw whole at (v.goes _ _ end last
-          (more _ _ _ _ _ _ _ _ (rw c.in_default.is at (answers_told _ _ _ _ _ _ _ _ (same_cells _ _ _ _ v.stays) step.answers.answers)) served));
+          (more _ _ _ _ _ _ _ _ (rw c.in_default.is at (answers_told _ _ _ _ _ _ _ _ (same_cells g.R.Cells g.R.Faults _ _ v.stays) step.answers.answers)) served));
       pass = step.pass;
       frames = let so_far = v.frames in omega (arith, one, so_far);
-      stays = stays_then _ _ _ _ _ v.stays step.cells;
+      stays = stays-then v.stays step.cells;
       steady = step.steady ∙ v.steady;
     }
 

@@ -45,11 +45,11 @@ chains-preserved g c =
     let f = joined_chain params (g.R.Cells.plan cells) (g.R.Cells.leaves cells) c.args.q c.args.digest.now c.args.sums.now in
     record {
       stays = record {
-        set = c.cell.ensures.stays_set ∙ before.stays.set;
-        plan = c.cell.ensures.stays_plan ∙ before.stays.plan;
-        told = c.cell.ensures.stays_told ∙ before.stays.told;
-        steady = c.cell.ensures.stays_steady ∙ before.stays.steady;
-        leaves = λ told. let now : IsTrue (g.R.Cells.told c.chains.cells) = rw before.stays.told told in c.cell.ensures.same now ∙ before.stays.leaves told;
+        set = c.cell.ensures.stays.set ∙ before.stays.set;
+        plan = c.cell.ensures.stays.plan ∙ before.stays.plan;
+        told = c.cell.ensures.stays.told ∙ before.stays.told;
+        steady = c.cell.ensures.stays.steady ∙ before.stays.steady;
+        leaves = λ told. let now : IsTrue (g.R.Cells.told c.chains.cells) = rw before.stays.told told in c.cell.ensures.stays.leaves now ∙ before.stays.leaves told;
       };
       count = c.in_ok-cell.ensures.cause.succeeded ∙ before.count;
       front = λ told.

@@ -11,14 +11,14 @@ returns-then-length-clause-file g c =
 pub returns-in-Ok-read_ref_header-clause-reads : goal.returns-in-Ok-read_ref_header-clause-reads
 returns-in-Ok-read_ref_header-clause-reads g c = λ told.
     let read = c.in-Ok-read_ref_header.ensures in
-    let still : IsTrue (g.V.Pages.told c.len.new.self) = rw c.len.ensures.stays_told told in
+    let still : IsTrue (g.V.Pages.told c.len.new.self) = rw c.len.ensures.stays.told told in
     let front : c.read_at.new.out ≡ take 32 (g.V.Pages.reads c.args.pages.now) =
     c.in-Ok-read_at.ensures.bytes still ∙ ap (take 32) (c.len.ensures.same told) in
     head_read _ c.read_at.new.out c.in-Ok.length _ (c.in-Ok.ensures.length told) front read.header read.size read.dealt
 
 pub returns-in-Err-clause-file : goal.returns-in-Err-clause-file
 returns-in-Err-clause-file g c = λ fault is told.
-    let still : IsTrue (g.V.Pages.told c.len.new.self) = rw c.len.ensures.stays_told told in
+    let still : IsTrue (g.V.Pages.told c.len.new.self) = rw c.len.ensures.stays.told told in
     let front : c.read_at.new.out ≡ take 32 (g.V.Pages.reads c.args.pages.now) =
     c.in-Ok-read_at.ensures.bytes still ∙ ap (take 32) (c.len.ensures.same told) in
     let long = c.if-length.false in

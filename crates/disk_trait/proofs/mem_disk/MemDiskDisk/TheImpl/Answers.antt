@@ -16,10 +16,12 @@ write_at-tells c =
       fits = search rules;
       succeeds = search rules;
       cause = rw (c.ensures.outcome, c.ensures.after) (write-cause disk c.args.at bytes fails);
-      stays_told = refl;
-      stays_honest = refl;
-      stays_steady = rw c.ensures.after (write-steady disk c.args.at bytes fails);
-      stays_room = rw c.ensures.after (write-room disk c.args.at bytes fails);
+      stays = record {
+        told = refl;
+        honest = refl;
+        steady = rw c.ensures.after (write-steady disk c.args.at bytes fails);
+        room = rw c.ensures.after (write-room disk c.args.at bytes fails);
+      };
     }
 
 pub sync-tells : goal.sync-tells
@@ -33,8 +35,10 @@ sync-tells c =
       has_room = λ told. c.ensures.has_room;
       succeeds = search rules;
       cause = rw (c.ensures.outcome, c.ensures.after) (sync-cause disk fails);
-      stays_told = refl;
-      stays_honest = refl;
-      stays_steady = rw c.ensures.after (sync-steady disk fails);
-      stays_room = rw c.ensures.after (sync-room disk fails);
+      stays = record {
+        told = refl;
+        honest = refl;
+        steady = rw c.ensures.after (sync-steady disk fails);
+        room = rw c.ensures.after (sync-room disk fails);
+      };
     }

@@ -33,17 +33,17 @@ invariant_of-result g c =
     let size : length list ≡ c.args.count = call.size ∙ free in
     let shows : IsTold start → (k : ℕ) → k < c.args.count → slot_now start k ≡ slot_in list k = λ told k below. call.shows told k (omega (arith, below, free)) in
     let sound : IsTold start → (k : ℕ) → k < c.args.count → is_damaged (slot_now start k) ≡ false = λ told k below. ap is_damaged (shows told k below) ∙ call.whole k (omega (arith, below, size)) in
-    let names : header_of new ≡ header = call.stays.header ∙ opened.named in
-    let nowhere : doubt_of new ≡ Nowhere = call.doubt opened.doubt in
+    let names : header_of new ≡ header = call.looks.stays.header ∙ opened.named in
+    let nowhere : doubt_of new ≡ Nowhere = call.looks.doubt opened.doubt in
     let has : IsTold new → HasSlots header list (file_of new) = λ told_new.
-    let told_start = sym call.unwritten.stays.told ∙ told_new in
+    let told_start = sym call.looks.unwritten.stays.told ∙ told_new in
     let told = sym opened.unwritten.stays.told ∙ told_start in
-    let same = call.unwritten.same told_start in
+    let same = call.looks.unwritten.same told_start in
     let is = same ∙ opened.unwritten.same told in
     has-read header (header_of start) list (file_of new) (file_of start) c.args.count opened.named same size
     (ap (load_fault header c.args.count) is ∙ opened.opens told) (shows told_start) (sound told_start) in
     record {
-      count = call.stays.count ∙ opened.size ∙ sym size;
+      count = call.looks.stays.count ∙ opened.size ∙ sym size;
       whole = call.whole;
       in_doubt = doubt-none _ (doubt_of new) nowhere;
       faulted = λ none. refl;
@@ -71,9 +71,9 @@ returns-in-Ok-read_slots-clause-loaded g c =
     record {
       file = has;
       settled = refl;
-      named = call.stays.header ∙ opened.named;
+      named = call.looks.stays.header ∙ opened.named;
       size = size;
-      unwritten = unwritten-then g.D.Pages g.D.Faults c.args.disk (disk_of start) (disk_of new) opened.unwritten call.unwritten;
+      unwritten = unwritten-then g.D.Pages g.D.Faults c.args.disk (disk_of start) (disk_of new) opened.unwritten call.looks.unwritten;
       faults = call.cause.others (λ is. cc) ∙ opened.faults;
     }
 
