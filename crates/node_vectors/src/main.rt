@@ -84,7 +84,9 @@ fn replies(
     };
     let mut pass = only_pass(&lock, passes)?;
     let source = MemSource::new(asks, Vec::new(alloc), Vec::new(alloc));
-    let sink = MemSink::new(alloc, ROOM, ROOM, Vec::new(alloc)).ok()?;
+    // Each of two replies goes out in one write: the third would fail.
+    let third = Vec::from_slice(alloc, &[2]).ok()?;
+    let sink = MemSink::new(alloc, ROOM, ROOM, third).ok()?;
     let mut link = MemLink::new(alloc, source, sink, Vec::new(alloc), None).ok()?;
     let served = serve_connection(waits, &lock, &mut pass, share, None, &mut Still, &mut link);
     let written = Vec::from_slice(alloc, link.conversation().written()).ok()?;

@@ -1,6 +1,7 @@
 -- What a reader of frames answers, and what it has read of its source.
-use Rattle.std.specs.Prelude.{◌≡◌, ◌⊎◌, ◌<◌, ℕ, length, Result, Ok, Err}
-use Rattle.stream_io.specs.Talk.{Talk, Took}
+use Rattle.std.specs.Prelude.{◌≡◌, ◌≢◌, ◌⊎◌, ◌<◌, ℕ, Bool, IsTrue, length, Result, Ok, Err}
+use Rattle.stream_io.specs.Store.{RisesWhere}
+use Rattle.stream_io.specs.Talk.{OnlyRead, Talk, Took}
 use Rattle.round_frames.specs.Frames.{Says}
 use Rattle.round_frames.specs.declared.fault.FrameFault.{FrameFault}
 use Rattle.round_frames.specs.declared.fault.FrameFault.TheVariants.{Cut, ReadFault}
@@ -25,3 +26,11 @@ Passed old new (Ok value) size = Took old new size
 Passed {V = V} old new (Err fault) size =
     ((fault ≡ Cut) × (length old.left < size) × Took old new (length old.left))
     ⊎ Broke {V = V} old new (Err fault)
+
+-- A source was only read. Its count rose where a read failed and nowhere else, and none fails of a steady source.
+pub record OnlyTakes {V : Type 0} (was_steady is_steady : Bool) (old new : Talk) (result : Result V FrameFault)
+    : Type 0 where
+  pub only : OnlyRead old new
+  pub cause : RisesWhere (result ≡ Err ReadFault) old.count new.count
+  pub answers : IsTrue was_steady → result ≢ Err ReadFault
+  pub steady : is_steady ≡ was_steady

@@ -17,7 +17,9 @@ pub use fault::FrameFault;
 pub use outcome::{Failure, Outcome, next_result};
 pub use reply::next_reply;
 pub use request::next_request;
-pub use write::{write_ask, write_failure, write_reply_head, write_request, write_signature};
+pub use write::{
+    put_reply_head, write_ask, write_failure, write_reply_head, write_request, write_signature,
+};
 
 #[cfg(test)]
 mod tests;

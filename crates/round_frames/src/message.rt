@@ -1,12 +1,10 @@
 //! Messages that are hashed piece by piece.
 
-ghost use Rattle.std.specs.Prelude.{◌≡◌, ◌≢◌, ◌+◌, ◌<◌, ◌^◌, ◌++◌, ◌⊎◌, ℕ, List, [], length, take, IsTrue, IfErr, OnOk};
+ghost use Rattle.std.specs.Prelude.{◌≡◌, ◌+◌, ◌<◌, ◌^◌, ◌++◌, ◌⊎◌, ℕ, List, [], length, take, IsTrue, IfErr, OnOk};
 ghost use Rattle.lms_bytes.specs.IdHash.{HasTaken as IdTaken, taken_length};
 ghost use Rattle.lms_bytes.specs.declared.params.Params.{Params};
 ghost use Rattle.ots_chain.specs.MessageHash.{HasTaken};
-ghost use Rattle.stream_io.specs.Store.{RisesWhere};
-ghost use Rattle.stream_io.specs.Talk.{OnlyRead};
-ghost use Rattle.round_frames.specs.Reads.{Passed};
+ghost use Rattle.round_frames.specs.Reads.{OnlyTakes, Passed};
 ghost use Rattle.round_frames.specs.declared.fault.FrameFault.TheVariants.{Cut, ReadFault};
 
 use crate::fault::FrameFault;
@@ -42,11 +40,9 @@ pub(crate) fn take_message<S: Source>(
         → HasTaken hashes.old.digest params key q c []
         → (xs : List ℕ) × HasTaken hashes.new.digest params key q c xs) }
     ensures passed { IsTrue (S.talk source.old).told → Passed (S.talk source.old) (S.talk source.new) result size }
-    ensures only { OnlyRead (S.talk source.old) (S.talk source.new) }
     ensures faults { IfErr result (λ fault. (fault ≡ Cut) ⊎ (fault ≡ ReadFault)) }
-    ensures cause { RisesWhere (result ≡ Err ReadFault) (S.talk source.old).count (S.talk source.new).count }
-    ensures answers { IsTrue (S.steady source.old) → result ≢ Err ReadFault }
-    ensures steady { S.steady source.new ≡ S.steady source.old }
+    ensures takes { OnlyTakes (S.steady source.old) (S.steady source.new)
+        (S.talk source.old) (S.talk source.new) result }
 {
     let mut piece = [0; ROOM as usize];
     let mut at = 0;
@@ -76,11 +72,9 @@ fn take_piece<S: Source>(
         → (ys : List ℕ) × HasTaken hashes.new.digest params key q c ys) }
     ensures passed { IsTrue (S.talk source.old).told
         → Passed (S.talk source.old) (S.talk source.new) result (length room.old) }
-    ensures only { OnlyRead (S.talk source.old) (S.talk source.new) }
     ensures faults { IfErr result (λ fault. (fault ≡ Cut) ⊎ (fault ≡ ReadFault)) }
-    ensures cause { RisesWhere (result ≡ Err ReadFault) (S.talk source.old).count (S.talk source.new).count }
-    ensures answers { IsTrue (S.steady source.old) → result ≢ Err ReadFault }
-    ensures steady { S.steady source.new ≡ S.steady source.old }
+    ensures takes { OnlyTakes (S.steady source.old) (S.steady source.new)
+        (S.talk source.old) (S.talk source.new) result }
 {
     fill(source, room)?;
     hashes.id.update(room);

@@ -150,13 +150,15 @@ pub fn write_reply_head<K: Sink>(
     ensures steady { K.steady sink.new ≡ K.steady sink.old }
 {
     let mut room = [0; 99];
-    let size = put_reply(&mut room, params, head);
+    let size = put_reply_head(params, head, &mut room);
     write_whole(sink, &room[..size])
 }
 
-/// Puts the header and the head of a reply to the front of the room, and answers how long they are.
-fn put_reply(out: &mut [u8; 99], params: &Params, head: &ReplyHead) -> usize
-    requires { IsHead params.now head.now }
+/// Puts the header and the head of a reply to the front of the room, and answers how long they are. Whoever has the
+/// body beside it writes both at once.
+pub fn put_reply_head(params: &Params, head: &ReplyHead, out: &mut [u8]) -> usize
+    requires head { IsHead params.now head.now }
+    requires room { 99 ≤ length out.old }
     ensures size { result ≤ 99 }
     ensures bytes { take result out.new ≡ reply_front params.now head.now }
 {
@@ -202,7 +204,8 @@ fn reply_length(params: &Params, head: &ReplyHead) -> u32
 }
 
 /// Puts what all heads of replies have behind the header.
-fn put_parts(out: &mut [u8; 99], head: &ReplyHead)
+fn put_parts(out: &mut [u8], head: &ReplyHead)
+    requires { 65 ≤ length out.old }
     ensures { take 65 out.new ≡ take 8 out.old ++ head_parts head.now }
 {
     put(out, 8, &head.key);

@@ -1,12 +1,16 @@
 -- Masks that are written one behind the other.
-use Rattle.std.proofs.Common.{◌≡◌, ◌+◌, ◌<◌, ◌≤◌, ◌++◌, ℕ, zero, suc, List, [], length, take, refl, sym, ap, ◌∙◌, subst, arith, add-one, append_assoc, length-append}
+use Rattle.std.proofs.Common.{◌≡◌, ◌+◌, ◌<◌, ◌≤◌, ◌⊎◌, inl, inr, ◌++◌, ℕ, zero, suc, List, [], length, take, Option, None, Some, refl, sym, ap, ◌∙◌, subst, arith, add-one, append_assoc, length-append}
 use Rattle.std.proofs.Math.Seq.{take-append-add}
 use Rattle.std.proofs.lemmas.List.{take-append-le}
 use mathlib.Core.List.{IsPrefix}
 use mathlib.Core.Logic.{dite}
 use native.Mathlib.Decide.{ℕ_discrete}
 use Rattle.lms_bytes.specs.Bytes.{joined}
+use Rattle.lms_bytes.specs.declared.ask.Ask.{Ask}
+use Rattle.lms_bytes.specs.declared.ask.Second.{Second}
+use Rattle.lms_bytes.specs.declared.params.Params.{Params}
 use Rattle.stream_io.specs.Talk.{Talk, WrotePart}
+use Rattle.trustee_core.specs.Grants.{masks_of}
 use Rattle.trustee_node.proofs.Prefixes.{prefix-same, prefix-more, prefix-then}
 
 pub joined-more : (f : ℕ → List ℕ) (i : ℕ) → joined f (i + 1) ≡ joined f i ++ f i
@@ -33,11 +37,6 @@ masks-more f from i filled n old new mask before is long front =
     ∙ sym (append_assoc (joined f from) (take filled old) mask) ∙ ap (λ (l : List ℕ). l ++ mask) before
     ∙ ap (λ (l : List ℕ). joined f i ++ l) is ∙ sym (joined-more f i)
 
--- all that was gathered was written
-pub written-on : (old mid now room a b : List ℕ) (k : ℕ) → mid ≡ old ++ a → now ≡ mid ++ take k room → a ++ take k room ≡ b → now ≡ old ++ b
-written-on old mid now room a b k before after is =
-    after ∙ ap (λ (l : List ℕ). l ++ take k room) before ∙ append_assoc old a (take k room) ∙ ap (λ (l : List ℕ). old ++ l) is
-
 -- a beginning of bytes is a beginning of longer ones
 pub part-of : (old new : Talk) (xs ys : List ℕ) → IsPrefix xs ys → WrotePart old new xs → WrotePart old new ys
 part-of old new xs ys p part = record {
@@ -56,8 +55,71 @@ part-behind old mid new a b before part = record {
       ∙ ap (λ (l : List ℕ). old.written ++ l) (sym (take-append-add a b part.size));
 }
 
+-- the head stands in the front of the room and nothing is written, or the head and the masks before `next` are written
+abbrev pub Gathered : (ℕ → List ℕ) → Talk → Talk → ℕ → List ℕ → List ℕ → ℕ → Type 0
+Gathered f old now front room head next =
+    ((next ≡ 0) × (now.written ≡ old.written) × (take front room ≡ head))
+    ⊎ ((front ≡ 0) × (now.written ≡ old.written ++ (head ++ joined f next)))
+
+-- the bytes of the front and of more masks, where they are written behind what was written
+pub gathered-bytes : (f : ℕ → List ℕ) (old mid : Talk) (front : ℕ) (room head more : List ℕ) (next after : ℕ)
+    → Gathered f old mid front room head next → joined f next ++ more ≡ joined f after
+    → mid.written ++ (take front room ++ more) ≡ old.written ++ (head ++ joined f after)
+gathered-bytes f old mid front room head more next after (inl (none, same, is)) on =
+    ap (λ (l : List ℕ). l ++ (take front room ++ more)) same
+    ∙ ap (λ (l : List ℕ). old.written ++ (l ++ more)) is
+    ∙ ap (λ (l : List ℕ). old.written ++ (head ++ l)) (sym (ap (λ (k : ℕ). joined f k ++ more) none ∙ ap (λ (l : List ℕ). l ++ more) (joined-none f)) ∙ on)
+gathered-bytes f old mid front room head more next after (inr (none, written)) on =
+    ap (λ (k : ℕ). mid.written ++ (take k room ++ more)) none
+    ∙ ap (λ (l : List ℕ). l ++ more) written
+    ∙ append_assoc old.written (head ++ joined f next) more
+    ∙ ap (λ (l : List ℕ). old.written ++ l) (append_assoc head (joined f next) more ∙ ap (λ (l : List ℕ). head ++ l) on)
+
+-- all of it was written
+pub gathered-on : (f : ℕ → List ℕ) (old mid new : Talk) (front : ℕ) (room head more : List ℕ) (next after : ℕ)
+    → Gathered f old mid front room head next → joined f next ++ more ≡ joined f after
+    → new.written ≡ mid.written ++ (take front room ++ more) → new.written ≡ old.written ++ (head ++ joined f after)
+gathered-on f old mid new front room head more next after gathered on is =
+    is ∙ gathered-bytes f old mid front room head more next after gathered on
+
+-- a beginning of it was written
+pub gathered-part : (f : ℕ → List ℕ) (old mid new : Talk) (front : ℕ) (room head more : List ℕ) (next after : ℕ)
+    → Gathered f old mid front room head next → joined f next ++ more ≡ joined f after
+    → WrotePart mid new (take front room ++ more) → WrotePart old new (head ++ joined f after)
+gathered-part f old mid new front room head more next after (inl (none, same, is)) on part =
+    let bytes : take front room ++ more ≡ head ++ joined f after = ap (λ (l : List ℕ). l ++ more) is
+    ∙ ap (λ (l : List ℕ). head ++ l) (sym (ap (λ (k : ℕ). joined f k ++ more) none ∙ ap (λ (l : List ℕ). l ++ more) (joined-none f)) ∙ on) in
+    let moved : WrotePart old new (take front room ++ more) = record {
+      size = part.size;
+      short = part.short;
+      written = part.written ∙ ap (λ (l : List ℕ). l ++ take part.size (take front room ++ more)) same;
+    } in
+    subst (WrotePart old new) bytes moved
+gathered-part f old mid new front room head more next after (inr (none, written)) on part =
+    let bare : WrotePart mid new more = subst (λ (k : ℕ). WrotePart mid new (take k room ++ more)) none part in
+    let bytes : (head ++ joined f next) ++ more ≡ head ++ joined f after = append_assoc head (joined f next) more ∙ ap (λ (l : List ℕ). head ++ l) on in
+    subst (WrotePart old new) bytes (part-behind old mid new (head ++ joined f next) more written bare)
+
+-- where there are masks and the last of them was gathered, all is written
+pub gathered-all : (f : ℕ → List ℕ) (old now : Talk) (front : ℕ) (room head : List ℕ) (next : ℕ)
+    → Gathered f old now front room head next → 0 < next → now.written ≡ old.written ++ (head ++ joined f next)
+gathered-all f old now front room head next (inl (none, same, is)) some = absurd (omega (arith, none, some))
+gathered-all f old now front room head next (inr (none, written)) some = written
+
+-- a set has chains
+pub some-chains : (params : Params) → 0 < params.p
+some-chains params = let n = params.hash_length in let w = params.digit_width in let d = params.digest_digits in grind (arith, n, w, d)
+
+some-of : (params : Params) (second : Option Second) → 0 < (elim second [ None ↦ 1 | Some second ↦ params.p ])
+some-of params None = omega arith
+some-of params (Some second) = some-chains params
+
+-- an ask has masks
+pub some-masks : (params : Params) (ask : Ask) → 0 < masks_of params ask
+some-masks params ask = some-of params ask.second
+
 -- a room that is full has at least one mask
-pub some-there : (from i filled n : ℕ) → from ≤ i → (i ≡ from → filled ≡ 0) → n ≤ 32 → 4096 < filled + n → from < i
-some-there from i filled n later first small full = dite (ℕ_discrete i from)
-    (λ is. absurd (let none = first is in omega (arith, none, small, full)))
+pub some-there : (from i filled n size : ℕ) → from ≤ i → (i ≡ from → filled ≡ 0) → n ≤ 32 → 32 ≤ size → size < filled + n → from < i
+some-there from i filled n size later first small room full = dite (ℕ_discrete i from)
+    (λ is. absurd (let none = first is in omega (arith, none, small, room, full)))
     (λ differs. omega (arith, later, differs))

@@ -22,7 +22,8 @@ use Rattle.trustee_core.specs.declared.kept.TrusteeName.{TrusteeName}
 use Rattle.trustee_core.specs.declared.refusal.Refusal.{Refusal}
 use Rattle.trustee_core.specs.declared.refusal.Refusal.TheVariants as refusal
 use Rattle.trustee_core.specs.declared.trustee.Trustee.{Trustee}
-use Rattle.turn_lock.specs.Pass.{SamePass, Seen}
+use Rattle.turn_lock.specs.Lock.{Lock}
+use Rattle.turn_lock.specs.Pass.{DrawsOne, Gives, IsWornOut, SameDone, SameDrawn, SamePass, Seen, Takes}
 use Rattle.trustee_node.specs.Turns.{HasSteadyDisk, InTurn, NoTurn, Outcome, Serves, TellsDisk, Turn, ended, is_code, next, worn}
 use Rattle.trustee_node.proofs.Deciding.{book-met}
 use Rattle.trustee_node.proofs.Prefixes.{prefix-is, prefix-same, prefix-then}
@@ -176,31 +177,6 @@ module _ {D : Type 0} {p : pages.Ghosts D} {f : counting.Ghosts D} where
   pub sure : (trustee : Trustee D p f) → faults_of (journal_of trustee) ≡ 0 → (state_of (journal_of trustee)).doubt ≡ None
   sure trustee none = (holds (journal_of trustee)).cause none
 
--- what taking the value tells, and what giving it back tells
-pub record Took (old mid : Seen Entry TrusteeName) (before : JournalState) (number : ℕ) : Type 0 where
-  pub begins : IsPrefix old.log before.entries
-  pub reaches : old.floor ≤ number
-  pub log : mid.log ≡ before.entries
-  pub floor : mid.floor ≡ number
-  pub fresh : mid.greatest < 2 ^ 62
-  pub draws : old.greatest < 2 ^ 62 → mid.draws ≡ old.draws + 1
-  pub greatest : old.greatest ≤ mid.greatest
-  pub rises : mid.rises ≡ old.rises
-  pub own : mid.own ≡ old.own
-  pub joined : mid.joined ≡ old.joined
-  pub same : SamePass old mid
-
-pub record Gave (mid new : Seen Entry TrusteeName) (after : JournalState) (number : ℕ) : Type 0 where
-  pub log : new.log ≡ after.entries
-  pub floor : new.floor ≡ number
-  pub rises : new.rises ≡ mid.rises + (number - mid.floor)
-  pub own : new.own ≡ mid.own ++ drop (length mid.log) after.entries
-  pub idle : new.in_turn ≡ false
-  pub draws : new.draws ≡ mid.draws
-  pub greatest : new.greatest ≡ mid.greatest
-  pub joined : new.joined ≡ mid.joined
-  pub same : SamePass mid new
-
 -- a turn was taken at one state of the trustee, with this number, and given at another
 pub record Turned (old new : Seen Entry TrusteeName) (before after : JournalState) (number : ℕ) : Type 0 where
   pub begins : IsPrefix old.log before.entries
@@ -216,20 +192,22 @@ pub record Turned (old new : Seen Entry TrusteeName) (before after : JournalStat
   pub joined : new.joined ≡ old.joined
   pub idle : new.in_turn ≡ false
 
-pub took-gave : (old mid new : Seen Entry TrusteeName) (before after : JournalState) (number last : ℕ) → Took old mid before number → Gave mid new after last → number ≤ last → Turned old new before after number
-took-gave old mid new before after number last a b goes_on = record {
-  begins = a.begins;
-  log = b.log;
-  reaches = a.reaches;
-  goes_on = (let f = b.floor in omega (arith, f, goes_on));
-  rises = (let f = b.floor in let r = b.rises in let s = a.rises in let t = a.floor in omega (arith, f, r, s, t));
-  own = b.own ∙ (λ i. a.own i ++ drop (length (a.log i)) after.entries);
-  draws = (let p = a.greatest in let q = a.fresh in let d = a.draws (omega (arith, p, q)) in let e = b.draws in omega (arith, d, e));
-  greatest = (let p = a.greatest in let q = b.greatest in omega (arith, p, q));
-  fresh = (let p = a.fresh in let q = b.greatest in omega (arith, p, q));
-  same = same-then old mid new a.same b.same;
-  joined = b.joined ∙ a.joined;
-  idle = b.idle;
+pub took-gave : (lock : Lock Entry TrusteeName) (name : TrusteeName) (old mid new : Seen Entry TrusteeName) (before after : JournalState) (number last : ℕ)
+    → Takes before.entries number name old mid → DrawsOne lock old mid → SameDone old mid → Gives after.entries last mid new → SameDrawn mid new → number ≤ last
+    → Turned old new before after number
+took-gave lock name old mid new before after number last takes draws done gives drawn goes_on = record {
+  begins = takes.begins;
+  log = gives.log;
+  reaches = takes.reaches;
+  goes_on = (let f = gives.floor in omega (arith, f, goes_on));
+  rises = (let f = gives.floor in let r = gives.rises in let s = done.rises in let t = takes.floor in omega (arith, f, r, s, t));
+  own = gives.own ∙ (λ i. done.own i ++ drop (length (takes.log i)) after.entries);
+  draws = (let p = draws.greatest in let q = takes.fresh in let d = draws.draws (omega (arith, p, q)) in let e = drawn.draws in omega (arith, d, e));
+  greatest = (let p = draws.greatest in let q = drawn.greatest in omega (arith, p, q));
+  fresh = (let p = takes.fresh in let q = drawn.greatest in omega (arith, p, q));
+  same = same-then old mid new done.same drawn.same;
+  joined = drawn.joined ∙ done.joined;
+  idle = gives.turn;
 }
 
 -- what was added to the entries that were met
@@ -282,50 +260,37 @@ turned share ids old new before after number ask moment answer t sure decides ro
       },
     )
 
--- a turn that a worn pass did not get
-pub record NotTurned (old new : Seen Entry TrusteeName) : Type 0 where
-  pub log : new.log ≡ old.log
-  pub floor : new.floor ≡ old.floor
-  pub rises : new.rises ≡ old.rises
-  pub own : new.own ≡ old.own
-  pub some_draw : old.draws ≤ new.draws
-  pub one_draw : new.draws ≤ old.draws + 1
-  pub greatest : old.greatest ≤ new.greatest
-  pub worn : 2 ^ 62 ≤ new.greatest
-  pub same : SamePass old new
-  pub joined : new.joined ≡ old.joined
-  pub idle : new.in_turn ≡ false
-
 -- the draws of a pass that was worn, or is worn by this ticket
-pub few-draws : (old new : Seen Entry TrusteeName) → (old.greatest < 2 ^ 62 → new.draws ≡ old.draws + 1) → (2 ^ 62 ≤ old.greatest → new ≡ old)
-    → (old.draws ≤ new.draws) × (new.draws ≤ old.draws + 1)
-few-draws old new draws still = dite (dec_le (2 ^ 62) old.greatest)
-    (λ le. let same = ap (λ (p : Seen Entry TrusteeName). p.draws) (still le) in (omega (arith, same), omega (arith, same)))
-    (λ lt. let d = draws (omega (arith, lt)) in (omega (arith, d), omega (arith, d)))
+few-draws : (lock : Lock Entry TrusteeName) (old new : Seen Entry TrusteeName) → DrawsOne lock old new → (old.draws ≤ new.draws) × (new.draws ≤ old.draws + 1)
+few-draws lock old new one = dite (dec_le (2 ^ 62) old.greatest)
+    (λ le. let same = ap (λ (p : Seen Entry TrusteeName). p.draws) (one.still_worn le) in (omega (arith, same), omega (arith, same)))
+    (λ lt. let d = one.draws (omega (arith, lt)) in (omega (arith, d), omega (arith, d)))
 
-pub not-turned : (share : Share) (ids : Option (List (List ℕ))) (old new : Seen Entry TrusteeName) (ask : Ask) (moment : ℕ) → NotTurned old new
-    → Serves share ids old new (turn_of ask moment old.log NoTurn [] ∷ [])
-not-turned share ids old new ask moment t =
+-- a turn that a worn pass did not get
+pub not-turned : (share : Share) (ids : Option (List (List ℕ))) (lock : Lock Entry TrusteeName) (old new : Seen Entry TrusteeName) (ask : Ask) (moment : ℕ)
+    → IsWornOut old new → DrawsOne lock old new → SameDone old new → Serves share ids old new (turn_of ask moment old.log NoTurn [] ∷ [])
+not-turned share ids lock old new ask moment out one done =
     let turn = turn_of ask moment old.log NoTurn [] in
+    let few = few-draws lock old new one in
     record {
       served = next old.log new.log turn [] (prefix-same old.log) worn
-          (ended (old.log ++ []) new.log (prefix-is (old.log ++ []) new.log (append-nil old.log ∙ sym t.log)));
-      floor = (let a = t.floor in omega (arith, a));
-      own = λ _. t.own ∙ sym (append-nil old.own);
+          (ended (old.log ++ []) new.log (prefix-is (old.log ++ []) new.log (append-nil old.log ∙ sym out.log)));
+      floor = (let a = out.floor in omega (arith, a));
+      own = λ _. done.own ∙ sym (append-nil old.own);
       draws = record {
-        most = (let a = t.one_draw in omega (arith, a));
-        least = (let a = t.some_draw in omega (arith, a));
-        greatest = t.greatest;
-        fresh = λ small. absurd (let a = t.worn in omega (arith, a, small));
+        most = (let a = few.1 in omega (arith, a));
+        least = (let a = few.0 in omega (arith, a));
+        greatest = one.greatest;
+        fresh = λ small. absurd (let a = out.worn in omega (arith, a, small));
         worn = λ _. refl;
       };
       faults = record {
-        rises = λ _. (let a = t.rises in omega (arith, a));
+        rises = λ _. (let a = done.rises in omega (arith, a));
         steady = λ _. refl;
         first = λ _. refl;
         told = λ _. refl;
       };
-      same = t.same;
-      joined = t.joined;
-      idle = t.idle;
+      same = done.same;
+      joined = done.joined;
+      idle = out.turn;
     }

@@ -16,12 +16,12 @@ use disk_trait::Faults;
 use lms_bytes::bytes::put;
 use lms_bytes::{Ask, Params, ReplyHead, Val, digit};
 use mask_prf::MacKey;
-use round_frames::write_reply_head;
+use round_frames::put_reply_head;
 use share_files::Share;
 use stream_io::{Failed, Sink, Stream, write_whole};
 use trustee_core::{Grant, Refusal, mask_count};
 
-/// How many bytes of masks are written at once.
+/// How many bytes of a reply are written at once: all of them, most often.
 const ROOM: usize = 4096;
 
 /// Writes the reply to an ask: its head, and behind it the masks of a grant, or what a refusal keeps.
@@ -42,10 +42,9 @@ pub(crate) fn write_reply<K: Sink>(
     ensures steady { K.steady link.new ≡ K.steady link.old }
 {
     let head = head_of(share, ask, answer);
-    if let Err(failed) = write_reply_head(&share.params, &head, link) {
-        return Err(failed);
-    }
-    write_body(share, answer, link)
+    let mut room = [0; ROOM];
+    let front = put_reply_head(&share.params, &head, &mut room);
+    write_body(share, answer, &mut room, front, link)
 }
 
 /// The head of the reply to an ask.
@@ -93,41 +92,65 @@ fn zeros(params: &Params) -> Val
     Val::of(&zeros[..params.n as usize])
 }
 
-/// Writes what follows the head.
-fn write_body<K: Sink>(share: &Share, answer: &Answer, link: &mut K) -> Result<(), Failed>
-    requires { HasDigest share.now answer.now }
-    ensures wrote { IsTrue (K.talk link.old).told → MatchResult result
-        (λ _. (K.talk link.new).written ≡ (K.talk link.old).written ++ body_in share.now answer.now)
-        (λ _. WrotePart (K.talk link.old) (K.talk link.new) (body_in share.now answer.now)) }
+/// Writes the front of the room, and what follows it.
+fn write_body<K: Sink>(
+    share: &Share,
+    answer: &Answer,
+    room: &mut [u8; ROOM],
+    front: usize,
+    link: &mut K,
+) -> Result<(), Failed>
+    requires digest { HasDigest share.now answer.now }
+    requires front { front ≤ 99 }
+    ensures wrote { let bytes = take front room.old ++ body_in share.now answer.now in
+        IsTrue (K.talk link.old).told → MatchResult result
+        (λ _. (K.talk link.new).written ≡ (K.talk link.old).written ++ bytes)
+        (λ _. WrotePart (K.talk link.old) (K.talk link.new) bytes) }
     ensures only { OnlyWrote (K.talk link.old) (K.talk link.new) }
     ensures cause { HasCause (K.talk link.old).count (K.talk link.new).count result }
     ensures steady { K.steady link.new ≡ K.steady link.old }
 {
     match answer {
-        Answer::Decided(Ok(grant)) => write_masks(share, grant, link),
-        Answer::Decided(Err(Denial::Core(why))) => write_kept(why, link),
-        Answer::Decided(Err(Denial::NotApproved { .. })) => Ok(()),
-        Answer::Worn => Ok(()),
+        Answer::Decided(Ok(grant)) => write_masks(share, grant, room, front, link),
+        Answer::Decided(Err(Denial::Core(why))) => write_kept(why, room, front, link),
+        Answer::Decided(Err(Denial::NotApproved { .. })) => write_whole(link, &room[..front]),
+        Answer::Worn => write_whole(link, &room[..front]),
     }
 }
 
-/// Writes what a refusal keeps.
-fn write_kept<K: Sink>(why: &Refusal, link: &mut K) -> Result<(), Failed>
-    ensures wrote { IsTrue (K.talk link.old).told → MatchResult result
-        (λ _. (K.talk link.new).written ≡ (K.talk link.old).written ++ kept_by why.now)
-        (λ _. WrotePart (K.talk link.old) (K.talk link.new) (kept_by why.now)) }
+/// Writes the front of the room, and what a refusal keeps.
+fn write_kept<K: Sink>(
+    why: &Refusal,
+    room: &mut [u8; ROOM],
+    front: usize,
+    link: &mut K,
+) -> Result<(), Failed>
+    requires { front ≤ 99 }
+    ensures wrote { let bytes = take front room.old ++ kept_by why.now in
+        IsTrue (K.talk link.old).told → MatchResult result
+        (λ _. (K.talk link.new).written ≡ (K.talk link.old).written ++ bytes)
+        (λ _. WrotePart (K.talk link.old) (K.talk link.new) bytes) }
     ensures only { OnlyWrote (K.talk link.old) (K.talk link.new) }
     ensures cause { HasCause (K.talk link.old).count (K.talk link.new).count result }
     ensures steady { K.steady link.new ≡ K.steady link.old }
 {
-    let mut room = [0; 64];
-    let length = put_kept(why, &mut room);
+    let length = put_behind(why, room, front);
     write_whole(link, &room[..length])
+}
+
+/// Puts what a refusal keeps behind the front of the room, and answers how long both are.
+fn put_behind(why: &Refusal, room: &mut [u8; ROOM], front: usize) -> usize
+    requires { front ≤ 99 }
+    ensures length { result ≤ 4096 }
+    ensures bytes { take result room.new ≡ take front room.old ++ kept_by why.now }
+{
+    front + put_kept(why, &mut room[front..])
 }
 
 /// Puts what a refusal keeps to the front of the room, and answers its length: the two gates, the kept message's id, or
 /// the kept randomizer and digest.
-fn put_kept(why: &Refusal, out: &mut [u8; 64]) -> usize
+fn put_kept(why: &Refusal, out: &mut [u8]) -> usize
+    requires { 64 ≤ length out.old }
     ensures length { result ≤ 64 }
     ensures bytes { take result out.new ≡ kept_by why.now }
 {
@@ -152,7 +175,8 @@ fn put_kept(why: &Refusal, out: &mut [u8; 64]) -> usize
 }
 
 /// Puts two values one behind the other to the front of the room, and answers their length.
-fn put_pair(first: &Val, second: &Val, out: &mut [u8; 64]) -> usize
+fn put_pair(first: &Val, second: &Val, out: &mut [u8]) -> usize
+    requires { 64 ≤ length out.old }
     ensures length { result ≤ 64 }
     ensures bytes { take result out.new ≡ first.now ++ second.now }
 {
@@ -171,12 +195,20 @@ struct Batch {
     length: usize,
 }
 
-/// Writes the masks of a grant, as many at once as there is room for.
-fn write_masks<K: Sink>(share: &Share, grant: &Grant, link: &mut K) -> Result<(), Failed>
-    requires { IfSome (ask_of grant.now).second (λ second. length second.digest ≡ share.now.params.n) }
-    ensures wrote { IsTrue (K.talk link.old).told → MatchResult result
-        (λ _. (K.talk link.new).written ≡ (K.talk link.old).written ++ masks_joined share.now (ask_of grant.now))
-        (λ _. WrotePart (K.talk link.old) (K.talk link.new) (masks_joined share.now (ask_of grant.now))) }
+/// Writes the front of the room, and the masks of a grant, as much at once as there is room for.
+fn write_masks<K: Sink>(
+    share: &Share,
+    grant: &Grant,
+    room: &mut [u8; ROOM],
+    front: usize,
+    link: &mut K,
+) -> Result<(), Failed>
+    requires digest { IfSome (ask_of grant.now).second (λ second. length second.digest ≡ share.now.params.n) }
+    requires front { front ≤ 99 }
+    ensures wrote { let bytes = take front room.old ++ masks_joined share.now (ask_of grant.now) in
+        IsTrue (K.talk link.old).told → MatchResult result
+        (λ _. (K.talk link.new).written ≡ (K.talk link.old).written ++ bytes)
+        (λ _. WrotePart (K.talk link.old) (K.talk link.new) bytes) }
     ensures only { OnlyWrote (K.talk link.old) (K.talk link.new) }
     ensures cause { HasCause (K.talk link.old).count (K.talk link.new).count result }
     ensures steady { K.steady link.new ≡ K.steady link.old }
@@ -184,13 +216,14 @@ fn write_masks<K: Sink>(share: &Share, grant: &Grant, link: &mut K) -> Result<()
     let count = mask_count(&share.params, grant);
     // The key is hashed once for all masks.
     let key = MacKey::new(&share.key);
-    let mut room = [0; ROOM];
+    let mut unwritten = front;
     let mut next = 0;
     'batches: while next < count {
-        let batch = put_masks(&key, share, grant, next, &mut room);
-        if let Err(failed) = write_whole(link, &room[..batch.length]) {
+        let batch = put_masks(&key, share, grant, next, &mut room[unwritten..]);
+        if let Err(failed) = write_whole(link, &room[..unwritten + batch.length]) {
             return Err(failed);
         }
+        unwritten = 0;
         next = batch.next;
     }
     Ok(())
@@ -215,13 +248,14 @@ fn mask(key: &MacKey, share: &Share, ask: &Ask, i: u16) -> Val
 }
 
 /// Puts masks of a grant to the front of the room, from mask `from` on and as many as there is room for.
-fn put_masks(key: &MacKey, share: &Share, grant: &Grant, from: u16, room: &mut [u8; ROOM]) -> Batch
+fn put_masks(key: &MacKey, share: &Share, grant: &Grant, from: u16, room: &mut [u8]) -> Batch
     requires key { key.now ≡ share.now.key }
     requires from { from < masks_of share.now.params (ask_of grant.now) }
     requires digest { IfSome (ask_of grant.now).second (λ second. length second.digest ≡ share.now.params.n) }
+    requires room { 32 ≤ length room.old }
     ensures later { from < result.next }
     ensures within { result.next ≤ masks_of share.now.params (ask_of grant.now) }
-    ensures length { result.length ≤ 4096 }
+    ensures length { result.length ≤ length room.old }
     ensures bytes { joined (mask_of share.now (ask_of grant.now)) from ++ take result.length room.new
         ≡ joined (mask_of share.now (ask_of grant.now)) result.next }
 {
@@ -229,7 +263,7 @@ fn put_masks(key: &MacKey, share: &Share, grant: &Grant, from: u16, room: &mut [
     let count = mask_count(&share.params, grant);
     let mut length = 0;
     for i in from..count {
-        let is_full = length + n > ROOM;
+        let is_full = length + n > room.len();
         if is_full {
             return Batch { next: i, length };
         }

@@ -37,9 +37,9 @@ pieces-preserved g c =
       within = (let m = c.min-count.ensures in let t = c.pieces-test.true in omega arith);
       room = (let k = c.take_piece.auto.room in let w = v.room in let m = c.min-count.ensures in grind (arith, length-append, length-drop, full, k, w, m));
       counted = r.length ∙ (let w = v.counted in omega arith);
-      only = only-then _ _ _ v.only r.only;
-      quiet = r.cause.same (λ is. absurd (cc)) ∙ v.quiet;
-      steady = r.steady ∙ v.steady;
+      only = only-then _ _ _ v.only r.takes.only;
+      quiet = r.takes.cause.same (λ is. absurd (cc)) ∙ v.quiet;
+      steady = r.takes.steady ∙ v.steady;
       id = λ is start. subst (IdTaken c.take_piece.new.hashes.id) (piece at n _ _ (v.took is))
           (subst (λ k. IdTaken c.take_piece.new.hashes.id (take at xs ++ take k left)) full (r.id (v.only.told ∙ is) (take at xs) (v.id is start)));
       digest = λ is params key q rand start. subst (HasTaken c.take_piece.new.hashes.digest params key q rand) (piece at n _ _ (v.took is))

@@ -10,6 +10,7 @@ loop-i-init c = record {
   later = omega arith;
   within = (let a = c.requires.from in let b = c.mask_count-count.ensures in omega (arith, a, b));
   first = λ _. refl;
+  size = refl;
   small = omega arith;
   bytes = append-nil (joined (mask_of c.args.share.now (ask_of c.args.grant.now)) c.args.from);
 }
@@ -23,7 +24,8 @@ loop-i-preserved c =
       later = (let a = v.later in omega (arith, a));
       within = (let t = c.loop-i-test.true in omega (arith, t));
       first = λ is. absurd (let a = v.later in omega (arith, a, is));
-      small = (let t = c.if-is_full.false in omega (arith, t));
+      size = c.put.auto.out ∙ v.size;
+      small = (let t = c.if-is_full.false in let k = v.size in omega (arith, t, k));
       bytes = masks-more f c.args.from c.loop-i.i c.loop-i.length c.args.share.now.params.n c.loop-i.room c.put.new.out c.bytes.result.now
           v.bytes (bytes ∙ c.mask.ensures.mask ∙ ap (λ ask. mask_of c.args.share.now ask c.loop-i.i) c.ask.ensures) (ap length bytes ∙ c.mask.ensures.length) c.put.ensures.front;
     }
@@ -31,7 +33,8 @@ loop-i-preserved c =
 pub returns-then-is_full-clause-later : goal.returns-then-is_full-clause-later
 returns-then-is_full-clause-later c =
     let v = c.loop-i.invariant in
-    some-there c.args.from c.loop-i.i c.loop-i.length c.args.share.now.params.n v.later v.first (small-hash c.args.share.now.params) c.if-is_full.true
+    some-there c.args.from c.loop-i.i c.loop-i.length c.args.share.now.params.n (length c.loop-i.room) v.later v.first (small-hash c.args.share.now.params)
+    (let r = c.requires.room in let k = v.size in omega (arith, r, k)) c.if-is_full.true
 
 pub returns-clause-bytes : goal.returns-clause-bytes
 returns-clause-bytes c =

@@ -1,4 +1,4 @@
-use Rattle.std.proofs.Common.{◌≡◌, ◌≤◌, ◌++◌, take}
+use Rattle.std.proofs.Common.{◌≡◌, ◌≤◌, ◌++◌, length, take}
 use Rattle.lms_bytes.specs.Bytes.{joined}
 use Rattle.trustee_core.specs.Grants.{ask_of, mask_of}
 use Rattle.trustee_node.proofs.reply.put_masks.Given as goal
@@ -10,6 +10,7 @@ invariant-loop-i l =
       later : l.from ≤ l.i;
       within : l.i ≤ l.count;
       first : l.i ≡ l.from → l.length ≡ 0;
-      small : l.length ≤ 4096;
+      size : length l.room ≡ length l.initial.room;
+      small : l.length ≤ length l.initial.room;
       bytes : joined (mask_of l.share (ask_of l.grant)) l.from ++ take l.length l.room ≡ joined (mask_of l.share (ask_of l.grant)) l.i;
     }

@@ -1,22 +1,21 @@
-use Rattle.std.proofs.Common.{◌≡◌, ◌++◌, ℕ, List, take, sym, ap, ◌∙◌, subst, arith, refl, append-nil}
+use Rattle.std.proofs.Common.{◌≡◌, ◌-◌, ◌++◌, ℕ, List, inl, inr, length, take, ap, ◌∙◌, subst, arith, refl}
 use Rattle.lms_bytes.specs.Bytes.{joined}
-use Rattle.stream_io.proofs.Pieces.{wrote-same, wrote-then}
+use Rattle.stream_io.proofs.Pieces.{part-front, wrote-same, wrote-then}
 use Rattle.stream_io.specs.Talk.{WrotePart}
 use Rattle.trustee_core.specs.Grants.{ask_of, mask_of}
-use Rattle.trustee_node.proofs.Masks.{joined-begins, joined-none, part-behind, part-of, written-on}
+use Rattle.trustee_node.proofs.Masks.{gathered-all, gathered-on, gathered-part, joined-begins, part-of, some-masks}
+use Rattle.trustee_node.proofs.Prefixes.{prefix-in}
 use Rattle.trustee_node.proofs.reply.write_masks.Goals as goal
 
 pub batches-init : goal.batches-init
-batches-init g c =
-    let talk = g.K.Stream.talk in
-    let written = (talk c.args.link.now).written in
-    record {
-      within = omega arith;
-      only = wrote-same (talk c.args.link.now);
-      quiet = refl;
-      steady = refl;
-      wrote = λ told. sym (ap (λ (l : List ℕ). written ++ l) (joined-none (mask_of c.args.share.now (ask_of c.args.grant.now))) ∙ append-nil written);
-    }
+batches-init g c = record {
+  within = omega arith;
+  small = c.requires.front;
+  only = wrote-same (g.K.Stream.talk c.args.link.now);
+  quiet = refl;
+  steady = refl;
+  gathered = λ told. inl (refl, refl, refl);
+}
 
 pub batches-preserved : goal.batches-preserved
 batches-preserved g c =
@@ -24,12 +23,23 @@ batches-preserved g c =
     let v = c.batches.invariant in
     let r = c.in_default.ensures in
     let b = c.put_masks-batch.ensures in
+    let f = mask_of c.args.share.now (ask_of c.args.grant.now) in
+    let room = c.batches.room in
+    let front = c.batches.unwritten in
+    let batch = c.put_masks-batch.result in
+    let behind = take batch.length c.put_masks-batch.new.room in
+    let there = part-front front (4096 - front) batch.length room c.put_masks-batch.new.room (omega arith) (omega arith) (omega arith) in
     record {
       within = (let w = b.within in let e = c.mask_count-count.ensures in omega (arith, w, e));
+      small = omega arith;
       only = wrote-then _ _ _ v.only r.only;
       quiet = r.cause.succeeded ∙ v.quiet;
       steady = r.steady ∙ v.steady;
-      wrote = λ told. written-on _ _ _ c.put_masks-batch.new.room _ _ c.put_masks-batch.result.length (v.wrote told) (r.wrote (v.only.told ∙ told)) b.bytes;
+      gathered = λ told. inr (
+        refl,
+        gathered-on f (talk c.args.link.now) (talk c.batches.link) (talk c.write_whole.new.sink) front room (take c.args.front c.args.room.now) behind c.batches.next batch.next
+            (v.gathered told) b.bytes (r.wrote (v.only.told ∙ told) ∙ ap (λ (l : List ℕ). (talk c.batches.link).written ++ l) there),
+      );
     }
 
 pub returns-in-Err-clause-wrote : goal.returns-in-Err-clause-wrote
@@ -40,10 +50,15 @@ returns-in-Err-clause-wrote g c told =
     let f = mask_of c.args.share.now (ask_of c.args.grant.now) in
     let old = talk c.args.link.now in
     let new = talk c.write_whole.new.sink in
-    let room = take c.put_masks-batch.result.length c.put_masks-batch.new.room in
-    let part = part-behind old (talk c.batches.link) new (joined f c.batches.next) room (v.wrote told) (c.in-Err.ensures.wrote (v.only.told ∙ told)) in
-    part-of old new (joined f c.put_masks-batch.result.next) _ (joined-begins f c.put_masks-batch.result.next _ b.within)
-    (subst (WrotePart old new) b.bytes part)
+    let room = c.batches.room in
+    let front = c.batches.unwritten in
+    let batch = c.put_masks-batch.result in
+    let head = take c.args.front c.args.room.now in
+    let behind = take batch.length c.put_masks-batch.new.room in
+    let there = part-front front (4096 - front) batch.length room c.put_masks-batch.new.room (omega arith) (omega arith) (omega arith) in
+    let part = gathered-part f old (talk c.batches.link) new front room head behind c.batches.next batch.next
+    (v.gathered told) b.bytes (subst (WrotePart (talk c.batches.link) new) there (c.in-Err.ensures.wrote (v.only.told ∙ told))) in
+    part-of old new (head ++ joined f batch.next) _ (prefix-in head (joined f batch.next) _ (joined-begins f batch.next _ b.within)) part
 
 pub returns-clause-wrote : goal.returns-clause-wrote
 returns-clause-wrote g c told =
@@ -51,8 +66,11 @@ returns-clause-wrote g c told =
     let v = c.batches.invariant in
     let f = mask_of c.args.share.now (ask_of c.args.grant.now) in
     let old = talk c.args.link.now in
+    let head = take c.args.front c.args.room.now in
+    let some = some-masks c.args.share.now.params (ask_of c.args.grant.now) in
     let whole : c.batches.next ≡ c.mask_count-count.result = (let t = c.batches-test.false in let w = v.within in omega (arith, t, w)) in
-    v.wrote told ∙ ap (λ (k : ℕ). old.written ++ joined f k) (whole ∙ c.mask_count-count.ensures)
+    let all = gathered-all f old (talk c.batches.link) c.batches.unwritten c.batches.room head c.batches.next (v.gathered told) (let e = c.mask_count-count.ensures in omega (arith, whole, e, some)) in
+    all ∙ ap (λ (k : ℕ). old.written ++ (head ++ joined f k)) (whole ∙ c.mask_count-count.ensures)
 
 pub batches-smaller : goal.batches-smaller
 batches-smaller g c =

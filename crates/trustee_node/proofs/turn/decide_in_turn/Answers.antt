@@ -14,7 +14,7 @@ use Rattle.trustee_node.proofs.Deciding.{book-met}
 use Rattle.trustee_node.proofs.Heads.{sizes-c, sizes-digest}
 use Rattle.trustee_node.proofs.Prefixes.{prefix-then}
 use Rattle.trustee_node.proofs.Serving.{idle-again, same-then}
-use Rattle.trustee_node.proofs.Turning.{Gave, Took, few-draws, leaves, name_of, not-turned, sure, took-gave, turned}
+use Rattle.trustee_node.proofs.Turning.{leaves, name_of, not-turned, sure, took-gave, turned}
 use Rattle.trustee_node.proofs.turn.decide_in_turn.Goals as goal
 
 -- the share of the trustee that was taken
@@ -27,12 +27,12 @@ event-of mine share ids before ask moment answer after same event = subst (λ (s
 
 pub decide_approved-decided-requires-clause-c : goal.decide_approved-decided-requires-clause-c
 decide_approved-decided-requires-clause-c g c =
-    let share = same-share c.args.share.now c.args.pass.now.name (name_of c.in-Ok.trustee) c.in-Ok.ensures.named c.requires.pass.2 in
+    let share = same-share c.args.share.now c.args.pass.now.name (name_of c.in-Ok.trustee) c.in-Ok.ensures.taken.named c.requires.pass.2 in
     subst (λ (s : Share). IfSome c.args.ask.now.second (λ second. length second.c ≡ s.params.n)) (sym share) (sizes-c c.args.share.now.params c.args.ask.now c.requires.sizes)
 
 pub decide_approved-decided-requires-clause-digest : goal.decide_approved-decided-requires-clause-digest
 decide_approved-decided-requires-clause-digest g c =
-    let share = same-share c.args.share.now c.args.pass.now.name (name_of c.in-Ok.trustee) c.in-Ok.ensures.named c.requires.pass.2 in
+    let share = same-share c.args.share.now c.args.pass.now.name (name_of c.in-Ok.trustee) c.in-Ok.ensures.taken.named c.requires.pass.2 in
     subst (λ (s : Share). IfSome c.args.ask.now.second (λ second. length second.digest ≡ s.params.n)) (sym share) (sizes-digest c.args.share.now.params c.args.ask.now c.requires.sizes)
 
 pub give-requires-clause-begins : goal.give-requires-clause-begins
@@ -40,46 +40,27 @@ give-requires-clause-begins g c =
     let before = state_of (journal_of c.in-Ok.trustee) in
     let after = state_of (journal_of c.decide_approved-decided.new.trustee) in
     let m = book-met (share_of c.in-Ok.trustee) _ before c.args.ask.now c.args.moment _ after c.decide_approved-decided.ensures.event in
-    subst (λ (l : List Entry). IsPrefix l after.entries) (sym c.in-Ok.ensures.log) (prefix-then before.entries m.seen after.entries m.begins (m.added, sym m.entries))
+    subst (λ (l : List Entry). IsPrefix l after.entries) (sym c.in-Ok.ensures.taken.log) (prefix-then before.entries m.seen after.entries m.begins (m.added, sym m.entries))
 
 pub give-requires-clause-reaches : goal.give-requires-clause-reaches
 give-requires-clause-reaches g c =
     let d = c.decide_approved-decided.ensures in
     let left = leaves _ c.args.ask.now c.args.moment c.in-Ok.trustee c.decide_approved-decided.new.trustee c.decide_approved-decided.result d.event d.denied d.decided in
     let count = left.count in
-    let floor = c.in-Ok.ensures.floor in
+    let floor = c.in-Ok.ensures.taken.floor in
     omega (arith, count, floor)
 
 pub give-requires-clause-named : goal.give-requires-clause-named
 give-requires-clause-named g c =
     let d = c.decide_approved-decided.ensures in
     let left = leaves _ c.args.ask.now c.args.moment c.in-Ok.trustee c.decide_approved-decided.new.trustee c.decide_approved-decided.result d.event d.denied d.decided in
-    ap Some left.name ∙ c.in-Ok.ensures.named ∙ sym c.take.ensures.same.name
+    ap Some left.name ∙ c.in-Ok.ensures.taken.named ∙ sym c.take.ensures.stays.same.name
 
 pub returns-in_default-clause-turn : goal.returns-in_default-clause-turn
 returns-in_default-clause-turn g c =
     let old = c.args.pass.now in
-    let new = c.take.new.pass in
-    let e = c.take.ensures in
-    let r = c.in_default.ensures in
-    let drawn = few-draws old new e.draws e.still_worn in
-    record {
-      seen = old.log;
-      added = [];
-      serves = not-turned c.args.share.now _ old new c.args.ask.now c.args.moment record {
-        log = r.log;
-        floor = r.floor;
-        rises = e.rises;
-        own = e.own;
-        some_draw = drawn.0;
-        one_draw = drawn.1;
-        greatest = e.greatest;
-        worn = r.worn;
-        same = e.same;
-        joined = e.joined;
-        idle = r.turn;
-      };
-    }
+    let serves = not-turned c.args.share.now _ c.args.lock.now old c.take.new.pass c.args.ask.now c.args.moment c.in_default.ensures.worn c.take.ensures.draws c.take.ensures.stays in
+    record { seen = old.log; added = []; serves = serves }
 
 pub returns-clause-turn : goal.returns-clause-turn
 returns-clause-turn g c =
@@ -92,54 +73,31 @@ returns-clause-turn g c =
     let after = state_of (journal_of later) in
     let number = faults_of (journal_of trustee) in
     let last = faults_of (journal_of later) in
-    let e = c.take.ensures in
-    let r = c.in-Ok.ensures in
     let d = c.decide_approved-decided.ensures in
-    let v = c.give.ensures in
     let result = c.decide_approved-decided.result in
     let answer = book_answer_in result in
     let left = leaves _ c.args.ask.now c.args.moment trustee later result d.event d.denied d.decided in
-    let share = same-share c.args.share.now old.name (name_of trustee) r.named c.requires.pass.2 in
-    let took : Took old mid before number = record {
-      begins = r.begins;
-      reaches = r.reaches;
-      log = r.log;
-      floor = r.floor;
-      fresh = r.worn;
-      draws = e.draws;
-      greatest = e.greatest;
-      rises = e.rises;
-      own = e.own;
-      joined = e.joined;
-      same = e.same;
-    } in
-    let gave : Gave mid new after last = record {
-      log = v.log;
-      floor = v.floor;
-      rises = v.rises;
-      own = v.own;
-      idle = v.turn;
-      draws = v.draws;
-      greatest = v.greatest;
-      joined = v.joined;
-      same = v.same;
-    } in
-    let turn = took-gave old mid new before after number last took gave left.count in
-    let named : new.name ≡ Some (name_of trustee) = v.same.name ∙ e.same.name ∙ sym r.named in
+    let taken = c.in-Ok.ensures.taken in
+    let stays = c.take.ensures.stays in
+    let gives = c.give.ensures.gives in
+    let drawn = c.give.ensures.stays in
+    let share = same-share c.args.share.now old.name (name_of trustee) taken.named c.requires.pass.2 in
+    let turn = took-gave c.args.lock.now (name_of trustee) old mid new before after number last taken c.take.ensures.draws stays gives drawn left.count in
+    let named : new.name ≡ Some (name_of trustee) = drawn.same.name ∙ stays.same.name ∙ sym taken.named in
     let event = event-of (share_of trustee) c.args.share.now _ before c.args.ask.now c.args.moment answer after share d.event in
     let t = turned c.args.share.now _ old new before after number c.args.ask.now c.args.moment answer turn (sure trustee) event
-    (λ device. subst (Rose number) (sym v.floor) (left.rose device))
+    (λ device. subst (Rose number) (sym gives.floor) (left.rose device))
     (λ is. let known = subst HasSteadyDisk named is in left.steady known.0 known.1)
     (λ is. left.told (subst TellsDisk named is)) in
     record { seen = t.0; added = t.1; serves = t.2 }
 
 pub returns-in_default-clause-pass : goal.returns-in_default-clause-pass
 returns-in_default-clause-pass g c =
-    idle-again c.args.lock.now c.args.share.now c.args.pass.now c.take.new.pass c.requires.pass c.take.ensures.same c.in_default.ensures.turn
+    idle-again c.args.lock.now c.args.share.now c.args.pass.now c.take.new.pass c.requires.pass c.take.ensures.stays.same c.in_default.ensures.worn.turn
 
 pub returns-clause-pass : goal.returns-clause-pass
 returns-clause-pass g c =
     let old = c.args.pass.now in
     let mid = c.take.new.pass in
     let new = c.give.new.pass in
-    idle-again c.args.lock.now c.args.share.now old new c.requires.pass (same-then old mid new c.take.ensures.same c.give.ensures.same) c.give.ensures.turn
+    idle-again c.args.lock.now c.args.share.now old new c.requires.pass (same-then old mid new c.take.ensures.stays.same c.give.ensures.stays.same) c.give.ensures.gives.turn
