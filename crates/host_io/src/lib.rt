@@ -7,6 +7,7 @@ mod file_store;
 mod lockable;
 mod new_file;
 mod open_file;
+mod read_ahead;
 mod stdout_sink;
 mod tcp_link;
 mod tcp_net;

@@ -1,6 +1,7 @@
 //! Tests of links, ports and nets over sockets: over fakes where a call has to fail, and over the machine's own.
 
 use crate::TcpNet;
+use crate::read_ahead::ReadAhead;
 use crate::tcp_link::TcpLink;
 use crate::tcp_port::next_stream;
 use disk_trait::Faults;
@@ -75,6 +76,72 @@ impl OpenListener for Fake {
         let byte = self.next()?;
         Ok((byte, SocketAddr::from(([127, 0, 0, 1], 1))))
     }
+}
+
+/// A stream that gives this many bytes, which count up, as many at once as there is room for.
+#[derive(Drop)]
+struct Counting {
+    given: usize,
+    length: usize,
+    calls: usize,
+}
+
+impl Read for Counting {
+    fn read(&mut self, buf: &mut [u8]) -> io::Result<usize> {
+        self.calls = self.calls.saturating_add(1);
+        let count = buf.len().min(self.length.saturating_sub(self.given));
+        for i in 0..count {
+            buf[i] = (self.given.saturating_add(i) % 251) as u8;
+        }
+        self.given = self.given.saturating_add(count);
+        Ok(count)
+    }
+}
+
+/// Whether the next bytes of a stream are those from this place on.
+fn reads_on(ahead: &mut ReadAhead, stream: &mut Counting, room: &mut [u8], place: usize) -> bool {
+    let Ok(count) = ahead.read(stream, room) else {
+        return false;
+    };
+    for i in 0..count {
+        if usize::from(room[i]) != place.saturating_add(i) % 251 {
+            return false;
+        }
+    }
+    count == room.len()
+}
+
+/// Whether the next frame of 100 bytes is the one from this place on. Its header is read apart.
+fn reads_frame(ahead: &mut ReadAhead, stream: &mut Counting, place: usize) -> bool {
+    let mut header = [0; 8];
+    let mut rest = [0; 92];
+    reads_on(ahead, stream, &mut header, place)
+        && reads_on(ahead, stream, &mut rest, place.saturating_add(8))
+}
+
+#[test]
+fn what_was_received_is_read_in_its_order_and_in_few_calls(rt: HostRuntime) {
+    let mut ahead = ReadAhead::new();
+    let mut stream = Counting {
+        given: 0,
+        length: 6000,
+        calls: 0,
+    };
+    for frame in 0..20usize {
+        assert!(rt; reads_frame(&mut ahead, &mut stream, 100 * frame));
+    }
+    assert_eq!(rt; stream.calls, 1);
+    // What is left comes first, and a large room is then filled without a copy.
+    let mut large = [0; 3000];
+    assert!(rt; matches!(ahead.read(&mut stream, &mut large), Ok(48)));
+    assert!(rt; reads_on(&mut ahead, &mut stream, &mut large, 2048));
+    assert_eq!(rt; (stream.calls, stream.given), (2, 5048));
+    // Nothing is received for a room without bytes, and at the end there is nothing.
+    let mut small = [0; 1000];
+    assert!(rt; matches!(ahead.read(&mut stream, &mut []), Ok(0)));
+    assert_eq!(rt; stream.given, 5048);
+    assert!(rt; matches!(ahead.read(&mut stream, &mut small), Ok(952)));
+    assert!(rt; matches!(ahead.read(&mut stream, &mut small), Ok(0)));
 }
 
 #[test]

@@ -5,17 +5,20 @@ ghost use Rattle.std.specs.Io.{ReadsAtMost, WritesAtMost};
 ghost use Rattle.host_io.specs.Untold.{untold_talk};
 
 use crate::fault_count::FaultCount;
+use crate::read_ahead::ReadAhead;
 use disk_trait::Faults;
 use std::io;
 use std::io::{ErrorKind, Read, Write};
 use std::net::OpenStream;
 use stream_io::{Failed, Sink, Source, Stream};
 
-/// A link over a socket, which keeps no byte back. It tells nothing but its count of faults. Where the peer breaks it
-/// off, its reads and writes fail, and no other link notices.
+/// A link over a socket, which keeps no byte back that is written. What it receives ahead of its reads is read later,
+/// so that a frame takes one call of the system and not one for each of its parts. It tells nothing but its count of
+/// faults. Where the peer breaks it off, its reads and writes fail, and no other link notices.
 #[derive(Drop)]
 pub struct TcpLink<S: Read + Write + OpenStream + Drop> {
     stream: S,
+    ahead: ReadAhead,
     faults: FaultCount,
 }
 
@@ -28,6 +31,7 @@ impl<S: Read + Write + OpenStream + Drop> TcpLink<S> {
         let _ = stream.set_nodelay(true);
         TcpLink {
             stream,
+            ahead: ReadAhead::new(),
             faults: FaultCount::new(),
         }
     }
@@ -51,7 +55,7 @@ impl<S: Read + Write + OpenStream + Drop> Stream for TcpLink<S> {
 
 impl<S: Read + Write + OpenStream + Drop> Source for TcpLink<S> {
     fn read(&mut self, out: &mut [u8]) -> Result<usize, Failed> {
-        match read_again(&mut self.stream, out) {
+        match self.ahead.read(&mut self.stream, out) {
             Ok(count) => Ok(count),
             Err(_) => Err(self.faults.fail()),
         }
@@ -71,7 +75,7 @@ impl<S: Read + Write + OpenStream + Drop> Sink for TcpLink<S> {
 }
 
 /// Reads once, and again where a signal interrupted it.
-fn read_again<S: Read>(stream: &mut S, out: &mut [u8]) -> io::Result<usize>
+pub(crate) fn read_again<S: Read>(stream: &mut S, out: &mut [u8]) -> io::Result<usize>
     ensures { ReadsAtMost result out.new }
 {
     for _ in 0..u64::MAX {

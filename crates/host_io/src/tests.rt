@@ -15,7 +15,7 @@ use stream_io::{CallFault, NewFault, ReadAllFault, Readers, Sink, Store, write_w
 
 #[test]
 fn a_new_file_is_whole_and_stable_or_not_there(rt: HostRuntime) -> Result<(), Fail> {
-    let rows: [([u8; 2], ErrorKind, Result<(), NewFault>, u64, &'static str); 13] = [
+    let rows: [([u8; 2], ErrorKind, Result<(), NewFault>, u64, &'static str); 14] = [
         (
             *b"  ",
             ErrorKind::Other,
@@ -76,6 +76,13 @@ fn a_new_file_is_whole_and_stable_or_not_there(rt: HostRuntime) -> Result<(), Fa
         (
             *b"la",
             ErrorKind::Unsupported,
+            Ok(()),
+            0,
+            "ma cn wnxwnywnzsn la ca waxwaywazsa rn oi si ",
+        ),
+        (
+            *b"la",
+            ErrorKind::PermissionDenied,
             Ok(()),
             0,
             "ma cn wnxwnywnzsn la ca waxwaywazsa rn oi si ",
