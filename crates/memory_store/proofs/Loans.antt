@@ -1,14 +1,14 @@
 -- What a store in memory says of its names after a change of one of them.
-use Rattle.std.proofs.Common.{◌≡◌, ◌↔◌, ◌≤◌, ◌+◌, ◌-◌, ◌^◌, min, arith, is_some, ◌&&◌, ◌∷◌, [], ℕ, Bool, true, false, List, Option, Some, None, cond, length, map, option_map, option_and_then, unwrap_or, find, ap, refl, subst, sym, ◌∙◌}
+use Rattle.std.proofs.Common.{◌≡◌, ◌↔◌, ◌≤◌, ◌+◌, ◌-◌, ◌^◌, min, arith, is_none, is_some, ◌&&◌, ◌∷◌, [], ℕ, Bool, true, false, List, Option, Some, None, cond, length, map, option_map, option_and_then, unwrap_or, find, ap, refl, subst, sym, ◌∙◌}
 use Rattle.std.proofs.lemmas.Slice.Eq.{bytes_eq-Decides}
 use Rattle.std.specs.Str.{bytes_eq}
 use Rattle.std.specs.List.{list_all}
 use Rattle.std.specs.declared.alloc.Global.{Global}
 use Rattle.std.specs.declared.string.String.{String}
 use Rattle.std.specs.declared.vec.Vec.{Vec}
-use Rattle.disk_trait.specs.MemDisk.{MemState, MayLeave, is_steady, stable_disk}
+use Rattle.disk_trait.specs.MemDisk.{MemState, MayLeave, is_steady}
 use Rattle.stream_io.specs.Store.{Made, PagesState, Returned, Taken, Written, added, has_name}
-use Rattle.memory_store.specs.MemStore.{Begun, are_steady, disk_in, disk_of, entry_of, file_disk, first_of, has_that_name, kind, kind_of, leaves_in, out_in, slot_of, state_of, steady_in}
+use Rattle.memory_store.specs.MemStore.{Begun, are_steady, disk_in, disk_of, entry_of, file_disk, first_of, has_that_name, kind, kind_of, leaves_in, new_disk, out_in, slot_of, state_of, steady_in}
 use Rattle.memory_store.specs.declared.entries.Entry.{Entry}
 use Rattle.memory_store.specs.declared.entries.Slot.{Slot}
 use Rattle.memory_store.specs.declared.entries.Slot.TheVariants.{Here, Out}
@@ -94,16 +94,16 @@ steady_found (entry ∷ entries) name slot all is =
     steady_of entry (find (has_that_name name) entries) (has_that_name name entry) slot (first_true (steady_in entry.slot) (are_steady entries) all)
     (steady_found entries name slot (last_true (steady_in entry.slot) (are_steady entries) all)) is
 
-module _ (old new : List Entry) (name : List ℕ) (steady steady' : Bool) (count disk_count views : ℕ) (disk : MemState) where
+module _ (old new : List Entry) (name : List ℕ) (stops : Option ℕ) (steady steady' : Bool) (count disk_count views : ℕ) (disk : MemState) where
   pub taken : (count' : ℕ) → disk_of old name ≡ Some disk → ((other : List ℕ) → slot_of new other ≡ added (slot_of old) name (Out (is_steady disk)) other)
       → (steady ≡ true → are_steady old ≡ true) → length disk.bytes ≤ disk.capacity
-      → Taken (state_of old steady count disk_count views) name (stored disk 0) (state_of new steady' count' disk_count views)
+      → Taken (state_of old stops steady count disk_count views) name (stored disk 0) (state_of new stops steady' count' disk_count views)
   taken count' there slots all room =
       let here : slot_of old name ≡ Some (Here disk) = here_of (slot_of old name) disk there in
       record {
         was_in = λ told. ap (option_and_then out_in) here;
         given = record { fresh = refl; told = λ told. refl; steady = λ is. steady_found old name (Here disk) (all is) here };
-        kind = λ told. ap kind_of here;
+        kind = λ told. ap (kind_of stops) here;
         reads = λ told. ap (option_map (λ it. it.bytes)) there;
         room = λ told. room;
         images = λ told image. (subst (λ it. leaves_in it image) (sym there), subst (λ it. leaves_in it image) there);
@@ -115,7 +115,7 @@ module _ (old new : List Entry) (name : List ℕ) (steady steady' : Bool) (count
 
   pub returned : (faults disk_count' : ℕ) → ((other : List ℕ) → slot_of new other ≡ added (slot_of old) name (Here disk) other)
       → disk_count' ≡ min (disk_count + faults) (2 ^ 64 - 1)
-      → Returned (state_of old steady count disk_count views) name (stored disk faults) (state_of new steady' count disk_count' views)
+      → Returned (state_of old stops steady count disk_count views) name (stored disk faults) (state_of new stops steady' count disk_count' views)
   returned faults disk_count' slots counts =
       let here : slot_of new name ≡ Some (Here disk) = own old new name (Here disk) slots in
       record {
@@ -133,18 +133,19 @@ pub absent : (slot : Option Slot) → is_some slot ≡ false → slot ≡ None
 absent None not = refl
 absent (Some slot) not = let no : true ≡ false = not in cc
 
--- a disk that has these bytes, all of them stable, and whose calls may all succeed
-abbrev pub fresh : List ℕ → ℕ → MemState
-fresh bytes capacity = stable_disk bytes capacity (2 ^ 64 - 1)
+-- the disk of a new name is steady where it is not set to stop
+pub new_steady : (bytes : List ℕ) (room : ℕ) (stops : Option ℕ) → is_steady (new_disk bytes room stops) ≡ is_none stops
+new_steady bytes room None = refl
+new_steady bytes room (Some call) = refl
 
-module _ (old new : List Entry) (name : List ℕ) (steady steady' : Bool) (count count' disk_count views : ℕ) (gone : slot_of old name ≡ None) where
-  was_absent : has_name (state_of old steady count disk_count views) name ≡ false
+module _ (old new : List Entry) (name : List ℕ) (stops : Option ℕ) (steady steady' : Bool) (count count' disk_count views : ℕ) (gone : slot_of old name ≡ None) where
+  was_absent : has_name (state_of old stops steady count disk_count views) name ≡ false
   was_absent = rw gone refl
 
-  pub written : (bytes : List ℕ) → ((other : List ℕ) → slot_of new other ≡ added (slot_of old) name (Here (fresh bytes (length bytes))) other)
-      → Written (state_of old steady count disk_count views) name bytes (state_of new steady' count' disk_count views)
+  pub written : (bytes : List ℕ) → ((other : List ℕ) → slot_of new other ≡ added (slot_of old) name (Here (new_disk bytes (length bytes) stops)) other)
+      → Written (state_of old stops steady count disk_count views) name bytes (state_of new stops steady' count' disk_count views)
   written bytes slots =
-      let slot = Here (fresh bytes (length bytes)) in
+      let slot = Here (new_disk bytes (length bytes) stops) in
       let here : slot_of new name ≡ Some slot = own old new name slot slots in
       record {
         absent = λ told. was_absent;
@@ -155,18 +156,19 @@ module _ (old new : List Entry) (name : List ℕ) (steady steady' : Bool) (count
         loans = record { disk_count = refl; views = refl };
       }
 
-  pub made : (size : ℕ) → ((other : List ℕ) → slot_of new other ≡ added (slot_of old) name (Out true) other)
-      → Made (state_of old steady count disk_count views) name size (stored (fresh [] size) 0) (state_of new steady' count' disk_count views)
-  made size slots = record {
+  pub made : (size : ℕ) → ((other : List ℕ) → slot_of new other ≡ added (slot_of old) name (Out (is_steady (new_disk [] size stops))) other)
+      → (steady ≡ true → is_none stops ≡ true)
+      → Made (state_of old stops steady count disk_count views) name size (stored (new_disk [] size stops) 0) (state_of new stops steady' count' disk_count views)
+  made size slots all = record {
     absent = λ told. was_absent;
-    given = record { fresh = refl; told = λ told. refl; steady = λ is. refl };
-    kind = λ told. ap kind_of gone;
+    given = record { fresh = refl; told = λ told. refl; steady = λ is. new_steady [] size stops ∙ all is };
+    kind = λ told. ap (kind_of stops) gone ∙ ap kind (sym (new_steady [] size stops));
     reads = λ told. refl;
     room = λ told. omega arith;
     stable = λ told honest. only_stable [];
-    file = λ told. same_for_all old new name (Out true) slots (λ it. option_map (λ d. d.bytes) (option_and_then disk_in it)) (sym (ap (λ it. option_map (λ d. d.bytes) (option_and_then disk_in it)) gone));
-    out = λ told. through old new name (Out true) slots (option_and_then out_in);
-    others = λ told other image. others old new name (Out true) slots other image;
+    file = λ told. same_for_all old new name (Out (is_steady (new_disk [] size stops))) slots (λ it. option_map (λ d. d.bytes) (option_and_then disk_in it)) (sym (ap (λ it. option_map (λ d. d.bytes) (option_and_then disk_in it)) gone));
+    out = λ told. through old new name (Out (is_steady (new_disk [] size stops))) slots (option_and_then out_in);
+    others = λ told other image. others old new name (Out (is_steady (new_disk [] size stops))) slots other image;
     loans = record { disk_count = refl; views = refl };
   }
 
@@ -179,7 +181,7 @@ none_out None = refl
 none_out (Some disk) = refl
 
 -- a store whose entries are those of these disks
-pub begun : (disks : List (String Global × MemState)) (steady : Bool) → Begun disks (state_of (map entry_of disks) steady 0 0 0)
+pub begun : (disks : List (String Global × MemState)) (steady : Bool) → Begun disks (state_of (map entry_of disks) None steady 0 0 0)
 begun disks steady =
     let found : (name : List ℕ) → disk_of (map entry_of disks) name ≡ first_of disks name = λ name. ap (option_and_then disk_in) (found_among disks name) ∙ here_again (first_of disks name) in
     record {
@@ -189,7 +191,7 @@ begun disks steady =
       views = refl;
       file = λ name. ap (option_map (λ disk. disk.bytes)) (found name);
       leaves = λ name image. (subst (λ it. leaves_in it image) (found name), subst (λ it. leaves_in it image) (sym (found name)));
-      disks = λ name. ap kind_of (found_among disks name);
+      disks = λ name. ap (kind_of None) (found_among disks name);
       out = λ name. ap (option_and_then out_in) (found_among disks name) ∙ none_out (first_of disks name);
     }
 
@@ -200,6 +202,25 @@ all_steady (file ∷ files) = all_steady files
 pub with_true : (b : Bool) → (b && true) ≡ b
 with_true true = refl
 with_true false = refl
+
+-- a store is as steady as it was where a name is new
+still_steady : (calls all : Bool) (stops : Option ℕ) → (calls && is_none stops && (all && is_none stops)) ≡ (calls && is_none stops && all)
+still_steady calls all None = rw (with_true all) refl
+still_steady true all (Some call) = refl
+still_steady false all (Some call) = refl
+
+module _ (old new : List Entry) (name : List ℕ) (stops : Option ℕ) (slot : Slot) (is_new : steady_in slot ≡ is_none stops)
+    (gone : slot_of old name ≡ None) where
+  pub as_steady : (calls : Bool) → are_steady new ≡ (are_steady old && steady_in slot) → (calls && is_none stops && are_steady new) ≡ (calls && is_none stops && are_steady old)
+  as_steady calls all = rw (all, is_new) (still_steady calls (are_steady old) stops)
+
+  -- the disk of a new name is what it was to be
+  pub as_said : ((other : List ℕ) → slot_of new other ≡ added (slot_of old) name slot other) → (other : List ℕ) → kind_of stops (slot_of new other) ≡ kind_of stops (slot_of old other)
+  as_said slots = same_for_all old new name slot slots (kind_of stops) (ap kind is_new ∙ sym (ap (kind_of stops) gone))
+
+-- a store that is steady makes steady disks
+pub makes_steady : (calls made all : Bool) → (calls && made && all) ≡ true → made ≡ true
+makes_steady calls made all is = last_true calls made (first_true (calls && made) all is)
 
 -- all files of a store are steady disks
 pub files_steady : (b : Bool) (disks : List (String Global × MemState)) (files : List (String Global × Vec ℕ Global)) → disks ≡ map file_disk files

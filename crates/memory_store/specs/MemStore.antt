@@ -48,9 +48,11 @@ file_of entries name = option_map (λ disk. disk.bytes) (disk_of entries name)
 abbrev pub are_steady : List Entry → Bool
 are_steady entries = list_all (λ entry. steady_in entry.slot) entries
 
--- a store is steady where no call is listed to fail, none of views is set to, and all its disks are steady
-abbrev pub is_steady_store : List ℕ → Option ℕ → List Entry → Bool
-is_steady_store failing view_fails entries = is_empty failing && is_none view_fails && are_steady entries
+-- a store is steady where no call is listed to fail, none of views or of the disks of new names is set to, and all its
+-- disks are steady
+abbrev pub is_steady_store : List ℕ → Option ℕ → Option ℕ → List Entry → Bool
+is_steady_store failing view_fails new_stops entries =
+    is_empty failing && is_none view_fails && is_none new_stops && are_steady entries
 
 -- a disk that is here, under its name
 abbrev pub entry_of : String Global × MemState → Entry
@@ -61,14 +63,14 @@ abbrev pub leaves_in : Option MemState → List ℕ → Type 0
 leaves_in None image = ⊥
 leaves_in (Some disk) image = MayLeave disk image
 
--- what the disk of a name says of itself: one that is made under a new name is steady
-abbrev pub kind_of : Option Slot → Handed
-kind_of None = kind true
-kind_of (Some slot) = kind (steady_in slot)
+-- what the disk of a name says of itself: that of a new name is steady where none is set to stop
+abbrev pub kind_of : Option ℕ → Option Slot → Handed
+kind_of new_stops None = kind (is_none new_stops)
+kind_of new_stops (Some slot) = kind (steady_in slot)
 
--- a store of these entries, with its counts
-abbrev pub state_of : List Entry → Bool → ℕ → ℕ → ℕ → StoreState
-state_of entries steady count disk_count views = record {
+-- a store of these entries, with its counts, where the disks of new names stop there
+abbrev pub state_of : List Entry → Option ℕ → Bool → ℕ → ℕ → ℕ → StoreState
+state_of entries new_stops steady count disk_count views = record {
   told = true;
   steady = steady;
   count = count;
@@ -76,13 +78,17 @@ state_of entries steady count disk_count views = record {
   views = views;
   file = file_of entries;
   leaves = λ name. leaves_in (disk_of entries name);
-  disks = λ name. kind_of (slot_of entries name);
+  disks = λ name. kind_of new_stops (slot_of entries name);
   out = λ name. option_and_then out_in (slot_of entries name);
 }
 
 -- a disk of these bytes: all are stable, there is no room for more, and no call is to fail
 abbrev pub full_disk : List ℕ → MemState
 full_disk bytes = stable_disk bytes (length bytes) (2 ^ 64 - 1)
+
+-- a disk that is made of these bytes, with this room: it stops at this call, if there is one
+abbrev pub new_disk : List ℕ → ℕ → Option ℕ → MemState
+new_disk bytes room stops = record (stable_disk bytes room (2 ^ 64 - 1)) { stops = stops }
 
 -- a file as a disk, with its name
 abbrev pub file_disk : String Global × Vec ℕ Global → String Global × MemState
@@ -100,5 +106,5 @@ pub record Begun (made_of : List (String Global × MemState)) (store : StoreStat
   pub views : store.views ≡ 0
   pub file : (name : List ℕ) → store.file name ≡ option_map (λ disk. disk.bytes) (first_of made_of name)
   pub leaves : (name image : List ℕ) → store.leaves name image ↔ leaves_in (first_of made_of name) image
-  pub disks : (name : List ℕ) → store.disks name ≡ kind_of (option_map Here (first_of made_of name))
+  pub disks : (name : List ℕ) → store.disks name ≡ kind_of None (option_map Here (first_of made_of name))
   pub out : (name : List ℕ) → store.out name ≡ None

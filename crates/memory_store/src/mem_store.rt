@@ -1,12 +1,12 @@
 //! A store in memory.
 
-ghost use Rattle.std.specs.Prelude.{◌≡◌, ◌&&◌, ℕ, List, IfOk, IsTrue, None, Some, false, map, refl, option_copied};
-ghost use Rattle.std.specs.Prelude.{option_map};
+ghost use Rattle.std.specs.Prelude.{◌≡◌, ◌≤◌, ◌&&◌, ℕ, List, IfOk, IsTrue, None, Some, false, map, refl, option_copied};
+ghost use Rattle.std.specs.Prelude.{if◌then◌else◌, length, option_map};
 ghost use Rattle.std.specs.List.{list_all};
 ghost use Rattle.disk_trait.specs.MemDisk.{is_steady};
-ghost use Rattle.stream_io.specs.Store.{SameStore};
+ghost use Rattle.stream_io.specs.Store.{SameStore, has_name};
 ghost use Rattle.memory_io.specs.Calls.{is_empty};
-ghost use Rattle.memory_store.specs.MemStore.{Begun, file_disk, full_disk, is_steady_store, state_of};
+ghost use Rattle.memory_store.specs.MemStore.{Begun, file_disk, full_disk, is_steady_store, kind, new_disk, state_of};
 
 use crate::entries::{Entries, Slot};
 use crate::stored_disk::StoredDisk;
@@ -17,7 +17,7 @@ use std::alloc::Global;
 use stream_io::{CallFault, NewFault, ReadAllFault, Readers, Store};
 
 /// A store that holds its disks in memory. It tells its content, and is steady where no call is listed to fail, no call
-/// of views is set to, and all its disks are steady.
+/// of views or of the disks of new names is set to, and all its disks are steady.
 #[derive(Drop)]
 pub struct MemStore {
     entries: Entries,
@@ -26,6 +26,8 @@ pub struct MemStore {
     views: u64,
     // the number of the call that fails in each view
     view_fails: Option<u64>,
+    // the number of the first call of those that fail in the disk of each new name
+    new_stops: Option<u64>,
     // the faults of the disks and views that were given back
     disk_faults: u64,
 }
@@ -47,6 +49,7 @@ impl MemStore {
             calls: Calls::new(failing),
             views: 0,
             view_fails: None,
+            new_stops: None,
             disk_faults: 0,
         })
     }
@@ -76,6 +79,20 @@ impl MemStore {
         self.view_fails = Some(call);
     }
 
+    /// Makes the call of this number and all later ones fail in the disk of each name that is new from now on, counted
+    /// from 0 over the disk's life.
+    pub fn stop_new_disks(&mut self, call: u64)
+        ensures same { SameStore (⟦<MemStore as Store>⟧.state self.old) (⟦<MemStore as Store>⟧.state self.new) }
+        ensures count { (⟦<MemStore as Store>⟧.state self.new).count ≡ (⟦<MemStore as Store>⟧.state self.old).count }
+        ensures steady { (⟦<MemStore as Store>⟧.state self.new).steady ≡ false }
+        ensures told { IsTrue (⟦<MemStore as Store>⟧.state self.new).told }
+        ensures disks { (name : List ℕ) → (⟦<MemStore as Store>⟧.state self.new).disks name
+            ≡ (if has_name (⟦<MemStore as Store>⟧.state self.old) name
+            then (⟦<MemStore as Store>⟧.state self.old).disks name else kind false) }
+    {
+        self.new_stops = Some(call);
+    }
+
     /// What is read under a name.
     pub fn bytes(&self, name: &str) -> Option<&[u8]>
         ensures { option_copied result ≡ (⟦<MemStore as Store>⟧.state self.now).file name.now }
@@ -89,6 +106,23 @@ fn full_disk(alloc: Global, bytes: &[u8]) -> Result<MemDisk, NoMemory>
     ensures { IfOk result (λ disk. disk ≡ full_disk bytes.now) }
 {
     MemDisk::of_bytes(alloc, bytes, bytes.len(), usize::MAX)
+}
+
+/// A disk of these bytes, all of them stable, with this room, which stops at the call of that number, if there is one.
+fn new_disk(
+    alloc: Global,
+    bytes: &[u8],
+    room: usize,
+    stops: Option<u64>,
+) -> Result<MemDisk, NoMemory>
+    requires { length bytes.now ≤ room }
+    ensures { IfOk result (λ disk. disk ≡ new_disk bytes.now room stops) }
+{
+    let mut disk = MemDisk::of_bytes(alloc, bytes, room, usize::MAX)?;
+    if let Some(call) = stops {
+        disk.stop_at(call);
+    }
+    Ok(disk)
 }
 
 /// Files as disks, each with its name.
@@ -120,7 +154,7 @@ fn view_of(alloc: Global, bytes: &[u8], fails: Option<u64>) -> Result<StoredDisk
 impl Faults for MemStore {
     ghost count = { λ s. s.calls.faults };
 
-    ghost steady = { λ s. is_steady_store s.calls.failing.items s.view_fails s.entries.list.items };
+    ghost steady = { λ s. is_steady_store s.calls.failing.items s.view_fails s.new_stops s.entries.list.items };
 
     fn faults(&self) -> u64 {
         self.calls.faults
@@ -132,8 +166,8 @@ impl Store for MemStore {
 
     type View = StoredDisk;
 
-    ghost state = { λ s. state_of s.entries.list.items
-        (is_steady_store s.calls.failing.items s.view_fails s.entries.list.items)
+    ghost state = { λ s. state_of s.entries.list.items s.new_stops
+        (is_steady_store s.calls.failing.items s.view_fails s.new_stops s.entries.list.items)
         s.calls.faults s.disk_faults s.views };
 
     fn disk_faults(&self) -> u64 {
@@ -168,7 +202,7 @@ impl Store for MemStore {
         if self.entries.has(name) {
             return Err(NewFault::Exists);
         }
-        let Ok(disk) = full_disk(alloc, bytes) else {
+        let Ok(disk) = new_disk(alloc, bytes, bytes.len(), self.new_stops) else {
             return Err(NewFault::NoMemory);
         };
         self.entries.add(alloc, name, Slot::Here(disk))?;
@@ -180,10 +214,11 @@ impl Store for MemStore {
         if self.entries.has(name) {
             return Err(NewFault::Exists);
         }
-        let Ok(disk) = MemDisk::new(alloc, size, usize::MAX) else {
+        let Ok(disk) = new_disk(alloc, &[], size, self.new_stops) else {
             return Err(NewFault::NoMemory);
         };
-        self.entries.add(alloc, name, Slot::Out { steady: true })?;
+        let steady = disk.is_steady();
+        self.entries.add(alloc, name, Slot::Out { steady })?;
         Ok(StoredDisk::new(disk))
     }
 

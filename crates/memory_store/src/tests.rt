@@ -205,6 +205,44 @@ fn a_new_disk_has_room_for_its_size(rt: HostRuntime) -> Result<(), Fail> {
     Ok(())
 }
 
+#[test]
+fn the_disk_of_a_new_name_stops_where_it_is_set_to(rt: HostRuntime) -> Result<(), Fail> {
+    let alloc = rt.alloc();
+    let rows: [(u64, Result<(), DiskFault>, &'static str); 3] = [
+        (0, Err(DiskFault), ""),
+        (1, Err(DiskFault), "1234"),
+        (2, Ok(()), "1234"),
+    ];
+    for (call, want, bytes) in rows {
+        let mut store = one_disk(alloc, None)?;
+        store.stop_new_disks(call);
+        assert_eq!(rt;
+            make_through(&mut store, alloc, "n", b"1234"),
+            Ok(want),
+            "{call}"
+        );
+        assert!(rt; gives(&mut store, alloc, "n", 4, Ok(bytes)), "{call}");
+        assert_eq!(rt; store.disk_faults(), u64::from(want.is_err()), "{call}");
+        assert_eq!(rt;
+            write_through(&mut store, "n", 0, b"5"),
+            Ok(Err(DiskFault)),
+            "{call}"
+        );
+        assert_eq!(rt;
+            write_through(&mut store, "d", 0, b"5"),
+            Ok(Ok(())),
+            "{call}"
+        );
+        assert_eq!(rt;
+            store.write_new(alloc, "w", b"1234", Readers::Anyone),
+            Ok(()),
+            "{call}"
+        );
+        assert_eq!(rt; write_through(&mut store, "w", 0, b"5"), Ok(want), "{call}");
+    }
+    Ok(())
+}
+
 /// Reads the first bytes of a view, asks its length, and gives it back.
 fn look<S: Store>(
     store: &mut S,

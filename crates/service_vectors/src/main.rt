@@ -1,20 +1,21 @@
 //! Runs the commands of a trustee over files, links and clocks in memory, and compares what is written to the links
 //! with what another implementation's trustee replied. It prints what each command prints, the status behind it, and
-//! length, first bytes and SHA-256 of files that it made or had to leave alone.
+//! length, first bytes and SHA-256 of files that it made or had to leave alone. At the end `migrate` is stopped at each
+//! call of the new journal's disk.
 #![tactic(auto)]
 
 mod files;
 mod scene;
 mod steps;
+mod stopped;
 
 use files::push_made;
 use host_io::FileStore;
-use memory_io::MemSink;
 use memory_store::MemStore;
-use scene::{made, net_of, print_outcome, words_of};
+use scene::{made, net_of, print_outcome, run};
 use std::io::{self, ErrorKind};
+use stopped::print_stopped;
 use stream_io::Store;
-use tool_run::{MemClocks, run_tool};
 
 /// The files that are there at first.
 const FILES: [&str; 22] = [
@@ -45,9 +46,6 @@ const FILES: [&str; 22] = [
 /// No file here is longer.
 const FILE_LIMIT: u64 = 1 << 16;
 
-/// The moment at which each clock begins.
-const START: u64 = 1000;
-
 /// The store of these files.
 fn store_of_files(rt: HostRuntime) -> io::Result<MemStore> {
     let mut host = FileStore::new(rt);
@@ -75,20 +73,10 @@ fn main(rt: HostRuntime) -> io::Result<()> {
         (steps::DEAF, true),
     ] {
         for step in steps {
-            let words = words_of(rt.alloc(), step.words)?;
             let mut net = made(net_of(rt.alloc(), &store, step.talks, deaf))?;
-            let mut out = made(MemSink::new(rt.alloc(), 100, 7, Vec::new(rt.alloc())))?;
-            let status = run_tool(
-                &rt,
-                rt.alloc(),
-                words.as_slice(),
-                &mut store,
-                &mut net,
-                &mut MemClocks::new(START),
-                &mut out,
-            );
+            let (out, status) = run(&rt, rt.alloc(), &mut store, &mut net, step.words)?;
             print_outcome(rt, &store, &net, step, (out.written(), status))?;
         }
     }
-    Ok(())
+    print_stopped(&rt, rt, &store)
 }

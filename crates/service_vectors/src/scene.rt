@@ -8,10 +8,16 @@ use memory_store::MemStore;
 use sha2::{Digest, Sha256};
 use std::alloc::{AllocError, Global};
 use std::io::{self, ErrorKind};
+use std::sync::Wait;
+use std::thread::Threads;
 use stream_io::write_whole;
+use tool_run::{MemClocks, run_tool};
+
+/// The moment at which each clock begins.
+const START: u64 = 1000;
 
 /// The words of a text.
-pub(crate) fn words_of(alloc: Global, text: &str) -> Result<Vec<String>, AllocError> {
+fn words_of(alloc: Global, text: &str) -> Result<Vec<String>, AllocError> {
     let mut words = Vec::new(alloc);
     for word in text.split(' ') {
         words.push(String::from_str(alloc, word)?)?;
@@ -73,6 +79,28 @@ pub(crate) fn made<T>(value: Result<T, NoMemory>) -> io::Result<T> {
     value.map_err(|_| io::Error::from(ErrorKind::OutOfMemory))
 }
 
+/// Runs the command of these words, and gives what it printed, with its status.
+pub(crate) fn run<R: Threads + Wait + Sync>(
+    rt: &R,
+    alloc: Global,
+    store: &mut MemStore,
+    net: &mut MemNet,
+    words: &str,
+) -> io::Result<(MemSink, u8)> {
+    let words = words_of(alloc, words)?;
+    let mut out = made(MemSink::new(alloc, 100, 7, Vec::new(alloc)))?;
+    let status = run_tool(
+        rt,
+        alloc,
+        words.as_slice(),
+        store,
+        net,
+        &mut MemClocks::new(START),
+        &mut out,
+    );
+    Ok((out, status))
+}
+
 /// What was written to the first link of a port, none where there was no link.
 fn written(port: Option<&KeptPort>) -> &[u8] {
     match port.and_then(|port| port.talk(0)) {
@@ -92,6 +120,11 @@ fn likeness(got: &[u8], want: &[u8]) -> &'static str {
     } else {
         "other replies"
     }
+}
+
+/// How the replies on the first link of a port are.
+pub(crate) fn likeness_of(files: &MemStore, port: Option<&KeptPort>, talk: &Talk) -> &'static str {
+    likeness(written(port), file(files, talk.replies))
 }
 
 /// Prints the name of a file, its length, its first 16 bytes and its SHA-256.
@@ -117,7 +150,7 @@ pub(crate) fn print_outcome(
     let _ = write_whole(&mut StdoutSink::new(rt), line);
     println!(rt; "[status {status}]")?;
     for (index, talk) in step.talks.iter().enumerate() {
-        let replies = likeness(written(net.kept(index)), file(store, talk.replies));
+        let replies = likeness_of(store, net.kept(index), talk);
         println!(rt; "{}: {replies}", talk.replies)?;
     }
     for name in step.files {

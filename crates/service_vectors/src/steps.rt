@@ -235,6 +235,9 @@ pub(crate) const REFUSED: &[Step] = &[
     },
 ];
 
+/// Asks at a journal that was moved: for the leaf that was opened, and for the one that was bound.
+pub(crate) const MOVED_TALKS: &[Talk] = &[SESSION, SPENT];
+
 /// A journal of version 1 in which leaf 0 was opened in the session and leaf 10 bound to `abc`.
 pub(crate) const MIGRATE: &[Step] = &[
     Step {
@@ -244,7 +247,7 @@ pub(crate) const MIGRATE: &[Step] = &[
     },
     Step {
         words: "trustee share1 moved1 here 2 1",
-        talks: &[SESSION, SPENT],
+        talks: MOVED_TALKS,
         files: &["moved1"],
     },
     Step {

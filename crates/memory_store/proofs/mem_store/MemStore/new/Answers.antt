@@ -9,4 +9,4 @@ returns-clause-begun c = rw (c.new-2.ensures.faults, c.in_ok-new.ensures) (begun
 
 pub returns-clause-steady : goal.returns-clause-steady
 returns-clause-steady c =
-    rw (c.new-2.ensures.failing, c.in_ok-new.ensures, steady_among c.args.disks.items, with_true (is_empty c.args.failing.items)) refl
+    rw (c.new-2.ensures.failing, c.in_ok-new.ensures, steady_among c.args.disks.items, with_true (is_empty c.args.failing.items), with_true (is_empty c.args.failing.items)) refl

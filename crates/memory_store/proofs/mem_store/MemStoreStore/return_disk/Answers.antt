@@ -7,7 +7,7 @@ use Rattle.memory_store.proofs.mem_store.MemStoreStore.return_disk.Goals as goal
 
 pub returns-clause-returned : goal.returns-clause-returned
 returns-clause-returned c =
-    returned c.args.self.now.entries.list.items c.take_back.new.self.list.items c.args.name.now _ _ _ _ _ c.args.disk.disk c.args.disk.faults _
+    returned c.args.self.now.entries.list.items c.take_back.new.self.list.items c.args.name.now _ _ _ _ _ _ c.args.disk.disk c.args.disk.faults _
     c.take_back.ensures.slots c.saturating_add-self.ensures
 
 pub returns-clause-onward : goal.returns-clause-onward
@@ -17,7 +17,7 @@ returns-clause-onward c =
       told = refl;
       steady = rw c.take_back.ensures.steady refl;
       disks = same_for_all c.args.self.now.entries.list.items c.take_back.new.self.list.items c.args.name.now (Here c.args.disk.disk)
-          c.take_back.ensures.slots kind_of (sym (ap kind_of out));
+          c.take_back.ensures.slots (kind_of c.args.self.now.new_stops) (sym (ap (kind_of c.args.self.now.new_stops) out));
       count = omega arith;
       disk_count = omega arith;
     }

@@ -8,7 +8,7 @@ use Rattle.memory_store.proofs.mem_store.MemStoreStore.take_disk.Goals as goal
 pub returns-in-Some-clause-taken : goal.returns-in-Some-clause-taken
 returns-in-Some-clause-taken c =
     rw c.new.ensures.made
-    (taken c.args.self.now.entries.list.items c.lend.new.self.list.items c.args.name.now _ _ _ _ _ c.in-Some.disk _
+    (taken c.args.self.now.entries.list.items c.lend.new.self.list.items c.args.name.now _ _ _ _ _ _ c.in-Some.disk _
     (sym c.in-Some.ensures.lent) c.in-Some.ensures.slots (last_true _ _) c.new.ensures.has_room)
 
 pub returns-in-Some-clause-onward : goal.returns-in-Some-clause-onward
@@ -18,7 +18,7 @@ returns-in-Some-clause-onward c =
       told = refl;
       steady = rw (c.in_ok-make.ensures.failing, c.in-Some.ensures.steady) refl;
       disks = same_for_all c.args.self.now.entries.list.items c.lend.new.self.list.items c.args.name.now (Out (is_steady c.in-Some.disk))
-          c.in-Some.ensures.slots kind_of (sym (ap kind_of here));
+          c.in-Some.ensures.slots (kind_of c.args.self.now.new_stops) (sym (ap (kind_of c.args.self.now.new_stops) here));
       count = c.in_ok-make.ensures.later;
       disk_count = omega arith;
     }
