@@ -6,22 +6,20 @@
 ghost use Rattle.std.specs.Prelude.{◌≡◌, IfOk, IfSome, true};
 ghost use Rattle.trustee_core.specs.Trustee.{journal_header, share_of};
 
-mod gated;
-
 use disk_trait::MemDisk;
-use gated::{Gate, GatedLink, GatedPort};
 use host_io::FileStore;
+use memory_io::{MemLink, MemPort, MemSink, MemSource, PortScript};
 use opening_journal::Journal;
 use share_files::{Share, read_share};
 use slot_file::{Header, prepare};
 use std::alloc::Global;
 use std::io;
 use std::sync::Wait;
-use std::sync::atomic::AtomicU64;
 use std::thread::Threads;
 use stream_io::Store;
 use trustee_core::{Clock, Trustee};
 use trustee_service::serve_ports;
+use waiting_io::{Before, Bell, Hold, Ring, WaitingPort};
 
 /// The bytes of a journal of 32 leaves.
 const JOURNAL: usize = 5248;
@@ -33,6 +31,12 @@ const REPLY: usize = 97;
 
 /// Where the first link waits in the middle of its second ask.
 const MIDDLE: usize = 300;
+
+/// The most bytes that are written to a link here.
+const ROOM: usize = 4096;
+
+/// How often a link looks whether the other one was answered, before it fails.
+const LOOKS: u64 = 1_000_000_000;
 
 /// A clock that stands still.
 #[derive(Drop)]
@@ -79,31 +83,51 @@ fn file(rt: HostRuntime, name: &str) -> Option<Vec<u8>> {
     FileStore::new(rt).read_all(rt.alloc(), name, 1 << 16).ok()
 }
 
-/// What was written to the link that a port has kept is this.
-fn is_answered(port: Option<&GatedPort>, want: &[u8]) -> bool {
-    port.and_then(|port| port.kept())
-        .is_some_and(|link| link.written() == want)
+/// A port at which one link waits, which gives these bytes.
+fn port(alloc: Global, given: &[u8]) -> Option<MemPort> {
+    let given = Vec::from_slice(alloc, given).ok()?;
+    let source = MemSource::new(given, Vec::new(alloc), Vec::new(alloc));
+    let sink = MemSink::new(alloc, ROOM, ROOM, Vec::new(alloc)).ok()?;
+    let link = MemLink::new(alloc, source, sink, Vec::new(alloc), None).ok()?;
+    let mut script = PortScript::new(alloc);
+    script.waiting.push(link).ok()?;
+    let place = String::from_str(alloc, "here").ok()?;
+    MemPort::new(alloc, Some(place), script).ok()
 }
 
-/// Serves both links, the first with this gate, and says which of them were answered with the right bytes.
+/// What was written to the link that was hung up at a port is this.
+fn is_answered(port: Option<&WaitingPort>, want: &[u8]) -> bool {
+    port.and_then(|port| port.kept().talk(0))
+        .is_some_and(|talk| talk.written() == want)
+}
+
+/// Serves both links, of which the first waits for the second where this says so, and says which of them were answered
+/// with the right bytes.
 fn serve_both(
     threads: &(impl Threads + Wait + Sync),
     rt: HostRuntime,
-    gate: Gate,
+    bell: &Bell,
+    before: Option<Before>,
 ) -> Option<(bool, bool)> {
     let alloc = rt.alloc();
     let share = read_share(&file(rt, "share")?).ok()?;
     let trustee = trustee(alloc, &share)?;
     let (asks, replies) = (file(rt, "asks")?, file(rt, "replies")?);
     let (ask, reply) = (asks.get(..ASK)?, replies.get(..REPLY)?);
-    let second = Vec::from_slice(alloc, ask).ok()?;
-    let first = Vec::from_slice(alloc, &asks).ok()?;
-    let bell = AtomicU64::new(0);
+    let hold = before.map(|before| Hold {
+        before,
+        bell,
+        rings: 1,
+    });
+    let ring = Ring {
+        bell,
+        written: REPLY,
+    };
     let mut ports = Vec::new(alloc);
-    let link = GatedLink::new(first, gate, &bell, usize::MAX);
-    ports.push(GatedPort::new(link)).ok()?;
-    let link = GatedLink::new(second, Gate::Open, &bell, REPLY);
-    ports.push(GatedPort::new(link)).ok()?;
+    let first = port(alloc, &asks)?;
+    ports.push(WaitingPort::new(first, hold, None)).ok()?;
+    let second = port(alloc, ask)?;
+    ports.push(WaitingPort::new(second, None, Some(ring))).ok()?;
     let mut clocks = Vec::new(alloc);
     clocks.push(Still).ok()?;
     clocks.push(Still).ok()?;
@@ -116,12 +140,12 @@ fn serve_both(
 }
 
 fn main(rt: HostRuntime) -> io::Result<()> {
-    for (name, gate) in [
-        ("no link waits", Gate::Open),
-        ("an ask waits", Gate::Reading(MIDDLE)),
-        ("a reply waits", Gate::Writing),
+    for (name, before) in [
+        ("no link waits", None),
+        ("an ask waits", Some(Before::Reading(MIDDLE))),
+        ("a reply waits", Some(Before::Writing)),
     ] {
-        match serve_both(&rt, rt, gate) {
+        match serve_both(&rt, rt, &Bell::new(LOOKS), before) {
             Some((first, second)) => println!(rt;
                 "{name}: first as given: {first}, second as given: {second}"
             )?,

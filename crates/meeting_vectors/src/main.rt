@@ -24,9 +24,9 @@ use scene::Scene;
 use std::alloc::Global;
 use std::io;
 use std::sync::Wait;
-use std::sync::atomic::AtomicU64;
 use std::thread::Threads;
 use stream_io::Store;
+use waiting_io::Bell;
 
 /// The trustees 3, 4 and 5.
 const COALITION: u16 = 0b11100;
@@ -35,6 +35,9 @@ const COALITION: u16 = 0b11100;
 const FIRST: &[u8] = b"the first message";
 
 const SECOND: &[u8] = b"the second message";
+
+/// How often a link looks whether the last member was dialled from both ports, before it fails.
+const LOOKS: u64 = 1_000_000_000;
 
 /// No request here is longer.
 const ROOM: usize = 64;
@@ -122,7 +125,7 @@ fn meet<R: Threads + Wait + Sync>(threads: &R, rt: HostRuntime) -> Option<Met> {
         waits: threads,
         alloc: rt.alloc(),
         shares: &scene.dealt.shares,
-        dialled: AtomicU64::new(0),
+        bell: Bell::new(LOOKS),
     };
     serve_both(threads, rt.alloc(), &scene, &meeting)
 }

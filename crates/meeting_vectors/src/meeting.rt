@@ -10,11 +10,8 @@ use disk_trait::Faults;
 use share_files::Share;
 use std::alloc::Global;
 use std::sync::Wait;
-use std::sync::atomic::{AtomicU64, Ordering};
 use stream_io::{Accepted, Failed, Port, Sink, Source, Stream};
-
-/// How often a link looks whether the last member was dialled from both ports, before it fails.
-const LOOKS: u64 = 1_000_000_000;
+use waiting_io::{Before, Bell, Hold, WaitingLink};
 
 /// How often the last member is dialled before it answers.
 const BOTH: u64 = 2;
@@ -22,14 +19,14 @@ const BOTH: u64 = 2;
 /// The last member of the coalition.
 const LAST: u8 = 5;
 
-/// What the ports have in common: the shares of the trustees, that of trustee 1 first, and how often the last member
-/// was dialled.
+/// What the ports have in common: the shares of the trustees, that of trustee 1 first, and a bell that is rung each
+/// time the last member is dialled.
 #[derive(Drop)]
 pub(crate) struct Meeting<'a, W: Wait> {
     pub(crate) waits: &'a W,
     pub(crate) alloc: Global,
     pub(crate) shares: &'a [Share],
-    pub(crate) dialled: AtomicU64,
+    pub(crate) bell: Bell,
 }
 
 impl<'a, W: Wait> Meeting<'a, W> {
@@ -38,22 +35,21 @@ impl<'a, W: Wait> Meeting<'a, W> {
         let member: u8 = place.parse().ok()?;
         let share = self.shares.get(usize::from(member).checked_sub(1)?)?;
         if member == LAST {
-            self.dialled.fetch_add(1, Ordering::SeqCst);
+            self.bell.ring();
         }
         Some(share)
     }
 
-    /// Waits until this trustee may answer, and says whether it may.
-    fn may_answer(&self, share: &Share) -> bool {
+    /// What a link to this trustee waits for before it answers.
+    fn hold(&'a self, share: &Share) -> Option<Hold<'a>> {
         if share.member != LAST {
-            return true;
+            return None;
         }
-        for _ in 0..LOOKS {
-            if self.dialled.load(Ordering::SeqCst) >= BOTH {
-                return true;
-            }
-        }
-        false
+        Some(Hold {
+            before: Before::Reading(0),
+            bell: &self.bell,
+            rings: BOTH,
+        })
     }
 }
 
@@ -110,9 +106,6 @@ impl<'a, W: Wait> MeetingLink<'a, W> {
             return true;
         }
         let meeting = self.meeting;
-        if !meeting.may_answer(share) {
-            return false;
-        }
         match replies(meeting.waits, meeting.alloc, share, &self.written) {
             Some(given) if self.place <= given.len() => {
                 self.given = given;
@@ -209,7 +202,7 @@ impl<W: Wait> Faults for MeetingPort<'_, W> {
 }
 
 impl<'a, W: Wait + Sync> Port for MeetingPort<'a, W> {
-    type Link = MeetingLink<'a, W>;
+    type Link = WaitingLink<'a, MeetingLink<'a, W>>;
 
     ghost state = { λ s. untold_port (Some (codes "here")) s.faults 0 };
 
@@ -219,7 +212,9 @@ impl<'a, W: Wait + Sync> Port for MeetingPort<'a, W> {
 
     fn accept(&mut self) -> Accepted<Self::Link> {
         match self.waiting.take() {
-            Some(client) if client.faults == 0 => Accepted::Link(client),
+            Some(client) if client.faults == 0 => {
+                Accepted::Link(WaitingLink::new(client, None, None))
+            }
             _ => Accepted::End,
         }
     }
@@ -230,13 +225,15 @@ impl<'a, W: Wait + Sync> Port for MeetingPort<'a, W> {
             return Err(Failed);
         };
         let given = Vec::new(self.meeting.alloc);
-        Ok(MeetingLink::new(self.meeting, Some(share), given))
+        let link = MeetingLink::new(self.meeting, Some(share), given);
+        Ok(WaitingLink::new(link, self.meeting.hold(share), None))
     }
 
     fn hang_up(&mut self, link: Self::Link) {
-        if link.faults != 0 {
+        if link.faults() != 0 {
             self.faults = self.faults.saturating_add(1);
         }
+        let (link, _) = link.end();
         if link.share.is_none() {
             self.kept = Some(link);
         }

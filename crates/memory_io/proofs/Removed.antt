@@ -49,20 +49,9 @@ accepted-moves true false link waiting dialled = refl
 accepted-moves true true false waiting dialled = refl
 accepted-moves true true true waiting dialled = refl
 
-dialled-moves : (calm gave link waiting dialled : Bool) → ((calm && (gave && link)) && (waiting && dialled)) ≡ ((calm && gave) && (waiting && (link && dialled)))
-dialled-moves false gave link waiting dialled = refl
-dialled-moves true false link waiting dialled = refl
-dialled-moves true true true waiting dialled = refl
-dialled-moves true true false true dialled = refl
-dialled-moves true true false false dialled = refl
-
 pub steady-accepted : (still calm gave link waiting waited dialled : Bool) → still ≡ calm → waited ≡ (link && waiting)
     → ((still && (gave && link)) && (waiting && dialled)) ≡ ((calm && gave) && (waited && dialled))
 steady-accepted still calm gave link waiting waited dialled e f = rw (e, f) (accepted-moves calm gave link waiting dialled)
-
-pub steady-dialled : (still calm gave link waiting dialled stood : Bool) → still ≡ calm → stood ≡ (link && dialled)
-    → ((still && (gave && link)) && (waiting && dialled)) ≡ ((calm && gave) && (waiting && stood))
-steady-dialled still calm gave link waiting dialled stood e f = rw (e, f) (dialled-moves calm gave link waiting dialled)
 
 -- the link is among them
 pub given : (calm gave link rest : Bool) → ((calm && (gave && link)) && rest) ≡ true → link ≡ true

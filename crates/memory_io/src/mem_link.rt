@@ -1,7 +1,7 @@
 //! A link in memory.
 
-ghost use Rattle.std.specs.Prelude.{◌≡◌, ◌-◌, ◌++◌, ◌↔◌, [], None, IsTrue, IfOk, true, refl, vec_len, vec_capacity};
-ghost use Rattle.std.specs.Prelude.{option_map, string_bytes};
+ghost use Rattle.std.specs.Prelude.{◌≡◌, ◌+◌, ◌-◌, ◌^◌, ◌++◌, ◌↔◌, [], None, IsTrue, IfOk, true, refl};
+ghost use Rattle.std.specs.Prelude.{min, option_map, string_bytes, vec_len, vec_capacity};
 ghost use Rattle.memory_io.specs.Links.{conversation_of, is_steady_link, talk_of};
 ghost use Rattle.stream_io.specs.Talk.{Talk};
 
@@ -60,6 +60,17 @@ impl MemLink {
         ensures { talk_of result.now ≡ ⟦<MemLink as Stream>⟧.talk self.now }
     {
         &self.node.value
+    }
+
+    /// Counts so many faults that were met around it.
+    pub fn add_faults(&mut self, faults: u64)
+        ensures talk { ⟦<MemLink as Stream>⟧.talk self.new ≡ record (⟦<MemLink as Stream>⟧.talk self.old)
+            { count = min ((⟦<MemLink as Stream>⟧.talk self.old).count + faults) (2 ^ 64 - 1) } }
+        ensures room { ⟦<MemLink as Sink>⟧.room self.new ≡ ⟦<MemLink as Sink>⟧.room self.old }
+        ensures steady { ⟦<MemLink as Faults>⟧.steady self.new ≡ ⟦<MemLink as Faults>⟧.steady self.old }
+    {
+        let calls = &mut self.node.value.calls;
+        calls.faults = calls.faults.saturating_add(faults);
     }
 
     /// Whether its calls fail for their arguments alone.
