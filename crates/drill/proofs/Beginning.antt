@@ -9,6 +9,7 @@ use Rattle.drill_trustees.specs.Trustees.{AreNew, IsTrustee, leaf_at, share_at}
 use Rattle.leaf_table.specs.Entries.{IsFree, IsLeased}
 use Rattle.reference_value.specs.Dealing.{Dealing}
 use Rattle.share_files.specs.declared.share.Share.{Share}
+use Rattle.drill.proofs.Counted.{all-free}
 use Rattle.drill.specs.Courses.{HasSigned, IsGoing, IsGood, IsSettled, IsShareOf, uses_of}
 use Rattle.drill.specs.Ids.{DifferentIds, id_of}
 use Rattle.drill.specs.Keys.{HasDealing}
@@ -54,6 +55,7 @@ begins desk own drill different new settled free waiting none =
           subst (λ (x : Place). IsGoing desk own.dealing i (uses_of drill.table) (leaf_at drill.trustees) x) (sym (waiting i none inside))
           (λ q within is. none-leased (id_of i) (sym (free q within) ∙ is));
       taken = λ q within. inl (free q within);
+      leaves = λ c few. all-free c (uses_of drill.table) drill.seats.items few free waiting;
       openings = subst (λ (l : List Opening). AreOwn desk own.dealing (length drill.seats.items) (uses_of drill.table) l) (sym none) (record {
         each = All-nil (IsOwn desk own.dealing (length drill.seats.items) (uses_of drill.table));
         single = λ member leaf. omega arith;

@@ -1,9 +1,8 @@
 -- One more event.
-use Rattle.std.proofs.Common.{◌≡◌, ◌≤◌, ℕ, ◌+◌, ◌*◌, ◌==◌, Bool, true, false, refl, sym, ◌∙◌, ap, arith, add-one, if◌then◌else◌}
+use Rattle.std.proofs.Common.{◌≡◌, ◌≤◌, ℕ, ◌+◌, ◌*◌, ◌==◌, Bool, true, false, refl, ◌∙◌, ap, arith, add-one, if◌then◌else◌}
 use Rattle.std.proofs.lemmas.Bool.Decides.{nat_tests}
 use Rattle.drill.specs.Summaries.{events_in}
 use Rattle.drill_events.specs.Draws.{event_at, events_of, state_at}
-use Rattle.drill_events.specs.declared.draws.Schedule.{Schedule}
 use Rattle.drill_events.specs.declared.event.Event.{Event}
 
 pub events-none : (kind : Event → Bool) (number : ℕ) → events_of kind number 0 ≡ 0
@@ -19,12 +18,6 @@ events-more kind number i = rw (add-one i) refl
 pub state-more : (number i state : ℕ) → state ≡ state_at number (176 + 3 * i + 3) → state ≡ state_at number (176 + 3 * (i + 1))
 state-more number i state is = is ∙ ap (state_at number) (omega arith)
 
--- what an event adds, counted by its schedule
-pub events-by : (kind : Event → Bool) (number i : ℕ) (schedule : Schedule) → schedule ≡ event_at number (176 + 3 * i)
-    → events_of kind number (i + 1) ≡ events_of kind number i + (if kind schedule.event then 1 else 0)
-events-by kind number i schedule is =
-    events-more kind number i ∙ ap (λ (s : Schedule). events_of kind number i + (if kind s.event then 1 else 0)) (sym is)
-
 pub one-or-none : (b : Bool) → (if b then 1 else 0) ≤ 1
 one-or-none true = omega arith
 one-or-none false = omega arith
@@ -33,3 +26,6 @@ pub events-some : (sessions events : ℕ) → (sessions ≡ 0 → ⊥) → event
 events-some sessions events some =
     let test : sessions == 0 ≡ false = grind (arith, nat_tests) in
     rw test refl
+
+pub events-few : (sessions events : ℕ) → sessions ≡ 0 → events_in sessions events ≡ 0
+events-few sessions events none = rw none refl

@@ -14,6 +14,7 @@ use Rattle.dealer.specs.declared.dealing.Dealt.{Dealt}
 use Rattle.dealer.specs.declared.faults.DealFault.{DealFault}
 use Rattle.drill_events.specs.Draws.{bytes_of, draw_at, entropy_of}
 use Rattle.lms_bytes.proofs.Parts.{length-bytes_at}
+use Rattle.drill.specs.Disks.{IsDealing}
 use Rattle.drill.specs.Keys.{HasDealing}
 
 -- the plan of a drill
@@ -103,6 +104,8 @@ no-fault params plan entropy number fault h is drawn has = is-no-fault params nu
 
 -- what was dealt, as a desk keeps it
 pub record IsDesk (plan : PlanNumbers) (dealt : Dealt) : Type 0 where
+  pub lms : dealt.public.params.lms ≡ 5
+  pub ots : dealt.public.params.ots ≡ 3
   pub hash_length : dealt.public.params.n ≡ 32
   pub chains : dealt.public.params.p ≡ 67
   pub height : dealt.public.params.h ≡ 5
@@ -115,12 +118,14 @@ pub record IsDesk (plan : PlanNumbers) (dealt : Dealt) : Type 0 where
 shares-count : (xs : List Share) → map (λ (share : Share). share.member) xs ≡ range_with_len 1 3 → length xs ≡ 3
 shares-count xs is = sym (length-map xs (λ (share : Share). share.member)) ∙ ap length is
 
-pub desk-of : (params : Params) (plan : PlanNumbers) (entropy : List ℕ) (dealt : Dealt) → params.n ≡ 32 → params.p ≡ 67 → params.h ≡ 5 → plan ≡ three
+pub desk-of : (params : Params) (plan : PlanNumbers) (entropy : List ℕ) (dealt : Dealt) → params.lms ≡ 5 → params.ots ≡ 3 → params.n ≡ 32 → params.p ≡ 67 → params.h ≡ 5 → plan ≡ three
     → IsDealt (dealing_of params plan entropy) dealt → IsDesk plan dealt
-desk-of params plan entropy dealt n p h is dealt_is =
+desk-of params plan entropy dealt lms ots n p h is dealt_is =
     let sound : IsPlan plan = rw is is-plan in
     let same = dealt_is.params in
     record {
+      lms = rw same lms;
+      ots = rw same ots;
       hash_length = rw same n;
       chains = rw same p;
       height = rw same h;
@@ -149,6 +154,12 @@ own-dealing params plan entropy number dealt n drawn is =
       dealt_is = is;
       key_is = record { params = refl; id = refl; seed = refl };
     }
+
+-- it is the drill's
+pub own-drawn : (params : Params) (plan : PlanNumbers) (entropy : List ℕ) (number : ℕ) (dealt : Dealt) (n : params.n ≡ 32) (drawn : entropy ≡ entropy_of number)
+    → (is : IsDealt (dealing_of params plan entropy) dealt) → params.lms ≡ 5 → params.ots ≡ 3 → plan ≡ three → IsDealing number (own-dealing params plan entropy number dealt n drawn is).dealing
+unfolding own-dealing
+own-drawn params plan entropy number dealt n drawn is lms ots plan_is = record { lms = lms; ots = ots; drawn = λ j. dealing_of params (plan_is j) (drawn j) }
 
 pub coalition-below : (i : ℕ) → i % 3 < count_of three
 unfolding subsets

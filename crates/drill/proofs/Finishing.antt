@@ -1,12 +1,10 @@
 -- A session that takes steps until it has ended.
-use Rattle.std.proofs.Common.{◌≡◌, ◌≢◌, ◌<◌, ◌≤◌, ◌+◌, ◌==◌, ℕ, zero, suc, Bool, true, false, if◌then◌else◌, List, [], ◌∷◌, All, None, Some, Option, length, get_or, inl, inr, refl, sym, ◌∙◌, subst, arith}
+use Rattle.std.proofs.Common.{◌≡◌, ◌≢◌, ◌<◌, ◌≤◌, ◌+◌, ◌==◌, ℕ, zero, suc, false, if◌then◌else◌, List, [], All, length, get_or, inl, inr, refl, ◌∙◌, subst, arith}
 use Rattle.std.proofs.lemmas.Bool.Decides.{nat_tests}
 use Rattle.leaf_table.specs.Entries.{IsLeased, LeafUse}
 use Rattle.opening_journal.specs.Entries.{LeafState}
 use Rattle.reference_value.specs.Dealing.{Dealing}
-use Rattle.session_core.specs.Seats.{Seat, is_filled}
-use Rattle.session_core.specs.State.{State, seats_of}
-use Rattle.drill.specs.Courses.{AreFinished, HasEnded, HasSigned, IsGoing, IsGood, IsWell, Stepped, count_filled, next_step, steps_in, steps_of, uses_of}
+use Rattle.drill.specs.Courses.{AreFinished, HasEnded, HasSigned, IsGoing, IsGood, IsWell, Stepped, next_step, steps_of, uses_of}
 use Rattle.drill_trustees.specs.Trustees.{leaf_at}
 use Rattle.drill.specs.Ids.{id_of}
 use Rattle.drill.specs.declared.openings.Opening.{Opening}
@@ -16,15 +14,12 @@ use Rattle.drill.specs.declared.seat.Seat.TheVariants.{Refused, Running, Signed,
 use Rattle.drill.specs.declared.state.Asks.{Asks}
 use Rattle.drill.specs.declared.state.Drill.{Drill}
 use Rattle.drill.specs.declared.tally.Tally.{Tally}
-use Rattle.drill.proofs.Going.{empty-x, empty-y}
+use Rattle.drill.proofs.Following.{few-steps}
 use Rattle.drill.proofs.Seated.{get_or-any}
-use Rattle.drill.proofs.Rounds.{pair-of, which}
-use Rattle.session_core.specs.Asks.{kept_masks}
-use Rattle.session_core.specs.State.{round_of}
 
 -- session i has taken at least so many steps since it began to finish
-pub record AtStep (desk : Desk) (d : Dealing) (i : ℕ) (old now : Drill) (tally : Tally) (taken : ℕ) : Type 0 where
-  pub well : IsWell desk d now tally
+pub record AtStep (desk : Desk) (d : Dealing) (extra i : ℕ) (old now : Drill) (tally : Tally) (taken : ℕ) : Type 0 where
+  pub well : IsWell desk d extra now tally
   pub least : (none : Place) → taken ≤ steps_of (get_or now.seats.items i none)
   pub others : (j : ℕ) (none : Place) → j ≢ i → get_or now.seats.items j none ≡ get_or old.seats.items j none
 
@@ -34,49 +29,18 @@ step-more (Running s) n low few = omega arith
 step-more (Signed leaf) n low few = omega arith
 step-more Refused n low few = omega arith
 
-pub one-more : (desk : Desk) (d : Dealing) (i : ℕ) (old now next : Drill) (tally after : Tally) (asks : Asks) (taken : ℕ) → AtStep desk d i old now tally taken → Stepped desk d i now next asks
-    → taken < 5 → after.granted ≡ tally.granted + asks.granted → after.cuts ≡ tally.cuts + asks.cut → after.asks ≡ tally.asks + asks.put → AtStep desk d i old next after (taken + 1)
-one-more desk d i old now next tally after asks taken at step few granted cuts put =
+pub one-more : (desk : Desk) (d : Dealing) (extra i : ℕ) (old now next : Drill) (tally after : Tally) (asks : Asks) (taken : ℕ) → AtStep desk d extra i old now tally taken → Stepped desk d i now next asks
+    → taken < 5 → after.granted ≡ tally.granted + asks.granted → after.cuts ≡ tally.cuts + asks.cut → after.asks ≡ tally.asks + asks.put → AtStep desk d extra i old next after (taken + 1)
+one-more desk d extra i old now next tally after asks taken at step few granted cuts put =
     let a = at.well.parts in
     let b = step.stays.parts in
+    let e = at.well.taken in
+    let f = step.taken in
     record {
-      well = record { good = step.stays.good; parts = omega arith };
+      well = record { good = step.stays.good; parts = omega arith; taken = omega arith };
       least = λ none. let more = step-more (get_or now.seats.items i none) taken (at.least none) few in let goes = step.goes_on none in omega arith;
       others = λ j none e. step.others j none e ∙ at.others j none e;
     }
-
-one-at-most : (b : Bool) → (if b then 1 else 0) ≤ 1
-one-at-most true = omega arith
-one-at-most false = omega arith
-
-filled-one : (x y : Seat) → is_filled x ≡ false → count_filled (x ∷ y ∷ []) ≤ 1
-unfolding count_filled
-filled-one x y empty = rw empty (let b = one-at-most (is_filled y) in omega arith)
-
-filled-other : (x y : Seat) → is_filled y ≡ false → count_filled (x ∷ y ∷ []) ≤ 1
-unfolding count_filled
-filled-other x y empty = rw empty (let b = one-at-most (is_filled x) in omega arith)
-
-at-most-three : (s : State) (o : Option (List ℕ)) → s.c ≡ o → steps_in s ≤ 3 + count_filled (seats_of s)
-at-most-three s None is = let e : steps_in s ≡ 1 + count_filled (seats_of s) = rw is refl in omega arith
-at-most-three s (Some c) is = let e : steps_in s ≡ 3 + count_filled (seats_of s) = rw is refl in omega arith
-
--- a session that goes on has a step left
-few-steps : (desk : Desk) (d : Dealing) (i : ℕ) (uses : ℕ → LeafUse) (leaves : ℕ → ℕ → LeafState) (s : State) → IsGoing desk d i uses leaves (Running s) → steps_in s ≤ 4
-few-steps desk d i uses leaves s going =
-    let c = going.0 in
-    let t = going.1.0 in
-    let p = pair-of s c.session (c.of.plan_is ∙ desk.plan_is) in
-    let most = at-most-three s s.c refl in
-    let filled : count_filled (seats_of s) ≤ 1 = elim (which s p t going.1.1.0) [
-      | inl e ↦
-          subst (λ (l : List Seat). count_filled l ≤ 1) (sym p.seats)
-          (filled-one p.x p.y (empty-x desk d i uses leaves s p c (subst (λ (u : ℕ). kept_masks s (round_of s) u ≡ None) e going.1.1.1)))
-      | inr e ↦
-          subst (λ (l : List Seat). count_filled l ≤ 1) (sym p.seats)
-          (filled-other p.x p.y (empty-y desk d i uses leaves s p c (subst (λ (u : ℕ). kept_masks s (round_of s) u ≡ None) e going.1.1.1)))
-    ] in
-    omega arith
 
 ended-of : (desk : Desk) (d : Dealing) (i : ℕ) (uses : ℕ → LeafUse) (leaves : ℕ → ℕ → LeafState) (place : Place) → IsGoing desk d i uses leaves place → 5 ≤ steps_of place → HasEnded place
 ended-of desk d i uses leaves Waiting going low = absurd (omega arith)
@@ -84,8 +48,8 @@ ended-of desk d i uses leaves (Running s) going low = let few = few-steps desk d
 ended-of desk d i uses leaves (Signed leaf) going low = tt
 ended-of desk d i uses leaves Refused going low = tt
 
-pub all-ended : (desk : Desk) (d : Dealing) (drill : Drill) (tally : Tally) → AreFinished desk d (length drill.seats.items) drill tally → All HasEnded drill.seats.items
-all-ended desk d drill tally f = λ k none inside.
+pub all-ended : (desk : Desk) (d : Dealing) (extra : ℕ) (drill : Drill) (tally : Tally) → AreFinished desk d extra (length drill.seats.items) drill tally → All HasEnded drill.seats.items
+all-ended desk d extra drill tally f = λ k none inside.
     ended-of desk d k (uses_of drill.table) (leaf_at drill.trustees) (get_or drill.seats.items k none) (f.well.good.seats k none inside) (f.ended k none inside)
 
 -- ---- openings, once all sessions have ended

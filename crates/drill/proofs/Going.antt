@@ -23,7 +23,7 @@ use Rattle.session_core.specs.State.{IsSession, SameAsk, State, round_of, seats_
 use Rattle.session_core.specs.Verdicts.{digest_of}
 use Rattle.share_files.specs.declared.share.Share.{Share}
 use Rattle.trustee_core.specs.Decisions.{HasTag, longest_message}
-use Rattle.drill.specs.Courses.{Awaits, count_filled, IsHonest, IsNext, IsOnCourse, IsShareOf, Stands, asked, own_masks}
+use Rattle.drill.specs.Courses.{Awaits, count_filled, IsHonest, IsNext, IsOnCourse, IsOnly, IsShareOf, Stands, asked, own_masks}
 use Rattle.drill.specs.Ids.{id_of}
 use Rattle.drill.specs.Keys.{HasDealing}
 use Rattle.drill.specs.Seats.{IsOf}
@@ -135,12 +135,13 @@ module _ (desk : Desk) (d : Dealing) (i : ℕ) (map : ℕ → LeafUse) where
   Honest s = IsHonest d s (digest_of s m)
 
   pub course : (leaves : ℕ → ℕ → LeafState) (s : State) (p : Pair s) → IsSession s → IsOf desk.dealt.public desk.plan i s → s.leaf % 3 ≡ i % 3 → map s.leaf ≡ IsLeased (id_of i)
-      → IfSome s.c (λ c. c ≡ leaf_randomizer d s.leaf) → Honest s p.x → Honest s p.y → StandsAt leaves s m p.x → StandsAt leaves s m p.y → IsOnCourse desk d i map leaves s
-  course leaves s p session of coalition leased c hx hy sx sy = record {
+      → IsOnly i map s.leaf → IfSome s.c (λ c. c ≡ leaf_randomizer d s.leaf) → Honest s p.x → Honest s p.y → StandsAt leaves s m p.x → StandsAt leaves s m p.y → IsOnCourse desk d i map leaves s
+  course leaves s p session of coalition leased only c hx hy sx sy = record {
     session = session;
     of = of;
     coalition = coalition;
     leased = leased;
+    only = only;
     c = c;
     seats = subst (λ (l : List Seat). All (Honest s) l) (sym p.seats) (All-cons (Honest s) p.x (p.y ∷ []) hx (All-cons (Honest s) p.y [] hy (All-nil (Honest s))));
     members = λ t member. elim (which s p t member) [
@@ -173,6 +174,7 @@ module _ (desk : Desk) (d : Dealing) (i : ℕ) (map : ℕ → LeafUse) where
     of = c.of;
     coalition = c.coalition;
     leased = c.leased;
+    only = c.only;
     c = c.c;
     seats = c.seats;
     members = λ u member. elim (cases_eq u t) [
@@ -232,7 +234,7 @@ module _ (desk : Desk) (d : Dealing) (i : ℕ) (map : ℕ → LeafUse) where
       let other = sets.others p.y.member s.leaf (trustee-of s p p.y.member (second-member s p)) (λ e. absurd (let o = p.order in omega arith)) in
       record {
         course =
-            course (leaf_at new) s' p' session of (ap (λ (q : ℕ). q % 3) same.leaf ∙ c.coalition) (ap map same.leaf ∙ c.leased) (rw (same.c, same.leaf) c.c)
+            course (leaf_at new) s' p' session of (ap (λ (q : ℕ). q % 3) same.leaf ∙ c.coalition) (ap map same.leaf ∙ c.leased) (λ q within is. c.only q within is ∙ sym same.leaf) (rw (same.c, same.leaf) c.c)
             (inr (refl, is ∙ sym (same-masks s s' p.x.member same))) (move-honest s s' p.y same (honest-y (leaf_at old) s p c))
             (here-stands old new s s' x p.x.member refl sets same) (move-stands old new s s' p.y other same (stands-y (leaf_at old) s p c));
         filled = ap count_filled now ∙ (count-more p.x p.y masks empty ∙ ap (λ (l : List Seat). suc (count_filled l)) (sym p.seats));
@@ -249,7 +251,7 @@ module _ (desk : Desk) (d : Dealing) (i : ℕ) (map : ℕ → LeafUse) where
       let other = sets.others p.x.member s.leaf (trustee-of s p p.x.member (first-member s p)) (λ e. absurd (let o = p.order in omega arith)) in
       record {
         course =
-            course (leaf_at new) s' p' session of (ap (λ (q : ℕ). q % 3) same.leaf ∙ c.coalition) (ap map same.leaf ∙ c.leased) (rw (same.c, same.leaf) c.c)
+            course (leaf_at new) s' p' session of (ap (λ (q : ℕ). q % 3) same.leaf ∙ c.coalition) (ap map same.leaf ∙ c.leased) (λ q within is. c.only q within is ∙ sym same.leaf) (rw (same.c, same.leaf) c.c)
             (move-honest s s' p.x same (honest-x (leaf_at old) s p c)) (inr (refl, is ∙ sym (same-masks s s' p.y.member same)))
             (move-stands old new s s' p.x other same (stands-x (leaf_at old) s p c)) (here-stands old new s s' y p.y.member refl sets same);
         filled = ap count_filled now ∙ (count-last p.x p.y masks empty ∙ ap (λ (l : List Seat). suc (count_filled l)) (sym p.seats));

@@ -1,5 +1,5 @@
 -- What leasing a leaf for a session gives, where nothing is in doubt and none is leased for its message.
-use Rattle.std.proofs.Common.{◌≡◌, ◌≢◌, ◌<◌, ◌%◌, ◌++◌, ℕ, List, [], ◌∷◌, Contains, Option, None, Some, IsSome, IsTrue, Result, Ok, Err, inl, inr, refl, sym, ◌∙◌, ap, subst}
+use Rattle.std.proofs.Common.{◌≡◌, ◌≢◌, ◌<◌, ◌%◌, ℕ, List, [], Contains, Option, None, Some, IsSome, IsTrue, Result, Ok, Err, inl, inr, refl, sym, ◌∙◌, ap, subst}
 use Rattle.std.proofs.lemmas.Bool.{cases_eq}
 use Rattle.std.proofs.lemmas.List.Elements.{Contains-get_or}
 use Rattle.coalition_map.specs.Coalitions.{IsLeafAfter, PlanNumbers, coalition, coalitions, count_of, subsets}
@@ -19,7 +19,7 @@ use Rattle.leaf_table.proofs.Maps.{map_of-other, map_of-same}
 use Rattle.lms_bytes.specs.MessageId.{message_id, message_id_bytes}
 use Rattle.lms_bytes.specs.declared.message.MessageId.{MessageId}
 use Rattle.drill_events.specs.Draws.{message_bytes}
-use Rattle.drill.specs.Courses.{Grows, IsBare, IsSettled, uses_of}
+use Rattle.drill.specs.Courses.{Grows, IsBare, IsOnly, IsSettled, uses_of}
 use Rattle.drill.specs.Ids.{id_of}
 use Rattle.drill.proofs.Desks.{coalition-below, three}
 
@@ -47,6 +47,7 @@ pub record IsNew (i : ℕ) (old new : ℕ → LeafUse) (leaf : ℕ) : Type 0 whe
   pub own : leaf % 3 ≡ i % 3
   pub was : old leaf ≡ IsFree
   pub leased : new leaf ≡ IsLeased (id_of i)
+  pub only : IsOnly i new leaf
 
 abbrev pub Ends : ℕ → (ℕ → LeafUse) → (ℕ → LeafUse) → Result ℕ TableFault → Type 0
 Ends i old new (Ok leaf) = IsNew i old new leaf
@@ -62,7 +63,7 @@ module _ (i : ℕ) (before : TableState) (sure : before.doubt ≡ None) (bare : 
   number members c is own = coalition-distinct three c (i % 3) own.within (coalition-below i) (own.members_are ∙ is)
 
   stays : (settled : TableState) → SettlesTo before settled → Grows i (map_of before.entries) (map_of settled.entries)
-  stays settled settles q within = inl (ap (λ (e : List Lease). map_of e q) (same-state before settled sure settles).0)
+  stays settled settles = inl (λ q within. ap (λ (e : List Lease). map_of e q) (same-state before settled sure settles).0)
 
   place-of : (c leaf : ℕ) → c ≡ i % 3 → IsLeafAfter three c None leaf → (leaf < 32) × (leaf % 3 ≡ i % 3)
   place-of c leaf is after = (after.leaf, subst (λ (n : ℕ). leaf % n ≡ i % 3) count-three (after.own ∙ is))
@@ -81,11 +82,26 @@ module _ (i : ℕ) (before : TableState) (sure : before.doubt ≡ None) (bare : 
       let was = ap (λ (e : List Lease). map_of e leaf) (sym same) ∙ used in
       let now = map_of-same settled.entries (Leased leaf message) leaf refl ∙ ap (λ (x : MessageId). IsLeased (message_id_bytes x)) is in
       record {
-        grows = λ q within. elim (cases_eq q leaf) [
-          | inl e ↦ inr (ap (map_of before.entries) e ∙ was, (ap (λ (x : ℕ). x % 3) e ∙ place.1, ap (map_of (settled.entries ++ Leased leaf message ∷ [])) e ∙ now))
-          | inr other ↦ inl (map_of-other settled.entries (Leased leaf message) q other ∙ ap (λ (e : List Lease). map_of e q) same)
-        ];
-        ends = record { within = place.0; own = place.1; was = was; leased = now };
+        grows = inr (record {
+          leaf = leaf;
+          within = place.0;
+          coalition = place.1;
+          free = was;
+          bare = bare;
+          leased = now;
+          others = λ q other. map_of-other settled.entries (Leased leaf message) q other ∙ ap (λ (e : List Lease). map_of e q) same;
+        });
+        ends = record {
+          within = place.0;
+          own = place.1;
+          was = was;
+          leased = now;
+          only = λ q within leased. elim (cases_eq q leaf) [
+            | inl e ↦ e
+            | inr other ↦
+                absurd (bare q within (ap (λ (e : List Lease). map_of e q) (sym same) ∙ sym (map_of-other settled.entries (Leased leaf message) q other) ∙ leased))
+          ];
+        };
         settled = refl;
       }
   leased-for after members message result theirs is goes (no_leaf settled c own settles found) =

@@ -10,7 +10,12 @@ pub mod Replying
 pub mod Stepping
 pub mod Leasing
 pub mod Noting
+pub mod Sums
+pub mod Counted
 pub mod Starting
+pub mod Following
 pub mod Seated
+pub mod Playing
 pub mod Finishing
 pub mod Beginning
+pub mod Held

@@ -1,6 +1,7 @@
 -- What asks make of the openings that are noted.
-use Rattle.std.proofs.Common.{◌≡◌, ◌≢◌, ◌<◌, ◌≤◌, ◌++◌, ◌+◌, ℕ, Bool, true, false, List, [], ◌∷◌, All, IfSome, Some, IsSome, count_by, get_or, zero, suc, if◌then◌else◌, length, inl, inr, refl, sym, ◌∙◌, ap, subst, arith}
+use Rattle.std.proofs.Common.{◌≡◌, ◌≢◌, ◌⊎◌, ◌<◌, ◌≤◌, ◌%◌, ◌++◌, ◌+◌, ℕ, Bool, true, false, List, [], ◌∷◌, All, IfSome, Some, IsSome, count_by, get_or, zero, suc, if◌then◌else◌, length, inl, inr, refl, sym, ◌∙◌, ap, subst, arith}
 use Rattle.std.specs.Prelude.{cond}
+use Rattle.std.proofs.lemmas.Bool.{cases_eq}
 use Rattle.std.proofs.lemmas.Bool.Decides.{nat_tests}
 use Rattle.std.proofs.lemmas.List.{length-append}
 use Rattle.std.proofs.lemmas.List.Elements.{All-append, All-cons, All-head, All-nil, All-tail}
@@ -97,6 +98,14 @@ leased-same a b is = cc
 pub free-not : (a : List ℕ) → IsFree ≡ IsLeased a → ⊥
 free-not a is = absurd (cc)
 
+-- what a step of session i makes of one leaf
+pub at-leaf : (i : ℕ) (old new : ℕ → LeafUse) → Grows i old new → (q : ℕ) → q < 32 → (new q ≡ old q) ⊎ ((old q ≡ IsFree) × ((q % 3 ≡ i % 3) × (new q ≡ IsLeased (id_of i))))
+at-leaf i old new (inl same) q within = inl (same q within)
+at-leaf i old new (inr takes) q within = elim (cases_eq q takes.leaf) [
+  | inl e ↦ inr (ap old e ∙ takes.free, (ap (λ (x : ℕ). x % 3) e ∙ takes.coalition, ap new e ∙ takes.leased))
+  | inr other ↦ inl (takes.others q other)
+]
+
 module _ (desk : Desk) (d : Dealing) (count : ℕ) where
   same-own : (map : ℕ → LeafUse) (x o : Opening) → DifferentIds count → IsOwn desk d count map x → IsOwn desk d count map o → x.member ≡ o.member → x.leaf ≡ o.leaf → x ≡ o
   same-own map x o different a b member leaf =
@@ -118,7 +127,7 @@ module _ (desk : Desk) (d : Dealing) (count : ℕ) where
           session = o.session;
           within = o.within;
           leaf = o.leaf;
-          leased = elim (grows (get_or openings k none).leaf o.leaf) [ inl same ↦ same ∙ o.leased | inr fresh ↦ absurd (free-not (id_of o.session) (sym fresh.0 ∙ o.leased)) ];
+          leased = elim (at-leaf i uses after grows (get_or openings k none).leaf o.leaf) [ inl same ↦ same ∙ o.leased | inr fresh ↦ absurd (free-not (id_of o.session) (sym fresh.0 ∙ o.leased)) ];
           c = o.c;
           digest = o.digest;
         };

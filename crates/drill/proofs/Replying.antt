@@ -1,12 +1,11 @@
 -- The reply to a session's next ask: a grant's masks are the member's own.
-use Rattle.std.proofs.Common.{◌≡◌, ◌*◌, ℕ, true, false, List, ◌++◌, None, Some, IfSome, length, inl, inr, refl, sym, ◌∙◌, ap, subst}
+use Rattle.std.proofs.Common.{◌≡◌, ◌*◌, ℕ, true, false, List, ◌++◌, None, Some, length, inl, inr, refl, sym, ◌∙◌, ap, subst}
 use Rattle.drill_events.specs.Draws.{message_bytes}
 use Rattle.drill_trustees.specs.Trustees.{leaf_at, share_at}
 use Rattle.drill_trustees.specs.declared.trustees.Trustees.{Trustees}
 use Rattle.leaf_table.specs.Entries.{LeafUse}
 use Rattle.lms_bytes.specs.Bytes.{joined}
 use Rattle.lms_bytes.specs.Digits.{digit_of}
-use Rattle.lms_bytes.specs.declared.ask.Ask.{Ask}
 use Rattle.lms_bytes.specs.declared.params.Params.{Params}
 use Rattle.lms_bytes.specs.declared.public_key.PublicKey.{PublicKey}
 use Rattle.lms_bytes.proofs.Joined.{joined-more, joined-none, length-joined}
@@ -68,9 +67,6 @@ has-seat desk d i map leaves s t p c awaits = elim (which s p t awaits.0) [
         ∙ (ap is_filled (seat-two p.x p.y p.order) ∙ empty-y desk d i map leaves s p c (subst (λ (u : ℕ). kept_masks s (round_of s) u ≡ None) e awaits.1));
   })
 ]
-
-some-ask : (grant : Grant) (ask : Ask) → IfSome (Some grant) (λ g. ask_of g ≡ ask) → ask_of grant ≡ ask
-some-ask grant ask is = is
 
 module _ (desk : Desk) (own : HasDealing desk.plan desk.dealt) (i : ℕ) (map : ℕ → LeafUse) (old new : Trustees) (s s' : State) (next : NextAsk) (grant : Grant)
     (g : IsGranted desk own.dealing i map old new s next (Some grant)) where

@@ -1,8 +1,8 @@
 -- A session that starts, and one that puts its next ask.
-use Rattle.std.proofs.Common.{◌≡◌, ◌≢◌, ◌<◌, ◌%◌, ◌+◌, ℕ, suc, List, [], ◌∷◌, All, None, map, inl, inr, refl, sym, ◌∙◌, ap, subst, arith}
+use Rattle.std.proofs.Common.{◌≡◌, ◌≢◌, ◌⊎◌, ◌<◌, ◌%◌, ◌+◌, ℕ, suc, List, [], ◌∷◌, All, Contains, None, map, inl, inr, refl, sym, ◌∙◌, ap, subst, arith}
 use Rattle.std.proofs.lemmas.Bool.{cases_eq}
 use Rattle.std.proofs.lemmas.List.Elements.{All-cons, All-head, All-nil, All-tail}
-use Rattle.coalition_map.specs.Coalitions.{leaf_members}
+use Rattle.coalition_map.specs.Coalitions.{PlanNumbers, leaf_members}
 use Rattle.drill_events.specs.Draws.{message_bytes}
 use Rattle.drill_trustees.specs.Members.{state_after, state_before}
 use Rattle.drill_trustees.specs.Trustees.{IsTrustee, SameShares, SetsAt, leaf_at}
@@ -18,13 +18,13 @@ use Rattle.session_core.specs.Seats.{Seat, empty_seat}
 use Rattle.session_core.specs.State.{IsSession, State, seats_of, started}
 use Rattle.session_core.specs.Verdicts.{digest_of}
 use Rattle.share_files.specs.declared.share.Share.{Share}
-use Rattle.drill.specs.Courses.{AllKept, AreFree, Awaits, GoesTo, Grows, HaveShares, IsGoing, IsNext, IsOnCourse, IsShareOf, Moves, asked, count_filled, steps_in}
+use Rattle.drill.specs.Courses.{AllKept, AreFree, Awaits, GoesTo, Grows, HaveShares, IsGoing, IsNext, IsOnCourse, IsOnly, IsOut, IsShareOf, asked, count_filled, steps_in, HasEnded, Steps}
 use Rattle.drill.specs.Ids.{id_of}
 use Rattle.drill.specs.declared.asks.NextAsk.{NextAsk}
 use Rattle.drill.specs.declared.desk.Desk.{Desk}
 use Rattle.drill.specs.declared.seat.Seat.{Seat as Place}
 use Rattle.drill.specs.declared.state.Asks.{Asks}
-use Rattle.drill.specs.declared.seat.Seat.TheVariants.{Running}
+use Rattle.drill.specs.declared.seat.Seat.TheVariants.{Refused, Running, Signed, Waiting}
 use Rattle.drill.proofs.Going.{StandsAt, after-any, course, trustee-of}
 use Rattle.drill.proofs.Desks.{three}
 use Rattle.drill.proofs.Leasing.{IsNew}
@@ -48,9 +48,9 @@ pub record Starts (desk : Desk) (d : Dealing) (i : ℕ) (uses : ℕ → LeafUse)
   pub steps : steps_in s ≡ 1
 
 pub starts : (desk : Desk) (d : Dealing) (i : ℕ) (uses : ℕ → LeafUse) (leaves : ℕ → ℕ → LeafState) (leaf : ℕ) → IsSession (started desk.dealt.public desk.plan leaf (message_id (message_bytes i)))
-    → leaf % 3 ≡ i % 3 → uses leaf ≡ IsLeased (id_of i) → ((t : ℕ) → IsTrustee t → leaves t leaf ≡ journals.IsFree)
+    → leaf % 3 ≡ i % 3 → uses leaf ≡ IsLeased (id_of i) → IsOnly i uses leaf → ((t : ℕ) → IsTrustee t → leaves t leaf ≡ journals.IsFree)
     → Starts desk d i uses leaves (started desk.dealt.public desk.plan leaf (message_id (message_bytes i)))
-starts desk d i uses leaves leaf session own leased free =
+starts desk d i uses leaves leaf session own leased only free =
     let s = started desk.dealt.public desk.plan leaf (message_id (message_bytes i)) in
     let m = message_bytes i in
     let q = pair-of s session desk.plan_is in
@@ -63,7 +63,7 @@ starts desk d i uses leaves leaf session own leased free =
     let sy : StandsAt leaves s m q.y = record { may = inl (free q.y.member (trustee-of s q q.y.member (second-member s q)) ∙ before); kept = λ some. absurd (some (no-reply q.y ey)) } in
     record {
       going = (
-        course desk d i uses leaves s q session (record { key_is = refl; plan_is = refl; message_is = refl }) own leased tt (inl ex) (inl ey) sx sy,
+        course desk d i uses leaves s q session (record { key_is = refl; plan_is = refl; message_is = refl }) own leased only tt (inl ex) (inl ey) sx sy,
         (q.x.member, (first-member s q, kept-one s q ∙ no-reply q.x ex)),
       );
       steps = first-steps s refl ∙ ap (λ (n : ℕ). 1 + n) (ap count_filled q.seats ∙ none-filled q.x q.y ex ey);
@@ -80,29 +80,34 @@ sets-for desk s m next old new is sets =
     let state : state_after next.ask ≡ state_after (asked s m) = ap state_after is.ask ∙ after-any _ [] (digest_of s m) s in
     subst (λ (q : ℕ). SetsAt old new next.member q (state_after (asked s m))) leaf (subst (λ (x : LeafState). SetsAt old new next.member next.ask.leaf x) state sets)
 
--- no leaf but the session's changes
-pub others-stay : (old new : Trustees) (member leaf i : ℕ) (state : LeafState) (uses : ℕ → LeafUse) → SetsAt old new member leaf state → uses leaf ≡ IsLeased (id_of i) → IsTrustee member
-    → (t q : ℕ) → IsTrustee t → q < 32 → uses q ≢ IsLeased (id_of i) → leaf_at new t q ≡ leaf_at old t q
-others-stay old new member leaf i state uses sets leased trustee t q own within other = elim (cases_eq t member) [
+-- no leaf but the session's changes, and that with a member alone
+pub others-stay : (old new : Trustees) (member leaf i : ℕ) (state : LeafState) (uses : ℕ → LeafUse) → SetsAt old new member leaf state → uses leaf ≡ IsLeased (id_of i)
+    → Contains (leaf_members three leaf) member → (t q : ℕ) → IsTrustee t → q < 32 → (uses q ≢ IsLeased (id_of i)) ⊎ IsOut t q → leaf_at new t q ≡ leaf_at old t q
+others-stay old new member leaf i state uses sets leased theirs t q own within other = elim (cases_eq t member) [
   | inl e ↦
       subst (λ (u : ℕ). leaf_at new u q ≡ leaf_at old u q) (sym e)
-      (sets.leaves q within (λ same. other (ap uses same ∙ leased)))
+      (sets.leaves q within (λ same. elim other [
+        | inl differs ↦ differs (ap uses same ∙ leased)
+        | inr out ↦ out (subst (λ (r : ℕ). Contains (leaf_members three r) t) (sym same) (subst (λ (u : ℕ). Contains (leaf_members three leaf) u) (sym e) theirs))
+      ]))
   | inr e ↦ sets.others t q own e
 ]
 
 pub lease-moves : (desk : Desk) (d : Dealing) (i : ℕ) (uses after : ℕ → LeafUse) (old : Trustees) (leaf : ℕ) (s : State) → HaveShares d old → AreFree uses (leaf_at old)
     → Grows i uses after → IsNew i uses after leaf → s ≡ started desk.dealt.public desk.plan leaf (message_id (message_bytes i)) → IsSession s
-    → Moves desk d i uses after old old 1 (Running s) (record { put = 0; granted = 0; cut = 0 })
+    → Steps desk d i uses after old old Waiting (Running s) (record { put = 0; granted = 0; cut = 0 })
 lease-moves desk d i uses after old leaf s shares free grows new same session =
-    let st = starts desk d i after (leaf_at old) leaf (subst (λ (z : State). IsSession z) same session) new.own new.leased (λ t own. free t leaf own new.within new.was) in
+    let st = starts desk d i after (leaf_at old) leaf (subst (λ (z : State). IsSession z) same session) new.own new.leased new.only (λ t own. free t leaf own new.within (inl new.was)) in
     let steps : steps_in s ≡ 1 = ap steps_in same ∙ st.steps in
     record {
-      grows = grows;
-      going = subst (λ (z : State). IsGoing desk d i after (leaf_at old) (Running z)) (sym same) st.going;
-      least = omega arith;
-      shares = shares;
-      stays = λ t q own within other. refl;
-      parts = refl;
+      moves = record {
+        grows = grows;
+        going = subst (λ (z : State). IsGoing desk d i after (leaf_at old) (Running z)) (sym same) st.going;
+        shares = shares;
+        stays = λ t q own within other. refl;
+        parts = refl;
+      };
+      advances = record { least = omega arith; exact = λ has. steps; put = refl };
     }
 
 -- where a member is awaited there is a next ask
@@ -114,14 +119,32 @@ not-all s session plan awaited all =
 -- a session's next ask, granted and taken
 pub ask-moves : (desk : Desk) (d : Dealing) (i : ℕ) (uses : ℕ → LeafUse) (old new : Trustees) (s : State) (next : NextAsk) (place : Place) (asks : Asks)
     → IsOnCourse desk d i uses (leaf_at old) s → IsNext desk s (message_bytes i) next → HaveShares d new → SetsAt old new next.member s.leaf (state_after (asked s (message_bytes i)))
-    → GoesTo desk d i uses (leaf_at new) (suc (steps_in s)) place → asks.granted + asks.cut ≡ asks.put → Moves desk d i uses uses old new (suc (steps_in s)) place asks
-ask-moves desk d i uses old new s next place asks course is shares sets goes parts =
+    → GoesTo desk d i uses (leaf_at new) (suc (steps_in s)) place → asks.granted + asks.cut ≡ asks.put → asks.put ≡ 1
+    → Steps desk d i uses uses old new (Running s) place asks
+ask-moves desk d i uses old new s next place asks course is shares sets goes parts one =
     let steps = goes.steps_are in
     record {
-      grows = λ q within. inl refl;
-      going = goes.going;
-      least = omega arith;
-      shares = shares;
-      stays = others-stay old new next.member s.leaf i (state_after (asked s (message_bytes i))) uses sets course.leased is.trustee;
-      parts = parts;
+      moves = record {
+        grows = inl (λ q within. refl);
+        going = goes.going;
+        shares = shares;
+        stays = others-stay old new next.member s.leaf i (state_after (asked s (message_bytes i))) uses sets course.leased
+            (subst (λ (p : PlanNumbers). Contains (leaf_members p s.leaf) next.member) (course.of.plan_is ∙ desk.plan_is) is.awaits.0);
+        parts = parts;
+      };
+      advances = record { least = omega arith; exact = λ has. steps; put = one };
     }
+
+-- a session that has ended stays where it is
+pub ended-stays : (desk : Desk) (d : Dealing) (i : ℕ) (uses : ℕ → LeafUse) (old : Trustees) (place : Place) → HasEnded place → IsGoing desk d i uses (leaf_at old) place → HaveShares d old
+    → Steps desk d i uses uses old old place place (record { put = 0; granted = 0; cut = 0 })
+ended-stays desk d i uses old Waiting ended going shares = absurd ended
+ended-stays desk d i uses old (Running s) ended going shares = absurd ended
+ended-stays desk d i uses old (Signed leaf) ended going shares = record {
+  moves = record { grows = inl (λ q within. refl); going = going; shares = shares; stays = λ t q own within other. refl; parts = refl };
+  advances = record { least = omega arith; exact = λ has. refl; put = refl };
+}
+ended-stays desk d i uses old Refused ended going shares = record {
+  moves = record { grows = inl (λ q within. refl); going = going; shares = shares; stays = λ t q own within other. refl; parts = refl };
+  advances = record { least = omega arith; exact = λ has. refl; put = refl };
+}

@@ -22,7 +22,8 @@ use Rattle.session_core.specs.Seats.{Seat}
 use Rattle.session_core.specs.State.{IsSession, State, seats_of, turned}
 use Rattle.session_core.specs.Verdicts.{digest_of}
 use Rattle.session_core.specs.declared.faults.SessionFault.{SessionFault}
-use Rattle.drill.specs.Courses.{AllKept, Awaits, IsHonest, IsOnCourse, IsSigned, asked, count_filled, opened_for, own_masks}
+use Rattle.drill.specs.Courses.{AllKept, Awaits, IsHonest, IsOnCourse, IsSigned, asked, count_filled, own_masks}
+use Rattle.drill.specs.Disks.{opened_for}
 use Rattle.drill.specs.Keys.{HasDealing}
 use Rattle.drill.specs.Seats.{IsOf}
 use Rattle.drill.specs.declared.desk.Desk.{Desk}
@@ -153,6 +154,7 @@ module _ (desk : Desk) (own : HasDealing desk.plan desk.dealt) (i : ℕ) (map : 
         within = (let h : s.key.params.h ≡ 5 = ap (λ (q : Params). q.h) params ∙ desk.height in rw h at c.session.leaf);
         coalition = c.coalition;
         leased = c.leased;
+        only = c.only;
         opened = λ t member. after-all t (subst (λ (q : PlanNumbers). Contains (leaf_members q s.leaf) t) plan member) ∙ state;
       }
 
@@ -187,7 +189,7 @@ module _ (desk : Desk) (own : HasDealing desk.plan desk.dealt) (i : ℕ) (map : 
       let sy : StandsAt leaves after m q.y = record { may = inl (after-all q.y.member (second-member after q) ∙ after-first [] (digest_of s m) s none); kept = λ some. absurd (some my) } in
       let of : IsOf desk.dealt.public desk.plan i after = record { key_is = c.of.key_is; plan_is = c.of.plan_is; message_is = c.of.message_is } in
       record {
-        course = course desk d i map leaves after q session of c.coalition c.leased refl (inl ex) (inl ey) sx sy;
+        course = course desk d i map leaves after q session of c.coalition c.leased c.only refl (inl ex) (inl ey) sx sy;
         awaited = (q.x.member, (first-member after q, kept-one after q ∙ mx));
         filled = ap count_filled q.seats ∙ none-filled q.x q.y ex ey;
       }

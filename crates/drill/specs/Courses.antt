@@ -1,10 +1,11 @@
 -- internal: How a session of a drill goes on, where no two messages have one id.
-use Rattle.std.specs.Prelude.{◌≡◌, ◌≢◌, ◌⊎◌, ◌<◌, ◌≤◌, ◌%◌, ◌+◌, ℕ, suc, List, [], ◌∷◌, All, Contains, IfSome}
+use Rattle.std.specs.Prelude.{◌≡◌, ◌≢◌, ◌⊎◌, ◌<◌, ◌≤◌, ◌%◌, ◌+◌, ◌-◌, ℕ, suc, List, [], ◌∷◌, All, Contains, IfSome}
 use Rattle.std.specs.Prelude.{IsSome, None, Some, Option, length, replicate, slice_index_or, if◌then◌else◌}
 use Rattle.coalition_map.specs.Coalitions.{leaf_members}
 use Rattle.disk_trait.specs.declared.disk.Pages as pages
 use Rattle.disk_trait.specs.declared.faults.Faults as faults
 use Rattle.drill_events.specs.Draws.{message_bytes}
+use Rattle.drill_events.specs.declared.event.Event.{Event}
 use Rattle.drill_trustees.specs.Members.{state_after, state_before}
 use Rattle.drill_trustees.specs.Trustees.{IsTrustee, SetsAt, leaf_at, share_at}
 use Rattle.drill_trustees.specs.declared.trustees.Trustees.{Trustees}
@@ -16,8 +17,7 @@ use Rattle.lms_bytes.specs.declared.ask.Ask.{Ask}
 use Rattle.lms_bytes.specs.declared.ask.ReplyHead.{ReplyHead}
 use Rattle.lms_bytes.specs.declared.params.Params.{Params}
 use Rattle.opening_journal.specs.Entries as journals
-use Rattle.opening_journal.specs.Entries.{IsOpened, LeafState}
-use Rattle.ots_chain.specs.MessageHash.{message_digest}
+use Rattle.opening_journal.specs.Entries.{LeafState}
 use Rattle.reference_value.specs.Dealing.{Dealing, key_of, leaf_randomizer, random_mask}
 use Rattle.reference_value.specs.Places.{tag_in}
 use Rattle.session_core.specs.Asks.{ask_with, kept_masks}
@@ -28,8 +28,11 @@ use Rattle.session_core.specs.Verdicts.{digest_of}
 use Rattle.share_files.specs.declared.share.Share.{Share}
 use Rattle.trustee_core.specs.Grants.{ask_of, mask_of, masks_of as mask_count}
 use Rattle.trustee_core.specs.declared.grant.Grant.{Grant}
+use Rattle.drill.specs.Disks.{opened_for}
+use Rattle.drill.specs.Counts.{free_of, held_by, holds, sum_below}
 use Rattle.drill.specs.Ids.{DifferentIds, id_of}
 use Rattle.drill.specs.Openings.{AreOwn}
+use Rattle.drill.specs.Schedules.{Progress, after_event, after_step, extra_asks, extra_in, leaves_of, progress_of}
 use Rattle.drill.specs.Seats.{IsOf}
 use Rattle.drill.specs.declared.asks.NextAsk.{NextAsk}
 use Rattle.drill.specs.declared.desk.Desk.{Desk}
@@ -62,14 +65,19 @@ pub record Stands (leaves : ℕ → ℕ → LeafState) (s : State) (message : Li
   pub may : (leaves t s.leaf ≡ state_before (asked s message)) ⊎ (leaves t s.leaf ≡ state_after (asked s message))
   pub kept : kept_masks s (round_of s) t ≢ None → leaves t s.leaf ≡ state_after (asked s message)
 
--- The session is of the key and of message i, with a leaf of its coalition that is leased for it. It has the dealer's
--- randomizer in round two, and each reply that it keeps is the member's own masks.
+-- no other leaf is leased for message i
+abbrev pub IsOnly : ℕ → (ℕ → LeafUse) → ℕ → Type 0
+IsOnly i map leaf = (q : ℕ) → q < 32 → map q ≡ IsLeased (id_of i) → q ≡ leaf
+
+-- The session is of the key and of message i, with a leaf of its coalition that is leased for it, and no other is. It
+-- has the dealer's randomizer in round two, and each reply that it keeps is the member's own masks.
 pub record IsOnCourse (desk : Desk) (d : Dealing) (i : ℕ) (map : ℕ → LeafUse) (leaves : ℕ → ℕ → LeafState)
     (s : State) : Type 0 where
   pub session : IsSession s
   pub of : IsOf desk.dealt.public desk.plan i s
   pub coalition : s.leaf % 3 ≡ i % 3
   pub leased : map s.leaf ≡ IsLeased (id_of i)
+  pub only : IsOnly i map s.leaf
   pub c : IfSome s.c (λ c. c ≡ leaf_randomizer d s.leaf)
   pub seats : All (IsHonest d s (digest_of s (message_bytes i))) (seats_of s)
   pub members : (t : ℕ) → Contains (leaf_members s.plan s.leaf) t → Stands leaves s (message_bytes i) t
@@ -103,17 +111,13 @@ pub record IsShareOf (d : Dealing) (t : ℕ) (share : Share) : Type 0 where
   pub key : share.key ≡ key_of d t
   pub member : share.member ≡ t
 
--- the randomizer and the digest of message i under which leaf q is opened
-abbrev pub opened_for : Dealing → ℕ → ℕ → LeafState
-opened_for d i q =
-    let c = leaf_randomizer d q in
-    IsOpened (id_of i) c (message_digest d.params d.id q c (message_bytes i)) 0
-
--- the leaf is leased for message i, and its members have opened it for this message with the dealer's randomizer
+-- the leaf and no other is leased for message i, and its members have opened it for this message with the dealer's
+-- randomizer
 pub record IsSigned (d : Dealing) (i : ℕ) (map : ℕ → LeafUse) (leaves : ℕ → ℕ → LeafState) (leaf : ℕ) : Type 0 where
   pub within : leaf < 32
   pub coalition : leaf % 3 ≡ i % 3
   pub leased : map leaf ≡ IsLeased (id_of i)
+  pub only : IsOnly i map leaf
   pub opened : (t : ℕ) → Contains (leaf_members d.plan leaf) t → leaves t leaf ≡ opened_for d i leaf
 
 -- the head of the reply that a trustee's grant of an ask is
@@ -180,24 +184,37 @@ pub record IsSettled {D : Type 0} {p : pages.Ghosts D} {f : faults.Ghosts D} (ta
   pub settled : (state_of table).doubt ≡ None
   pub steady : IsSteady table
 
--- at most a free leaf of the coalition of session i is leased now, for its message
-abbrev pub Grows : ℕ → (ℕ → LeafUse) → (ℕ → LeafUse) → Type 0
-Grows i old new = (q : ℕ) → q < 32
-    → (new q ≡ old q) ⊎ ((old q ≡ IsFree) × ((q % 3 ≡ i % 3) × (new q ≡ IsLeased (id_of i))))
+-- a free leaf of the coalition of session i is leased now for its message, for which none was leased
+pub record Takes (i : ℕ) (old new : ℕ → LeafUse) : Type 0 where
+  pub leaf : ℕ
+  pub within : leaf < 32
+  pub coalition : leaf % 3 ≡ i % 3
+  pub free : old leaf ≡ IsFree
+  pub bare : IsBare i old
+  pub leased : new leaf ≡ IsLeased (id_of i)
+  pub others : (q : ℕ) → q ≢ leaf → new q ≡ old q
 
--- the trustees have free what the table has free
+-- no leaf changes, or one is leased for session i
+abbrev pub Grows : ℕ → (ℕ → LeafUse) → (ℕ → LeafUse) → Type 0
+Grows i old new = ((q : ℕ) → q < 32 → new q ≡ old q) ⊎ Takes i old new
+
+-- trustee t is no member of the coalition of leaf q
+abbrev pub IsOut : ℕ → ℕ → Type 0
+IsOut t q = Contains (leaf_members (record { n = 3; k = 2; h = 5 }) q) t → ⊥
+
+-- the trustees have free what the table has free, and what is not of their coalitions
 abbrev pub AreFree : (ℕ → LeafUse) → (ℕ → ℕ → LeafState) → Type 0
-AreFree map leaves = (t q : ℕ) → IsTrustee t → q < 32 → map q ≡ IsFree → leaves t q ≡ journals.IsFree
+AreFree map leaves = (t q : ℕ) → IsTrustee t → q < 32 → (map q ≡ IsFree) ⊎ IsOut t q → leaves t q ≡ journals.IsFree
 
 -- What session i does to the table and the trustees: at most a free leaf is leased for it, other leaves stay as they
--- are, every ask is granted or stops a disk, and the session has then taken at least so many steps.
-pub record Moves (desk : Desk) (d : Dealing) (i : ℕ) (map after : ℕ → LeafUse) (old new : Trustees) (steps : ℕ)
-    (place : Place) (asks : Asks) : Type 0 where
+-- are, and so does each leaf with a trustee that is no member, and every ask is granted or stops a disk.
+pub record Moves (desk : Desk) (d : Dealing) (i : ℕ) (map after : ℕ → LeafUse) (old new : Trustees) (place : Place)
+    (asks : Asks) : Type 0 where
   pub grows : Grows i map after
   pub going : IsGoing desk d i after (leaf_at new) place
-  pub least : steps ≤ steps_of place
   pub shares : HaveShares d new
-  pub stays : (t q : ℕ) → IsTrustee t → q < 32 → after q ≢ IsLeased (id_of i) → leaf_at new t q ≡ leaf_at old t q
+  pub stays : (t q : ℕ) → IsTrustee t → q < 32 → (after q ≢ IsLeased (id_of i)) ⊎ IsOut t q
+      → leaf_at new t q ≡ leaf_at old t q
   pub parts : asks.granted + asks.cut ≡ asks.put
 
 -- how many steps a session has at least taken after one more
@@ -206,6 +223,42 @@ next_step Waiting = 1
 next_step (Running s) = suc (steps_in s)
 next_step (Signed leaf) = 5
 next_step Refused = 5
+
+-- how many asks a step of a session puts
+abbrev pub asks_in : Place → ℕ
+asks_in Waiting = 0
+asks_in (Running s) = 1
+asks_in (Signed leaf) = 0
+asks_in Refused = 0
+
+-- how many replies a session has taken in all
+abbrev pub replies_of : Place → ℕ
+replies_of Waiting = 0
+replies_of (Running s) = steps_in s - 1
+replies_of (Signed leaf) = 4
+replies_of Refused = 0
+
+-- the replies of all sessions
+abbrev pub replies_in : List Place → ℕ
+replies_in seats = sum_below (λ i. replies_of (slice_index_or seats i Refused)) (length seats)
+
+-- the sessions have come as far as this
+pub record Follows (p : Progress) (seats : List Place) : Type 0 where
+  pub steps : (i : ℕ) → i < length seats → p.steps i ≡ steps_of (slice_index_or seats i Refused)
+  pub leased : (c : ℕ) → c < 3 → p.leased c ≡ held_by c seats
+
+-- A session goes from one place to another by a step: one that has a leaf then has taken one step more, and one that is
+-- refused has taken at least as many.
+pub record Advances (seat place : Place) (asks : Asks) : Type 0 where
+  pub least : next_step seat ≤ steps_of place
+  pub exact : holds place ≡ 1 → steps_of place ≡ next_step seat
+  pub put : asks.put ≡ asks_in seat
+
+-- a step of session i, from one place to another
+pub record Steps (desk : Desk) (d : Dealing) (i : ℕ) (map after : ℕ → LeafUse) (old new : Trustees)
+    (seat place : Place) (asks : Asks) : Type 0 where
+  pub moves : Moves desk d i map after old new place asks
+  pub advances : Advances seat place asks
 
 -- the leaves of a table
 abbrev pub uses_of : {D : Type 0} {p : pages.Ghosts D} {f : faults.Ghosts D} → Table D p f → ℕ → LeafUse
@@ -238,7 +291,8 @@ abbrev pub AreTaken : ℕ → (ℕ → LeafUse) → Type 0
 AreTaken count map = (q : ℕ) → q < 32 → (map q ≡ IsFree) ⊎ IsTaken count map q
 
 -- All is well in a drill: trustees have their shares, nothing is in doubt, each leaf that is leased is for a session,
--- each session goes on, each opening is that of a session, and there is one where a session has signed.
+-- each session goes on, of each coalition's leaves those that are not free are as many as its sessions that have one,
+-- each opening is that of a session, and there is one where a session has signed.
 pub record IsGood (desk : Desk) (d : Dealing) (drill : Drill) : Type 0 where
   pub different : DifferentIds (length drill.seats.items)
   pub shares : HaveShares d drill.trustees
@@ -247,6 +301,7 @@ pub record IsGood (desk : Desk) (d : Dealing) (drill : Drill) : Type 0 where
   pub seats : (i : ℕ) (none : Place) → i < length drill.seats.items
       → IsGoing desk d i (uses_of drill.table) (leaf_at drill.trustees) (slice_index_or drill.seats.items i none)
   pub taken : AreTaken (length drill.seats.items) (uses_of drill.table)
+  pub leaves : (c : ℕ) → c < 3 → held_by c drill.seats.items + free_of c (uses_of drill.table) ≡ leaves_of c
   pub openings : AreOwn desk d (length drill.seats.items) (uses_of drill.table) drill.openings.list.items
   pub some : (i : ℕ) (none : Place) → i < length drill.seats.items
       → HasSigned (slice_index_or drill.seats.items i none) → 0 < length drill.openings.list.items
@@ -256,13 +311,30 @@ pub record StaysGood (desk : Desk) (d : Dealing) (drill : Drill) (asks : Asks) :
   pub good : IsGood desk d drill
   pub parts : asks.granted + asks.cut ≡ asks.put
 
--- session i has taken a step in a drill in which all is well
+-- Session i has taken a step in a drill in which all is well: each ask that was put was answered by a reply that it
+-- took, and it has come as far as the schedule says.
 pub record Stepped (desk : Desk) (d : Dealing) (i : ℕ) (old new : Drill) (asks : Asks) : Type 0 where
   pub stays : StaysGood desk d new asks
   pub goes_on : (none : Place)
       → next_step (slice_index_or old.seats.items i none) ≤ steps_of (slice_index_or new.seats.items i none)
   pub others : (j : ℕ) (none : Place) → j ≢ i
       → slice_index_or new.seats.items j none ≡ slice_index_or old.seats.items j none
+  pub taken : asks.put + replies_in old.seats.items ≡ replies_in new.seats.items
+  pub follows : (p : Progress) → Follows p old.seats.items → Follows (after_step p i) new.seats.items
+
+-- the next ask of session i was put, if it has one, and the answer was dropped
+pub record Drops (desk : Desk) (d : Dealing) (i : ℕ) (old new : Drill) (asks : Asks) : Type 0 where
+  pub stays : StaysGood desk d new asks
+  pub seats : new.seats.items ≡ old.seats.items
+  pub put : asks.put ≡ asks_in (slice_index_or old.seats.items i Refused)
+
+-- An event of session i in a drill in which all is well: the asks are those whose replies were taken, and those whose
+-- answers were dropped.
+pub record Plays (desk : Desk) (d : Dealing) (event : Event) (i : ℕ) (old new : Drill) (asks : Asks) : Type 0 where
+  pub stays : StaysGood desk d new asks
+  pub follows : (p : Progress) → Follows p old.seats.items → Follows (after_event event p i) new.seats.items
+  pub put : (p : Progress) → Follows p old.seats.items
+      → asks.put + replies_in old.seats.items ≡ replies_in new.seats.items + extra_in event p i
 
 -- the next ask of session i, where it stands at this place
 abbrev pub IsNextOf : Desk → ℕ → NextAsk → Place → Type 0
@@ -271,21 +343,36 @@ IsNextOf desk i next (Running s) = IsNext desk s (message_bytes i) next
 IsNextOf desk i next (Signed leaf) = ⊥
 IsNextOf desk i next Refused = ⊥
 
--- all is well in a drill, and each ask that was counted was granted or stopped a disk
-pub record IsWell (desk : Desk) (d : Dealing) (drill : Drill) (tally : Tally) : Type 0 where
+-- the session has no next ask
+abbrev pub HasNoNext : Place → Type 0
+HasNoNext Waiting = Unit {0}
+HasNoNext (Running s) = AllKept s
+HasNoNext (Signed leaf) = Unit {0}
+HasNoNext Refused = Unit {0}
+
+-- All is well in a drill. Each ask that was counted was granted or stopped a disk, and all but so many are those whose
+-- replies the sessions took.
+pub record IsWell (desk : Desk) (d : Dealing) (extra : ℕ) (drill : Drill) (tally : Tally) : Type 0 where
   pub good : IsGood desk d drill
   pub parts : tally.granted + tally.cuts ≡ tally.asks
+  pub taken : tally.asks ≡ replies_in drill.seats.items + extra
+
+-- so many events were played, and all is well
+pub record HasPlayed (desk : Desk) (d : Dealing) (number sessions events : ℕ) (drill : Drill) (tally : Tally)
+    : Type 0 where
+  pub well : IsWell desk d (extra_asks number sessions events) drill tally
+  pub follows : Follows (progress_of number sessions events) drill.seats.items
 
 -- session i has ended, and the others stand where they stood
-pub record IsFinished (desk : Desk) (d : Dealing) (i : ℕ) (old new : Drill) (tally : Tally) : Type 0 where
-  pub well : IsWell desk d new tally
+pub record IsFinished (desk : Desk) (d : Dealing) (extra i : ℕ) (old new : Drill) (tally : Tally) : Type 0 where
+  pub well : IsWell desk d extra new tally
   pub ended : (none : Place) → 5 ≤ steps_of (slice_index_or new.seats.items i none)
   pub others : (j : ℕ) (none : Place) → j ≢ i
       → slice_index_or new.seats.items j none ≡ slice_index_or old.seats.items j none
 
 -- all is well, and the first so many sessions have ended
-pub record AreFinished (desk : Desk) (d : Dealing) (count : ℕ) (drill : Drill) (tally : Tally) : Type 0 where
-  pub well : IsWell desk d drill tally
+pub record AreFinished (desk : Desk) (d : Dealing) (extra count : ℕ) (drill : Drill) (tally : Tally) : Type 0 where
+  pub well : IsWell desk d extra drill tally
   pub ended : (j : ℕ) (none : Place) → j < count → 5 ≤ steps_of (slice_index_or drill.seats.items j none)
 
 -- a session has signed, or was refused

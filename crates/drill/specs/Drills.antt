@@ -1,17 +1,44 @@
 -- internal: The state of a drill.
-use Rattle.std.specs.Prelude.{◌≡◌, ◌+◌, ◌≤◌, ℕ}
-use Rattle.leaf_table.specs.Table.{plan_of}
+use Rattle.std.specs.Prelude.{◌≡◌, ◌+◌, ◌<◌, ◌≤◌, ℕ}
+use Rattle.dealer.specs.declared.dealing.Dealt.{Dealt}
+use Rattle.disk_trait.specs.MemDisk.{MemState}
+use Rattle.disk_trait.specs.declared.disk.Pages as pages
+use Rattle.disk_trait.specs.declared.faults.Faults as faults
+use Rattle.leaf_table.specs.Loading.{IsTableFile}
+use Rattle.leaf_table.specs.Slots.{use_of_slot}
+use Rattle.leaf_table.specs.Table.{header_of, plan_of}
+use Rattle.leaf_table.specs.declared.table.Table.{Table}
+use Rattle.slot_file.specs.Layout.{slot_at}
+use Rattle.slot_file.specs.declared.header.Header.{Header}
+use Rattle.drill.specs.Courses.{uses_of}
 use Rattle.drill.specs.Seats.{AllFit}
 use Rattle.drill.specs.declared.desk.Desk.{Desk}
 use Rattle.drill.specs.declared.state.Asks.{Asks}
 use Rattle.drill.specs.declared.state.Drill.{Drill}
 
--- the table is of the desk's plan, and each seat of the session of its number
+-- the header of the leaf table for a key that was dealt
+abbrev pub table_header : Dealt → Header
+table_header dealt = record {
+  version = 1;
+  number = 0;
+  lms = dealt.public.params.lms;
+  ots = dealt.public.params.ots;
+  id = dealt.public.id;
+}
+
+-- the table is of the desk's plan and key, and each seat of the session of its number
 pub record IsFor (desk : Desk) (drill : Drill) : Type 0 where
   pub plan : plan_of drill.table ≡ desk.plan
+  pub header : header_of drill.table ≡ table_header desk.dealt
   pub seats : AllFit desk.dealt.public desk.plan drill.seats.items
 
 -- at most so many asks were put; each was granted, stopped a disk, or was refused
 pub record AtMost (bound : ℕ) (asks : Asks) : Type 0 where
   pub put : asks.put ≤ bound
   pub parts : asks.granted + asks.cut ≤ asks.put
+
+-- the disk holds the table's file, which says of each leaf what the table does
+pub record HasTable {D : Type 0} {p : pages.Ghosts D} {f : faults.Ghosts D} (table : Table D p f) (disk : MemState)
+    : Type 0 where
+  pub file : IsTableFile (header_of table) 32 disk.bytes
+  pub leaves : (q : ℕ) → q < 32 → use_of_slot (slot_at 1 q disk.bytes) ≡ uses_of table q

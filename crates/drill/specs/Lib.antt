@@ -1,8 +1,11 @@
+pub mod Counts
 pub mod Courses
+pub mod Disks
 pub mod Drills
 pub mod Ids
 pub mod Keys
 pub mod Openings
+pub mod Schedules
 pub mod Seats
 pub mod Summaries
 pub mod Tallies

@@ -1,6 +1,7 @@
 -- What comes of a drill.
-use Rattle.std.specs.Prelude.{◌≡◌, ◌<◌, ◌≤◌, ◌+◌, ◌==◌, ℕ, if◌then◌else◌}
+use Rattle.std.specs.Prelude.{◌≡◌, ◌<◌, ◌≤◌, ◌+◌, ◌*◌, ◌==◌, ℕ, if◌then◌else◌}
 use Rattle.drill.specs.Ids.{DifferentIds}
+use Rattle.drill.specs.Schedules.{extra_asks, signed_of}
 use Rattle.drill_events.specs.Draws.{events_of}
 use Rattle.drill_events.specs.Events.{is_cut, is_restart}
 use Rattle.drill_summary.specs.declared.summary.Summary.{Summary}
@@ -9,12 +10,16 @@ use Rattle.drill_summary.specs.declared.summary.Summary.{Summary}
 abbrev pub events_in : ℕ → ℕ → ℕ
 events_in sessions events = if sessions == 0 then 0 else events
 
--- Every session has signed or was refused, and where there are sessions some have signed. Each ask was granted or
--- stopped a disk. No trustee was seen to open a leaf under two digests, nor any leaf where no session has signed.
-pub record IsComplete (sessions : ℕ) (summary : Summary) : Type 0 where
+-- Every session has signed or was refused: of each coalition all have signed, or as many as it has leaves, so that some
+-- have where there are sessions. Four asks were put for each that has signed, and one more wherever an answer was
+-- dropped; each was granted or stopped a disk. No trustee was seen to open a leaf under two digests, nor any leaf where
+-- no session has signed.
+pub record IsComplete (number sessions events : ℕ) (summary : Summary) : Type 0 where
   pub ends : summary.signed + summary.refused ≡ sessions
+  pub signed : summary.signed ≡ signed_of sessions
   pub some : 0 < sessions → 0 < summary.signed
-  pub asks : summary.granted + summary.cuts ≡ summary.asks
+  pub asks : summary.asks ≡ 4 * summary.signed + extra_asks number sessions (events_in sessions events)
+  pub parts : summary.granted + summary.cuts ≡ summary.asks
   pub most : summary.most ≡ (if summary.signed == 0 then 0 else 1)
 
 -- The summary counts the sessions that were asked for, and none is signed and refused. Each ask was granted, stopped a
@@ -26,4 +31,4 @@ pub record IsSummary (number sessions events : ℕ) (summary : Summary) : Type 0
   pub parts : summary.granted + summary.cuts ≤ summary.asks
   pub cuts_in : summary.cuts ≤ events_of is_cut number (events_in sessions events)
   pub restarts_are : summary.restarts ≡ events_of is_restart number (events_in sessions events)
-  pub complete : DifferentIds sessions → IsComplete sessions summary
+  pub complete : DifferentIds sessions → IsComplete number sessions events summary

@@ -14,6 +14,8 @@ pub(crate) struct Desk {
     pub(crate) dealt: Dealt,
     pub(crate) plan: Plan,
     ghost plan_is: { plan ≡ record { n = 3; k = 2; h = 5 } },
+    ghost lms: { dealt.public.params.lms ≡ 5 },
+    ghost ots: { dealt.public.params.ots ≡ 3 },
     ghost hash_length: { dealt.public.params.n ≡ 32 },
     ghost chains: { dealt.public.params.p ≡ 67 },
     ghost height: { dealt.public.params.h ≡ 5 },

@@ -1,8 +1,8 @@
 //! The events of a drill.
 
-ghost use Rattle.std.specs.Prelude.{◌≡◌, ◌≢◌, ◌<◌, ◌≤◌, ◌+◌, ℕ, suc, length, IfOk, IfSome, IsTrue, if◌then◌else◌};
-ghost use Rattle.drill.specs.Courses.{AreFree, Awaits, HaveShares, IsGoing, IsGood, IsOnCourse, IsSettled, Moves};
-ghost use Rattle.drill.specs.Courses.{IsNextOf, Opens, StaysGood, Stepped, next_step, steps_in, uses_of};
+ghost use Rattle.std.specs.Prelude.{◌≡◌, ◌≢◌, ◌<◌, ◌≤◌, ◌+◌, ℕ, length, IfNone, IfOk, IfSome, IsTrue, if◌then◌else◌};
+ghost use Rattle.drill.specs.Courses.{AreFree, Awaits, Drops, HasNoNext, HaveShares, IsGoing, IsGood, IsOnCourse};
+ghost use Rattle.drill.specs.Courses.{IsNextOf, IsSettled, Opens, Plays, Stepped, Steps, uses_of};
 ghost use Rattle.drill.specs.Drills.{AtMost, IsFor};
 ghost use Rattle.drill.specs.Ids.{DifferentIds};
 ghost use Rattle.drill.specs.Keys.{HasDealing};
@@ -11,7 +11,7 @@ ghost use Rattle.drill.specs.Seats.{Fits, IsOf};
 ghost use Rattle.drill_events.specs.Events.{is_cut};
 ghost use Rattle.drill_trustees.specs.Trustees.{SameShares, leaf_at};
 ghost use Rattle.leaf_table.specs.Entries.{LeafUse};
-ghost use Rattle.leaf_table.specs.Table.{plan_of};
+ghost use Rattle.leaf_table.specs.Table.{header_of, plan_of};
 ghost use Rattle.lms_bytes.specs.declared.ask.Second.{Second};
 ghost use Rattle.reference_value.specs.Dealing.{Dealing};
 
@@ -33,6 +33,7 @@ use std::mem;
 /// One more ask, of which it is known whether it was granted.
 fn one(granted: bool) -> Asks
     ensures bound { AtMost 1 result }
+    ensures put { result.put ≡ 1 }
     ensures cut { result.cut ≡ 0 }
     ensures granted { IsTrue granted → result.granted + result.cut ≡ result.put }
 {
@@ -46,6 +47,7 @@ fn one(granted: bool) -> Asks
 /// An ask that may have stopped a disk.
 fn one_of(answer: &Answer) -> Asks
     ensures bound { AtMost 1 result }
+    ensures put { result.put ≡ 1 }
     ensures parts { answer.now ≢ Answer.Refused → result.granted + result.cut ≡ result.put }
 {
     match answer {
@@ -64,6 +66,7 @@ fn sum(first: &Asks, second: &Asks) -> Asks
     requires first { AtMost 1 first.now }
     requires second { AtMost 1 second.now }
     ensures bound { AtMost 2 result }
+    ensures put { result.put ≡ first.now.put + second.now.put }
     ensures cut { result.cut ≡ first.now.cut + second.now.cut }
     ensures parts { first.now.granted + first.now.cut ≡ first.now.put
         → second.now.granted + second.now.cut ≡ second.now.put → result.granted + result.cut ≡ result.put }
@@ -82,6 +85,7 @@ fn next_of(desk: &Desk, seat: &Seat, i: u32) -> Option<NextAsk>
     ensures c { IfSome result (λ next. IfSome next.ask.second (λ (second : Second). length second.c ≡ 32)) }
     ensures digest { IfSome result (λ next. IfSome next.ask.second (λ (second : Second). length second.digest ≡ 32)) }
     ensures next { IfSome result (λ next. IsNextOf desk.now i next seat.now) }
+    ensures none { IfNone result (HasNoNext seat.now) }
 {
     match seat {
         Seat::Running(session) => next_ask(desk, session, &message_of(i)),
@@ -106,7 +110,7 @@ fn step_running(
     ensures goes { (own : HasDealing desk.now.plan desk.now.dealt) (map : ℕ → LeafUse)
         → HaveShares own.dealing trustees → IsOnCourse desk.now own.dealing i map (leaf_at trustees) session
         → ((t : ℕ) × Awaits session t) → IfOk result (λ all.
-        Moves desk.now own.dealing i map map trustees all.0 (suc (steps_in session)) all.1 all.2) }
+        Steps desk.now own.dealing i map map trustees all.0 (Seat.Running session) all.1 all.2) }
     ensures openings { (own : HasDealing desk.now.plan desk.now.dealt) (map : ℕ → LeafUse) (count : ℕ)
         → i < count → DifferentIds count → HaveShares own.dealing trustees
         → IsOnCourse desk.now own.dealing i map (leaf_at trustees) session → ((t : ℕ) × Awaits session t)
@@ -136,14 +140,14 @@ fn step_seat(
     requires fits { Fits desk.now.dealt.public desk.now.plan i seat }
     requires plan { plan_of table.old ≡ desk.now.plan }
     ensures plan { plan_of table.new ≡ desk.now.plan }
+    ensures header { header_of table.new ≡ header_of table.old }
     ensures fits { IfOk result (λ all. Fits desk.now.dealt.public desk.now.plan i all.1) }
     ensures bound { IfOk result (λ all. AtMost 1 all.2) }
     ensures cut { IfOk result (λ all. all.2.cut ≡ 0) }
     ensures goes { (own : HasDealing desk.now.plan desk.now.dealt) → HaveShares own.dealing trustees
         → IsSettled table.old → AreFree (uses_of table.old) (leaf_at trustees)
         → IsGoing desk.now own.dealing i (uses_of table.old) (leaf_at trustees) seat → IfOk result (λ all.
-        Moves desk.now own.dealing i (uses_of table.old) (uses_of table.new) trustees all.0 (next_step seat)
-        all.1 all.2) }
+        Steps desk.now own.dealing i (uses_of table.old) (uses_of table.new) trustees all.0 seat all.1 all.2) }
     ensures settled { (d : Dealing) → IsSettled table.old
         → IsGoing desk.now d i (uses_of table.old) (leaf_at trustees) seat → IsSettled table.new }
     ensures openings { (own : HasDealing desk.now.plan desk.now.dealt) (count : ℕ) → i < count → DifferentIds count
@@ -216,7 +220,7 @@ fn ask_and_drop(desk: &Desk, drill: Drill, i: u32) -> Result<(Drill, Asks), NoMe
     ensures bound { IfOk result (λ pair. AtMost 1 pair.1) }
     ensures cut { IfOk result (λ pair. pair.1.cut ≡ 0) }
     ensures goes { (own : HasDealing desk.now.plan desk.now.dealt) → IsGood desk.now own.dealing drill
-        → IfOk result (λ pair. StaysGood desk.now own.dealing pair.0 pair.1) }
+        → IfOk result (λ pair. Drops desk.now own.dealing i drill pair.0 pair.1) }
 {
     let Some(next) = next_of(desk, &drill.seats[i as usize], i) else {
         return Ok((drill, NO_ASKS));
@@ -246,7 +250,7 @@ fn ask_twice(alloc: Global, desk: &Desk, drill: Drill, i: u32) -> Result<(Drill,
     ensures bound { IfOk result (λ pair. AtMost 2 pair.1) }
     ensures cut { IfOk result (λ pair. pair.1.cut ≡ 0) }
     ensures goes { (own : HasDealing desk.now.plan desk.now.dealt) → IsGood desk.now own.dealing drill
-        → IfOk result (λ pair. StaysGood desk.now own.dealing pair.0 pair.1) }
+        → IfOk result (λ pair. Plays desk.now own.dealing Event.Twice i drill pair.0 pair.1) }
 {
     if next_of(desk, &drill.seats[i as usize], i).is_none() {
         return Ok((drill, NO_ASKS));
@@ -270,7 +274,7 @@ fn cut(
     ensures count { IfOk result (λ pair. length pair.0.seats.items ≡ length drill.seats.items) }
     ensures bound { IfOk result (λ pair. AtMost 1 pair.1) }
     ensures goes { (own : HasDealing desk.now.plan desk.now.dealt) → IsGood desk.now own.dealing drill
-        → IfOk result (λ pair. StaysGood desk.now own.dealing pair.0 pair.1) }
+        → IfOk result (λ pair. Drops desk.now own.dealing i drill pair.0 pair.1) }
 {
     let Some(next) = next_of(desk, &drill.seats[i as usize], i) else {
         return Ok((drill, NO_ASKS));
@@ -297,7 +301,7 @@ fn cut(
 fn restarted(alloc: Global, desk: &Desk, drill: Drill, pick: u32) -> Result<Drill, NoMemory>
     requires is_for { IsFor desk.now drill }
     ensures is_for { IfOk result (IsFor desk.now) }
-    ensures count { IfOk result (λ after. length after.seats.items ≡ length drill.seats.items) }
+    ensures seats { IfOk result (λ after. after.seats.items ≡ drill.seats.items) }
     ensures good { (own : HasDealing desk.now.plan desk.now.dealt) → IsGood desk.now own.dealing drill
         → IfOk result (IsGood desk.now own.dealing) }
 {
@@ -332,7 +336,7 @@ pub(crate) fn play(
     ensures bound { IfOk result (λ pair. AtMost 2 pair.1) }
     ensures cut { IfOk result (λ pair. pair.1.cut ≤ (if is_cut event then 1 else 0)) }
     ensures goes { (own : HasDealing desk.now.plan desk.now.dealt) → IsGood desk.now own.dealing drill
-        → IfOk result (λ pair. StaysGood desk.now own.dealing pair.0 pair.1) }
+        → IfOk result (λ pair. Plays desk.now own.dealing event i drill pair.0 pair.1) }
 {
     match event {
         Event::Step => {

@@ -1,14 +1,21 @@
 //! The run of a drill.
 
 ghost use Rattle.std.specs.Prelude.{◌≡◌, ◌≤◌, ◌<◌, ◌+◌, ◌*◌, ℕ, length, slice_index_or, All, IfOk, if◌then◌else◌};
-ghost use Rattle.drill.specs.Courses.{AreFinished, HasEnded, HasSigned, IsFinished, IsGood, IsWell};
-ghost use Rattle.drill.specs.Drills.{IsFor};
+ghost use Rattle.drill.specs.Courses.{AreFinished, HasEnded, HasPlayed, HasSigned, IsFinished, IsGood, IsSettled};
+ghost use Rattle.drill.specs.Courses.{IsWell};
+ghost use Rattle.drill.specs.Disks.{AreDisks};
+ghost use Rattle.drill.specs.Drills.{HasTable, IsFor};
+ghost use Rattle.drill.specs.Ids.{DifferentIds};
+ghost use Rattle.drill.specs.Counts.{signed_in};
 ghost use Rattle.drill.specs.Keys.{HasDealing};
+ghost use Rattle.drill.specs.Seats.{AreWaiting};
 ghost use Rattle.drill.specs.Summaries.{IsSummary, events_in};
 ghost use Rattle.drill.specs.Tallies.{IsWithin};
 ghost use Rattle.drill.specs.declared.seat.Seat.{Seat as Place};
 ghost use Rattle.drill_events.specs.Draws.{event_at, events_of, state_at};
 ghost use Rattle.drill_events.specs.Events.{is_cut, is_restart};
+ghost use Rattle.drill_trustees.specs.Trustees.{AreJournals};
+ghost use Rattle.leaf_table.specs.Table.{plan_of};
 
 use crate::dealing::deal_drill;
 use crate::desk::Desk;
@@ -59,8 +66,10 @@ fn play_next(
     ensures restarts { (number i : ℕ) → generator.old.state ≡ state_at number i
         → IfOk result (λ _. tally.new.restarts
         ≡ tally.old.restarts + (if is_restart (event_at number i).event then 1 else 0)) }
-    ensures well { (own : HasDealing desk.now.plan desk.now.dealt) → IsWell desk.now own.dealing drill tally.old
-        → IfOk result (λ after. IsWell desk.now own.dealing after tally.new) }
+    ensures well { (own : HasDealing desk.now.plan desk.now.dealt) (number k : ℕ)
+        → generator.old.state ≡ state_at number (176 + 3 * k)
+        → HasPlayed desk.now own.dealing number sessions k drill tally.old
+        → IfOk result (λ after. HasPlayed desk.now own.dealing number sessions (k + 1) after tally.new) }
 {
     let schedule = Schedule::draw(generator);
     tally.add_restart(schedule.event);
@@ -90,8 +99,9 @@ fn play_all(
         → IfOk result (λ pair. pair.1.cuts ≤ events_of is_cut number events) }
     ensures restarts { (number : ℕ) → generator.old.state ≡ state_at number 176
         → IfOk result (λ pair. pair.1.restarts ≡ events_of is_restart number events) }
-    ensures well { (own : HasDealing desk.now.plan desk.now.dealt) → IsGood desk.now own.dealing drill
-        → IfOk result (λ pair. IsWell desk.now own.dealing pair.0 pair.1) }
+    ensures well { (own : HasDealing desk.now.plan desk.now.dealt) (number : ℕ)
+        → generator.old.state ≡ state_at number 176 → IsGood desk.now own.dealing drill → AreWaiting drill.seats.items
+        → IfOk result (λ pair. HasPlayed desk.now own.dealing number sessions events pair.0 pair.1) }
 {
     let mut drill = drill;
     let mut tally = NOTHING;
@@ -120,8 +130,10 @@ fn play_events(
         → IfOk result (λ pair. pair.1.cuts ≤ events_of is_cut number (events_in sessions events)) }
     ensures restarts { (number : ℕ) → generator.old.state ≡ state_at number 176
         → IfOk result (λ pair. pair.1.restarts ≡ events_of is_restart number (events_in sessions events)) }
-    ensures well { (own : HasDealing desk.now.plan desk.now.dealt) → IsGood desk.now own.dealing drill
-        → IfOk result (λ pair. IsWell desk.now own.dealing pair.0 pair.1) }
+    ensures well { (own : HasDealing desk.now.plan desk.now.dealt) (number : ℕ)
+        → generator.old.state ≡ state_at number 176 → IsGood desk.now own.dealing drill → AreWaiting drill.seats.items
+        → IfOk result (λ pair.
+        HasPlayed desk.now own.dealing number sessions (events_in sessions events) pair.0 pair.1) }
 {
     if sessions == 0 {
         return Ok((drill, NOTHING));
@@ -147,8 +159,9 @@ fn finish_session(
     ensures within { IsWithin (tally.old.asks + 5) tally.new }
     ensures cuts { tally.new.cuts ≡ tally.old.cuts }
     ensures restarts { tally.new.restarts ≡ tally.old.restarts }
-    ensures well { (own : HasDealing desk.now.plan desk.now.dealt) → IsWell desk.now own.dealing drill tally.old
-        → IfOk result (λ after. IsFinished desk.now own.dealing i drill after tally.new) }
+    ensures well { (own : HasDealing desk.now.plan desk.now.dealt) (extra : ℕ)
+        → IsWell desk.now own.dealing extra drill tally.old
+        → IfOk result (λ after. IsFinished desk.now own.dealing extra i drill after tally.new) }
 {
     let mut drill = drill;
     'steps: for taken in 0..5u32 {
@@ -176,8 +189,9 @@ fn finish_all(
     ensures parts { tally.new.granted + tally.new.cuts ≤ tally.new.asks }
     ensures cuts { tally.new.cuts ≡ tally.old.cuts }
     ensures restarts { tally.new.restarts ≡ tally.old.restarts }
-    ensures well { (own : HasDealing desk.now.plan desk.now.dealt) → IsWell desk.now own.dealing drill tally.old
-        → IfOk result (λ after. AreFinished desk.now own.dealing sessions after tally.new) }
+    ensures well { (own : HasDealing desk.now.plan desk.now.dealt) (extra : ℕ)
+        → IsWell desk.now own.dealing extra drill tally.old
+        → IfOk result (λ after. AreFinished desk.now own.dealing extra sessions after tally.new) }
 {
     let mut drill = drill;
     'sessions: for i in 0..sessions {
@@ -190,6 +204,7 @@ fn finish_all(
 fn count_ends(seats: &[Seat]) -> (u32, u32)
     requires { length seats.now ≤ 10000 }
     ensures within { result.0 + result.1 ≤ length seats.now }
+    ensures signed { result.0 ≡ signed_in seats.now }
     ensures all { All HasEnded seats.now → result.0 + result.1 ≡ length seats.now }
     ensures none { All (λ (seat : Place). HasSigned seat → ⊥) seats.now → result.0 ≡ 0 }
     ensures some { (i : ℕ) (none : Place) → i < length seats.now → HasSigned (slice_index_or seats.now i none)
@@ -201,10 +216,30 @@ fn count_ends(seats: &[Seat]) -> (u32, u32)
         match &seats[i] {
             Seat::Signed(_) => signed += 1,
             Seat::Refused => refused += 1,
-            Seat::Waiting | Seat::Running(_) => {}
+            Seat::Waiting => {}
+            Seat::Running(_) => {}
         }
     }
     (signed, refused)
+}
+
+/// What a drill leaves that is over.
+fn drilled_of(alloc: Global, summary: Summary, drill: Drill) -> Result<Drilled, NoMemory>
+    ensures summary { IfOk result (λ drilled. drilled.summary ≡ summary) }
+    ensures journals { IfOk result (λ drilled. AreJournals drill.trustees drilled.journals.items) }
+    ensures table { IsSettled drill.table → (plan_of drill.table).h ≡ 5
+        → IfOk result (λ drilled. HasTable drill.table drilled.table) }
+{
+    let Drill {
+        trustees,
+        table,
+        ..
+    } = drill;
+    Ok(Drilled {
+        summary,
+        journals: trustees.end(alloc)?,
+        table: table.end(),
+    })
 }
 
 /// Makes a schedule of asks, losses, repeats, cuts within writes and restarts from a number, and runs it: each session
@@ -217,7 +252,8 @@ pub fn run_drill(
 ) -> Result<Drilled, NoMemory>
     requires sessions { sessions ≤ 10000 }
     requires events { events ≤ 100000 }
-    ensures { IfOk result (λ drilled. IsSummary number sessions events drilled.summary) }
+    ensures summary { IfOk result (λ drilled. IsSummary number sessions events drilled.summary) }
+    ensures disks { DifferentIds sessions → IfOk result (AreDisks number sessions) }
 {
     let mut generator = Generator { state: number };
     let entropy = draw_entropy(&mut generator);
@@ -236,14 +272,6 @@ pub fn run_drill(
         restarts: tally.restarts,
         most: drill.openings.most(),
     };
-    let Drill {
-        trustees,
-        table,
-        ..
-    } = drill;
-    Ok(Drilled {
-        summary,
-        journals: trustees.end(alloc)?,
-        table: table.end(),
-    })
+    let drilled = drilled_of(alloc, summary, drill)?;
+    Ok(drilled)
 }

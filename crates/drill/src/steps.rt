@@ -3,7 +3,7 @@
 ghost use Rattle.std.specs.Prelude.{◌≡◌, ◌⊎◌, ◌<◌, ◌≤◌, ℕ, suc, length, IfOk, IfSome, IfErr, IsErr, IsSome, None};
 ghost use Rattle.std.specs.Prelude.{Ok, OnOk};
 ghost use Rattle.drill.specs.Courses.{AllKept, AreFree, GoesTo, HasSigned, HaveShares, IsBare, IsGranted};
-ghost use Rattle.drill.specs.Courses.{IsOnCourse, IsSettled, Moves, steps_in, uses_of};
+ghost use Rattle.drill.specs.Courses.{IsOnCourse, IsSettled, Steps, steps_in, uses_of};
 ghost use Rattle.drill.specs.Keys.{HasDealing};
 ghost use Rattle.drill.specs.Openings.{Notes};
 ghost use Rattle.drill.specs.Seats.{Fits, IsOf};
@@ -12,7 +12,7 @@ ghost use Rattle.drill_trustees.specs.Members.{MayAsk, state_after};
 ghost use Rattle.drill_trustees.specs.Trustees.{SameShares, SetsAt, leaf_at, share_at};
 ghost use Rattle.drill_trustees.specs.declared.trustees.Trustees.{Trustees};
 ghost use Rattle.leaf_table.specs.Entries.{LeafUse};
-ghost use Rattle.leaf_table.specs.Table.{plan_of};
+ghost use Rattle.leaf_table.specs.Table.{header_of, plan_of};
 ghost use Rattle.opening_journal.specs.Entries.{LeafState};
 ghost use Rattle.trustee_core.specs.Grants.{ask_of};
 
@@ -43,11 +43,12 @@ pub(crate) fn lease(
     requires plan { plan_of table.old ≡ desk.now.plan }
     requires message { message.now ≡ message_bytes i }
     ensures plan { plan_of table.new ≡ desk.now.plan }
+    ensures header { header_of table.new ≡ header_of table.old }
     ensures fits { IfOk result (Fits desk.now.dealt.public desk.now.plan i) }
     ensures goes { (own : HasDealing desk.now.plan desk.now.dealt) (old : Trustees) → HaveShares own.dealing old
         → IsSettled table.old → AreFree (uses_of table.old) (leaf_at old) → IsBare i (uses_of table.old)
-        → IfOk result (λ seat. Moves desk.now own.dealing i (uses_of table.old) (uses_of table.new) old old 1 seat
-        (record { put = 0; granted = 0; cut = 0 })) }
+        → IfOk result (λ seat. Steps desk.now own.dealing i (uses_of table.old) (uses_of table.new) old old
+        Seat.Waiting seat (record { put = 0; granted = 0; cut = 0 })) }
     ensures settled { IsSettled table.old → IsBare i (uses_of table.old) → IsSettled table.new }
     ensures unsigned { IfOk result (λ seat. HasSigned seat → ⊥) }
 {

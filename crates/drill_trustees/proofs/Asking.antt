@@ -58,10 +58,6 @@ module _ {D : Type 0} {p : pages.Ghosts D} {f : faults.Ghosts D} (old new : Trus
       asked-grants (share_of old) (state_of (journal_of old)) (state_of (journal_of new)) ask result none goes does
       (subst (λ (s : Share). MayAsk s (map_of (state_of (journal_of old)).entries) ask) (sym own) may)
 
--- a decision that is no Device is no stop
-pub no-stop : (result : Result Grant Refusal) → (answer_to result ≡ answer.Stopped → ⊥) → result ≢ Err Device
-no-stop result goes is = goes (ap answer_to is)
-
 of-granted : (old new : ℕ → LeafState) (ask : Ask) (result : Result Grant Refusal) → IfOk result (λ grant. ask_of grant ≡ ask) → answer_in result ≡ Granted
     → Sets old new ask.leaf (state_after ask) → CutSets old new ask (answer_to result)
 of-granted old new ask (Ok grant) is_ask is sets = (is_ask, sets)

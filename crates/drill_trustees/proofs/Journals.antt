@@ -47,10 +47,6 @@ module _ {D : Type 0} {p : pages.Ghosts D} {f : faults.Ghosts D} where
       has q (subst (λ (s : Params). q < 2 ^ s.h) (sym size) within) in
       sym one ∙ ap (λ (s : Params). state_in_file s.n (p.reads (disk_of journal)) q) size ∙ ap (λ (b : List ℕ). state_in_file params.n b q) (loaded.unwritten.same told)
 
-  pub loaded-settled : (header : Header) (params : Params) (disk : D) (journal : Journal D p f) → IsTrue (p.told disk) → IsLoaded p f header params disk journal
-      → (state_of journal).doubt ≡ None
-  loaded-settled header params disk journal told loaded = ap (λ (s : JournalState). s.doubt) (loaded.entries told)
-
 -- a journal's file is refused for want of memory and for a disk that failed alone
 pub refused-well : (header : Header) (count : ℕ) (file : List ℕ) (why : JournalLoad) → IsJournalFile header count file → LoadRefused header count file why
     → (why ≡ load.Device → ⊥) → (why ≡ load.NoMemory → ⊥) → ⊥

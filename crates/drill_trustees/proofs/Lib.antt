@@ -1,5 +1,6 @@
 pub mod Asking
 pub mod Deciding
+pub mod Ending
 pub mod Journals
 pub mod Results
 pub mod Starting

@@ -1,14 +1,16 @@
 -- internal: What trustees of a drill keep of leaves, and what an ask makes of that.
 use Rattle.std.specs.Prelude.{◌≡◌, ◌≢◌, ◌⊎◌, ◌<◌, ℕ, Some, None, Result, Ok, Err}
+use Rattle.disk_trait.specs.MemDisk.{MemState}
 use Rattle.lms_bytes.specs.MessageId.{message_id_bytes}
 use Rattle.lms_bytes.specs.declared.ask.Ask.{Ask}
 use Rattle.lms_bytes.specs.declared.ask.Second.{Second}
-use Rattle.opening_journal.specs.Entries.{IsBound, IsFree, IsOpened, LeafState, map_of}
+use Rattle.opening_journal.specs.Entries.{IsBound, IsFree, IsOpened, LeafState, map_of, state_in_file}
 use Rattle.opening_journal.specs.Journal.{state_of}
+use Rattle.opening_journal.specs.Loading.{IsJournalFile}
 use Rattle.share_files.specs.declared.share.Share.{Share}
 use Rattle.trustee_core.specs.Decisions.{HasTag, IsForLeaf}
 use Rattle.trustee_core.specs.Grants.{ask_of}
-use Rattle.trustee_core.specs.Trustee.{journal_of}
+use Rattle.trustee_core.specs.Trustee.{journal_header, journal_of}
 use Rattle.trustee_core.specs.declared.grant.Grant.{Grant}
 use Rattle.trustee_core.specs.declared.refusal.Refusal.{Refusal}
 use Rattle.trustee_core.specs.declared.refusal.Refusal.TheVariants.{ForeignKey, NoSuchLeaf, NotMember, TooLong}
@@ -67,3 +69,8 @@ answer_to (Err (Damaged leaf a b)) = Refused
 answer_to (Err NotBound) = Refused
 answer_to (Err (Spent kept)) = Refused
 answer_to (Err (OtherDigest c digest)) = Refused
+
+-- the disk holds the file of a trustee's journal, which says of each leaf what the trustee keeps
+pub record HasJournal (member : Member) (disk : MemState) : Type 0 where
+  pub file : IsJournalFile (journal_header member.share) 32 disk.bytes
+  pub leaves : (q : ℕ) → q < 32 → state_in_file 32 disk.bytes q ≡ leaf_in member q

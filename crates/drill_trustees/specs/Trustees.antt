@@ -1,10 +1,11 @@
 -- internal: What three trustees of a drill keep of leaves.
-use Rattle.std.specs.Prelude.{◌≡◌, ◌≢◌, ◌⊎◌, ◌<◌, ◌≤◌, ◌-◌, ◌==◌, ℕ, List, slice_index_or, if◌then◌else◌}
+use Rattle.std.specs.Prelude.{◌≡◌, ◌≢◌, ◌⊎◌, ◌<◌, ◌≤◌, ◌-◌, ◌==◌, ℕ, List, length, slice_index_or, if◌then◌else◌}
+use Rattle.disk_trait.specs.MemDisk.{MemState}
 use Rattle.lms_bytes.specs.declared.ask.Ask.{Ask}
 use Rattle.opening_journal.specs.Entries.{IsFree, LeafState}
 use Rattle.share_files.specs.declared.share.Share.{Share}
 use Rattle.trustee_core.specs.Grants.{ask_of}
-use Rattle.drill_trustees.specs.Members.{leaf_in, state_after, state_before}
+use Rattle.drill_trustees.specs.Members.{HasJournal, leaf_in, state_after, state_before}
 use Rattle.drill_trustees.specs.declared.member.Answer.{Answer}
 use Rattle.drill_trustees.specs.declared.member.Answer.TheVariants.{Granted, Refused, Stopped}
 use Rattle.drill_trustees.specs.declared.member.Member.{Member}
@@ -58,3 +59,9 @@ CutAt old new t ask Stopped =
 pub record AreNew (given : List Share) (trustees : Trustees) : Type 0 where
   pub shares : (t : ℕ) (none : Share) → IsTrustee t → share_at trustees t ≡ slice_index_or given (t - 1) none
   pub free : (t q : ℕ) → IsTrustee t → q < 32 → leaf_at trustees t q ≡ IsFree
+
+-- there are three disks, and each holds the journal of the trustee of its number, counted from 1
+pub record AreJournals (trustees : Trustees) (disks : List MemState) : Type 0 where
+  pub count : length disks ≡ 3
+  pub each : (t : ℕ) (none : MemState) → IsTrustee t
+      → HasJournal (member_at trustees t) (slice_index_or disks (t - 1) none)

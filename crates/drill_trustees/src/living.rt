@@ -4,7 +4,8 @@ ghost use Rattle.std.specs.Prelude.{◌≡◌, ◌≢◌, ◌<◌, ◌^◌, ℕ,
 ghost use Rattle.disk_trait.specs.MemDisk.{MayLeave, is_steady};
 ghost use Rattle.lms_bytes.specs.declared.ask.Second.{Second};
 ghost use Rattle.drill_trustees.specs.declared.member.Answer.{Answer};
-ghost use Rattle.drill_trustees.specs.Members.{CutSets, MayAsk, SameLeaves, Sets, answer_to, leaf_in, state_after};
+ghost use Rattle.drill_trustees.specs.Members.{CutSets, HasJournal, MayAsk, SameLeaves, Sets, answer_to, leaf_in};
+ghost use Rattle.drill_trustees.specs.Members.{state_after};
 ghost use Rattle.opening_journal.specs.Entries.{IsFree, map_of, state_in_file};
 ghost use Rattle.opening_journal.specs.Journal.{header_of as journal_header_of, params_of, state_of};
 ghost use Rattle.opening_journal.specs.Loading.{IsJournalFile};
@@ -189,7 +190,9 @@ impl Member {
     }
 
     /// Its disk.
-    pub fn end(self) -> MemDisk {
+    pub fn end(self) -> MemDisk
+        ensures { HasJournal self result }
+    {
         self.trustee.end()
     }
 }

@@ -2,8 +2,8 @@
 
 ghost use Rattle.std.specs.Prelude.{◌≡◌, ◌<◌, ◌≤◌, ℕ, length, slice_index_or, All, IfOk, IfSome, IsSome};
 ghost use Rattle.drill_trustees.specs.Members.{MayAsk, state_after};
-ghost use Rattle.drill_trustees.specs.Trustees.{AreNew, CutAt, SameAt, SameShares, SetsAt, leaf_at, member_at};
-ghost use Rattle.drill_trustees.specs.Trustees.{put_back, share_at};
+ghost use Rattle.drill_trustees.specs.Trustees.{AreJournals, AreNew, CutAt, SameAt, SameShares, SetsAt, leaf_at};
+ghost use Rattle.drill_trustees.specs.Trustees.{member_at, put_back, share_at};
 ghost use Rattle.share_files.specs.declared.share.Share.{Share};
 ghost use Rattle.trustee_core.specs.Grants.{ask_of};
 
@@ -178,7 +178,9 @@ impl Trustees {
     }
 
     /// Their disks, that of trustee 1 first.
-    pub fn end(self, alloc: Global) -> Result<Vec<MemDisk>, NoMemory> {
+    pub fn end(self, alloc: Global) -> Result<Vec<MemDisk>, NoMemory>
+        ensures { IfOk result (λ disks. AreJournals self disks.items) }
+    {
         let Trustees { one, two, three } = self;
         let mut disks = Vec::with_capacity(alloc, 3)?;
         disks.push(one.end())?;

@@ -1,5 +1,5 @@
-//! Runs drills whose outcomes another implementation found, and prints their lines. Of the first one it also prints what
-//! its disks hold at the end; and it runs the largest drill that there may be, twice.
+//! Runs drills whose outcomes another implementation found, and prints their lines. Of the first one it also prints
+//! what its disks hold at the end; and it runs the largest drill that there may be, twice.
 #![tactic(auto)]
 
 use disk_trait::MemDisk;
@@ -62,8 +62,8 @@ fn counted(disk: MemDisk, version: u8, number: u8) -> Option<Count> {
     Some(count)
 }
 
-/// Prints what the disks of a drill hold: of each journal how many leaves are opened and how many are only bound, and of
-/// the table how many are leased and how many are burnt.
+/// Prints what the disks of a drill hold: of each journal how many leaves are opened and how many are only bound, and
+/// of the table how many are leased and how many are burnt.
 fn print_disks(rt: HostRuntime, drilled: Drilled) -> io::Result<()> {
     let mut number = 1;
     for disk in drilled.journals {
@@ -82,8 +82,8 @@ fn print_disks(rt: HostRuntime, drilled: Drilled) -> io::Result<()> {
     }
 }
 
-/// Runs the largest drill that there may be twice, and prints how many of its sessions signed, how many were refused, and
-/// whether both runs came to the same.
+/// Runs the largest drill that there may be twice, and prints how many of its sessions signed, how many were refused,
+/// and whether both runs came to the same.
 fn print_largest(rt: HostRuntime) -> io::Result<()> {
     let first = run_drill(rt.alloc(), 9, 10_000, 100_000);
     let second = run_drill(rt.alloc(), 9, 10_000, 100_000);

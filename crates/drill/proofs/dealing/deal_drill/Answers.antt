@@ -13,10 +13,12 @@ memory_fault-requires c = elim c.in-Err.ensures.cause [
 
 pub invariant_of-result : goal.invariant_of-result
 invariant_of-result c =
-    let d = desk-of c.params.result c.plan_of_three-plan.result c.args.entropy.now c.in-Ok.dealt c.params.ensures.hash_length c.params.ensures.chains c.params.ensures.height
+    let d = desk-of c.params.result c.plan_of_three-plan.result c.args.entropy.now c.in-Ok.dealt c.params.ensures.lms c.params.ensures.ots c.params.ensures.hash_length c.params.ensures.chains c.params.ensures.height
     c.plan_of_three-plan.ensures c.in-Ok.ensures.dealt in
     record {
       plan_is = c.plan_of_three-plan.ensures;
+      lms = d.lms;
+      ots = d.ots;
       hash_length = d.hash_length;
       chains = d.chains;
       height = d.height;

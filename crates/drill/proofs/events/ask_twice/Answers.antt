@@ -1,6 +1,16 @@
-use Rattle.std.proofs.Common.{sym, subst}
+use Rattle.std.proofs.Common.{◌≡◌, ◌<◌, ◌∙◌, ℕ, Bool, Option, is_some, not, IfNone, IfSome, if◌then◌else◌, length, get_or, refl, sym, ap, subst}
+use Rattle.drill_trustees.specs.Trustees.{leaf_at}
+use Rattle.reference_value.specs.Dealing.{Dealing}
+use Rattle.drill.specs.Courses.{HasNoNext, IsGoing, IsGood, IsNextOf, asks_in, uses_of}
 use Rattle.drill.specs.Seats.{Fits}
+use Rattle.drill.specs.declared.asks.NextAsk.{NextAsk}
+use Rattle.drill.specs.declared.desk.Desk.{Desk}
 use Rattle.drill.specs.declared.seat.Seat.{Seat}
+use Rattle.drill.specs.declared.seat.Seat.TheVariants.{Refused}
+use Rattle.drill.specs.declared.state.Drill.{Drill}
+use Rattle.drill.proofs.Following.{next-known}
+use Rattle.drill.proofs.Playing.{none-twice, some-twice}
+use Rattle.drill.proofs.Seated.{get_or-any}
 use Rattle.drill.proofs.events.ask_twice.Goals as goal
 
 pub next_of-requires : goal.next_of-requires
@@ -8,8 +18,26 @@ next_of-requires c =
     let here = c.requires.is_for.seats c.args.i c.index.result.now c.requires.within in
     record { fits = subst (λ (s : Seat). Fits c.args.desk.now.dealt.public c.args.desk.now.plan c.args.i s) (sym c.index.ensures) here }
 
+-- how many asks a step of the session puts, by whether it has a next ask
+asks-are : (desk : Desk) (d : Dealing) (i : ℕ) (drill : Drill) (seat : Seat) (o : Option NextAsk) (b : Bool) → IsGood desk d drill → i < length drill.seats.items → seat ≡ get_or drill.seats.items i seat → is_some o ≡ not b
+    → IfSome o (λ next. IsNextOf desk i next seat) → IfNone o (HasNoNext seat) → asks_in (get_or drill.seats.items i Refused) ≡ (if b then 0 else 1)
+asks-are desk d i drill seat o b good within was is some none =
+    let going = subst (λ (x : Seat). IsGoing desk d i (uses_of drill.table) (leaf_at drill.trustees) x) (sym was) (good.seats i seat within) in
+    let here = was ∙ get_or-any drill.seats.items i seat Refused within in
+    ap asks_in (sym here) ∙ next-known desk d i (uses_of drill.table) (leaf_at drill.trustees) seat o b is some none going
+
+pub returns-then-is_none-clause-goes : goal.returns-then-is_none-clause-goes
+returns-then-is_none-clause-goes c = λ own good.
+    let n = asks-are c.args.desk.now own.dealing c.args.i c.args.drill c.index.result.now c.next_of.result c.is_none.result good c.requires.within c.index.ensures c.is_none.ensures
+    c.next_of.ensures.next c.next_of.ensures.none in
+    none-twice c.args.desk.now own.dealing c.args.i c.args.drill good c.requires.within _ (record { good = good; parts = refl }) refl
+    (n ∙ ap (λ (b : Bool). if b then 0 else 1) c.if-is_none.true)
+
 pub returns-clause-goes : goal.returns-clause-goes
 returns-clause-goes c = λ own good.
+    let n = asks-are c.args.desk.now own.dealing c.args.i c.args.drill c.index.result.now c.next_of.result c.is_none.result good c.requires.within c.index.ensures c.is_none.ensures
+    c.next_of.ensures.next c.next_of.ensures.none in
     let first = c.in_ok-drill.ensures.goes own good in
-    let second = c.in_ok-drill-2.ensures.goes own first.good in
-    record { good = second.stays.good; parts = c.sum.ensures.parts first.parts second.stays.parts }
+    let second = c.in_ok-drill-2.ensures.goes own first.stays.good in
+    some-twice c.args.desk.now own.dealing c.args.i c.args.drill good c.requires.within c.in_ok-drill.drill c.in_ok-drill-2.drill c.in_ok-drill.first c.in_ok-drill-2.second c.sum.result
+    (n ∙ ap (λ (b : Bool). if b then 0 else 1) c.if-is_none.false) first second (record { good = second.stays.good; parts = c.sum.ensures.parts first.stays.parts second.stays.parts }) c.sum.ensures.put

@@ -15,6 +15,7 @@ step_seat-requires-clause-fits c =
 pub returns-clause-is_for : goal.returns-clause-is_for
 returns-clause-is_for c = record {
   plan = c.step_seat.ensures.plan;
+  header = c.step_seat.ensures.header ∙ c.requires.is_for.header;
   seats = set-fits c.args.desk.now.dealt.public c.args.desk.now.plan c.args.drill.seats.items c.args.i c.replace-seat.new.dest c.in_ok-trustees.seat
       c.requires.is_for.seats c.requires.within c.in_ok-trustees.ensures.fits;
 }

@@ -28,7 +28,7 @@ returns-clause-goes c = λ own map shares course awaited.
     let now = same-shares own.dealing c.args.trustees new shares asked.shares in
     let goes = c.in_ok-seat.ensures.goes own map c.args.trustees
     (record { course = course; next_is = is; shares = now; sets = sets; granted = granted; ask = asked.ask }) in
-    ask-moves desk own.dealing i map c.args.trustees new s next c.in_ok-seat.seat c.one-asks.result course is now sets goes (c.one-asks.ensures.granted (c.is_some.ensures ∙ granted))
+    ask-moves desk own.dealing i map c.args.trustees new s next c.in_ok-seat.seat c.one-asks.result course is now sets goes (c.one-asks.ensures.granted (c.is_some.ensures ∙ granted)) c.one-asks.ensures.put
 
 pub returns-in_default-clause-openings : goal.returns-in_default-clause-openings
 returns-in_default-clause-openings c = λ own map count inside different shares course awaited before.

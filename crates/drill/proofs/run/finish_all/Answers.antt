@@ -15,9 +15,9 @@ sessions-preserved c =
     record {
       is_for = e.is_for;
       count = e.count ∙ before.count;
-      well = λ own well.
-          let f = before.well own well in
-          let g = e.well own f.well in
+      well = λ own extra well.
+          let f = before.well own extra well in
+          let g = e.well own extra f.well in
           record {
             well = g.well;
             ended = λ j none inside. elim (cases_eq j c.sessions.i) [
@@ -31,6 +31,6 @@ sessions-preserved c =
     }
 
 pub returns-clause-well : goal.returns-clause-well
-returns-clause-well c = λ own well.
+returns-clause-well c = λ own extra well.
     let all : c.sessions.i ≡ c.args.sessions = omega arith in
-    subst (λ (n : ℕ). AreFinished c.args.desk.now own.dealing n c.sessions.drill c.sessions.tally) all (c.sessions.invariant.well own well)
+    subst (λ (n : ℕ). AreFinished c.args.desk.now own.dealing extra n c.sessions.drill c.sessions.tally) all (c.sessions.invariant.well own extra well)

@@ -1,4 +1,4 @@
-use Rattle.std.proofs.Common.{◌≡◌, ◌+◌, ◌*◌, length}
+use Rattle.std.proofs.Common.{◌≡◌, ◌+◌, ◌*◌, ℕ, length}
 use Rattle.drill.specs.Courses.{AreFinished, IsWell}
 use Rattle.drill.specs.Keys.{HasDealing}
 use Rattle.drill.specs.Drills.{IsFor}
@@ -10,7 +10,7 @@ abbrev pub invariant-sessions : goal.invariant-sessions
 invariant-sessions l = record {
   is_for : IsFor l.desk l.drill;
   count : length l.drill.seats.items ≡ l.sessions;
-  well : (own : HasDealing l.desk.plan l.desk.dealt) → IsWell l.desk own.dealing l.fn.drill l.fn.tally → AreFinished l.desk own.dealing l.i l.drill l.tally;
+  well : (own : HasDealing l.desk.plan l.desk.dealt) (extra : ℕ) → IsWell l.desk own.dealing extra l.fn.drill l.fn.tally → AreFinished l.desk own.dealing extra l.i l.drill l.tally;
   within : IsWithin (200000 + 5 * l.i) l.tally;
   cuts : l.tally.cuts ≡ l.fn.tally.cuts;
   restarts : l.tally.restarts ≡ l.fn.tally.restarts;

@@ -19,9 +19,9 @@ steps-preserved c =
     record {
       is_for = e.is_for;
       count = e.count ∙ before.count;
-      steps = λ own well.
-          let at = before.steps own well in
-          one-more c.args.desk.now own.dealing c.args.i c.args.drill c.steps.drill c.in_ok-after.after c.steps.tally c.add.new.self c.in_ok-after.asks c.steps.taken at
+      steps = λ own extra well.
+          let at = before.steps own extra well in
+          one-more c.args.desk.now own.dealing extra c.args.i c.args.drill c.steps.drill c.in_ok-after.after c.steps.tally c.add.new.self c.in_ok-after.asks c.steps.taken at
           (e.goes own at.well.good) (omega arith) two three one;
       within = record { asks = omega arith; parts = omega arith };
       cuts = omega arith;
@@ -29,6 +29,6 @@ steps-preserved c =
     }
 
 pub returns-clause-well : goal.returns-clause-well
-returns-clause-well c = λ own well.
-    let at = c.steps.invariant.steps own well in
+returns-clause-well c = λ own extra well.
+    let at = c.steps.invariant.steps own extra well in
     record { well = at.well; ended = λ none. let low = at.least none in omega arith; others = at.others }

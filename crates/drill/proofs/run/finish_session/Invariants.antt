@@ -1,4 +1,4 @@
-use Rattle.std.proofs.Common.{◌≡◌, ◌+◌, length}
+use Rattle.std.proofs.Common.{◌≡◌, ◌+◌, ℕ, length}
 use Rattle.drill.specs.Courses.{IsWell}
 use Rattle.drill.specs.Keys.{HasDealing}
 use Rattle.drill.proofs.Finishing.{AtStep}
@@ -11,7 +11,7 @@ abbrev pub invariant-steps : goal.invariant-steps
 invariant-steps l = record {
   is_for : IsFor l.desk l.drill;
   count : length l.drill.seats.items ≡ length l.fn.drill.seats.items;
-  steps : (own : HasDealing l.desk.plan l.desk.dealt) → IsWell l.desk own.dealing l.fn.drill l.fn.tally → AtStep l.desk own.dealing l.i l.fn.drill l.drill l.tally l.taken;
+  steps : (own : HasDealing l.desk.plan l.desk.dealt) (extra : ℕ) → IsWell l.desk own.dealing extra l.fn.drill l.fn.tally → AtStep l.desk own.dealing extra l.i l.fn.drill l.drill l.tally l.taken;
   within : IsWithin (l.fn.tally.asks + l.taken) l.tally;
   cuts : l.tally.cuts ≡ l.fn.tally.cuts;
   restarts : l.tally.restarts ≡ l.fn.tally.restarts;

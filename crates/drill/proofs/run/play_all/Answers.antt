@@ -1,6 +1,8 @@
 use Rattle.std.proofs.Common.{◌≡◌, ◌≤◌, ◌+◌, ◌*◌, ℕ, refl, sym, subst, arith}
 use Rattle.drill_events.specs.Draws.{event_at, events_of}
 use Rattle.drill_events.specs.Events.{is_cut, is_restart}
+use Rattle.drill.specs.Courses.{HasPlayed}
+use Rattle.drill.proofs.Playing.{none-played}
 use Rattle.drill.proofs.Counting.{events-more, events-none, one-or-none, state-more}
 use Rattle.drill_events.proofs.Drawing.{state-none}
 use Rattle.drill.proofs.run.play_all.Goals as goal
@@ -10,7 +12,7 @@ events-init c = record {
   is_for = c.requires.is_for;
   count = c.requires.count;
   within = record { asks = omega arith; parts = omega arith };
-  well = λ own good. record { good = good; parts = refl };
+  well = λ own number is good waiting. none-played c.args.desk.now own.dealing number c.args.sessions c.args.drill _ good waiting refl refl refl;
   few = omega arith;
   state = λ number is. is;
   cuts = λ number is. omega arith;
@@ -31,7 +33,7 @@ events-preserved c =
       is_for = e.is_for;
       count = e.count;
       within = record { asks = omega arith; parts = now.parts };
-      well = λ own good. e.well own (before.well own good);
+      well = λ own number is good waiting. e.well own number c.events.done (before.state number is) (before.well own number is good waiting);
       few = omega arith;
       state = λ number is. state-more number c.events.done _ (c.play_next.ensures.state number (176 + 3 * c.events.done) (before.state number is));
       cuts = λ number is.
@@ -55,3 +57,8 @@ pub returns-clause-restarts : goal.returns-clause-restarts
 returns-clause-restarts c = λ number is.
     let all : c.events.done ≡ c.args.events = omega arith in
     subst (λ (k : ℕ). c.events.tally.restarts ≡ events_of is_restart number k) all (c.events.invariant.restarts number is)
+
+pub returns-clause-well : goal.returns-clause-well
+returns-clause-well c = λ own number is good waiting.
+    let all : c.events.done ≡ c.args.events = omega arith in
+    subst (λ (k : ℕ). HasPlayed c.args.desk.now own.dealing number c.args.sessions k c.events.drill c.events.tally) all (c.events.invariant.well own number is good waiting)

@@ -1,7 +1,8 @@
 use Rattle.std.proofs.Common.{◌≡◌, ◌≤◌, ◌+◌, ◌*◌, ℕ, length}
-use Rattle.drill.specs.Courses.{IsGood, IsWell}
+use Rattle.drill.specs.Courses.{HasPlayed, IsGood}
 use Rattle.drill.specs.Keys.{HasDealing}
 use Rattle.drill.specs.Drills.{IsFor}
+use Rattle.drill.specs.Seats.{AreWaiting}
 use Rattle.drill.specs.Tallies.{IsWithin}
 use Rattle.drill_events.specs.Draws.{events_of, state_at}
 use Rattle.drill_events.specs.Events.{is_cut, is_restart}
@@ -13,7 +14,7 @@ invariant-events l = record {
   is_for : IsFor l.desk l.drill;
   count : length l.drill.seats.items ≡ l.sessions;
   within : IsWithin (2 * l.done) l.tally;
-  well : (own : HasDealing l.desk.plan l.desk.dealt) → IsGood l.desk own.dealing l.fn.drill → IsWell l.desk own.dealing l.drill l.tally;
+  well : (own : HasDealing l.desk.plan l.desk.dealt) (number : ℕ) → l.fn.generator.state ≡ state_at number 176 → IsGood l.desk own.dealing l.fn.drill → AreWaiting l.fn.drill.seats.items → HasPlayed l.desk own.dealing number l.sessions l.done l.drill l.tally;
   few : l.tally.restarts ≤ l.done;
   state : (number : ℕ) → l.fn.generator.state ≡ state_at number 176 → l.generator.state ≡ state_at number (176 + 3 * l.done);
   cuts : (number : ℕ) → l.fn.generator.state ≡ state_at number 176 → l.tally.cuts ≤ events_of is_cut number l.done;

@@ -1,7 +1,10 @@
-use Rattle.std.proofs.Common.{◌≡◌, ◌≤◌, ℕ, sym, subst, arith}
+use Rattle.std.proofs.Common.{◌≡◌, ◌≤◌, ℕ, refl, sym, subst, arith}
 use Rattle.drill_events.specs.Draws.{events_of}
 use Rattle.drill_events.specs.Events.{is_cut, is_restart}
-use Rattle.drill.proofs.Counting.{events-none, events-some}
+use Rattle.drill.proofs.Counting.{events-few, events-none, events-some}
+use Rattle.drill.proofs.Playing.{none-played}
+use Rattle.drill.specs.Courses.{HasPlayed}
+use Rattle.drill.specs.declared.tally.Tally.{Tally}
 use Rattle.drill.proofs.run.play_events.Goals as goal
 
 pub returns-then-sessions-eq0-clause-restarts : goal.returns-then-sessions-eq0-clause-restarts
@@ -18,3 +21,16 @@ pub returns-clause-restarts : goal.returns-clause-restarts
 returns-clause-restarts c = λ number is.
     let all = events-some c.args.sessions c.args.events (λ none. omega arith) in
     subst (λ (k : ℕ). c.in_ok-drill.tally.restarts ≡ events_of is_restart number k) (sym all) (c.in_ok-drill.ensures.restarts number is)
+
+pub returns-then-sessions-eq0-clause-well : goal.returns-then-sessions-eq0-clause-well
+returns-then-sessions-eq0-clause-well c = λ own number is good waiting.
+    let none : c.args.sessions ≡ 0 = omega arith in
+    let all = events-few c.args.sessions c.args.events none in
+    let tally : Tally = record { asks = 0; granted = 0; cuts = 0; restarts = 0 } in
+    subst (λ (k : ℕ). HasPlayed c.args.desk.now own.dealing number c.args.sessions k c.args.drill tally) (sym all)
+    (none-played c.args.desk.now own.dealing number c.args.sessions c.args.drill tally good waiting refl refl refl)
+
+pub returns-clause-well : goal.returns-clause-well
+returns-clause-well c = λ own number is good waiting.
+    let all = events-some c.args.sessions c.args.events (λ none. omega arith) in
+    subst (λ (k : ℕ). HasPlayed c.args.desk.now own.dealing number c.args.sessions k c.in_ok-drill.drill c.in_ok-drill.tally) (sym all) (c.in_ok-drill.ensures.well own number is good waiting)

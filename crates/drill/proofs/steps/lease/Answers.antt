@@ -45,4 +45,7 @@ returns-in-Err-clause-goes c = λ own old shares settled free bare.
     let desk = c.args.desk.now in
     let it = lease-done c.args.i c.args.table.now c.lease.new.self c.members-members.result c.of-id.result _ settled bare (c.requires.plan ∙ desk.plan_is)
     (theirs _ _ c.args.i _ desk.plan_is c.members-members.ensures.members) (c.of-id.ensures ∙ ap message_id c.requires.message) refl c.in-Err.ensures.event c.in-Err.ensures.enters in
-    record { grows = it.done.grows; going = it.done.ends; least = omega arith; shares = shares; stays = λ t q own within other. refl; parts = refl }
+    record {
+      moves = record { grows = it.done.grows; going = it.done.ends; shares = shares; stays = λ t q own within other. refl; parts = refl };
+      advances = record { least = omega arith; exact = λ has. absurd (omega arith); put = refl };
+    }
