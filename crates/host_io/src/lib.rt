@@ -12,6 +12,7 @@ mod stdout_sink;
 mod tcp_link;
 mod tcp_net;
 mod tcp_port;
+mod write_behind;
 
 pub use file_store::FileStore;
 pub use lockable::Lockable;
@@ -19,10 +20,3 @@ pub use stdout_sink::StdoutSink;
 pub use tcp_link::TcpLink;
 pub use tcp_net::TcpNet;
 pub use tcp_port::TcpPort;
-
-#[cfg(test)]
-mod fake_files;
-#[cfg(test)]
-mod socket_tests;
-#[cfg(test)]
-mod tests;

@@ -7,8 +7,8 @@ use crate::tcp_link::read_again;
 use std::io;
 use std::io::Read;
 
-/// How many bytes are received at once: a frame whose message is short, most often.
-const ROOM: usize = 2048;
+/// How many bytes are received at once: some frames whose messages are short.
+const ROOM: usize = 4096;
 
 /// What was received and not yet read. It stands in its link and not in memory of its own, since a link that is
 /// accepted or dialled takes no memory.
@@ -18,7 +18,7 @@ pub(crate) struct ReadAhead {
     place: usize,
     end: usize,
     ghost order: { place ≤ end },
-    ghost within: { end ≤ 2048 },
+    ghost within: { end ≤ 4096 },
 }
 
 impl ReadAhead {
@@ -31,12 +31,17 @@ impl ReadAhead {
         }
     }
 
+    /// Whether nothing is left of what was received.
+    pub(crate) fn is_empty(&self) -> bool {
+        self.place == self.end
+    }
+
     /// Reads what was received. Where nothing is left of that, it receives once: to the room itself where that is not
     /// the smaller one.
     pub(crate) fn read<S: Read>(&mut self, stream: &mut S, out: &mut [u8]) -> io::Result<usize>
         ensures { ReadsAtMost result out.new }
     {
-        if self.place == self.end {
+        if self.is_empty() {
             if out.is_empty() || out.len() >= ROOM {
                 return read_again(stream, out);
             }

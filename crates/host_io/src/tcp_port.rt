@@ -146,9 +146,10 @@ where
         }
     }
 
-    /// Closes a link.
+    /// Closes a link, behind what it still holds.
     fn hang_up(&mut self, link: Self::Link) {
         self.faults.add_where(link.faults() != 0);
+        link.end();
     }
 
     ghost counts = { λ _. refl };

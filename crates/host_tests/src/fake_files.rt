@@ -1,6 +1,6 @@
 //! Files that are no files: what is asked of them is written down, and one call of them fails.
 
-use crate::lockable::Lockable;
+use host_io::Lockable;
 use std::alloc::Allocator;
 use std::fs::{Metadata, OpenFile, OpenOptions};
 use std::io::{Empty, ErrorKind, Read, Seek, SeekFrom, Write};
@@ -12,15 +12,26 @@ use std::{array, io};
 /// How many bytes a record has room for. What is asked beyond is lost.
 const ROOM: usize = 96;
 
+/// Names of a file, of that file while it is not whole, and of its folder.
+pub const NAMES: [[&'static str; 3]; 5] = [
+    ["in/a", "in/a.new", "in"],
+    ["b", "b.new", "."],
+    ["a/b", "a/b.new", "a"],
+    ["a/b/c", "a/b/c.new", "a/b"],
+    ["/b", "/b.new", "/"],
+];
+
 /// What a fake file system was asked, and how it answers. Each call is a word of three bytes: what was done (`m` to
 /// look, `c` to make, `o` to open for reading, `u` for writing too, `k` to lock, `r` to remove, `l` to link to, `s` to
-/// sync, `d` to sync data, `w` to write), to what (`a` the file `in/a`, `n` the file `in/a.new`, `i` the folder), and
-/// a blank or the byte that was written.
+/// sync, `d` to sync data, `w` to write), to what (`a` the file, `n` the file under the name that it has until it is
+/// whole, `i` the folder), and a blank or the byte that was written.
 #[derive(Drop)]
 pub struct Record {
     said: [AtomicU8; ROOM],
     length: AtomicUsize,
-    /// What `in/a` is, if anything stands there.
+    /// Which of `NAMES` the names are.
+    pub names: usize,
+    /// What the file is, if anything stands there.
     pub stands: Option<Stands>,
     /// The first two bytes of the calls that fail.
     pub fails: [u8; 2],
@@ -43,6 +54,7 @@ impl Record {
         Record {
             said: array::from_fn(|_| AtomicU8::new(0)),
             length: AtomicUsize::new(0),
+            names: 0,
             stands,
             fails,
             kind,
@@ -80,25 +92,31 @@ impl Record {
 
     /// What is told of a name.
     fn look(&self, path: &str) -> io::Result<Metadata> {
-        self.call(b'm', letter(path), b' ')?;
+        self.call(b'm', self.letter(path), b' ')?;
         match self.stands {
             Some(Stands::File) => Ok(Metadata::of_file(3)),
             Some(Stands::Folder) => Ok(Metadata::of_dir()),
             None => Err(io::Error::from(ErrorKind::NotFound)),
         }
     }
-}
 
-/// The letter of a name.
-fn letter(path: &str) -> u8 {
-    if path == "in/a" {
-        b'a'
-    } else if path == "in/a.new" {
-        b'n'
-    } else if path == "in" {
-        b'i'
-    } else {
-        b'?'
+    /// The letter of a name.
+    fn letter(&self, path: &str) -> u8 {
+        let [file, part, folder] = NAMES[self.names.min(4)];
+        if path == file {
+            b'a'
+        } else if path == part {
+            b'n'
+        } else if path == folder {
+            b'i'
+        } else {
+            b'?'
+        }
+    }
+
+    /// The file's name.
+    pub fn name(&self) -> &'static str {
+        NAMES[self.names.min(4)][0]
     }
 }
 
@@ -127,7 +145,7 @@ impl<'a> Files for FakeFiles<'a> {
         } else {
             b'o'
         };
-        let what = letter(path);
+        let what = self.0.letter(path);
         self.0.call(verb, what, b' ')?;
         Ok(FakeFile {
             record: self.0,
@@ -145,11 +163,11 @@ impl<'a> Files for FakeFiles<'a> {
     }
 
     fn remove_file(&self, path: &str) -> io::Result<()> {
-        self.0.call(b'r', letter(path), b' ')
+        self.0.call(b'r', self.0.letter(path), b' ')
     }
 
     fn hard_link(&self, _original: &str, link: &str) -> io::Result<()> {
-        self.0.call(b'l', letter(link), b' ')
+        self.0.call(b'l', self.0.letter(link), b' ')
     }
 
     fn open_dir(&self, _path: &str) -> io::Result<Empty> {
