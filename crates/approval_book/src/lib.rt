@@ -13,6 +13,3 @@ pub use book::Book;
 pub use decide::decide_approved;
 pub use denial::Denial;
 pub use faults::BookFault;
-
-#[cfg(test)]
-mod tests;

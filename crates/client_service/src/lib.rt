@@ -7,6 +7,3 @@ mod start;
 mod worker;
 
 pub use service::serve_clients;
-
-#[cfg(test)]
-mod tests;

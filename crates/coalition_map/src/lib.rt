@@ -4,8 +4,6 @@
 pub mod laws;
 mod members;
 mod plan;
-#[cfg(test)]
-mod tests;
 
 pub use members::Members;
 pub use plan::{Plan, PlanFault};

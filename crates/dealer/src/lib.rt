@@ -14,6 +14,3 @@ mod shares;
 pub use dealing::{Dealt, deal};
 pub use faults::DealFault;
 pub use files::{DealingFiles, public_file};
-
-#[cfg(test)]
-mod tests;

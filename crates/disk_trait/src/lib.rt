@@ -12,6 +12,3 @@ pub use faults::Faults;
 pub use file_disk::FileDisk;
 pub use generator::Generator;
 pub use mem_disk::MemDisk;
-
-#[cfg(test)]
-mod tests;

@@ -4,6 +4,3 @@
 mod summary;
 
 pub use summary::Summary;
-
-#[cfg(test)]
-mod tests;

@@ -12,6 +12,3 @@ mod table;
 pub use faults::TableFault;
 pub use lease::Lease;
 pub use table::{Table, TableName};
-
-#[cfg(test)]
-mod tests;

@@ -21,6 +21,3 @@ pub use params::{LmotsRow, LmsRow, Params};
 pub use public_key::{KeyId, PublicKey};
 pub use signature_layout::{SigView, read_signature, write_layout};
 pub use val::Val;
-
-#[cfg(test)]
-mod tests;

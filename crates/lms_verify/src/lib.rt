@@ -5,6 +5,3 @@ pub mod laws;
 mod verification;
 
 pub use verification::{Verdict, verify};
-
-#[cfg(test)]
-mod tests;

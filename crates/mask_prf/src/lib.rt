@@ -7,6 +7,3 @@ mod pads;
 
 pub use calls::{chain_mask, check_tag, hmac, hmac_any, random_mask, randomizer};
 pub use mac_key::MacKey;
-
-#[cfg(test)]
-mod tests;

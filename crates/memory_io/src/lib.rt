@@ -21,6 +21,3 @@ pub use mem_port::MemPort;
 pub use mem_sink::MemSink;
 pub use mem_source::MemSource;
 pub use port_script::PortScript;
-
-#[cfg(test)]
-mod tests;

@@ -7,6 +7,3 @@ mod stored_disk;
 
 pub use mem_store::MemStore;
 pub use stored_disk::StoredDisk;
-
-#[cfg(test)]
-mod tests;

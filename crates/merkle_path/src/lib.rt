@@ -14,6 +14,3 @@ pub const D_LEAF: u16 = 0x8282;
 
 /// What is hashed for an inner node of the tree (RFC 8554 section 5.3).
 pub const D_INTR: u16 = 0x8383;
-
-#[cfg(test)]
-mod tests;

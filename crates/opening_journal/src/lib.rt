@@ -13,6 +13,3 @@ mod steps;
 pub use entry::Entry;
 pub use faults::{Entered, JournalFault, JournalLoad};
 pub use journal::Journal;
-
-#[cfg(test)]
-mod tests;

@@ -14,6 +14,3 @@ pub const D_PBLC: u16 = 0x8080;
 
 /// What is hashed for the digest of a message (RFC 8554 section 4.5).
 pub const D_MESG: u16 = 0x8181;
-
-#[cfg(test)]
-mod tests;

@@ -15,6 +15,3 @@ pub use leaf::build_leaf;
 pub use paged::Paged;
 pub use share_files::leaf_bytes;
 pub use whole::Whole;
-
-#[cfg(test)]
-mod tests;

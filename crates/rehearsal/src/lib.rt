@@ -6,6 +6,3 @@ mod rehearsed;
 mod signing;
 
 pub use rehearsed::{Rehearsed, rehearse};
-
-#[cfg(test)]
-mod tests;

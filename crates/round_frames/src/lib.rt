@@ -20,6 +20,3 @@ pub use request::next_request;
 pub use write::{
     put_reply_head, write_ask, write_failure, write_reply_head, write_request, write_signature,
 };
-
-#[cfg(test)]
-mod tests;

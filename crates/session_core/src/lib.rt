@@ -13,6 +13,3 @@ mod step;
 pub use faults::{KeptValue, SessionFault};
 pub use session::Session;
 pub use step::Step;
-
-#[cfg(test)]
-mod tests;

@@ -17,6 +17,3 @@ pub use share::Share;
 pub use share_layout::{read_share, write_share};
 pub use sizes::{HEAD, TAG, chain_bytes, leaf_bytes};
 pub use tree_file::{TreeView, read_tree, write_tree_head};
-
-#[cfg(test)]
-mod tests;

@@ -9,6 +9,3 @@ mod reading;
 pub use cache::CachedSlots;
 pub use doubted::Doubted;
 pub use faults::{CacheLoad, SettleFault, Settled};
-
-#[cfg(test)]
-mod tests;

@@ -14,6 +14,3 @@ pub use header::{Header, LoadFault};
 pub use prepared::{PrepareFault, prepare};
 pub use slot::Slot;
 pub use slots::{Doubt, Slots};
-
-#[cfg(test)]
-mod tests;

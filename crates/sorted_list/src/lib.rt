@@ -4,6 +4,3 @@
 mod sorted_list;
 
 pub use sorted_list::SortedList;
-
-#[cfg(test)]
-mod tests;

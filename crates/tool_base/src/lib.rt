@@ -19,6 +19,3 @@ pub use unsigned::Unsigned;
 
 /// The longest file that is read whole, in bytes.
 pub const FILE_LIMIT: u64 = 67_108_864;
-
-#[cfg(test)]
-mod tests;

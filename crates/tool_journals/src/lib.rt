@@ -11,6 +11,3 @@ mod migrate;
 pub use approve::approve_message;
 pub use enrol::enrol_file;
 pub use migrate::migrate_journal;
-
-#[cfg(test)]
-mod tests;

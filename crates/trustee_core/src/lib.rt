@@ -16,6 +16,3 @@ pub use trustee::Trustee;
 
 /// The longest message that a trustee answers for, in bytes.
 pub const MESSAGE_LIMIT: u32 = lms_bytes::LIMIT;
-
-#[cfg(test)]
-mod tests;

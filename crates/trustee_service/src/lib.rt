@@ -9,6 +9,3 @@ mod totals;
 
 pub use service::serve_ports;
 pub use totals::Totals;
-
-#[cfg(test)]
-mod tests;

@@ -6,8 +6,6 @@ mod kept;
 mod lock;
 mod plays;
 mod steps;
-#[cfg(test)]
-mod tests;
 mod view;
 
 pub use kept::Kept;

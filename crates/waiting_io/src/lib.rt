@@ -10,6 +10,3 @@ pub use bell::Bell;
 pub use hold::{Before, Hold, Ring};
 pub use waiting_link::WaitingLink;
 pub use waiting_port::WaitingPort;
-
-#[cfg(test)]
-mod tests;

@@ -1,0 +1,106 @@
+//! Tests of what no contract says: that the files are those of another implementation, and each refusal once.
+
+use crate::dealings::{count_up, deal_count, deal_to, digest_of, head_of};
+use dealer::{DealFault, Dealt};
+use lms_bytes::write_public;
+use share_files::{Share, write_share, write_tree_head};
+use std::test::Fail;
+
+/// Typecodes of dealings to coalitions of three of five trustees, with SHA-256 of the files of the public key, of the
+/// tree, of the reference and of the last share.
+const DEALINGS: [((u32, u32), [&[u8; 32]; 4]); 2] = [
+    (
+        (5, 3),
+        [
+            b"\x51\x78\x13\x21\x45\xe0\xb1\xc9\x16\x4b\x18\x16\xc3\xd8\x60\x05\
+                \x1e\xce\x89\x41\xb5\x6f\xbb\x48\xf5\x4b\xbd\x83\x8d\xf2\x3b\xda",
+            b"\xf5\xae\xa3\x95\xe5\x86\x87\x35\x89\xbc\xab\x63\x4e\xd0\xba\x35\
+                \x3c\x12\xfc\x5e\x48\x07\xf2\x07\x0c\x58\xcb\x63\xad\x02\x3b\xce",
+            b"\x67\x46\x43\x0d\x89\xfb\xf9\x39\xcb\x1c\xdf\x5e\x99\x8e\x36\x47\
+                \xdd\x77\x46\x46\x15\x47\xa6\xdf\x08\x78\xd4\xd3\xb0\x2b\xa4\x3c",
+            b"\xc6\x86\x0a\x98\x85\xbd\x70\x6b\x32\xf9\xea\x54\x1b\xaf\x78\xb4\
+                \x77\x41\x9b\xa1\xb5\x43\x2c\x85\x7c\xbd\x76\xbe\x5b\x75\x1c\x3a",
+        ],
+    ),
+    (
+        (10, 7),
+        [
+            b"\xb2\x8d\xda\x37\x40\x60\xda\x03\x63\x1f\x33\xdb\x1d\x4c\x2e\x8a\
+                \x0b\x26\xf1\x7a\x23\xe0\x6d\xf5\x3f\x5b\xd5\x81\xe2\xe2\x33\xdc",
+            b"\xf6\xe3\x68\x02\xd5\x2a\x57\x81\xaf\x40\x98\x94\xb0\xf1\xdd\xd4\
+                \xce\xd8\xfe\x81\xa0\xb3\x8b\x01\x79\xee\x0b\x0f\x52\x00\xc6\xe9",
+            b"\x6d\x80\x94\x3a\x59\x23\xf3\xb3\xb6\xd8\x3b\x06\x58\x3a\xcf\x23\
+                \x4a\xab\xc5\x42\x8c\x4e\xd0\x1f\xa5\xb4\xb8\xc8\xe4\x3d\x8d\x97",
+            b"\x58\x0d\xa4\x54\xa7\xab\xda\xbe\x15\xa1\x0e\x30\xdf\xf9\xdf\xe1\
+                \x71\x39\xb7\xf3\xa0\xec\x1e\xa4\x5e\x3e\x00\x28\xa0\xee\xba\x59",
+        ],
+    ),
+];
+
+/// The SHA-256 of the file of the public key.
+fn public_digest(dealt: &Dealt) -> [u8; 32] {
+    let mut public = [0; 56];
+    let length = write_public(&dealt.public, &mut public);
+    digest_of(&public[..length], &[])
+}
+
+/// That of the file of the tree.
+fn tree_digest(dealt: &Dealt) -> [u8; 32] {
+    let mut head = [0; 32];
+    write_tree_head(&dealt.public.params, &dealt.public.id, &mut head);
+    digest_of(&head, dealt.tree.nodes())
+}
+
+/// That of the file of a share.
+fn share_digest(share: &Share) -> [u8; 32] {
+    let mut bytes = [0; 64];
+    write_share(share, &mut bytes);
+    digest_of(&bytes, &[])
+}
+
+#[test]
+fn files_are_those_of_another_implementation(rt: HostRuntime) -> Result<(), Fail> {
+    for (codes, [public, tree, reference, share]) in DEALINGS {
+        let dealt = deal_count(&rt, rt.alloc(), codes, (5, 3))?;
+        assert!(rt; dealt.shares.len() == 5);
+        let last = dealt.shares[4];
+        assert!(rt;
+            public_digest(&dealt) == *public,
+            "the public key of {codes:?}"
+        );
+        assert!(rt; tree_digest(&dealt) == *tree, "the tree of {codes:?}");
+        assert!(rt;
+            digest_of(&head_of(&last), &dealt.reference) == *reference,
+            "the reference of {codes:?}"
+        );
+        assert!(rt;
+            share_digest(&last) == *share,
+            "the last share of {codes:?}"
+        );
+    }
+    Ok(())
+}
+
+#[test]
+fn other_entropy_is_refused(rt: HostRuntime) {
+    let entropy = count_up();
+    let mut alike = entropy;
+    for i in 176..240 {
+        alike[i] = alike[i - 64];
+    }
+    let wrong_length = DealFault::BadEntropy {
+        got: 239,
+        want: 240,
+    };
+    let cases = [
+        ((5, 3), &entropy[..239], wrong_length),
+        ((5, 3), &[7; 240], DealFault::SameKeys { t: 1, u: 2 }),
+        ((5, 3), &alike, DealFault::SameKeys { t: 2, u: 4 }),
+        ((7, 3), &entropy[..239], DealFault::TooHigh { h: 15 }),
+        ((6, 4), &entropy[..239], DealFault::TooWide),
+    ];
+    for (codes, entropy, want) in cases {
+        let fault = deal_to(&rt, rt.alloc(), codes, (5, 3), entropy).err();
+        assert!(rt; fault == Some(want), "typecodes {codes:?}");
+    }
+}

@@ -1,0 +1,64 @@
+//! Dealings that several files of tests need.
+
+use crate::values::set_of;
+use coalition_map::Plan;
+use dealer::{DealFault, Dealt, deal};
+use sha2::{Digest, Sha256};
+use share_files::{RefHeader, Share, write_ref_head};
+use std::alloc::Global;
+use std::process::Abort;
+
+/// The bytes 0 to 239, which serve five trustees.
+pub fn count_up() -> [u8; 240] {
+    let mut bytes = [0; 240];
+    for i in 0..240 {
+        bytes[i] = i as u8;
+    }
+    bytes
+}
+
+/// Deals to coalitions of `k` of `n` trustees.
+pub fn deal_to(
+    rt: &impl Abort,
+    alloc: Global,
+    codes: (u32, u32),
+    trustees: (u8, u8),
+    entropy: &[u8],
+) -> Result<Dealt, DealFault> {
+    let (n, k) = trustees;
+    let params = set_of(rt, codes.0, codes.1);
+    let plan = Plan::new(n, k, params.h).expect(rt, "a plan");
+    assert!(rt; plan.h() == params.h);
+    deal(alloc, &params, &plan, entropy)
+}
+
+/// Deals the bytes that count up from 0 to coalitions of `k` of at most five trustees.
+pub fn deal_count(
+    rt: &impl Abort,
+    alloc: Global,
+    codes: (u32, u32),
+    trustees: (u8, u8),
+) -> Result<Dealt, DealFault> {
+    let length = 80 + 32 * usize::from(trustees.0);
+    deal_to(rt, alloc, codes, trustees, &count_up()[..length.min(240)])
+}
+
+/// The head of the reference file of a share's dealing.
+pub fn head_of(share: &Share) -> [u8; 32] {
+    let header = RefHeader {
+        params: share.params,
+        plan: share.plan,
+        id: share.id,
+    };
+    let mut head = [0; 32];
+    write_ref_head(&header, &mut head);
+    head
+}
+
+/// The SHA-256 of a head and of what follows it.
+pub fn digest_of(head: &[u8], rest: &[u8]) -> [u8; 32] {
+    let mut hasher = Sha256::new();
+    hasher.update(head);
+    hasher.update(rest);
+    hasher.finalize()
+}

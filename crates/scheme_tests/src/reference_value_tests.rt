@@ -1,0 +1,316 @@
+//! Tests of what no contract says: that the definitions are those by which another implementation dealt, that pages are
+//! read value by value, and that a file gives what memory gives.
+
+ghost use Rattle.std.specs.Prelude.{◌≤◌, [], false};
+
+use crate::dealings::{count_up, deal_count, digest_of, head_of};
+use dealer::Dealt;
+use disk_trait::{Disk, DiskFault, Faults, FileDisk, MemDisk, Pages};
+use lms_bytes::bytes::put;
+use lms_bytes::{MessageId, Val, digit};
+use mask_prf::{chain_mask, check_tag, random_mask, randomizer};
+use reference_value::{
+    Cells, Paged, RefFault, Whole, build_leaf, join_chains, join_randomizer, leaf_bytes,
+};
+use share_files::Share;
+use std::alloc::{AllocError, Global};
+use std::fs::{OpenOptions, remove_file};
+use std::process::Abort;
+use std::test::Fail;
+
+/// Typecodes, the number of trustees and the threshold, and SHA-256 of the reference file.
+const REFERENCES: [((u32, u32), (u8, u8), &[u8; 32]); 5] = [
+    (
+        (5, 3),
+        (5, 3),
+        b"\x67\x46\x43\x0d\x89\xfb\xf9\x39\xcb\x1c\xdf\x5e\x99\x8e\x36\x47\
+            \xdd\x77\x46\x46\x15\x47\xa6\xdf\x08\x78\xd4\xd3\xb0\x2b\xa4\x3c",
+    ),
+    (
+        (5, 1),
+        (3, 2),
+        b"\x17\x23\x3e\x98\x7a\x02\x17\xf9\xa2\x0f\xba\x3a\x1e\xb1\x00\x8e\
+            \x75\x8f\xdb\x3f\x90\x4c\x10\x84\x26\x3d\xee\x9b\x26\xed\xda\x53",
+    ),
+    (
+        (5, 2),
+        (4, 4),
+        b"\x0b\xa3\x2e\xf2\xa2\x27\xb0\xbe\xff\xcf\x2e\x0a\xf9\x66\xb9\xdf\
+            \x16\x90\x11\xea\x7f\xb5\x04\x80\x24\x1b\x2c\x61\x45\x19\x3e\x73",
+    ),
+    (
+        (5, 4),
+        (3, 3),
+        b"\x07\x38\xb1\x5f\xe3\x81\x58\xb7\xc2\xc4\xe1\xdc\xa5\x7d\x45\x7d\
+            \x1e\x59\x9e\xaf\x7a\x4d\x18\x2b\xb0\x01\x18\x35\x90\xf7\x4b\x1e",
+    ),
+    (
+        (10, 7),
+        (5, 3),
+        b"\x6d\x80\x94\x3a\x59\x23\xf3\xb3\xb6\xd8\x3b\x06\x58\x3a\xcf\x23\
+            \x4a\xab\xc5\x42\x8c\x4e\xd0\x1f\xa5\xb4\xb8\xc8\xe4\x3d\x8d\x97",
+    ),
+];
+
+/// SHA-256 of the ends of 64 chains and of the first values of three.
+const ENDS: &[u8; 32] = b"\x60\xc3\x8f\x1d\x2e\x16\x4f\x3b\xd8\x1c\x82\x66\xb7\x8a\x53\x65\
+    \xb8\xdf\xe8\x08\x52\x11\x8e\x16\x40\xd5\xe9\x96\x9d\x7e\x6c\x03";
+
+/// The SHA-256 of the reference file of a dealing.
+fn file_digest(rt: &impl Abort, dealt: &Dealt) -> [u8; 32] {
+    assert!(rt; 0 < dealt.shares.len());
+    digest_of(&head_of(&dealt.shares[0]), &dealt.reference)
+}
+
+#[test]
+fn references_are_those_of_another_implementation(rt: HostRuntime) -> Result<(), Fail> {
+    for (codes, trustees, want) in REFERENCES {
+        let dealt = deal_count(&rt, rt.alloc(), codes, trustees)?;
+        assert!(rt; file_digest(&rt, &dealt) == *want, "{codes:?} {trustees:?}");
+    }
+    Ok(())
+}
+
+/// The shares of two trustees.
+fn pair_of(rt: &impl Abort, dealt: &Dealt) -> (Share, Share) {
+    assert!(rt; dealt.shares.len() == 2);
+    (dealt.shares[0], dealt.shares[1])
+}
+
+/// The 32 bytes that count up from the first.
+fn key_from(first: usize) -> [u8; 32]
+    requires { first ≤ 208 }
+{
+    let mut key = [0; 32];
+    key.copy_from_slice(&count_up()[first..first + 32]);
+    key
+}
+
+/// Builds leaf 7 of a dealing of the bytes that count up from 0.
+fn build(rt: &impl Abort, first: &Share, second: &Share, out: &mut [u8]) {
+    let Share { params, plan, .. } = first;
+    let seed = Val::cut(&key_from(16), params.n);
+    let keys = [first.key, second.key];
+    assert!(rt; plan.n() == 2);
+    assert!(rt; 7 < params.leaves());
+    assert!(rt; out.len() == leaf_bytes(params, plan.k()));
+    build_leaf(params, &first.id, plan, 7, &seed, &key_from(48), &keys, out);
+}
+
+#[test]
+fn a_leaf_is_that_of_its_reference(rt: HostRuntime) -> Result<(), Fail> {
+    let dealt = deal_count(&rt, rt.alloc(), (10, 5), (2, 2))?;
+    let (first, second) = pair_of(&rt, &dealt);
+    let mut leaf = [0; 9688];
+    build(&rt, &first, &second, &mut leaf);
+    assert!(rt; dealt.reference.get(7 * 9688..8 * 9688) == Some(leaf.as_slice()));
+    Ok(())
+}
+
+/// Writes the sums of the masks of two members at the digits of a digest.
+fn write_sums(
+    rt: &impl Abort,
+    first: &Share,
+    second: &Share,
+    q: u32,
+    digest: &Val,
+    sums: &mut [u8],
+) {
+    let Share { params, id, .. } = first;
+    let n = params.n as usize;
+    assert!(rt; digest.bytes().len() == n);
+    assert!(rt; sums.len() == n * params.p as usize);
+    for i in 0..params.p {
+        let j = digit(params, digest, i);
+        let mask = chain_mask(&first.key, params, id, q, i, j);
+        let sum = mask.xor(&chain_mask(&second.key, params, id, q, i, j));
+        assert!(rt; n * i as usize + sum.bytes().len() <= sums.len());
+        put(sums, n * i as usize, sum.bytes());
+    }
+}
+
+/// Joins the chains of a leaf in memory.
+fn join_whole(
+    rt: &impl Abort,
+    share: &Share,
+    leaves: &[u8],
+    q: u32,
+    digest: &Val,
+    sums: &[u8],
+    out: &mut [u8],
+) {
+    let Share { params, plan, .. } = share;
+    let length = params.n as usize * params.p as usize;
+    assert!(rt; q < params.leaves());
+    assert!(rt; digest.bytes().len() == params.n as usize);
+    assert!(rt; sums.len() == length && out.len() == length);
+    assert!(rt; leaves.len() == leaf_bytes(params, plan.k()) * params.leaves() as usize);
+    let mut cells = Whole::new(params, plan, leaves);
+    assert!(rt; join_chains(params, &mut cells, q, digest, sums, out).is_ok());
+    assert!(rt; cells.faults() == 0);
+}
+
+#[test]
+fn joins_give_the_values_of_the_chains(rt: HostRuntime) -> Result<(), Fail> {
+    let dealt = deal_count(&rt, rt.alloc(), (5, 3), (2, 2))?;
+    let (first, second) = pair_of(&rt, &dealt);
+    // Each digit of the digest is the greatest, and each of its checksum is 0.
+    let digest = Val::of(&[0xff; 32]);
+    let mut sums = [0; 67 * 32];
+    let mut out = [0; 67 * 32];
+    write_sums(&rt, &first, &second, 0, &digest, &mut sums);
+    join_whole(&rt, &first, &dealt.reference, 0, &digest, &sums, &mut out);
+    assert!(rt; MessageId::of(&out).hash == *ENDS);
+    Ok(())
+}
+
+/// Whether leaf 0 gives the randomizer, and its tag for member 2.
+fn has_randomizer(rt: &impl Abort, first: &Share, second: &Share, leaves: &[u8]) -> bool {
+    let Share {
+        params,
+        plan,
+        id,
+        ..
+    } = first;
+    assert!(rt; leaves.len() == leaf_bytes(params, plan.k()) * params.leaves() as usize);
+    assert!(rt; 0 < params.leaves() && plan.is_member(0, 2));
+    let mut cells = Whole::new(params, plan, leaves);
+    let mask = random_mask(&first.key, params, id, 0);
+    let sum = mask.xor(&random_mask(&second.key, params, id, 0));
+    let c = randomizer(&key_from(48), params, id, 0);
+    assert!(rt; sum.bytes().len() == params.n as usize);
+    join_randomizer(&mut cells, 0, &sum) == Ok(c)
+        && cells.tag(0, 2) == Ok(check_tag(&second.key, id, 0, &c))
+        && cells.faults() == 0
+}
+
+#[test]
+fn joins_give_the_randomizer(rt: HostRuntime) -> Result<(), Fail> {
+    let dealt = deal_count(&rt, rt.alloc(), (5, 3), (2, 2))?;
+    let (first, second) = pair_of(&rt, &dealt);
+    assert!(rt; has_randomizer(&rt, &first, &second, &dealt.reference));
+    Ok(())
+}
+
+/// Pages that count the reads.
+#[derive(Drop)]
+struct Watched {
+    disk: MemDisk,
+    reads: u64,
+    bytes: u64,
+}
+
+impl Faults for Watched {
+    ghost count = { λ w. w.disk.faults };
+
+    ghost steady = { λ _. false };
+
+    fn faults(&self) -> u64 {
+        self.disk.faults()
+    }
+}
+
+impl Pages for Watched {
+    ghost told = { λ _. false };
+
+    ghost reads = { λ _. [] };
+
+    fn len(&mut self) -> Result<u64, DiskFault> {
+        self.disk.len()
+    }
+
+    fn read_at(&mut self, at: u64, out: &mut [u8]) -> Result<(), DiskFault> {
+        self.reads = self.reads.wrapping_add(1);
+        self.bytes = self.bytes.wrapping_add(out.len() as u64);
+        self.disk.read_at(at, out)
+    }
+}
+
+/// What leaf 3 of a dealing is joined from, with its values as memory gives them.
+#[derive(Drop)]
+struct Case {
+    share: Share,
+    digest: Val,
+    sums: [u8; 4800],
+    want: [u8; 4800],
+    file: Vec<u8>,
+}
+
+/// The reference file of a dealing.
+fn file_of(alloc: Global, share: &Share, leaves: &[u8]) -> Result<Vec<u8>, AllocError> {
+    let mut file = Vec::from_slice(alloc, &head_of(share))?;
+    file.extend_from_slice(leaves)?;
+    Ok(file)
+}
+
+/// A case of 200 values of 24 bytes each.
+fn case_of(rt: &impl Abort, alloc: Global) -> Result<Case, Fail> {
+    let dealt = deal_count(rt, alloc, (10, 5), (2, 2))?;
+    let (first, second) = pair_of(rt, &dealt);
+    let digest = Val::of(&[0x5a; 24]);
+    let mut sums = [0; 4800];
+    let mut want = [0; 4800];
+    write_sums(rt, &first, &second, 3, &digest, &mut sums);
+    join_whole(rt, &first, &dealt.reference, 3, &digest, &sums, &mut want);
+    Ok(Case {
+        share: first,
+        digest,
+        sums,
+        want,
+        file: file_of(alloc, &first, &dealt.reference)?,
+    })
+}
+
+/// Joins the leaf over pages, says whether its values are those of memory, and gives the pages back.
+fn join_pages<V: Pages>(rt: &impl Abort, case: &Case, pages: V) -> (Result<bool, RefFault>, V) {
+    let Share { params, plan, .. } = &case.share;
+    let sums = case.sums.as_slice();
+    let mut out = [0; 4800];
+    assert!(rt; 3 < params.leaves());
+    assert!(rt; params.n == 24 && case.digest.bytes().len() == 24);
+    assert!(rt; sums.len() == params.n as usize * params.p as usize);
+    assert!(rt; out.len() == sums.len());
+    let mut paged = Paged::new(params, plan, pages);
+    let joined = join_chains(params, &mut paged, 3, &case.digest, sums, &mut out);
+    (joined.map(|_| out == case.want), paged.end())
+}
+
+#[test]
+fn pages_are_read_value_by_value(rt: HostRuntime) -> Result<(), Fail> {
+    let case = case_of(&rt, rt.alloc())?;
+    let watched = Watched {
+        disk: MemDisk::of_bytes(rt.alloc(), &case.file, case.file.len(), usize::MAX)?,
+        reads: 0,
+        bytes: 0,
+    };
+    let (joined, watched) = join_pages(&rt, &case, watched);
+    assert!(rt; joined == Ok(true));
+    assert!(rt; watched.reads == 200);
+    assert!(rt; watched.bytes == 4800);
+    Ok(())
+}
+
+#[test]
+fn a_read_that_fails_is_a_fault(rt: HostRuntime) -> Result<(), Fail> {
+    let case = case_of(&rt, rt.alloc())?;
+    let mut disk = MemDisk::of_bytes(rt.alloc(), &case.file, case.file.len(), usize::MAX)?;
+    disk.fail_once(5);
+    let (joined, disk) = join_pages(&rt, &case, disk);
+    assert!(rt; joined == Err(RefFault));
+    assert!(rt; disk.faults() == 1);
+    Ok(())
+}
+
+#[test]
+fn a_file_gives_what_memory_gives(rt: HostRuntime) -> Result<(), Fail> {
+    let case = case_of(&rt, rt.alloc())?;
+    let name = "a_file_gives_what_memory_gives.ref";
+    let mut how = OpenOptions::new();
+    how.read(true).write(true).create(true);
+    let mut file = FileDisk::unlocked(how.open(&rt, name)?);
+    assert!(rt; file.write_at(0, &case.file) == Ok(()));
+    let (joined, _) = join_pages(&rt, &case, file);
+    assert!(rt; joined == Ok(true));
+    remove_file(&rt, name)?;
+    Ok(())
+}

@@ -1,0 +1,206 @@
+//! Tests of what no contract says: that the files are those of another implementation, and each refusal once.
+
+use share_files::{
+    FileFault, read_ref_header, read_reference, read_share, read_tree, write_ref_head, write_share,
+    write_tree_head,
+};
+use std::test::Fail;
+
+/// The share of trustee 3 in a dealing of the typecodes 5 and 3 to coalitions of 3 of 5 trustees.
+const SHARE: [u8; 64] = [
+    0x54, 0x4c, 0x53, 0x48, 1, 3, 3, 5, 0, 0, 0, 5, 0, 0, 0, 3, 0, 1, 2, 3, 4, 5, 6, 7, 8, 9, 10,
+    11, 12, 13, 14, 15, 0x90, 0x91, 0x92, 0x93, 0x94, 0x95, 0x96, 0x97, 0x98, 0x99, 0x9a, 0x9b,
+    0x9c, 0x9d, 0x9e, 0x9f, 0xa0, 0xa1, 0xa2, 0xa3, 0xa4, 0xa5, 0xa6, 0xa7, 0xa8, 0xa9, 0xaa, 0xab,
+    0xac, 0xad, 0xae, 0xaf,
+];
+
+/// The head of the tree file of that dealing.
+const TREE_HEAD: [u8; 32] = [
+    0x54, 0x4c, 0x54, 0x52, 1, 0, 0, 0, 0, 0, 0, 5, 0, 0, 0, 3, 0, 1, 2, 3, 4, 5, 6, 7, 8, 9, 10,
+    11, 12, 13, 14, 15,
+];
+
+/// The head of its reference file, which has 1,101,856 bytes.
+const REFERENCE_HEAD: [u8; 32] = [
+    0x54, 0x4c, 0x52, 0x46, 1, 0, 3, 5, 0, 0, 0, 5, 0, 0, 0, 3, 0, 1, 2, 3, 4, 5, 6, 7, 8, 9, 10,
+    11, 12, 13, 14, 15,
+];
+
+#[test]
+fn a_share_is_read_and_written(rt: HostRuntime) -> Result<(), Fail> {
+    let share = read_share(&SHARE)?;
+    assert!(rt; share.member == 3);
+    assert!(rt; (share.plan.n(), share.plan.k(), share.plan.h()) == (5, 3, 5));
+    assert!(rt; (share.params.lms, share.params.ots) == (5, 3));
+    assert!(rt; (share.id[15], share.key[0]) == (15, 0x90));
+    let mut out = [0; 64];
+    write_share(&share, &mut out);
+    assert!(rt; out == SHARE);
+    Ok(())
+}
+
+/// Two places of a share with what is put there, a length, and the fault of so many bytes of it.
+const SHARE_FAULTS: [(usize, u8, usize, u8, usize, FileFault); 11] = [
+    (0, 0, 4, 2, 63, FileFault::Length { got: 63, want: 64 }),
+    (3, 0x49, 4, 2, 64, FileFault::Magic),
+    (4, 2, 11, 7, 64, FileFault::Version { got: 2 }),
+    (11, 7, 6, 1, 64, FileFault::Code { lms: 7, ots: 3 }),
+    (11, 6, 15, 4, 64, FileFault::Code { lms: 6, ots: 4 }),
+    (11, 10, 6, 1, 64, FileFault::Code { lms: 10, ots: 3 }),
+    (6, 1, 5, 6, 64, FileFault::Plan),
+    (7, 13, 5, 6, 65, FileFault::Plan),
+    (5, 6, 5, 6, 64, FileFault::Number { got: 6 }),
+    (5, 0, 5, 0, 65, FileFault::Number { got: 0 }),
+    (5, 1, 5, 1, 65, FileFault::Length { got: 65, want: 64 }),
+];
+
+/// The share with a byte behind it.
+fn longer_share() -> [u8; 65] {
+    let mut bytes = [0; 65];
+    bytes[..64].copy_from_slice(&SHARE);
+    bytes
+}
+
+/// The fault of bytes that are no share.
+fn share_fault(bytes: &[u8]) -> Option<FileFault> {
+    read_share(bytes).err()
+}
+
+#[test]
+fn other_bytes_are_no_share(rt: HostRuntime) {
+    for (place, byte, next, other, length, fault) in SHARE_FAULTS {
+        let mut bytes = longer_share();
+        bytes[place % 65] = byte;
+        bytes[next % 65] = other;
+        let found = share_fault(&bytes[..length.min(65)]);
+        assert!(rt; found == Some(fault), "{place} and {next}, {length} bytes");
+    }
+}
+
+/// A length, a place, what is put there, and the fault of a tree file that is then read.
+const TREE_FAULTS: [(usize, usize, u8, FileFault); 9] = [
+    (31, 0, 0, FileFault::Length { got: 31, want: 32 }),
+    (2048, 2, 0x53, FileFault::Magic),
+    (2048, 4, 0, FileFault::Version { got: 0 }),
+    (2048, 15, 9, FileFault::Code { lms: 5, ots: 9 }),
+    (2047, 5, 8, FileFault::Number { got: 8 }),
+    (2047, 6, 9, FileFault::Number { got: 9 }),
+    (2047, 7, 1, FileFault::Number { got: 1 }),
+    (
+        2047,
+        16,
+        0,
+        FileFault::Length {
+            got: 2047,
+            want: 2048,
+        },
+    ),
+    (
+        2049,
+        16,
+        0,
+        FileFault::Length {
+            got: 2049,
+            want: 2048,
+        },
+    ),
+];
+
+/// A tree file with a byte behind it.
+fn longer_tree() -> [u8; 2049] {
+    let mut bytes = [7; 2049];
+    bytes[..32].copy_from_slice(&TREE_HEAD);
+    bytes
+}
+
+#[test]
+fn a_tree_file_is_read_and_written(rt: HostRuntime) -> Result<(), Fail> {
+    let mut bytes = [7; 2048];
+    bytes[..32].copy_from_slice(&TREE_HEAD);
+    let view = read_tree(&bytes)?;
+    assert!(rt; (view.params.lms, view.params.ots, view.id[1]) == (5, 3, 1));
+    assert!(rt; view.nodes.len() == 2016);
+    let mut head = [0; 32];
+    write_tree_head(&view.params, &view.id, &mut head);
+    assert!(rt; head == TREE_HEAD);
+    Ok(())
+}
+
+/// The fault of bytes that are no tree file.
+fn tree_fault(bytes: &[u8]) -> Option<FileFault> {
+    match read_tree(bytes) {
+        Ok(_) => None,
+        Err(fault) => Some(fault),
+    }
+}
+
+#[test]
+fn other_bytes_are_no_tree_file(rt: HostRuntime) {
+    for (length, place, byte, fault) in TREE_FAULTS {
+        let mut bytes = longer_tree();
+        bytes[place % 2049] = byte;
+        let found = tree_fault(&bytes[..length.min(2049)]);
+        assert!(rt; found == Some(fault), "{place} {byte}");
+    }
+}
+
+#[test]
+fn the_head_of_a_reference_file_is_read_and_written(rt: HostRuntime) -> Result<(), Fail> {
+    let header = read_ref_header(&REFERENCE_HEAD, 1_101_856)?;
+    assert!(rt; (header.plan.n(), header.plan.k(), header.id[2]) == (5, 3, 2));
+    let mut head = [0; 32];
+    write_ref_head(&header, &mut head);
+    assert!(rt; head == REFERENCE_HEAD);
+    Ok(())
+}
+
+/// The length of a reference file, a place of its head, what is put there, and the fault.
+const REFERENCE_FAULTS: [(u64, usize, u8, FileFault); 6] = [
+    (1_101_856, 3, 0x47, FileFault::Magic),
+    (1_101_856, 4, 9, FileFault::Version { got: 9 }),
+    (1_101_856, 11, 4, FileFault::Code { lms: 4, ots: 3 }),
+    (1_101_856, 6, 6, FileFault::Plan),
+    (1, 5, 1, FileFault::Number { got: 1 }),
+    (
+        1_101_855,
+        0,
+        0x54,
+        FileFault::Length {
+            got: 1_101_855,
+            want: 1_101_856,
+        },
+    ),
+];
+
+/// The fault of a head that is none of a reference file of this length.
+fn head_fault(head: &[u8; 32], length: u64) -> Option<FileFault> {
+    read_ref_header(head, length).err()
+}
+
+#[test]
+fn other_bytes_are_no_head_of_a_reference_file(rt: HostRuntime) {
+    for (length, place, byte, fault) in REFERENCE_FAULTS {
+        let mut head = REFERENCE_HEAD;
+        head[place % 32] = byte;
+        assert!(rt; head_fault(&head, length) == Some(fault), "{place} {byte}");
+    }
+}
+
+/// The fault of bytes that are no reference file.
+fn reference_fault(bytes: &[u8]) -> Option<FileFault> {
+    match read_reference(bytes) {
+        Ok(_) => None,
+        Err(fault) => Some(fault),
+    }
+}
+
+#[test]
+fn other_bytes_are_no_reference_file(rt: HostRuntime) {
+    let short = FileFault::Length { got: 31, want: 32 };
+    assert!(rt; reference_fault(&REFERENCE_HEAD[..31]) == Some(short));
+    let cut = FileFault::Length {
+        got: 32,
+        want: 1_101_856,
+    };
+    assert!(rt; reference_fault(&REFERENCE_HEAD) == Some(cut));
+}

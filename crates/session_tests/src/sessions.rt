@@ -1,0 +1,271 @@
+//! Tests of what no clause says: that whole sessions give the signatures of another implementation, and each refusal.
+
+use crate::dealing::{ID, MESSAGE};
+use crate::meeting::Meeting;
+use disk_trait::MemDisk;
+use lms_bytes::bytes::put;
+use lms_bytes::{Ask, MessageId, Second, Val};
+use reference_value::{Paged, leaf_bytes};
+use session_core::{KeptValue, SessionFault, Step};
+use sha2::{Digest, Sha256};
+use std::alloc::Global;
+
+/// The replies of round one: of trustees 3, 1 and 2, of trustee 4, who is no member, and of trustee 3 once more.
+const FIRST: [(u8, Step); 5] = [
+    (3, Step::Kept),
+    (4, Step::NotMine),
+    (1, Step::Kept),
+    (3, Step::Repeat),
+    (2, Step::Kept),
+];
+
+/// Typecodes, and SHA-256 of the signatures of another implementation.
+const SIGNED: [(u32, u32, [u8; 32]); 2] = [
+    (
+        5,
+        3,
+        [
+            0xd3, 0x0e, 0x37, 0x16, 0xb0, 0xf5, 0x8c, 0x89, 0xce, 0x38, 0x9f, 0x61, 0xc9, 0xa9,
+            0xfe, 0xc2, 0x70, 0x96, 0xe4, 0xb1, 0x0e, 0xbc, 0x7a, 0x73, 0x2b, 0x8d, 0x5f, 0x96,
+            0xba, 0xca, 0x1b, 0xce,
+        ],
+    ),
+    (
+        10,
+        7,
+        [
+            0x6a, 0xfb, 0xf4, 0x1c, 0xdb, 0xf8, 0xae, 0x15, 0x0c, 0xcb, 0x24, 0xa4, 0x0d, 0xde,
+            0xd8, 0x60, 0xd5, 0x55, 0x38, 0x0d, 0xbf, 0x71, 0x73, 0x71, 0xde, 0x89, 0xe2, 0xa2,
+            0x52, 0x0c, 0x05, 0x8c,
+        ],
+    ),
+];
+
+/// Whether each step of round one is as it should be.
+fn answer_first(meeting: &mut Meeting) -> bool {
+    let mut right = true;
+    for (member, want) in FIRST {
+        right &= meeting.give_mask(member) == want;
+    }
+    right
+}
+
+/// Whether the replies of round two of trustees 2, 1 and 3 are kept.
+fn answer_second(meeting: &mut Meeting) -> bool {
+    let mut right = true;
+    for member in [2, 1, 3] {
+        right &= meeting.give_masks(member) == Some(Step::Kept);
+    }
+    right
+}
+
+/// Goes through both rounds, up to the end.
+fn run(meeting: &mut Meeting) -> bool {
+    answer_first(meeting) && meeting.turn() == Some(Ok(())) && answer_second(meeting)
+}
+
+#[test]
+fn a_session_signs_as_another_implementation_does(rt: HostRuntime) {
+    for (lms, ots, want) in SIGNED {
+        let mut meeting = Meeting::dealt(rt.alloc(), lms, ots).expect(&rt, "a session");
+        assert!(rt; run(&mut meeting));
+        let signed = meeting.finish(rt.alloc()).expect(&rt, "a randomizer");
+        let signature = signed.expect(&rt, "a signature");
+        assert!(rt; Sha256::digest(&signature) == want, "{lms} {ots}");
+    }
+}
+
+#[test]
+fn a_changed_reference_gives_no_signature(rt: HostRuntime) {
+    // The root to which the signature of another implementation leads with the first byte of value 0 changed.
+    let got =
+        b"\x67\x94\xb7\x60\xd2\xbb\xdd\xab\xbe\xe4\x4e\xa0\x0e\xfa\x89\xa2\xbb\x14\x93\x79\x87\xcc\x54\x43";
+    let want =
+        b"\x6c\x65\xc3\xa9\xb0\xc3\xab\x09\x47\x78\xe6\x9c\x0d\xbc\x07\xf5\xec\xc5\x3b\x94\x61\x5f\x19\x90";
+    let fault = SessionFault::WrongRoot {
+        leaf: 0,
+        got: Val::of(got),
+        want: Val::of(want),
+    };
+    let mut meeting = Meeting::dealt(rt.alloc(), 10, 7).expect(&rt, "a session");
+    // Behind the randomizer and three tags lie the values of chain 0, and the digest's first digit is 4.
+    meeting.spoil(24 + 96 + 24 * 4);
+    assert!(rt; run(&mut meeting));
+    let signed = meeting.finish(rt.alloc()).expect(&rt, "a randomizer");
+    assert!(rt; signed.err() == Some(fault));
+}
+
+/// What `turn` says of a session in which trustee 1 alone has answered, by a refusal.
+fn turn_after_refusal(alloc: Global, code: u8, body: &[u8]) -> Option<Result<(), SessionFault>> {
+    let mut meeting = Meeting::blank(alloc)?;
+    meeting.take(1, code, body);
+    meeting.turn()
+}
+
+#[test]
+fn refusals_are_told_apart(rt: HostRuntime) {
+    let member = 1;
+    let own = MessageId::of(MESSAGE);
+    let mut body = [0; 36];
+    put(&mut body, 0, &own.length.to_be_bytes());
+    put(&mut body, 4, &own.hash);
+    let mut other = body;
+    other[35] ^= 1;
+    let mut hash = own.hash;
+    hash[31] ^= 1;
+    let kept = MessageId {
+        length: own.length,
+        hash,
+    };
+    let spent = SessionFault::SpentLeaf {
+        leaf: 0,
+        member,
+        kept: KeptValue::Message(kept),
+    };
+    let cases: [(u8, &[u8], SessionFault); 4] = [
+        (12, &[], SessionFault::MemberRefused { member, code: 12 }),
+        (12, &[0], SessionFault::Missing { member, round: 1 }),
+        (9, &body, SessionFault::MemberRefused { member, code: 9 }),
+        (9, &other, spent),
+    ];
+    for (code, body, want) in cases {
+        assert!(rt;
+            turn_after_refusal(rt.alloc(), code, body) == Some(Err(want)),
+            "code {code}"
+        );
+    }
+}
+
+/// What `finish` says of a session over a reference of zeros in which trustees 1, 2 and 3 have answered round one with
+/// zeros, and trustee 1 round two by a refusal.
+fn fault_of_later_refusal(alloc: Global, code: u8, body: &[u8]) -> Option<SessionFault> {
+    let mut meeting = Meeting::blank(alloc)?;
+    for member in 1..4 {
+        meeting.take(member, 0, &[0; 24]);
+    }
+    meeting.turn()?.ok()?;
+    meeting.take(1, code, body);
+    meeting.finish(alloc)?.err()
+}
+
+#[test]
+fn refusals_of_round_two_are_told_apart(rt: HostRuntime) {
+    let member = 1;
+    // A randomizer of zeros, and the message's digest under it, which another implementation hashed.
+    let digest =
+        b"\x1f\xb3\xd6\x31\xf1\xc7\x65\x3d\x73\xf8\xe1\x57\x19\x5f\x98\x1a\xe3\x20\x0e\x73\x5f\xd6\x7f\x66";
+    let mut body = [0; 48];
+    put(&mut body, 24, digest);
+    let mut other = body;
+    other[47] ^= 1;
+    let spent = SessionFault::SpentLeaf {
+        leaf: 0,
+        member,
+        kept: KeptValue::Digest {
+            c: Val::of(&other[..24]),
+            digest: Val::of(&other[24..]),
+        },
+    };
+    let cases: [(u8, &[u8], SessionFault); 4] = [
+        (5, &[], SessionFault::WrongCheck { leaf: 0, member }),
+        (8, &[], SessionFault::MemberRefused { member, code: 8 }),
+        (10, &body, SessionFault::MemberRefused { member, code: 10 }),
+        (10, &other, spent),
+    ];
+    for (code, body, want) in cases {
+        assert!(rt;
+            fault_of_later_refusal(rt.alloc(), code, body) == Some(want),
+            "code {code}"
+        );
+    }
+}
+
+/// The ask of leaf 0, by what round two adds.
+fn ask_with(second: Option<Second>) -> Ask {
+    Ask {
+        key: ID,
+        leaf: 0,
+        message: MessageId::of(MESSAGE),
+        second,
+    }
+}
+
+/// Whether these masks of a member are kept of a round.
+fn keeps(meeting: &Meeting, round: u8, member: u8, masks: &[u8]) -> bool {
+    meeting
+        .session
+        .kept_reply(round, member)
+        .is_some_and(|kept| kept == masks)
+}
+
+/// Whether nothing is kept of a member in a round.
+fn keeps_none(meeting: &Meeting, round: u8, member: u8) -> bool {
+    meeting.session.kept_reply(round, member).is_none()
+}
+
+#[test]
+fn round_one_tells_what_it_asks_and_keeps(rt: HostRuntime) {
+    // The mask that another implementation had of trustee 2.
+    let mask =
+        b"\x2e\x88\xf5\x5e\xc3\xf9\x50\xe6\xba\x46\xf4\x98\xb8\x94\x4c\x4b\x48\xe0\x8e\x73\x94\x2a\x5b\xfe";
+    let mut meeting = Meeting::blank(rt.alloc()).expect(&rt, "a session");
+    assert!(rt; meeting.ask(&Val::of(&[0; 24])) == Some(Ok(ask_with(None))));
+    assert!(rt; keeps_none(&meeting, 1, 2));
+    assert!(rt; answer_first(&mut meeting));
+    assert!(rt; keeps(&meeting, 1, 2, mask));
+    assert!(rt; keeps_none(&meeting, 1, 4));
+    assert!(rt; keeps_none(&meeting, 2, 2));
+}
+
+#[test]
+fn round_two_tells_what_it_asks_and_keeps(rt: HostRuntime) {
+    // What another implementation asked of trustee 2 and had of it: randomizer, tag, digest, and SHA-256 of the masks.
+    let c =
+        b"\x44\xeb\xb5\xe6\xe3\x18\x9c\xe4\x3e\xf1\x3b\xeb\xc0\x51\xdb\x04\xcd\xba\x90\xf2\x6f\x2e\x38\x63";
+    let tag = b"\xc1\x13\xa8\xd5\xef\x68\xfb\xb0\xb3\xbe\x33\x32\xff\xfe\xa7\xac\
+        \xd9\xda\x27\xdf\xbc\xe1\x00\xf3\x86\xe3\x63\x2d\x77\xb7\xcc\xfb";
+    let digest =
+        b"\x4e\xa0\x13\x64\x44\xdb\xcf\x0f\x14\x5a\xc7\x7a\xc6\x78\x39\x13\x09\xf5\x1a\x89\xb9\xdf\xef\x40";
+    let masks = b"\x63\xa9\x60\x4f\x1a\x73\xa8\x5a\x41\xb1\xfb\x1a\x0a\x96\x5e\x91\
+        \x17\x44\xde\x23\x28\xb9\xcc\xbc\x98\xe0\x9a\xeb\x95\xdd\xf1\xcb";
+    let second = Second {
+        c: Val::of(c),
+        tag: *tag,
+        digest: Val::of(digest),
+    };
+    let mut meeting = Meeting::dealt(rt.alloc(), 10, 7).expect(&rt, "a session");
+    assert!(rt; answer_first(&mut meeting));
+    assert!(rt; meeting.turn() == Some(Ok(())));
+    assert!(rt; meeting.ask(&Val::of(digest)) == Some(Ok(ask_with(Some(second)))));
+    assert!(rt; meeting.give_masks(2) == Some(Step::Kept));
+    let kept = meeting.session.kept_reply(2, 2).expect(&rt, "masks");
+    assert!(rt; Sha256::digest(kept) == *masks);
+    assert!(rt; keeps_none(&meeting, 2, 1));
+    assert!(rt; keeps_none(&meeting, 3, 2));
+}
+
+/// A reference of zeros on a disk whose first read fails.
+fn failing_disk(alloc: Global, leaves: usize) -> Option<MemDisk> {
+    let file = vec![in alloc; 0; leaves.checked_add(32)?].ok()?;
+    let mut disk = MemDisk::of_bytes(alloc, &file, file.len(), usize::MAX).ok()?;
+    disk.fail_once(0);
+    Some(disk)
+}
+
+/// Ends round one over a reference on this disk.
+fn turn_over(meeting: &mut Meeting, disk: MemDisk) -> Option<Result<(), SessionFault>> {
+    meeting.in_first()?;
+    let mut cells = Paged::new(&meeting.params, &meeting.plan, disk);
+    Some(meeting.session.turn(&mut cells))
+}
+
+#[test]
+fn a_read_that_fails_leaves_the_session(rt: HostRuntime) {
+    let mut meeting = Meeting::blank(rt.alloc()).expect(&rt, "a session");
+    let leaves = leaf_bytes(&meeting.params, meeting.plan.k()) * 32;
+    let disk = failing_disk(rt.alloc(), leaves).expect(&rt, "a disk");
+    assert!(rt; answer_first(&mut meeting));
+    assert!(rt; turn_over(&mut meeting, disk) == Some(Err(SessionFault::Reference)));
+    assert!(rt; meeting.session.randomizer().is_none());
+    assert!(rt; !keeps_none(&meeting, 1, 2));
+}

@@ -1,0 +1,209 @@
+//! Books of approved messages: a message is listed once, also where calls of the disk fail, and no other is answered.
+
+ghost use Rattle.std.specs.Prelude.{◌<◌, ◌^◌, length};
+
+use crate::disks::{crashed, failing_file, free_file, header, stopping_file, with_byte};
+use crate::shares::{empty_journal, share, trustee_on};
+use approval_book::{Approved, Book, BookFault, Denial, decide_approved};
+use disk_trait::{Disk, MemDisk};
+use lms_bytes::{Ask, MessageId};
+use opening_journal::Entered;
+use slot_cache::CacheLoad;
+use slot_file::LoadFault;
+use std::alloc::Global;
+use std::process::Abort;
+use trustee_core::Trustee;
+
+/// How many calls of the disk a load makes: one sync, the length, the header, and each slot.
+const LOAD_CALLS: u64 = 1027;
+
+/// Loads the book of a disk.
+fn loaded(rt: &impl Abort, alloc: Global, disk: MemDisk) -> Book<MemDisk> {
+    match Book::load(alloc, disk, &header(3, 3)) {
+        Ok(book) => book,
+        Err((_, fault)) => panic!(rt; "load: {fault}"),
+    }
+}
+
+/// A book that lists nothing.
+fn empty_book(rt: &impl Abort, alloc: Global) -> Book<MemDisk> {
+    loaded(rt, alloc, free_file(rt, alloc, &header(3, 3), 1024))
+}
+
+/// The book of what a crash leaves.
+fn after_crash(rt: &impl Abort, alloc: Global, book: Book<MemDisk>, pick: u64) -> Book<MemDisk> {
+    loaded(rt, alloc, crashed(rt, alloc, book.end(), pick))
+}
+
+/// Whether listing a message is answered by this.
+fn adds(book: &mut Book<MemDisk>, text: &[u8], want: Result<Entered, BookFault>) -> bool
+    requires { length text.now < 2 ^ 32 }
+{
+    book.add(&MessageId::of(text)) == want
+}
+
+/// Whether a book lists a message.
+fn lists(book: &Book<MemDisk>, text: &[u8]) -> bool
+    requires { length text.now < 2 ^ 32 }
+{
+    book.approved().has(&MessageId::of(text))
+}
+
+/// Whether two messages are listed, each once.
+fn lists_two(book: &mut Book<MemDisk>) -> bool {
+    let before = lists(book, b"abc");
+    let new = adds(book, b"abc", Ok(Entered::New));
+    let old = adds(book, b"abc", Ok(Entered::Old));
+    let one = book.count() == 1;
+    let other = adds(book, b"", Ok(Entered::New));
+    !before & new & old & one & other & (book.count() == 2)
+}
+
+#[test]
+fn a_message_is_listed_once(rt: HostRuntime) {
+    let mut book = empty_book(&rt, rt.alloc());
+    let two = lists_two(&mut book);
+    let book = after_crash(&rt, rt.alloc(), book, 0);
+    assert!(rt; two & lists(&book, b"abc") & lists(&book, b"") & (book.count() == 2));
+}
+
+/// Lists `abc`, stopped at a call of the disk: whether that is answered by this, and the book of what a crash leaves
+/// lists it or not.
+fn adds_or_not(rt: &impl Abort, alloc: Global, call: u64, pick: u64) -> bool {
+    let disk = stopping_file(
+        rt,
+        alloc,
+        &header(3, 3),
+        1024,
+        LOAD_CALLS.saturating_add(call),
+    );
+    let mut book = loaded(rt, alloc, disk);
+    let want = if call < 4 {
+        Err(BookFault::Device)
+    } else {
+        Ok(Entered::New)
+    };
+    let answered = adds(&mut book, b"abc", want);
+    let book = after_crash(rt, alloc, book, pick);
+    let is_made = call == 4 || call == 3 && pick == 1;
+    answered & (lists(&book, b"abc") == is_made)
+}
+
+#[test]
+fn a_listing_is_before_or_after(rt: HostRuntime) {
+    for call in 0..5 {
+        for pick in [0, 1] {
+            assert!(rt; adds_or_not(&rt, rt.alloc(), call, pick));
+        }
+    }
+}
+
+/// Lists `abc` by a disk that fails at a call, and then another message: whether so many are listed then.
+fn adds_again(rt: &impl Abort, alloc: Global, call: u64, count: u32) -> bool {
+    let disk = failing_file(
+        rt,
+        alloc,
+        &header(3, 3),
+        1024,
+        LOAD_CALLS.saturating_add(call),
+    );
+    let mut book = loaded(rt, alloc, disk);
+    let fails = adds(&mut book, b"abc", Err(BookFault::Device));
+    let other = adds(&mut book, b"", Ok(Entered::New));
+    fails & other & (book.count() == count)
+}
+
+#[test]
+fn a_doubt_is_settled(rt: HostRuntime) {
+    for call in 0..3 {
+        assert!(rt; adds_again(&rt, rt.alloc(), call, 1));
+    }
+    assert!(rt; adds_again(&rt, rt.alloc(), 3, 2));
+}
+
+/// Writes what a full book has: in slot `i` the message of the bytes of `i`.
+fn fill(disk: &mut MemDisk) -> bool {
+    for i in 0..1024_u64 {
+        let place = 128 * (i + 1);
+        let id = MessageId::of(&i.to_be_bytes()).to_bytes();
+        let open = disk.write_at(place, &[0xB1]).is_ok();
+        if !(open & disk.write_at(place + 4, &id).is_ok()) {
+            return false;
+        }
+    }
+    true
+}
+
+#[test]
+fn a_full_book_lists_no_more(rt: HostRuntime) {
+    let mut disk = free_file(&rt, rt.alloc(), &header(3, 3), 1024);
+    let filled = fill(&mut disk);
+    let mut book = loaded(&rt, rt.alloc(), disk);
+    let full = adds(&mut book, b"abc", Err(BookFault::Full));
+    let old = adds(&mut book, &[0; 8], Ok(Entered::Old));
+    assert!(rt; filled & full & old & (book.count() == 1024));
+}
+
+/// Whether a free file with another byte at a place is refused for this.
+fn is_refused(rt: &impl Abort, alloc: Global, place: u64, byte: u8, why: CacheLoad) -> bool {
+    let disk = free_file(rt, alloc, &header(3, 3), 1024);
+    match Book::load(alloc, with_byte(rt, disk, place, byte), &header(3, 3)) {
+        Ok(_) => false,
+        Err((_, fault)) => fault == why,
+    }
+}
+
+#[test]
+fn a_load_is_refused(rt: HostRuntime) {
+    let (slot, a, b) = (0, 0, 0xC2);
+    assert!(rt;
+        is_refused(
+            &rt,
+            rt.alloc(),
+            168,
+            0xC2,
+            CacheLoad::Damaged { slot, a, b }
+        )
+    );
+    let version = CacheLoad::Slots(LoadFault::Version { got: 2 });
+    assert!(rt; is_refused(&rt, rt.alloc(), 4, 2, version));
+}
+
+/// What an ask of round one is answered, by its number, and 0 where it is granted.
+fn code(
+    book: Option<&Approved>,
+    trustee: &mut Trustee<MemDisk>,
+    key: [u8; 16],
+    leaf: u32,
+    text: &[u8; 3],
+) -> u8 {
+    let ask = Ask {
+        key,
+        leaf,
+        message: MessageId::of(text),
+        second: None,
+    };
+    match decide_approved(book, trustee, &ask, 7) {
+        Ok(_) => 0,
+        Err(Denial::NotApproved { .. }) => 12,
+        Err(Denial::Core(why)) => why.code(),
+    }
+}
+
+/// Whether what a book lists is decided on by the trustee of this key, and all else is denied.
+fn denies(book: &Approved, trustee: &mut Trustee<MemDisk>, key: [u8; 16]) -> bool {
+    let listed = code(Some(book), trustee, key, 0, b"abc") == 0;
+    let other = code(Some(book), trustee, key, 10, b"xyz") == 12;
+    // A denial comes before each of the trustee's own refusals, and leaves the leaf free.
+    let first = code(Some(book), trustee, [0; 16], 32, b"xyz") == 12;
+    let foreign = code(Some(book), trustee, [0; 16], 10, b"abc") == 1;
+    listed & other & first & foreign & (code(None, trustee, key, 10, b"xyz") == 0)
+}
+
+#[test]
+fn what_is_not_listed_is_denied(rt: HostRuntime) {
+    let mut book = empty_book(&rt, rt.alloc());
+    let added = adds(&mut book, b"abc", Ok(Entered::New));
+    let mut trustee = trustee_on(&rt, rt.alloc(), empty_journal(&rt, rt.alloc()));
+    assert!(rt; added & denies(book.approved(), &mut trustee, share(&rt).id));
+}

@@ -1,0 +1,166 @@
+//! Caches of slots: what is kept, and how a put that was refused is settled.
+
+ghost use Rattle.std.specs.Prelude.{◌≡◌, ◌<◌};
+ghost use Rattle.slot_cache.specs.Cache.{count_of, header_of};
+
+use crate::disks::{failing_file, free_file, header, stopping_file, with_byte};
+use disk_trait::{DiskFault, MemDisk};
+use slot_cache::{CacheLoad, CachedSlots, Doubted, SettleFault, Settled};
+use slot_file::{LoadFault, Slot};
+use std::alloc::Global;
+use std::process::Abort;
+
+const A: [u8; 36] = [0xAA; 36];
+
+const B: [u8; 64] = [0xBB; 64];
+
+/// A cache of a file of eight slots.
+#[derive(Drop)]
+struct Cache {
+    slots: CachedSlots<MemDisk>,
+    ghost version: { (header_of slots).version ≡ 1 },
+    ghost count: { count_of slots ≡ 8 },
+}
+
+impl Cache {
+    /// Loads the file of a disk.
+    fn open(rt: &impl Abort, alloc: Global, disk: MemDisk) -> Cache {
+        match CachedSlots::load(alloc, disk, &header(1, 3), 8) {
+            Ok(slots) => Cache { slots },
+            Err((_, fault)) => panic!(rt; "load: {fault}"),
+        }
+    }
+
+    /// Puts body A into slot 1 if it is free, where no put is in doubt.
+    fn put_first(&mut self) -> Result<(), DiskFault> {
+        match (self.slots.doubt(), *self.slots.slot(1)) {
+            (None, Slot::Free) => self.slots.put_a(1, &A),
+            _ => Ok(()),
+        }
+    }
+
+    /// Puts body B into slot 1 if it is half, where no put is in doubt.
+    fn put_second(&mut self) -> Result<(), DiskFault> {
+        match (self.slots.doubt(), *self.slots.slot(1)) {
+            (None, Slot::Half(_)) => self.slots.put_b(1, &B, 0),
+            _ => Ok(()),
+        }
+    }
+
+    /// Whether a slot is kept as this.
+    fn has(&self, slot: u32, want: Slot) -> bool
+        requires { slot < 8 }
+    {
+        *self.slots.slot(slot) == want
+    }
+
+    /// Whether settling answers this.
+    fn settles(&mut self, want: Result<Settled, SettleFault>) -> bool {
+        self.slots.settle() == want
+    }
+
+    /// Whether no put is in doubt.
+    fn is_sure(&self) -> bool {
+        self.slots.doubt().is_none()
+    }
+
+    /// Whether body A in slot 1 is in doubt, and the slot is kept as free.
+    fn is_doubted(&self) -> bool {
+        let after = Slot::Half(A);
+        let doubted = self.slots.doubt() == Some(Doubted { slot: 1, after });
+        doubted & self.has(1, Slot::Free)
+    }
+
+    /// How many slots there are.
+    fn count(&self) -> u32 {
+        self.slots.count()
+    }
+
+    /// Gives the disk back.
+    fn end(self) -> MemDisk {
+        self.slots.end()
+    }
+}
+
+/// A cache of free slots, with body A and body B put into slot 1.
+fn filled(rt: &impl Abort, alloc: Global) -> Cache {
+    let disk = free_file(rt, alloc, &header(1, 3), 8);
+    let mut cache = Cache::open(rt, alloc, disk);
+    let first = cache.put_first().is_ok();
+    let second = cache.put_second().is_ok();
+    assert!(rt; first & second);
+    cache
+}
+
+#[test]
+fn a_cache_is_sure_and_free(rt: HostRuntime) {
+    let disk = free_file(&rt, rt.alloc(), &header(1, 3), 8);
+    let mut cache = Cache::open(&rt, rt.alloc(), disk);
+    let idle = cache.settles(Ok(Settled::Nothing));
+    assert!(rt; idle & cache.is_sure() & (cache.count() == 8) & cache.has(7, Slot::Free));
+}
+
+#[test]
+fn slots_are_kept(rt: HostRuntime) {
+    let cache = filled(&rt, rt.alloc());
+    let last = Cache::open(&rt, rt.alloc(), cache.end());
+    assert!(rt; last.has(1, Slot::Full(A, B, 0)) & last.has(0, Slot::Free));
+}
+
+/// Puts body A into slot 1, which fails at a call, and settles it: whether that finds this, and keeps the slot as this.
+fn is_settled(rt: &impl Abort, alloc: Global, call: u64, found: Settled, kept: Slot) -> bool {
+    let disk = failing_file(rt, alloc, &header(1, 3), 8, call);
+    let mut cache = Cache::open(rt, alloc, disk);
+    let refused = cache.put_first().is_err();
+    let doubted = cache.is_doubted();
+    let settled = cache.settles(Ok(found));
+    refused & doubted & settled & cache.is_sure() & cache.has(1, kept)
+}
+
+// Loading makes 11 calls, and a put the next four.
+#[test]
+fn a_refused_put_is_settled(rt: HostRuntime) {
+    for call in 11..14 {
+        assert!(rt; is_settled(&rt, rt.alloc(), call, Settled::NotMade, Slot::Free));
+    }
+    assert!(rt; is_settled(&rt, rt.alloc(), 14, Settled::Made, Slot::Half(A)));
+}
+
+// The last call of a put fails, and those of settling.
+#[test]
+fn a_doubt_stays_where_the_disk_fails(rt: HostRuntime) {
+    let disk = stopping_file(&rt, rt.alloc(), &header(1, 3), 8, 14);
+    let mut cache = Cache::open(&rt, rt.alloc(), disk);
+    let refused = cache.put_first().is_err();
+    let fails = cache.settles(Err(SettleFault::Device));
+    assert!(rt; refused & fails & cache.is_doubted());
+}
+
+/// Whether the file of a disk is refused for this.
+fn is_refused(alloc: Global, disk: MemDisk, why: CacheLoad) -> bool {
+    match CachedSlots::load(alloc, disk, &header(1, 3), 8) {
+        Ok(_) => false,
+        Err((_, fault)) => fault == why,
+    }
+}
+
+#[test]
+fn a_file_that_is_not_read_is_refused(rt: HostRuntime) {
+    for call in 0..11 {
+        let disk = failing_file(&rt, rt.alloc(), &header(1, 3), 8, call);
+        assert!(rt; is_refused(rt.alloc(), disk, CacheLoad::Device));
+    }
+}
+
+#[test]
+fn another_file_is_refused(rt: HostRuntime) {
+    let disk = free_file(&rt, rt.alloc(), &header(1, 3), 8);
+    let disk = with_byte(&rt, disk, 168 + 128, 0xC2);
+    let disk = with_byte(&rt, disk, 168 + 256, 0xC2);
+    let (slot, a, b) = (1, 0, 0xC2);
+    assert!(rt; is_refused(rt.alloc(), disk, CacheLoad::Damaged { slot, a, b }));
+    let disk = free_file(&rt, rt.alloc(), &header(1, 3), 8);
+    let disk = with_byte(&rt, disk, 0, 0);
+    let shut = CacheLoad::Slots(LoadFault::NotReady { gate: 0 });
+    assert!(rt; is_refused(rt.alloc(), disk, shut));
+}

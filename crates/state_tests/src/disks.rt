@@ -1,0 +1,85 @@
+//! Disks in memory: what they begin with, which of their calls fail, and what a crash leaves.
+
+ghost use Rattle.std.specs.Prelude.{◌≡◌};
+
+use disk_trait::{Disk, MemDisk};
+use slot_file::{Header, prepare};
+use std::alloc::Global;
+use std::process::Abort;
+
+/// How many calls of the disk a load of 32 slots makes.
+pub(crate) const LOAD_CALLS: u64 = 35;
+
+/// The header of a file of typecodes 5 and 3.
+pub(crate) fn header(version: u8, number: u8) -> Header
+    ensures version { result.version ≡ version }
+    ensures lms { result.lms ≡ 5 }
+    ensures ots { result.ots ≡ 3 }
+{
+    Header {
+        version,
+        number,
+        lms: 5,
+        ots: 3,
+        id: [0x1D; 16],
+    }
+}
+
+/// An empty disk with room for a file of so many slots.
+pub(crate) fn empty(rt: &impl Abort, alloc: Global, count: u32) -> MemDisk {
+    let room = 128 + 160 * count as usize;
+    MemDisk::new(alloc, room, usize::MAX).expect(rt, "memory")
+}
+
+/// A disk with these bytes, and with room for no more.
+pub(crate) fn holding(rt: &impl Abort, alloc: Global, bytes: &[u8]) -> MemDisk {
+    MemDisk::of_bytes(alloc, bytes, bytes.len(), usize::MAX).expect(rt, "memory")
+}
+
+/// A file of so many free slots, on a disk that was not called yet.
+pub(crate) fn free_file(rt: &impl Abort, alloc: Global, header: &Header, count: u32) -> MemDisk {
+    let mut disk = empty(rt, alloc, count);
+    assert!(rt; prepare(&mut disk, header, count) == Ok(()));
+    holding(rt, alloc, disk.bytes())
+}
+
+/// As `free_file`, on a disk whose call of this number fails.
+pub(crate) fn failing_file(
+    rt: &impl Abort,
+    alloc: Global,
+    header: &Header,
+    count: u32,
+    call: u64,
+) -> MemDisk {
+    let mut disk = free_file(rt, alloc, header, count);
+    disk.fail_once(call);
+    disk
+}
+
+/// As `free_file`, on a disk whose calls fail from this number on.
+pub(crate) fn stopping_file(
+    rt: &impl Abort,
+    alloc: Global,
+    header: &Header,
+    count: u32,
+    call: u64,
+) -> MemDisk {
+    let mut disk = free_file(rt, alloc, header, count);
+    disk.stop_at(call);
+    disk
+}
+
+/// The disk with another byte at a place.
+pub(crate) fn with_byte(rt: &impl Abort, disk: MemDisk, place: u64, byte: u8) -> MemDisk {
+    let mut disk = disk;
+    assert!(rt; disk.write_at(place, &[byte]) == Ok(()));
+    disk
+}
+
+/// What a crash leaves, by this pick.
+pub(crate) fn crashed(rt: &impl Abort, alloc: Global, disk: MemDisk, pick: u64) -> MemDisk {
+    match disk.crash(alloc, pick) {
+        Ok(image) => image,
+        Err(_) => panic!(rt; "memory"),
+    }
+}

@@ -1,0 +1,314 @@
+//! Journals: a leaf is bound once and opened once, also where calls of the disk fail.
+
+ghost use Rattle.std.specs.Prelude.{◌≡◌, ◌<◌, length};
+ghost use Rattle.opening_journal.specs.Journal.{params_of};
+
+use crate::disks::{
+    LOAD_CALLS, crashed, failing_file, free_file, header, holding, stopping_file, with_byte,
+};
+use disk_trait::MemDisk;
+use lms_bytes::{MessageId, Params, Val};
+use opening_journal::{Entered, Entry, Journal, JournalFault, JournalLoad};
+use slot_file::LoadFault;
+use std::alloc::Global;
+use std::process::Abort;
+
+const ONE: MessageId = MessageId {
+    length: 3,
+    hash: [0x11; 32],
+};
+
+const TWO: MessageId = MessageId {
+    length: 300,
+    hash: [0x22; 32],
+};
+
+/// The parameters of typecodes 5 and 3.
+fn params(rt: &impl Abort) -> Params
+    ensures codes { (result.lms ≡ 5) × (result.ots ≡ 3) }
+    ensures sizes { (result.h ≡ 5) × (result.n ≡ 32) }
+{
+    let params = Params::of_codes(5, 3).expect(rt, "typecodes");
+    assert!(rt; params.h == 5 && params.n == 32);
+    params
+}
+
+/// A value of these bytes.
+fn value(byte: u8) -> Val
+    ensures { length result ≡ 32 }
+{
+    Val::of(&[byte; 32])
+}
+
+/// The answer that a leaf is bound to message `ONE`.
+const SPENT: Result<Entered, JournalFault> = Err(JournalFault::Spent { kept: ONE });
+
+/// The answer that a leaf was opened with C and Q of bytes CC and DD.
+fn other_digest() -> Result<Entered, JournalFault> {
+    let (c, digest) = (value(0xCC), value(0xDD));
+    Err(JournalFault::OtherDigest { c, digest })
+}
+
+/// The entry that binds a leaf.
+fn bound(leaf: u32, message: MessageId) -> Entry {
+    Entry::Bound { leaf, message }
+}
+
+/// The entry that opens leaf 1 for message `ONE` with bytes CC and DD at moment 7.
+fn opened() -> Entry {
+    Entry::Opened {
+        leaf: 1,
+        message: ONE,
+        c: value(0xCC),
+        digest: value(0xDD),
+        moment: 7,
+    }
+}
+
+/// A journal of 32 leaves.
+#[derive(Drop)]
+struct Leaves {
+    journal: Journal<MemDisk>,
+    ghost sizes: { ((params_of journal).h ≡ 5) × ((params_of journal).n ≡ 32) },
+}
+
+impl Leaves {
+    /// Loads the journal of a disk.
+    fn open(rt: &impl Abort, alloc: Global, disk: MemDisk) -> Leaves {
+        let params = params(rt);
+        match Journal::load(alloc, disk, &header(2, 3), &params) {
+            Ok(journal) => Leaves { journal },
+            Err((_, fault)) => panic!(rt; "load: {fault}"),
+        }
+    }
+
+    /// Whether binding a leaf is answered by this.
+    fn binds(&mut self, leaf: u32, message: &MessageId, want: Result<Entered, JournalFault>) -> bool
+        requires { leaf < 32 }
+    {
+        self.journal.bind(leaf, message) == want
+    }
+
+    /// Whether opening leaf 1 for message `ONE` with C and Q of these bytes is answered by this.
+    fn opens(&mut self, bytes: (u8, u8), moment: u64, want: Result<Entered, JournalFault>) -> bool {
+        let (c, digest) = (value(bytes.0), value(bytes.1));
+        self.journal.open_leaf(1, &ONE, &c, &digest, moment) == want
+    }
+
+    /// Whether these are the entries.
+    fn lists(&self, want: &[Entry]) -> bool {
+        self.journal.entries() == want
+    }
+
+    /// The journal of what a crash leaves.
+    fn crash(self, rt: &impl Abort, alloc: Global, pick: u64) -> Leaves {
+        Leaves::open(rt, alloc, crashed(rt, alloc, self.journal.end(), pick))
+    }
+}
+
+/// A journal with no entry.
+fn empty_journal(rt: &impl Abort, alloc: Global) -> Leaves {
+    Leaves::open(rt, alloc, free_file(rt, alloc, &header(2, 3), 32))
+}
+
+/// A journal with no entry, on a disk that stops at a call after the load.
+fn stopping_journal(rt: &impl Abort, alloc: Global, call: u64) -> Leaves {
+    let disk = stopping_file(
+        rt,
+        alloc,
+        &header(2, 3),
+        32,
+        LOAD_CALLS.saturating_add(call),
+    );
+    Leaves::open(rt, alloc, disk)
+}
+
+/// A journal with no entry, on a disk of which one call after the load fails.
+fn failing_journal(rt: &impl Abort, alloc: Global, call: u64) -> Leaves {
+    let disk = failing_file(
+        rt,
+        alloc,
+        &header(2, 3),
+        32,
+        LOAD_CALLS.saturating_add(call),
+    );
+    Leaves::open(rt, alloc, disk)
+}
+
+/// Whether two leaves are bound, each for one message.
+fn is_bound_once(leaves: &mut Leaves) -> bool {
+    let new = leaves.binds(31, &ONE, Ok(Entered::New));
+    let old = leaves.binds(31, &ONE, Ok(Entered::Old));
+    let other = leaves.binds(31, &TWO, SPENT);
+    let next = leaves.binds(0, &TWO, Ok(Entered::New));
+    new & old & other & next
+}
+
+#[test]
+fn a_leaf_is_bound_once(rt: HostRuntime) {
+    let mut leaves = empty_journal(&rt, rt.alloc());
+    let once = is_bound_once(&mut leaves);
+    let made = leaves.lists(&[bound(31, ONE), bound(0, TWO)]);
+    let leaves = leaves.crash(&rt, rt.alloc(), 1);
+    assert!(rt; once & made & leaves.lists(&[bound(0, TWO), bound(31, ONE)]));
+}
+
+/// Whether leaf 1 is opened, for one pair of C and Q.
+fn is_opened_once(leaves: &mut Leaves) -> bool {
+    let free = leaves.opens((0xCC, 0xDD), 7, Err(JournalFault::NotBound));
+    let binds = leaves.binds(1, &ONE, Ok(Entered::New));
+    let new = leaves.opens((0xCC, 0xDD), 7, Ok(Entered::New));
+    let old = leaves.opens((0xCC, 0xDD), 8, Ok(Entered::Old));
+    free & binds & new & old & leaves.opens((0xDD, 0xCC), 9, other_digest())
+}
+
+#[test]
+fn a_leaf_is_opened_once(rt: HostRuntime) {
+    let mut leaves = empty_journal(&rt, rt.alloc());
+    let once = is_opened_once(&mut leaves);
+    let leaves = leaves.crash(&rt, rt.alloc(), 1);
+    assert!(rt; once & leaves.lists(&[bound(1, ONE), opened()]));
+}
+
+/// What is answered where the disk stops at a call of an entry.
+fn stopped(call: u64) -> Result<Entered, JournalFault> {
+    if call < 4 {
+        Err(JournalFault::Device)
+    } else {
+        Ok(Entered::New)
+    }
+}
+
+/// Whether an entry is made whose disk stops at a call.
+fn is_made(call: u64, pick: u64) -> bool {
+    call == 4 || call == 3 && pick == 1
+}
+
+/// Whether binding leaf 1 leaves it as before or as after, where the disk stops at a call.
+fn binds_or_not(rt: &impl Abort, alloc: Global, call: u64, pick: u64) -> bool {
+    let mut leaves = stopping_journal(rt, alloc, call);
+    let answered = leaves.binds(1, &ONE, stopped(call));
+    let mut leaves = leaves.crash(rt, alloc, pick);
+    if is_made(call, pick) {
+        let listed = leaves.lists(&[bound(1, ONE)]);
+        answered & listed & leaves.binds(1, &TWO, SPENT)
+    } else {
+        let listed = leaves.lists(&[]);
+        answered & listed & leaves.binds(1, &TWO, Ok(Entered::New))
+    }
+}
+
+#[test]
+fn a_bind_is_before_or_after(rt: HostRuntime) {
+    for call in 0..5 {
+        for pick in [0, 1, 5] {
+            assert!(rt; binds_or_not(&rt, rt.alloc(), call, pick));
+        }
+    }
+}
+
+/// Whether opening leaf 1 leaves it as before or as after, where the disk stops at a call of the opening.
+fn opens_or_not(rt: &impl Abort, alloc: Global, call: u64, pick: u64) -> bool {
+    let mut leaves = stopping_journal(rt, alloc, call.saturating_add(4));
+    let binds = leaves.binds(1, &ONE, Ok(Entered::New));
+    let answered = leaves.opens((0xCC, 0xDD), 7, stopped(call));
+    let leaves = leaves.crash(rt, alloc, pick);
+    let whole = [bound(1, ONE), opened()];
+    let count = if is_made(call, pick) { 2 } else { 1 };
+    binds & answered & leaves.lists(&whole[..count])
+}
+
+#[test]
+fn an_opening_is_before_or_after(rt: HostRuntime) {
+    for call in 0..5 {
+        for pick in [0, 1, 5] {
+            assert!(rt; opens_or_not(&rt, rt.alloc(), call, pick));
+        }
+    }
+}
+
+/// Binds leaf 1 to one message, which fails at a call, and then to another: whether that is answered by this, and the
+/// leaf is bound to this message.
+fn binds_again(
+    rt: &impl Abort,
+    alloc: Global,
+    call: u64,
+    want: Result<Entered, JournalFault>,
+    message: MessageId,
+) -> bool {
+    let mut leaves = failing_journal(rt, alloc, call);
+    let fails = leaves.binds(1, &ONE, Err(JournalFault::Device));
+    let answered = leaves.binds(1, &TWO, want);
+    fails & answered & leaves.lists(&[bound(1, message)])
+}
+
+#[test]
+fn a_doubtful_bind_is_settled(rt: HostRuntime) {
+    for call in 0..3 {
+        assert!(rt; binds_again(&rt, rt.alloc(), call, Ok(Entered::New), TWO));
+    }
+    assert!(rt; binds_again(&rt, rt.alloc(), 3, SPENT, ONE));
+}
+
+/// Opens leaf 1 with one pair, which fails at a call, and then with another: whether that is answered by this.
+fn opens_again(
+    rt: &impl Abort,
+    alloc: Global,
+    call: u64,
+    want: Result<Entered, JournalFault>,
+) -> bool {
+    let mut leaves = failing_journal(rt, alloc, call.saturating_add(4));
+    let binds = leaves.binds(1, &ONE, Ok(Entered::New));
+    let fails = leaves.opens((0xCC, 0xDD), 7, Err(JournalFault::Device));
+    binds & fails & leaves.opens((0xCE, 0xDE), 7, want)
+}
+
+#[test]
+fn a_doubtful_opening_is_settled(rt: HostRuntime) {
+    for call in 0..3 {
+        assert!(rt; opens_again(&rt, rt.alloc(), call, Ok(Entered::New)));
+    }
+    assert!(rt; opens_again(&rt, rt.alloc(), 3, other_digest()));
+}
+
+/// Whether the journal of a trustee is refused for this.
+fn is_refused(rt: &impl Abort, alloc: Global, disk: MemDisk, number: u8, why: JournalLoad) -> bool {
+    match Journal::load(alloc, disk, &header(2, number), &params(rt)) {
+        Ok(_) => false,
+        Err((_, fault)) => fault == why,
+    }
+}
+
+#[test]
+fn a_short_file_is_refused(rt: HostRuntime) {
+    let short = holding(&rt, rt.alloc(), &[0xA7; 100]);
+    let length = LoadFault::Length {
+        got: 100,
+        want: 5248,
+    };
+    assert!(rt; is_refused(&rt, rt.alloc(), short, 3, JournalLoad::Slots(length)));
+}
+
+#[test]
+fn a_foreign_file_is_refused(rt: HostRuntime) {
+    let disk = free_file(&rt, rt.alloc(), &header(2, 3), 32);
+    let kept = header(2, 3);
+    let foreign = JournalLoad::Slots(LoadFault::Foreign { kept });
+    assert!(rt; is_refused(&rt, rt.alloc(), disk, 4, foreign));
+}
+
+#[test]
+fn a_damaged_file_is_refused(rt: HostRuntime) {
+    let disk = free_file(&rt, rt.alloc(), &header(2, 3), 32);
+    let disk = with_byte(&rt, disk, 328, 0xC2);
+    let (leaf, a, b) = (1, 0, 0xC2);
+    assert!(rt;
+        is_refused(
+            &rt,
+            rt.alloc(),
+            disk,
+            3,
+            JournalLoad::Damaged { leaf, a, b }
+        )
+    );
+}

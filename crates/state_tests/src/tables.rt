@@ -1,0 +1,305 @@
+//! Leaf tables: worked cases over the plan of two of three trustees, with a put stopped at each call of the disk.
+
+mod plain;
+mod rotten;
+
+ghost use Rattle.std.specs.Prelude.{◌≡◌, ◌≤◌};
+
+use crate::disks::{
+    LOAD_CALLS, crashed, failing_file, free_file, header, stopping_file, with_byte,
+};
+use coalition_map::{Members, Plan};
+use disk_trait::{Disk, MemDisk};
+use leaf_table::{Lease, Table, TableFault};
+use lms_bytes::MessageId;
+use slot_cache::CacheLoad;
+use std::alloc::Global;
+use std::process::Abort;
+use turn_lock::Kept;
+
+const ONE: MessageId = MessageId {
+    length: 3,
+    hash: [0x11; 32],
+};
+
+const TWO: MessageId = MessageId {
+    length: 300,
+    hash: [0x22; 32],
+};
+
+/// The coalition of trustees 1 and 3, whose leaves are 1, 4, 7 and so on.
+const FIRST_AND_THIRD: u16 = 0b101;
+
+/// A message by its length.
+fn numbered(length: u32) -> MessageId {
+    MessageId {
+        length,
+        hash: [0x33; 32],
+    }
+}
+
+/// A plan for coalitions of `k` of `n` trustees.
+fn plan_of(rt: &impl Abort, n: u8, k: u8, h: u8) -> Plan
+    requires { h ≤ 25 }
+    ensures { result.h ≡ h }
+{
+    Plan::new(n, k, h).expect(rt, "a plan")
+}
+
+/// Loads the table of a disk.
+fn loaded<D: Disk + Drop>(rt: &impl Abort, alloc: Global, disk: D, plan: &Plan) -> Table<D> {
+    match Table::load(alloc, disk, &header(1, 0), plan) {
+        Ok(table) => table,
+        Err((_, fault)) => panic!(rt; "load: {fault:?}"),
+    }
+}
+
+/// Loads the table of a disk for the coalitions {1, 2}, {1, 3} and {2, 3}.
+fn small<D: Disk + Drop>(rt: &impl Abort, alloc: Global, disk: D) -> Table<D> {
+    loaded(rt, alloc, disk, &plan_of(rt, 3, 2, 5))
+}
+
+/// A table of 32 leaves with no entry.
+fn empty_table(rt: &impl Abort, alloc: Global) -> Table<MemDisk> {
+    small(rt, alloc, free_file(rt, alloc, &header(1, 0), 32))
+}
+
+/// A table with no entry, on a disk that stops at a call after the load.
+fn stopping_table(rt: &impl Abort, alloc: Global, call: u64) -> Table<MemDisk> {
+    let call = LOAD_CALLS.saturating_add(call);
+    small(rt, alloc, stopping_file(rt, alloc, &header(1, 0), 32, call))
+}
+
+/// A table with no entry, on a disk of which one call after the load fails.
+fn failing_table(rt: &impl Abort, alloc: Global, call: u64) -> Table<MemDisk> {
+    let call = LOAD_CALLS.saturating_add(call);
+    small(rt, alloc, failing_file(rt, alloc, &header(1, 0), 32, call))
+}
+
+/// The table of what a crash leaves.
+fn after_crash(rt: &impl Abort, alloc: Global, table: Table<MemDisk>, pick: u64) -> Table<MemDisk> {
+    small(rt, alloc, crashed(rt, alloc, table.end(), pick))
+}
+
+/// Leases a leaf of a coalition, by its bits.
+fn lease<D: Disk>(table: &mut Table<D>, bits: u16, message: &MessageId) -> Result<u32, TableFault> {
+    table.lease(Members::of_bits(bits), message)
+}
+
+/// Leases a leaf of trustees 1 and 3 for message `ONE`, and burns it as reported by a member.
+fn burn<D: Disk>(table: &mut Table<D>, by: u8) -> Result<u32, TableFault> {
+    let leaf = match table.lease(Members::of_bits(FIRST_AND_THIRD), &ONE) {
+        Ok(leaf) => leaf,
+        Err(fault) => return Err(fault),
+    };
+    match table.burn(leaf, &ONE, by) {
+        Ok(()) => Ok(leaf),
+        Err(fault) => Err(fault),
+    }
+}
+
+/// Whether these are the entries.
+fn lists(table: &Table<MemDisk>, want: &[Lease]) -> bool {
+    table.entries() == want
+}
+
+fn leased(leaf: u32, message: MessageId) -> Lease {
+    Lease::Leased { leaf, message }
+}
+
+/// Whether trustees 1 and 3 have a leaf for each message, and three trustees have none.
+fn leases_two(table: &mut Table<MemDisk>) -> bool {
+    let first = lease(table, FIRST_AND_THIRD, &ONE) == Ok(1);
+    let second = lease(table, FIRST_AND_THIRD, &TWO) == Ok(4);
+    let again = lease(table, FIRST_AND_THIRD, &ONE) == Ok(1);
+    first & second & again & (lease(table, 0b111, &ONE) == Err(TableFault::NotACoalition))
+}
+
+#[test]
+fn a_leaf_is_leased_for_one_message(rt: HostRuntime) {
+    let mut table = empty_table(&rt, rt.alloc());
+    let answered = leases_two(&mut table);
+    let table = after_crash(&rt, rt.alloc(), table, 1);
+    assert!(rt; answered & lists(&table, &[leased(1, ONE), leased(4, TWO)]));
+}
+
+/// Whether a disk holds the report of leaf 1: the id in body B, and behind it the member.
+fn is_reported(disk: &MemDisk) -> bool {
+    let id = disk.bytes().get(300..304) == Some([0, 0, 0, 3].as_slice());
+    id & (disk.bytes().get(335..338) == Some([0x11, 3, 0].as_slice()))
+}
+
+#[test]
+fn a_burnt_leaf_is_leased_no_more(rt: HostRuntime) {
+    let mut table = empty_table(&rt, rt.alloc());
+    let burnt = burn(&mut table, 3) == Ok(1);
+    let next = lease(&mut table, FIRST_AND_THIRD, &ONE) == Ok(4);
+    let disk = table.end();
+    let reported = is_reported(&disk);
+    let table = small(&rt, rt.alloc(), disk);
+    let want = [leased(1, ONE), Lease::Burnt { leaf: 1 }, leased(4, ONE)];
+    assert!(rt; burnt & next & reported & lists(&table, &want));
+}
+
+#[test]
+fn a_coalition_runs_out_of_leaves(rt: HostRuntime) {
+    let mut table = empty_table(&rt, rt.alloc());
+    for i in 0..11u32 {
+        let leaf = lease(&mut table, 0b11, &numbered(i));
+        assert!(rt; leaf == Ok(i * 3));
+    }
+    let none = lease(&mut table, 0b11, &ONE) == Err(TableFault::NoLeaf { coalition: 0 });
+    assert!(rt; none & (lease(&mut table, FIRST_AND_THIRD, &ONE) == Ok(1)));
+}
+
+/// What is answered where the disk stops at a call of an entry of leaf 1.
+fn stopped(call: u64) -> Result<u32, TableFault> {
+    if call < 4 {
+        Err(TableFault::Device)
+    } else {
+        Ok(1)
+    }
+}
+
+/// Whether an entry is made whose disk stops at a call.
+fn is_made(call: u64, pick: u64) -> bool {
+    call == 4 || call == 3 && pick == 1
+}
+
+/// Whether leasing leaf 1 leaves it as before or as after, where the disk stops at a call.
+fn leases_or_not(rt: &impl Abort, alloc: Global, call: u64, pick: u64) -> bool {
+    let mut table = stopping_table(rt, alloc, call);
+    let answered = lease(&mut table, FIRST_AND_THIRD, &ONE) == stopped(call);
+    let table = after_crash(rt, alloc, table, pick);
+    let whole = [leased(1, ONE)];
+    let count = if is_made(call, pick) { 1 } else { 0 };
+    answered & lists(&table, &whole[..count])
+}
+
+#[test]
+fn a_lease_is_before_or_after(rt: HostRuntime) {
+    for call in 0..5 {
+        for pick in [0, 1, 5] {
+            assert!(rt; leases_or_not(&rt, rt.alloc(), call, pick));
+        }
+    }
+}
+
+/// Whether burning leaf 1 leaves it as before or as after, where the disk stops at a call of the burning.
+fn burns_or_not(rt: &impl Abort, alloc: Global, call: u64, pick: u64) -> bool {
+    let mut table = stopping_table(rt, alloc, call.saturating_add(4));
+    let answered = burn(&mut table, 3) == stopped(call);
+    let table = after_crash(rt, alloc, table, pick);
+    let whole = [leased(1, ONE), Lease::Burnt { leaf: 1 }];
+    let count = if is_made(call, pick) { 2 } else { 1 };
+    answered & lists(&table, &whole[..count])
+}
+
+#[test]
+fn a_burning_is_before_or_after(rt: HostRuntime) {
+    for call in 0..5 {
+        for pick in [0, 1, 5] {
+            assert!(rt; burns_or_not(&rt, rt.alloc(), call, pick));
+        }
+    }
+}
+
+/// Leases for one message, which fails at a call, and then for another and for the first again: whether these are the
+/// leaves.
+fn leases_again(rt: &impl Abort, alloc: Global, call: u64, two: u32, one: u32) -> bool {
+    let mut table = failing_table(rt, alloc, call);
+    let fails = lease(&mut table, FIRST_AND_THIRD, &ONE) == Err(TableFault::Device);
+    let second = lease(&mut table, FIRST_AND_THIRD, &TWO) == Ok(two);
+    fails & second & (lease(&mut table, FIRST_AND_THIRD, &ONE) == Ok(one))
+}
+
+#[test]
+fn a_doubtful_lease_is_settled(rt: HostRuntime) {
+    for call in 0..3 {
+        assert!(rt; leases_again(&rt, rt.alloc(), call, 1, 4));
+    }
+    assert!(rt; leases_again(&rt, rt.alloc(), 3, 4, 1));
+}
+
+/// Burns leaf 1 as reported by member 3, which fails at a call, and then the leaf of the message as reported by member
+/// 5: whether that is this leaf, and this member is kept for leaf 1.
+fn burns_again(rt: &impl Abort, alloc: Global, call: u64, leaf: u32, reporter: u8) -> bool {
+    let mut table = failing_table(rt, alloc, call.saturating_add(4));
+    let fails = burn(&mut table, 3) == Err(TableFault::Device);
+    let burnt = burn(&mut table, 5) == Ok(leaf);
+    let disk = table.end();
+    fails & burnt & (disk.bytes().get(336) == Some(&reporter))
+}
+
+#[test]
+fn a_doubtful_burning_is_settled(rt: HostRuntime) {
+    for call in 0..3 {
+        assert!(rt; burns_again(&rt, rt.alloc(), call, 1, 5));
+    }
+    assert!(rt; burns_again(&rt, rt.alloc(), 3, 4, 3));
+}
+
+/// Whether a coalition has these leaves from its first on, each `step` after the last, and no more.
+fn has_leaves(table: &mut Table<MemDisk>, members: Members, c: u32, step: u32, count: u32) -> bool
+    requires { (c ≤ 1024) × (step ≤ 1024) × (count ≤ 4) }
+{
+    for i in 0..count {
+        let leaf = c + i * step;
+        if table.lease(members, &numbered(leaf)) != Ok(leaf) {
+            return false;
+        }
+    }
+    table.lease(members, &ONE) == Err(TableFault::NoLeaf { coalition: c })
+}
+
+// 1,024 leaves for six of twelve trustees, of whom there are 924 coalitions.
+#[test]
+fn a_hundred_of_924_coalitions_have_two_leaves(rt: HostRuntime) {
+    let plan = plan_of(&rt, 12, 6, 10);
+    let disk = free_file(&rt, rt.alloc(), &header(1, 0), 1024);
+    let mut table = loaded(&rt, rt.alloc(), disk, &plan);
+    for (c, count) in [(99, 2), (100, 1), (923, 1)] {
+        assert!(rt; c < plan.count());
+        assert!(rt; has_leaves(&mut table, plan.members(c), c, 924, count));
+    }
+}
+
+#[test]
+fn trustees_3_4_and_5_of_5_have_three_leaves(rt: HostRuntime) {
+    let disk = free_file(&rt, rt.alloc(), &header(1, 0), 32);
+    let mut table = loaded(&rt, rt.alloc(), disk, &plan_of(&rt, 5, 3, 5));
+    for (message, want) in [(0, 9), (1, 19), (2, 29), (0, 9)] {
+        assert!(rt; lease(&mut table, 0b11100, &numbered(message)) == Ok(want));
+    }
+    for message in 3..5 {
+        let none = Err(TableFault::NoLeaf { coalition: 9 });
+        assert!(rt; lease(&mut table, 0b11100, &numbered(message)) == none);
+    }
+    assert!(rt; lease(&mut table, 0b11100, &numbered(0)) == Ok(9));
+}
+
+/// Hands a value on that may stand under a lock.
+fn handed_on<K: Kept>(kept: K) -> K
+    ensures { K.entries result ≡ K.entries kept }
+{
+    kept
+}
+
+#[test]
+fn a_table_may_stand_under_a_lock(rt: HostRuntime) {
+    let mut table = empty_table(&rt, rt.alloc());
+    let first = lease(&mut table, FIRST_AND_THIRD, &ONE) == Ok(1);
+    let table = handed_on(table);
+    assert!(rt; first & lists(&table, &[leased(1, ONE)]));
+}
+
+#[test]
+fn other_files_are_refused(rt: HostRuntime) {
+    let disk = free_file(&rt, rt.alloc(), &header(1, 0), 32);
+    let disk = with_byte(&rt, disk, 296, 0xC2);
+    let (slot, a, b) = (1, 0, 0xC2);
+    match Table::load(rt.alloc(), disk, &header(1, 0), &plan_of(&rt, 3, 2, 5)) {
+        Ok(_) => panic!(rt; "a damaged table"),
+        Err((_, fault)) => assert!(rt; fault == CacheLoad::Damaged { slot, a, b }),
+    }
+}

@@ -1,0 +1,143 @@
+//! Every plan of up to five trustees over 32 leaves, beside a plain search over all leaves.
+
+ghost use Rattle.std.specs.Prelude.{◌≡◌, ◌<◌, IfSome};
+ghost use Rattle.coalition_map.specs.Coalitions.{count_of};
+
+use super::{loaded, numbered, plan_of};
+use crate::disks::{free_file, header};
+use coalition_map::Plan;
+use disk_trait::MemDisk;
+use leaf_table::{Table, TableFault};
+use std::process::Abort;
+
+/// The plans: how many trustees there are, and how many of them sign.
+const PLANS: [(u8, u8); 10] = [
+    (2, 2),
+    (3, 2),
+    (3, 3),
+    (4, 2),
+    (4, 3),
+    (4, 4),
+    (5, 2),
+    (5, 3),
+    (5, 4),
+    (5, 5),
+];
+
+/// What a leaf is to the plain search.
+#[derive(Clone, Copy, Debug, PartialEq, Eq)]
+enum Leaf {
+    Free,
+    Leased(u32),
+    Burnt,
+}
+
+/// The least leaf of coalition `c` that is as wanted.
+fn least(plan: &Plan, leaves: &[Leaf; 32], c: u32, wanted: Leaf) -> Option<u32>
+    requires { plan.now.h ≡ 5 }
+    ensures { IfSome result (λ leaf. leaf < 32) }
+{
+    for leaf in 0..32 {
+        if plan.coalition_of(leaf) == c && leaves[leaf as usize] == wanted {
+            return Some(leaf);
+        }
+    }
+    None
+}
+
+/// The leaf of coalition `c` for a message.
+fn plain(plan: &Plan, leaves: &[Leaf; 32], c: u32, message: u32) -> Option<u32>
+    requires { plan.now.h ≡ 5 }
+    ensures { IfSome result (λ leaf. leaf < 32) }
+{
+    match least(plan, leaves, c, Leaf::Leased(message)) {
+        Some(leaf) => Some(leaf),
+        None => least(plan, leaves, c, Leaf::Free),
+    }
+}
+
+/// What a table answers that is asked for a leaf of coalition `c`, which is burnt then where that is wanted.
+fn asked(
+    table: &mut Table<MemDisk>,
+    plan: &Plan,
+    c: u32,
+    message: u32,
+    burns: bool,
+) -> Result<u32, TableFault>
+    requires { c < count_of plan.now }
+{
+    let id = numbered(message);
+    let leaf = match table.lease(plan.members(c), &id) {
+        Ok(leaf) => leaf,
+        Err(fault) => return Err(fault),
+    };
+    if burns && let Err(fault) = table.burn(leaf, &id, 1) {
+        return Err(fault);
+    }
+    Ok(leaf)
+}
+
+/// What the plain search answers, with the same done to its leaves.
+fn plain_asked(
+    plan: &Plan,
+    leaves: &mut [Leaf; 32],
+    c: u32,
+    message: u32,
+    burns: bool,
+) -> Result<u32, TableFault>
+    requires { plan.now.h ≡ 5 }
+{
+    let Some(leaf) = plain(plan, leaves, c, message) else {
+        return Err(TableFault::NoLeaf { coalition: c });
+    };
+    leaves[leaf as usize] = if burns {
+        Leaf::Burnt
+    } else {
+        Leaf::Leased(message)
+    };
+    Ok(leaf)
+}
+
+/// Whether the table answers as the plain search.
+fn is_plain(
+    table: &mut Table<MemDisk>,
+    plan: &Plan,
+    leaves: &mut [Leaf; 32],
+    c: u32,
+    message: u32,
+    burns: bool,
+) -> bool
+    requires height { plan.now.h ≡ 5 }
+    requires coalition { c < count_of plan.now }
+{
+    let want = plain_asked(plan, leaves, c, message, burns);
+    asked(table, plan, c, message, burns) == want
+}
+
+/// Leases leaves of each coalition in turn until there are none. Each lease is asked for twice, and the leaf of every
+/// third message is burnt between. Whether each answer is the plain one.
+fn uses_up(table: &mut Table<MemDisk>, plan: &Plan) -> bool
+    requires { plan.now.h ≡ 5 }
+{
+    let mut leaves = [Leaf::Free; 32];
+    for message in 0..33 {
+        for c in 0..plan.count() {
+            let first = is_plain(table, plan, &mut leaves, c, message, message % 3 == 0);
+            let again = is_plain(table, plan, &mut leaves, c, message, false);
+            if !(first & again) {
+                return false;
+            }
+        }
+    }
+    !leaves.contains(&Leaf::Free)
+}
+
+#[test]
+fn tables_answer_as_a_plain_search(rt: HostRuntime) {
+    for (n, k) in PLANS {
+        let plan = plan_of(&rt, n, k, 5);
+        let disk = free_file(&rt, rt.alloc(), &header(1, 0), 32);
+        let mut table = loaded(&rt, rt.alloc(), disk, &plan);
+        assert!(rt; uses_up(&mut table, &plan));
+    }
+}
