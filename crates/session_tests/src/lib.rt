@@ -1,4 +1,5 @@
-//! Tests of the sessions: of the frames, of a session alone, of the services, of the tool's base and of a summary.
+//! Tests of the sessions: of the frames, of a session alone, of the services, of the tool's base and words, and of a
+//! summary.
 #![tactic(auto)]
 
 #[cfg(test)]
@@ -21,3 +22,5 @@ mod sessions;
 mod summary;
 #[cfg(test)]
 mod trustee_ports;
+#[cfg(test)]
+mod words;

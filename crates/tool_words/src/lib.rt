@@ -8,7 +8,6 @@ mod drill_words;
 mod numbers;
 mod places;
 mod sign_words;
-mod split;
 mod trustee_words;
 mod words;
 
@@ -20,6 +19,3 @@ pub use places::Places;
 pub use sign_words::SignWords;
 pub use trustee_words::TrusteeWords;
 pub use words::command_of;
-
-#[cfg(test)]
-mod tests;

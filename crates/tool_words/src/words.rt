@@ -13,9 +13,9 @@ use crate::drill_words::DrillWords;
 use crate::numbers::{number_of, number_within};
 use crate::places::Places;
 use crate::sign_words::SignWords;
-use crate::split::split;
 use crate::trustee_words::TrusteeWords;
 use std::alloc::Global;
+use tool_split::split_words;
 
 /// The command that the words are, if they are one. The rule of the words decides, and `clap` splits them: a word of
 /// its split is taken where it is the word of the rule. Numbers and address words are read from those that were given.
@@ -25,7 +25,7 @@ pub fn command_of(alloc: Global, words: &[String]) -> Option<Command<'_>>
     if has_option(words) {
         return None;
     }
-    match split(alloc, words) {
+    match split_words(alloc, words) {
         Ok(split) => row_of(words, split.as_slice()),
         Err(_) => row_of(words, &[]),
     }

@@ -1,10 +1,8 @@
-//! Tests of what no contract says: that `clap` splits the words.
+//! Tests of what no contract says: that `clap` splits the words of a command.
 
-use crate::command::Command;
-use crate::split::split;
-use crate::words::command_of;
-use clap::Error;
 use std::alloc::{AllocError, Global};
+use tool_split::split_words;
+use tool_words::{Command, command_of};
 
 /// The words of a line.
 fn words_of(alloc: Global, line: &str) -> Result<Vec<String>, AllocError> {
@@ -15,16 +13,21 @@ fn words_of(alloc: Global, line: &str) -> Result<Vec<String>, AllocError> {
     Ok(words)
 }
 
-/// Whether `clap` takes the words of a line, and splits off each of them in its place.
-fn is_split(alloc: Global, line: &str) -> Result<bool, Error> {
-    let words = words_of(alloc, line)?;
-    let split = split(alloc, words.as_slice())?;
+/// What `clap` makes of the words of a line: nothing where it does not take them, else whether it splits off each of
+/// them in its place.
+fn is_split(alloc: Global, line: &str) -> Option<bool> {
+    let Ok(words) = words_of(alloc, line) else {
+        return Some(false);
+    };
+    let Ok(split) = split_words(alloc, words.as_slice()) else {
+        return None;
+    };
     for (found, word) in split.iter().zip(&words) {
         if *found != word.as_str() {
-            return Ok(false);
+            return Some(false);
         }
     }
-    Ok(split.len() == words.len())
+    Some(split.len() == words.len())
 }
 
 #[test]
@@ -45,7 +48,7 @@ fn clap_splits_the_words_of_each_command(rt: HostRuntime) {
         "drill 1 10000 100000",
     ];
     for line in lines {
-        assert!(rt; matches!(is_split(rt.alloc(), line), Ok(true)), "{line}");
+        assert!(rt; is_split(rt.alloc(), line) == Some(true), "{line}");
     }
 }
 
@@ -64,7 +67,7 @@ fn clap_refuses_other_words(rt: HostRuntime) {
         "sign p t m o 1=a 2=b 3=c 4=d 5=e 6=f 7=g 8=h 9=i 10=j 11=k 12=l 13=m",
     ];
     for line in lines {
-        assert!(rt; is_split(rt.alloc(), line).is_err(), "{line}");
+        assert!(rt; is_split(rt.alloc(), line).is_none(), "{line}");
     }
 }
 

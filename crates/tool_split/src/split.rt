@@ -17,8 +17,9 @@ const COMMANDS: [&str; 10] = [
     "drill number sessions events",
 ];
 
-/// The name of a command and its words, in the order in which `clap` splits them off.
-pub(crate) fn split(alloc: Global, words: &[String]) -> Result<Vec<&str>, Error> {
+/// The name of a command and its words, in the order in which `clap` splits them off, or why they are no command by its
+/// rules. No clause says what comes: whoever calls it compares each word with the one that was given.
+pub fn split_words(alloc: Global, words: &[String]) -> Result<Vec<&str>, Error> {
     let matches = commands(alloc)?.try_get_matches_from(words)?;
     let mut split = Vec::new(alloc);
     if let Some((name, found)) = matches.subcommand() {

@@ -1,0 +1,6 @@
+//! The split of a command's words by `clap`.
+#![tactic(auto)]
+
+mod split;
+
+pub use split::split_words;
