@@ -1,5 +1,5 @@
-//! Tests of disks: what is printed nowhere and no contract says, such as that a call succeeds, what a file is asked for,
-//! and what a crash leaves.
+//! Tests of disks: what is printed nowhere and no contract says, such as that a call succeeds, what a file is asked
+//! for, and what a crash leaves.
 
 use crate::disk_calls::{crashed, plays};
 use disk_trait::{Disk, FileDisk, MemDisk};

@@ -144,8 +144,8 @@ fn look<S: Store>(store: &mut S, alloc: Global, name: &str, rest: &str) -> &'sta
 }
 
 /// What a call of a store comes to, in a word. Its step has the name of the call and that of the file: `has a`,
-/// `read a 5 first` with a limit, `new a first`, `secret a first`, `write d 5 last` and `loose d 5 last` at a place of a
-/// disk, `make n first` of a disk, and `look d 5 fir`, which compares the length and the beginning.
+/// `read a 5 first` with a limit, `new a first`, `secret a first`, `write d 5 last` and `loose d 5 last` at a place of
+/// a disk, `make n first` of a disk, and `look d 5 fir`, which compares the length and the beginning.
 pub(crate) fn outcome<S: Store>(store: &mut S, alloc: Global, step: &str) -> &'static str {
     let (call, rest) = first_word(step);
     let (name, rest) = first_word(rest);
