@@ -7,8 +7,6 @@ use Rattle.aggregator_node.specs.declared.desk.Address.{Address}
 use Rattle.aggregator_node.specs.declared.fault.SignFault.{SignFault}
 use Rattle.aggregator_node.specs.declared.fault.Why.{Why}
 use Rattle.disk_trait.specs.Faults.{Rose}
-use Rattle.disk_trait.specs.declared.faults.Faults as faults
-use Rattle.reference_value.specs.declared.cells.Cells as cells
 use Rattle.session_core.specs.State.{SameAsk, State}
 use Rattle.stream_io.specs.Talk.{Talk}
 use Rattle.stream_io.specs.Net.{PortOnward, PortState}

@@ -1,5 +1,5 @@
 -- What a book lists once an id is put into a free slot.
-use Rattle.std.proofs.Common.{◌≡◌, ℕ, zero, suc, ◌+◌, ◌<◌, Bool, true, false, not, true≢false, ◌||◌, IsTrue, cond, Option, None, Some, IfSome, IsSomeAnd, Ok, subst, List, [], ◌∷◌, ◌++◌, length, get_or, set, nat_eq, length-set, refl, sym, ap, ◌∙◌, arith}
+use Rattle.std.proofs.Common.{◌≡◌, ℕ, zero, suc, ◌+◌, ◌<◌, Bool, true, false, not, true≢false, ◌||◌, IsTrue, cond, Option, None, Some, IfSome, IsSomeAnd, Ok, subst, List, [], ◌∷◌, length, get_or, set, nat_eq, length-set, refl, sym, ap, ◌∙◌, arith}
 use Rattle.std.specs.List.{count_by, list_any, position, Contains}
 use Rattle.slot_file.specs.Copies.{is_free, taken_count}
 use Rattle.slot_file.specs.declared.slot.Slot.{Slot}

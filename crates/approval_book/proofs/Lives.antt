@@ -1,5 +1,5 @@
 -- The lives of a trustee with a book are lives of a trustee.
-use Rattle.std.proofs.Common.{◌≡◌, ℕ, List, [], ◌∷◌, All, Option, refl, arith}
+use Rattle.std.proofs.Common.{◌≡◌, ℕ, List, [], All, Option, refl, arith}
 use Rattle.std.proofs.lemmas.List.Elements.{All-cons}
 use Rattle.lms_bytes.specs.declared.ask.Ask.{Ask}
 use Rattle.opening_journal.specs.Opening.{settled_with}

@@ -1,5 +1,5 @@
 -- A book as contracts see it.
-use Rattle.std.specs.Prelude.{◌≡◌, ℕ, List}
+use Rattle.std.specs.Prelude.{ℕ}
 use Rattle.disk_trait.specs.declared.disk.Pages as pages
 use Rattle.disk_trait.specs.declared.faults.Faults as faults
 use Rattle.approval_book.specs.declared.book.Book.{Book}

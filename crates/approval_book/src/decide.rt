@@ -1,6 +1,6 @@
 //! Decisions of a trustee with a book.
 
-ghost use Rattle.std.specs.Prelude.{◌≡◌, ◌≢◌, length, ◌↔◌, IsTrue, IfOk, IfSome, Result};
+ghost use Rattle.std.specs.Prelude.{◌≡◌, length, ◌↔◌, IsTrue, IfOk, IfSome, Result};
 ghost use Rattle.std.specs.Option.{option_map};
 ghost use Rattle.approval_book.specs.Approved.{ids_of};
 ghost use Rattle.approval_book.specs.Decisions.{BookDecides, IsDenied, as_denial, book_answer_in};

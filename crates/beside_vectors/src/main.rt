@@ -3,7 +3,7 @@
 //! that another implementation's trustee replied: a turn is held for a decision alone.
 #![tactic(auto)]
 
-ghost use Rattle.std.specs.Prelude.{◌≡◌, IfOk, IfSome, true};
+ghost use Rattle.std.specs.Prelude.{◌≡◌, IfSome, true};
 ghost use Rattle.trustee_core.specs.Trustee.{journal_header, share_of};
 
 use disk_trait::MemDisk;

@@ -13,7 +13,6 @@ use Rattle.leased_session.specs.Signing.{DeskState, Signature, signature_in}
 use Rattle.leased_session.specs.declared.sign.Signed.{Signed}
 use Rattle.lms_bytes.specs.declared.public_key.PublicKey.{PublicKey}
 use Rattle.lms_verify.specs.Accepts.{AcceptsAt}
-use Rattle.round_frames.specs.declared.fault.FrameFault.TheVariants as frame
 use Rattle.session_core.specs.declared.faults.SessionFault.TheVariants.{Reference}
 use Rattle.share_files.specs.Reference.{leaves_length}
 use Rattle.stream_io.specs.Net.{PortState}

@@ -11,7 +11,7 @@ use Rattle.client_node.specs.Signing as signing
 use Rattle.client_node.specs.Turns.{HasSteadyDisk, TellsDisk, Turned}
 use Rattle.coalition_map.specs.Coalitions.{PlanNumbers}
 use Rattle.leaf_table.specs.Entries.{map_of}
-use Rattle.leaf_table.specs.Leasing.{Burns, IsCoalition, LeaseOf, Leases}
+use Rattle.leaf_table.specs.Leasing.{Burns, LeaseOf, Leases}
 use Rattle.leaf_table.specs.Leasing as leasing
 use Rattle.leaf_table.specs.State.{SettlesTo, TableState}
 use Rattle.leaf_table.specs.declared.faults.TableFault.{TableFault}

@@ -3,7 +3,6 @@
 ghost use Rattle.std.specs.Prelude.{◌≡◌, ◌<◌, ◌^◌, IfOk, Some};
 ghost use Rattle.client_node.specs.Signing.{Burning, LeaseTurn};
 ghost use Rattle.client_node.specs.Turns.{IsIdle};
-ghost use Rattle.coalition_map.specs.Coalitions.{PlanNumbers};
 ghost use Rattle.leaf_table.specs.Entries.{IsLeased, map_of};
 ghost use Rattle.lms_bytes.specs.MessageId.{message_id_bytes};
 

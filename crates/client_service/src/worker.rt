@@ -1,6 +1,6 @@
 //! Workers, which serve the links of clients one after the other.
 
-ghost use Rattle.std.specs.Prelude.{◌≡◌, ◌≤◌, ◌<◌, ℕ, All, length, slice_index_or};
+ghost use Rattle.std.specs.Prelude.{◌≤◌, ◌<◌, ℕ, All, length, slice_index_or};
 ghost use Rattle.client_service.specs.Ports.{reference_state};
 ghost use Rattle.client_service.specs.Workers.{HasServedLink, IsReady, WorkEnds, Worked, worker_state};
 ghost use Rattle.leased_session.specs.Signing.{desk_state};

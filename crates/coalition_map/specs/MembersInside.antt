@@ -1,5 +1,5 @@
 -- A set of trustees gives its bits back.
-use Rattle.std.proofs.Common.{◌≡◌, inl, inr, ◌≢◌, ℕ, zero, suc, ◌+◌, ◌-◌, ◌*◌, ◌/◌, ◌%◌, ◌^◌, ◌<◌, eqb, List, [], ◌∷◌}
+use Rattle.std.proofs.Common.{◌≡◌, inl, inr, ◌≢◌, ℕ, zero, suc, ◌+◌, ◌-◌, ◌*◌, ◌/◌, ◌%◌, ◌^◌, ◌<◌, eqb, [], ◌∷◌}
 use Rattle.std.proofs.Common.{refl, ◌∙◌, ap, arith, pow-suc}
 use Rattle.std.proofs.lemmas.Bool.{cases_eq, cond-true, cond-false}
 use Rattle.coalition_map.specs.declared.members.Members.TheInside.{Inside}

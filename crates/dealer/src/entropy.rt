@@ -1,6 +1,6 @@
 //! What entropy stands for.
 
-ghost use Rattle.std.specs.Prelude.{◌≡◌, ℕ, ◌+◌, ◌≤◌, All, IfOk, length, map};
+ghost use Rattle.std.specs.Prelude.{◌≡◌, ◌+◌, ◌≤◌, All, IfOk, length, map};
 ghost use Rattle.std.specs.List.{range_with_len};
 ghost use Rattle.dealer.specs.Entropy.{dealing_of, entropy_length, trustee_key};
 ghost use Rattle.dealer.specs.Secrets.{dealing_with};

@@ -1,6 +1,6 @@
 //! A disk in memory, which tells its content and keeps the model of crashes.
 
-ghost use Rattle.std.specs.Prelude.{◌≡◌, ◌≤◌, ◌+◌, ◌-◌, ◌^◌, ◌&&◌, true, false, nat_le, [], length, vec_len, take};
+ghost use Rattle.std.specs.Prelude.{◌≡◌, ◌≤◌, ◌+◌, ◌-◌, ◌^◌, ◌&&◌, true, false, [], length, vec_len, take};
 ghost use Rattle.std.specs.Prelude.{drop, replicate, IfOk, IfErr, OnOk, Some, Err, Ok, if◌then◌else◌};
 ghost use Rattle.disk_trait.specs.Images.{written, Torn, Follows};
 ghost use Rattle.disk_trait.specs.MemDiskLaws.{leaves_bytes};

@@ -1,6 +1,6 @@
 //! The dealing of a drill.
 
-ghost use Rattle.std.specs.Prelude.{◌≡◌, ℕ, IfOk, length};
+ghost use Rattle.std.specs.Prelude.{◌≡◌, ℕ, IfOk};
 ghost use Rattle.dealer.specs.Dealt.{IsDealt};
 ghost use Rattle.dealer.specs.Entropy.{dealing_of};
 ghost use Rattle.drill_events.specs.Draws.{entropy_of};

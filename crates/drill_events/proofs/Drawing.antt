@@ -1,6 +1,6 @@
 -- One more draw.
-use Rattle.std.proofs.Common.{◌≡◌, ℕ, suc, ◌+◌, ◌<◌, ◌≤◌, ◌%◌, List, [], ◌∷◌, ◌++◌, length, take, set, refl, sym, ◌∙◌, ap, arith, add-one}
-use Rattle.disk_trait.specs.Generator.{draw_of, state_after}
+use Rattle.std.proofs.Common.{◌≡◌, ℕ, ◌+◌, ◌%◌, [], ◌∷◌, ◌++◌, refl, sym, ◌∙◌, ap, add-one}
+use Rattle.disk_trait.specs.Generator.{state_after}
 use Rattle.drill_events.specs.Draws.{bytes_of, draw_at, state_at}
 
 pub state-none : (number : ℕ) → state_at number 0 ≡ number

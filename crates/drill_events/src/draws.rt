@@ -1,7 +1,7 @@
 //! What is drawn from the number of a drill, in its order: the entropy, and three draws for each event.
 
-ghost use Rattle.std.specs.Prelude.{◌≡◌, ◌+◌, ◌*◌, ◌<◌, ℕ, length};
-ghost use Rattle.drill_events.specs.Draws.{draw_at, entropy_of, event_at, message_bytes, state_at};
+ghost use Rattle.std.specs.Prelude.{◌≡◌, ◌+◌, ◌*◌, ℕ};
+ghost use Rattle.drill_events.specs.Draws.{entropy_of, event_at, message_bytes, state_at};
 
 use crate::event::Event;
 use disk_trait::Generator;

@@ -1,6 +1,6 @@
 //! What happens to a trustee whose journal is on a disk in memory.
 
-ghost use Rattle.std.specs.Prelude.{◌≡◌, ◌≢◌, ◌<◌, ◌^◌, ℕ, length, None, IfOk, IfSome, IsSome, IsTrue};
+ghost use Rattle.std.specs.Prelude.{◌≡◌, ◌≢◌, ◌<◌, ℕ, length, None, IfOk, IfSome, IsSome, IsTrue};
 ghost use Rattle.disk_trait.specs.MemDisk.{MayLeave, is_steady};
 ghost use Rattle.lms_bytes.specs.declared.ask.Second.{Second};
 ghost use Rattle.drill_trustees.specs.declared.member.Answer.{Answer};

@@ -1,6 +1,6 @@
 //! The three trustees of a drill.
 
-ghost use Rattle.std.specs.Prelude.{◌≡◌, ◌<◌, ◌≤◌, ℕ, length, slice_index_or, All, IfOk, IfSome, IsSome};
+ghost use Rattle.std.specs.Prelude.{◌≡◌, ◌<◌, ◌≤◌, length, All, IfOk, IfSome, IsSome};
 ghost use Rattle.drill_trustees.specs.Members.{MayAsk, state_after};
 ghost use Rattle.drill_trustees.specs.Trustees.{AreJournals, AreNew, CutAt, SameAt, SameShares, SetsAt, leaf_at};
 ghost use Rattle.drill_trustees.specs.Trustees.{member_at, put_back, share_at};

@@ -1,11 +1,11 @@
 -- What a net says of its ports follows from what each of them says.
-use Rattle.std.proofs.Common.{◌≡◌, ℕ, ◌<◌, ◌≤◌, Bool, true, false, List, Option, Result, Ok, Err, IfOk, length, get_or, map, All, IsTrue, IsFalse}
+use Rattle.std.proofs.Common.{◌≡◌, ℕ, ◌<◌, Bool, true, false, List, Option, Result, Ok, Err, IfOk, length, get_or, map, All, IsTrue, IsFalse}
 use Rattle.std.proofs.Common.{refl, sym, ◌∙◌, subst}
 use Rattle.std.proofs.lemmas.Bool.{false≢true}
 use Rattle.std.proofs.lemmas.List.{get_or-map, length-map}
 use Rattle.std.proofs.lemmas.List.Elements.{All-map}
 use Rattle.host_io.specs.Untold.{untold_net, untold_port}
-use Rattle.stream_io.specs.Net.{Gathers, IsNewPort, MakesPorts, NetState, PortState}
+use Rattle.stream_io.specs.Net.{Gathers, IsNewPort, MakesPorts, PortState}
 use Rattle.stream_io.specs.Store.{RisesWhere}
 
 All-unmap : {X Y : Type 0} (P : Y → Type 0) (f : X → Y) (xs : List X) → All P (map f xs) → All (λ x. P (f x)) xs

@@ -1,13 +1,12 @@
 //! The index of a table: the leases that are not burnt, in order, and the least free leaf of each coalition.
 
-ghost use Rattle.std.specs.Prelude.{◌≡◌, ◌≢◌, ◌^◌, ◌%◌, ◌<◌, ◌≤◌, ℕ, List, length, slice_index_or, true, None, IfOk};
+ghost use Rattle.std.specs.Prelude.{◌≡◌, ◌^◌, ◌%◌, ◌<◌, ◌≤◌, ℕ, List, length, slice_index_or, true, None, IfOk};
 ghost use Rattle.std.specs.Prelude.{IfSome};
-ghost use Rattle.coalition_map.specs.Coalitions.{IsLeafAfter, PlanNumbers, count_of as coalition_count};
+ghost use Rattle.coalition_map.specs.Coalitions.{PlanNumbers, count_of as coalition_count};
 ghost use Rattle.leaf_table.specs.Entries.{IsFree, IsLeased};
 ghost use Rattle.leaf_table.specs.Index.{AreFree, IsFound, IsIndex, IsPassed, Lists, WasIndex};
 ghost use Rattle.leaf_table.specs.Slots.{may_become};
 ghost use Rattle.slot_cache.specs.Cache.{count_of, state_of as cache_state};
-ghost use Rattle.slot_cache.specs.State.{slot_in};
 ghost use Rattle.slot_file.specs.declared.slot.Slot.{Slot as SlotValue};
 
 use coalition_map::Plan;

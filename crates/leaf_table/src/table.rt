@@ -1,6 +1,6 @@
 //! The leaf table.
 
-ghost use Rattle.std.specs.Prelude.{◌≡◌, ◌≢◌, ◌^◌, ◌+◌, ◌<◌, ◌≤◌, ℕ, length, vec_capacity, IsTrue, IfOk, IfErr, IfNone};
+ghost use Rattle.std.specs.Prelude.{◌≡◌, ◌≢◌, ◌^◌, ◌+◌, ◌<◌, ◌≤◌, length, vec_capacity, IsTrue, IfOk, IfErr, IfNone};
 ghost use Rattle.std.specs.Prelude.{IfSome, OnOk, None, Some, Ok, Err};
 ghost use Rattle.coalition_map.specs.Coalitions.{count_of as coalition_count};
 ghost use Rattle.lms_bytes.specs.MessageId.{message_id_bytes};
@@ -43,7 +43,7 @@ pub struct Table<D: Disk> {
 
 impl<D: Disk> Table<D> {
     ghost use Rattle.leaf_table.specs.Loaded.{IsLoaded};
-    ghost use Rattle.leaf_table.specs.Table.{Enters, Holds, Stays, disk_of, faults_of, IsSteady, IsTold, plan_of};
+    ghost use Rattle.leaf_table.specs.Table.{Enters, Holds, disk_of, faults_of, plan_of};
     ghost use Rattle.leaf_table.specs.Table.{state_of};
     ghost use Rattle.slot_cache.specs.Loading.{LoadRefused};
 

@@ -1,6 +1,6 @@
 //! A leaf is leased, a session is run with it, and it is burnt where a member has spent it.
 
-ghost use Rattle.std.specs.Prelude.{◌≡◌, ◌≤◌, ◌<◌, ◌^◌, ℕ, length, IfOk};
+ghost use Rattle.std.specs.Prelude.{◌≡◌, ◌≤◌, ◌<◌, ◌^◌, length, IfOk};
 ghost use Rattle.aggregator_node.specs.Runs.{bytes_in, reads_of};
 ghost use Rattle.leaf_table.specs.Entries.{IsLeased, map_of};
 ghost use Rattle.leaf_table.specs.Table.{Stays, plan_of, state_of};

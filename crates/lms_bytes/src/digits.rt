@@ -1,6 +1,6 @@
 //! The Winternitz digits of a digest and of its checksum.
 
-ghost use Rattle.std.specs.Prelude.{◌≡◌, ℕ, ◌+◌, ◌-◌, ◌*◌, ◌/◌, ◌%◌, ◌^◌, ◌<◌, ◌≤◌, length};
+ghost use Rattle.std.specs.Prelude.{◌≡◌, ◌+◌, ◌-◌, ◌*◌, ◌/◌, ◌%◌, ◌^◌, ◌<◌, ◌≤◌, length};
 ghost use Rattle.lms_bytes.specs.Digits.{coef, shortfall, checksum, digit_of};
 ghost use Rattle.lms_bytes.specs.HashLength.{IsDigitWidth};
 

@@ -1,6 +1,6 @@
 //! How public keys are read and written.
 
-ghost use Rattle.std.specs.Prelude.{◌≡◌, ◌+◌, ◌≤◌, ◌++◌, length, take, drop, None, Some, IfOk, OnOk, IfErr, IsOkAnd};
+ghost use Rattle.std.specs.Prelude.{◌≡◌, ◌+◌, ◌≤◌, length, take, drop, None, Some, IfOk, OnOk, IfErr, IsOkAnd};
 ghost use Rattle.lms_bytes.specs.PublicKey.{SameKey, public_bytes, public_fault};
 ghost use Rattle.lms_bytes.specs.declared.public_key.PublicKey.{PublicKey};
 

@@ -1,6 +1,6 @@
 //! The parameter sets: what the typecodes of LM-OTS and LMS stand for.
 
-ghost use Rattle.std.specs.Prelude.{◌≡◌, ℕ, ◌+◌, ◌-◌, ◌*◌, ◌/◌, ◌^◌, ◌<◌, ◌≤◌, Some, None, IfSome, IfOk, IfErr};
+ghost use Rattle.std.specs.Prelude.{◌≡◌, ◌+◌, ◌-◌, ◌*◌, ◌/◌, ◌^◌, ◌<◌, ◌≤◌, Some, None, IfSome, IfOk, IfErr};
 ghost use Rattle.lms_bytes.specs.HashLength.{IsHashLength, IsHashLength-prop, IsDigitWidth, IsDigitWidth-prop};
 ghost use Rattle.lms_bytes.specs.ParameterSets.{LmotsBounds, lmots_row, lms_row};
 

@@ -1,6 +1,6 @@
 //! Hash values.
 
-ghost use Rattle.std.specs.Prelude.{◌≡◌, ℕ, ◌+◌, ◌-◌, ◌<◌, ◌≤◌, length, take, drop};
+ghost use Rattle.std.specs.Prelude.{◌≡◌, ℕ, ◌-◌, length, take};
 ghost use Rattle.lms_bytes.specs.Bytes.{xor};
 ghost use Rattle.lms_bytes.specs.HashLength.{IsHashLength};
 

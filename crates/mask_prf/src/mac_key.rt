@@ -1,7 +1,6 @@
 //! Keys whose blocks were hashed once.
 
-ghost use Rattle.std.specs.Prelude.{◌≡◌, ◌<◌, ◌++◌, length, take};
-ghost use Rattle.lms_bytes.specs.Bytes.{u8str, u16str, u32str};
+ghost use Rattle.std.specs.Prelude.{◌≡◌, ◌++◌, length};
 ghost use Rattle.mask_prf.specs.Hmac.{hmac};
 ghost use Rattle.mask_prf.specs.Masks.{chain_mask_of, check_tag_of, leaf_text, random_mask_of, randomizer_of};
 

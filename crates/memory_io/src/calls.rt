@@ -1,6 +1,6 @@
 //! The calls of an object in memory.
 
-ghost use Rattle.std.specs.Prelude.{◌≡◌, ◌+◌, ◌-◌, ◌^◌, ◌≤◌, ◌↔◌, ℕ, min, Contains, IsTrue, IsOk, IsErr, OnOk, OnErr};
+ghost use Rattle.std.specs.Prelude.{◌≡◌, ◌+◌, ◌-◌, ◌^◌, ◌≤◌, ◌↔◌, min, Contains, IsTrue, IsOk, IsErr, OnOk, OnErr};
 ghost use Rattle.memory_io.specs.Calls.{is_empty};
 
 use stream_io::Failed;

@@ -1,6 +1,6 @@
 //! What goes over a link in memory.
 
-ghost use Rattle.std.specs.Prelude.{◌≡◌, IsTrue, IsSome, option_map, option_copied};
+ghost use Rattle.std.specs.Prelude.{◌≡◌, IsTrue, IsSome, option_copied};
 ghost use Rattle.memory_io.specs.Links.{talk_of};
 
 use crate::calls::Calls;

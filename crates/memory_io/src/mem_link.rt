@@ -3,7 +3,6 @@
 ghost use Rattle.std.specs.Prelude.{◌≡◌, ◌+◌, ◌-◌, ◌^◌, ◌++◌, ◌↔◌, [], None, IsTrue, IfOk, true, refl};
 ghost use Rattle.std.specs.Prelude.{min, option_map, string_bytes, vec_len, vec_capacity};
 ghost use Rattle.memory_io.specs.Links.{conversation_of, is_steady_link, talk_of};
-ghost use Rattle.stream_io.specs.Talk.{Talk};
 
 use crate::calls::Calls;
 use crate::chain::Node;

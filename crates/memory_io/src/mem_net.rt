@@ -8,7 +8,7 @@ ghost use Rattle.disk_trait.specs.Faults.{HasCause};
 ghost use Rattle.memory_io.specs.Calls.{is_empty};
 ghost use Rattle.memory_io.specs.Nets.{is_admitted, is_listed, net_state};
 ghost use Rattle.memory_io.specs.Ports.{is_steady_script, kept_of, port_state};
-ghost use Rattle.stream_io.specs.Net.{Gathers, IsNewPort, NetOnward, NetState, SomeFailed, SomeUnaccepted};
+ghost use Rattle.stream_io.specs.Net.{Gathers, IsNewPort, NetOnward, SomeFailed, SomeUnaccepted};
 ghost use Rattle.stream_io.specs.Store.{RisesWhere};
 
 use crate::calls::Calls;

@@ -1,10 +1,9 @@
 //! A port in memory.
 
-ghost use Rattle.std.specs.Prelude.{◌≡◌, ◌&&◌, [], true, IfOk, length, option_map, refl, string_bytes};
+ghost use Rattle.std.specs.Prelude.{◌≡◌, [], true, IfOk, length, option_map, refl, string_bytes};
 ghost use Rattle.std.specs.Prelude.{if◌then◌else◌, is_some};
 ghost use Rattle.std.specs.List.{list_any};
 ghost use Rattle.memory_io.specs.Ports.{is_at, is_steady_script, kept_of, port_state};
-ghost use Rattle.stream_io.specs.Net.{PortState};
 
 use crate::calls::Calls;
 use crate::chain::{Chain, Node};

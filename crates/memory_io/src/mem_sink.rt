@@ -2,7 +2,6 @@
 
 ghost use Rattle.std.specs.Prelude.{◌≡◌, ◌-◌, ◌<◌, ◌↔◌, [], None, IsTrue, IfOk, true, refl, vec_len, vec_capacity};
 ghost use Rattle.memory_io.specs.Calls.{is_empty};
-ghost use Rattle.stream_io.specs.Talk.{Talk};
 
 use crate::calls::Calls;
 use disk_trait::Faults;

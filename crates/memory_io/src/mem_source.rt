@@ -2,7 +2,6 @@
 
 ghost use Rattle.std.specs.Prelude.{◌≡◌, ◌+◌, ◌<◌, ◌≤◌, ◌↔◌, [], None, length, take, drop, IsTrue, true, refl};
 ghost use Rattle.memory_io.specs.Calls.{is_empty};
-ghost use Rattle.stream_io.specs.Talk.{Talk};
 
 use crate::calls::Calls;
 use disk_trait::Faults;

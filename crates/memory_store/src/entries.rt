@@ -1,9 +1,8 @@
 //! The names of a store in memory, each with its disk or what is known of the disk that is out.
 
-ghost use Rattle.std.specs.Prelude.{◌≡◌, ◌++◌, ◌∷◌, ◌&&◌, [], ℕ, List, None, Some, IfOk, IfSome, IfNone, IfErr, OnOk};
+ghost use Rattle.std.specs.Prelude.{◌≡◌, ◌&&◌, ℕ, List, None, Some, IfOk, IfSome, IfNone, IfErr, OnOk};
 ghost use Rattle.std.specs.Prelude.{OnErr};
 ghost use Rattle.std.specs.Prelude.{is_some, map, option_copied, position};
-ghost use Rattle.std.specs.Str.{bytes_eq};
 ghost use Rattle.stream_io.specs.Store.{added};
 ghost use Rattle.disk_trait.specs.MemDisk.{is_steady};
 ghost use Rattle.memory_store.specs.MemStore.{are_steady, disk_in, disk_of, entry_of, file_of, has_that_name, slot_of};

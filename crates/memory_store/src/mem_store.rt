@@ -1,7 +1,7 @@
 //! A store in memory.
 
 ghost use Rattle.std.specs.Prelude.{◌≡◌, ◌≤◌, ◌&&◌, ℕ, List, IfOk, IsTrue, None, Some, false, map, refl, option_copied};
-ghost use Rattle.std.specs.Prelude.{if◌then◌else◌, length, option_map};
+ghost use Rattle.std.specs.Prelude.{if◌then◌else◌, length};
 ghost use Rattle.std.specs.List.{list_all};
 ghost use Rattle.disk_trait.specs.MemDisk.{is_steady};
 ghost use Rattle.stream_io.specs.Store.{SameStore, has_name};

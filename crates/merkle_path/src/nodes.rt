@@ -1,6 +1,6 @@
 //! The hashes of a tree.
 
-ghost use Rattle.std.specs.Prelude.{◌≡◌, ◌<◌, ◌/◌, ◌^◌, length};
+ghost use Rattle.std.specs.Prelude.{◌≡◌, ◌/◌, length};
 ghost use Rattle.merkle_path.specs.Nodes.{leaf_node, inner_node, parent_node};
 
 use crate::{D_INTR, D_LEAF};

@@ -1,5 +1,5 @@
 -- The answers of a leaf.
-use Rattle.std.proofs.Common.{◌≡◌, ◌≢◌, ℕ, List, Result, Ok, Err, None, IsSome, take, drop, sym, ap, subst}
+use Rattle.std.proofs.Common.{◌≡◌, ℕ, List, Result, Ok, Err, None, take, drop, sym, subst}
 use Rattle.lms_bytes.specs.MessageId.{message_id_bytes}
 use Rattle.lms_bytes.specs.declared.message.MessageId.{MessageId}
 use Rattle.opening_journal.specs.Answers.{BindsAs, IsOldOrSpent, IsSamePair, Makes, OpensAs, Settles}

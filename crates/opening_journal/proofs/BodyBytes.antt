@@ -1,7 +1,7 @@
 -- The bytes of the bodies of slots.
-use Rattle.std.proofs.Common.{◌≡◌, ℕ, ◌+◌, ◌-◌, replicate, append_assoc, length-append, ◌<◌, ◌≤◌, List, ◌++◌, length, get_or, take, drop, sym, ◌∙◌, ap, arith, refl, inl, inr, length-take, length-drop, get_or-take}
+use Rattle.std.proofs.Common.{◌≡◌, ℕ, ◌+◌, ◌-◌, replicate, append_assoc, length-append, ◌≤◌, List, ◌++◌, length, take, drop, sym, ◌∙◌, ap, arith}
 use Rattle.std.proofs.Math.Seq.{drop-append_seam}
-use Rattle.std.proofs.lemmas.List.{take_at, length-replicate, get_or_past, places, same_lists, take-append-drop, take_all}
+use Rattle.std.proofs.lemmas.List.{take_at, length-replicate, places, same_lists}
 use borrow.Rule.Slice.PartMut.{put_mid}
 use Rattle.opening_journal.specs.EntrySlots.{filled}
 

@@ -1,6 +1,6 @@
 //! The bodies of a journal's slots.
 
-ghost use Rattle.std.specs.Prelude.{◌≡◌, ◌≤◌, ◌++◌, length, take, drop};
+ghost use Rattle.std.specs.Prelude.{◌≡◌, ◌≤◌, ◌++◌, take, drop};
 ghost use Rattle.lms_bytes.specs.HashLength.{IsHashLength};
 ghost use Rattle.opening_journal.specs.EntrySlots.{filled};
 

@@ -1,6 +1,6 @@
 //! Hash chains.
 
-ghost use Rattle.std.specs.Prelude.{◌≡◌, ℕ, ◌+◌, ◌-◌, ◌<◌, ◌≤◌, ◌^◌, ◌++◌, length, take};
+ghost use Rattle.std.specs.Prelude.{◌≡◌, ◌+◌, ◌-◌, ◌<◌, ◌≤◌, ◌^◌, ◌++◌, length, take};
 ghost use Rattle.lms_bytes.specs.Bytes.{bytes_at, u8str, u16str, u32str};
 ghost use Rattle.lms_bytes.specs.Hash.{hash};
 ghost use Rattle.ots_chain.specs.Chains.{steps, secret_of};

@@ -1,6 +1,6 @@
 //! The public values of leaves.
 
-ghost use Rattle.std.specs.Prelude.{◌≡◌, ℕ, ◌+◌, ◌-◌, ◌*◌, ◌<◌, ◌≤◌, ◌^◌, ◌++◌, length};
+ghost use Rattle.std.specs.Prelude.{◌≡◌, ◌+◌, ◌-◌, ◌*◌, ◌≤◌, ◌++◌, length};
 ghost use Rattle.lms_bytes.specs.Bytes.{bytes_at, u16str, u32str};
 ghost use Rattle.lms_bytes.specs.HashLength.{IsHashLength};
 ghost use Rattle.ots_chain.specs.LeafKey.{seed_leaf_key, candidate_leaf_key};

@@ -1,6 +1,6 @@
 //! What a reference value is read through.
 
-ghost use Rattle.std.specs.Prelude.{◌≡◌, ℕ, ◌<◌, ◌≤◌, ◌^◌, Bool, List, Contains, length, IsTrue, IsOk, IfOk, OnErr};
+ghost use Rattle.std.specs.Prelude.{◌≡◌, ℕ, ◌<◌, ◌^◌, Bool, List, Contains, length, IsTrue, IsOk, IfOk};
 ghost use Rattle.coalition_map.specs.Coalitions.{PlanNumbers, leaf_members};
 ghost use Rattle.disk_trait.specs.Faults.{HasCause};
 ghost use Rattle.lms_bytes.specs.declared.params.Params.{Params};

@@ -1,6 +1,6 @@
 //! Masks that are joined to the values of a reference.
 
-ghost use Rattle.std.specs.Prelude.{◌≡◌, ℕ, ◌*◌, ◌<◌, ◌≤◌, ◌^◌, length, IsTrue, IsOk, IfOk, OnOk, OnErr};
+ghost use Rattle.std.specs.Prelude.{◌≡◌, ◌*◌, ◌<◌, ◌^◌, length, IsTrue, IsOk, IfOk, OnOk};
 ghost use Rattle.disk_trait.specs.Faults.{HasCause};
 ghost use Rattle.lms_bytes.specs.Bytes.{xor};
 ghost use Rattle.reference_value.specs.Joins.{joined_chains};

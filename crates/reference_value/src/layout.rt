@@ -1,6 +1,6 @@
 //! Where the values of a reference lie.
 
-ghost use Rattle.std.specs.Prelude.{◌≡◌, ℕ, ◌+◌, ◌*◌, ◌<◌, ◌≤◌, ◌^◌, Contains, length};
+ghost use Rattle.std.specs.Prelude.{◌≡◌, ◌+◌, ◌*◌, ◌<◌, ◌≤◌, ◌^◌, Contains};
 ghost use Rattle.coalition_map.specs.Coalitions.{leaf_members};
 ghost use Rattle.reference_value.specs.Places.{cell_place, leaf_place, tag_place};
 ghost use Rattle.share_files.specs.Reference.{leaf_length, leaves_length};

@@ -1,9 +1,9 @@
 //! The leaves of a reference.
 
-ghost use Rattle.std.specs.Prelude.{◌≡◌, ℕ, ◌+◌, ◌-◌, ◌*◌, ◌<◌, ◌≤◌, ◌^◌, ◌++◌, length, take, drop};
+ghost use Rattle.std.specs.Prelude.{◌≡◌, ◌+◌, ◌-◌, ◌*◌, ◌<◌, ◌≤◌, ◌^◌, ◌++◌, length, take, drop};
 ghost use Rattle.lms_bytes.specs.Bytes.{bytes_at, joined, xor};
 ghost use Rattle.mask_prf.specs.Masks.{chain_mask_of, check_tag_of, random_mask_of};
-ghost use Rattle.reference_value.specs.Dealing.{leaf_part, value_of_seed, values_of_seed};
+ghost use Rattle.reference_value.specs.Dealing.{leaf_part, values_of_seed};
 ghost use Rattle.reference_value.specs.Masking.{masked_at, masked_chain};
 ghost use Rattle.share_files.specs.Reference.{leaf_length};
 

@@ -1,6 +1,6 @@
 //! A reference in memory.
 
-ghost use Rattle.std.specs.Prelude.{◌≡◌, ℕ, ◌+◌, ◌*◌, ◌<◌, ◌≤◌, ◌^◌, true, length};
+ghost use Rattle.std.specs.Prelude.{◌≡◌, ◌<◌, true, length};
 ghost use Rattle.share_files.specs.Reference.{leaves_length};
 
 use crate::cells::{Cells, RefFault};

@@ -1,5 +1,5 @@
 -- A rehearsal: its plan, what it gives, and its faults.
-use Rattle.std.proofs.Common.{◌≡◌, ℕ, ◌+◌, ◌≤◌, ◌<◌, ◌^◌, List, [], ◌∷◌, length, map, refl, sym, ◌∙◌, ap, inr, arith}
+use Rattle.std.proofs.Common.{◌≡◌, ℕ, ◌<◌, ◌^◌, List, [], ◌∷◌, length, map, refl, sym, ◌∙◌, ap, inr, arith}
 use Rattle.coalition_map.specs.Coalitions.{IsPlan, PlanNumbers, leaf_members, subsets}
 use Rattle.lms_bytes.specs.Bytes.{bytes_at}
 use Rattle.lms_bytes.specs.declared.params.Params.{Params}
@@ -8,7 +8,7 @@ use Rattle.reference_value.proofs.Reference.{length-reference}
 use Rattle.share_files.specs.Sets.{CanBeDealt}
 use Rattle.dealer.specs.Dealt.{IsDealt}
 use Rattle.dealer.specs.Entropy.{dealing_of, entropy_length, trustee_key}
-use Rattle.dealer.specs.Faults.{AreTwo, AreFirstAlike, HasFault, IsDealable, too_high, too_wide}
+use Rattle.dealer.specs.Faults.{AreFirstAlike, HasFault, IsDealable, too_high, too_wide}
 use Rattle.dealer.specs.Faults as dealing
 use Rattle.dealer.specs.declared.dealing.Dealt.{Dealt}
 use Rattle.dealer.specs.declared.faults.DealFault.{DealFault}

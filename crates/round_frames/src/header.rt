@@ -1,10 +1,10 @@
 //! Headers of frames.
 
-ghost use Rattle.std.specs.Prelude.{◌≡◌, ◌≤◌, ◌≢◌, ◌⊎◌, ◌∷◌, [], Bool, ℕ, length, min, take, IsTrue, IfErr, IfOk};
+ghost use Rattle.std.specs.Prelude.{◌≡◌, ◌≤◌, ◌≢◌, ◌∷◌, [], length, min, take, IsTrue, IfErr};
 ghost use Rattle.std.specs.Prelude.{IfSome, OnOk};
 ghost use Rattle.std.specs.Prelude.{Some, None, true, nat_lt, if◌then◌else◌};
 ghost use Rattle.stream_io.specs.Store.{RisesWhere};
-ghost use Rattle.stream_io.specs.Talk.{OnlyRead, Took};
+ghost use Rattle.stream_io.specs.Talk.{OnlyRead};
 ghost use Rattle.round_frames.specs.Frames.{first_fault, header_in};
 ghost use Rattle.round_frames.specs.Reads.{Reads};
 ghost use Rattle.round_frames.specs.declared.fault.FrameFault.TheVariants.{ReadFault, NoMemory, Kind, TooLong, Shape};

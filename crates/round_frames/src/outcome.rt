@@ -3,7 +3,7 @@
 ghost use Rattle.std.specs.Prelude.{◌≡◌, ◌≢◌, ◌⊎◌, IsTrue, IfSome, Ok, Err, None};
 ghost use Rattle.stream_io.specs.Store.{RisesWhere};
 ghost use Rattle.stream_io.specs.Talk.{OnlyRead};
-ghost use Rattle.round_frames.specs.Frames.{frame_of, header_fault, payload_in, whole};
+ghost use Rattle.round_frames.specs.Frames.{frame_of, header_fault, payload_in};
 ghost use Rattle.round_frames.specs.Reads.{Reads};
 ghost use Rattle.round_frames.specs.Results.{failure_of, result_seen, results};
 ghost use Rattle.round_frames.specs.declared.fault.FrameFault.TheVariants.{ReadFault, NoMemory};

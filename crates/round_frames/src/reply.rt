@@ -1,6 +1,6 @@
 //! Replies, as frames.
 
-ghost use Rattle.std.specs.Prelude.{◌≡◌, ◌≢◌, ◌⊎◌, ◌+◌, ◌*◌, ◌-◌, ◌≤◌, ◌==◌, length, replicate, IsTrue, IfErr, IfOk};
+ghost use Rattle.std.specs.Prelude.{◌≡◌, ◌≢◌, ◌+◌, ◌*◌, ◌-◌, ◌≤◌, ◌==◌, length, replicate, IsTrue, IfErr, IfOk};
 ghost use Rattle.std.specs.Prelude.{IfSome};
 ghost use Rattle.std.specs.Prelude.{Ok, Err, None};
 ghost use Rattle.std.specs.List.{list_all};

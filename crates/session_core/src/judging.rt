@@ -1,6 +1,6 @@
 //! What is wrong with the replies of a round.
 
-ghost use Rattle.std.specs.Prelude.{◌≡◌, ◌+◌, ◌*◌, ◌≤◌, All, Some, length, map};
+ghost use Rattle.std.specs.Prelude.{◌≡◌, ◌*◌, All, Some, length, map};
 ghost use Rattle.session_core.specs.Judging.{first_fault, kept_message, opened_fault, refusal_fault};
 ghost use Rattle.session_core.specs.Judging.{round_fault, seat_fault, spent_fault};
 ghost use Rattle.session_core.specs.State.{IsSeat, body_length, round_of};

@@ -1,8 +1,7 @@
 //! The ends of the rounds.
 
-ghost use Rattle.std.specs.Prelude.{◌≡◌, ◌≢◌, ◌⊎◌, [], ◌+◌, ◌*◌, ◌<◌, ◌≤◌, ◌^◌, None, Some};
+ghost use Rattle.std.specs.Prelude.{◌≡◌, ◌≢◌, ◌⊎◌, [], ◌+◌, ◌*◌, ◌<◌, None, Some};
 ghost use Rattle.std.specs.Prelude.{Err, IfErr, IfOk, IsOk, IsSome, IsTrue, MatchResult, OnErr, OnOk, length};
-ghost use Rattle.coalition_map.specs.Coalitions.{leaf_members};
 ghost use Rattle.disk_trait.specs.Faults.{Rose};
 ghost use Rattle.lms_bytes.specs.MessageId.{message_id};
 ghost use Rattle.lms_bytes.specs.Signature.{signature_bytes};
@@ -15,7 +14,7 @@ ghost use Rattle.session_core.specs.Dealing.{FirstMasks, IsAnswered, IsOfDealing
 ghost use Rattle.session_core.specs.Judging.{round_fault};
 ghost use Rattle.session_core.specs.State.{IsSession, asked_c, turned};
 ghost use Rattle.session_core.specs.Verdicts.{AreMasks, FinishFails, JoinFails, LaysOut, LeadsAstray, Turned};
-ghost use Rattle.session_core.specs.Verdicts.{Unread, bodies_of, digest_of, joined_bytes, joined_c, joined_values};
+ghost use Rattle.session_core.specs.Verdicts.{Unread, digest_of, joined_bytes, joined_c, joined_values};
 ghost use Rattle.session_core.specs.declared.faults.SessionFault.{SessionFault};
 ghost use Rattle.session_core.specs.declared.faults.SessionFault.TheVariants.{NoMemory};
 ghost use Rattle.share_files.specs.Reference.{leaves_length};

@@ -1,6 +1,6 @@
 //! What is kept of the members of a coalition.
 
-ghost use Rattle.std.specs.Prelude.{◌≡◌, ◌<◌, ◌≤◌, ◌+◌, [], Some, length, map, IfOk, if◌then◌else◌, IsTrue};
+ghost use Rattle.std.specs.Prelude.{◌≡◌, ◌<◌, ◌≤◌, ◌+◌, Some, length, map, IfOk, if◌then◌else◌};
 ghost use Rattle.coalition_map.specs.Coalitions.{IsSubset};
 ghost use Rattle.session_core.specs.Seats.{empty_seat, filled_seat, is_filled, place_of, seat_of, with_reply};
 

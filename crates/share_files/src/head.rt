@@ -1,10 +1,9 @@
 //! The 32 bytes that each file of a dealing begins with.
 
-ghost use Rattle.std.specs.Prelude.{◌≡◌, ◌↔◌, ◌+◌, ◌<◌, ◌≤◌, [], ◌∷◌, ◌++◌, length, slice_index, take, drop, None};
+ghost use Rattle.std.specs.Prelude.{◌≡◌, ◌↔◌, ◌<◌, ◌≤◌, [], ◌∷◌, length, slice_index, take, drop, None};
 ghost use Rattle.std.specs.Prelude.{Some, OnOk, IfOk, IfErr, IsTrue};
 ghost use Rattle.lms_bytes.specs.Bytes.{bytes_at};
-ghost use Rattle.coalition_map.specs.Coalitions.{IsPlan};
-ghost use Rattle.share_files.specs.Head.{code_fault, head_bytes, head_fault, length_fault, lms_at, ots_at, plan_at};
+ghost use Rattle.share_files.specs.Head.{code_fault, head_bytes, head_fault, length_fault, lms_at, ots_at};
 ghost use Rattle.share_files.specs.Head.{plan_fault, short_fault, zero_fault};
 ghost use Rattle.share_files.specs.Sets.{CanBeDealt, can_be_dealt};
 

@@ -1,6 +1,6 @@
 //! How reference files are read and written.
 
-ghost use Rattle.std.specs.Prelude.{◌≡◌, ℕ, List, ◌+◌, ◌*◌, ◌^◌, ◌≤◌, None, Some, OnOk, IfOk, IfErr, IsOkAnd};
+ghost use Rattle.std.specs.Prelude.{◌≡◌, ℕ, List, ◌+◌, ◌*◌, ◌^◌, None, Some, OnOk, IfOk, IfErr, IsOkAnd};
 ghost use Rattle.share_files.specs.Reference.{HasReferenceLayout, leaf_length, reference_fault, reference_head};
 ghost use Rattle.share_files.specs.Reference.{reference_head_fault, reference_length, SameHeader};
 ghost use Rattle.share_files.specs.Sets.{CanBeDealt};

@@ -4,7 +4,7 @@ use Rattle.std.proofs.lemmas.List.{ext_get_or, get_or_default}
 use Rattle.coalition_map.specs.Coalitions.{IsLeafAfter, PlanNumbers, coalitions}
 use Rattle.coalition_map.proofs.CoalitionLaws.{coalition-distinct}
 use Rattle.leaf_table.specs.Entries.{IsFree, IsLeased, LeafUse, map_of}
-use Rattle.leaf_table.specs.Leasing.{HasNone, IsCoalition, IsLeast, LeaseOf, Leases, damaged, free, kept, made, no_coalition, no_leaf, none, unsettled, unwritten}
+use Rattle.leaf_table.specs.Leasing.{IsCoalition, IsLeast, LeaseOf, Leases, damaged, free, kept, made, no_coalition, no_leaf, none, unsettled, unwritten}
 use Rattle.leaf_table.specs.Leasing as leasing
 use Rattle.leaf_table.specs.Loading.{entries_of}
 use Rattle.leaf_table.specs.State.{SettlesTo, TableState}

@@ -1,5 +1,5 @@
 -- What the calls of a cache do.
-use Rattle.std.specs.Prelude.{◌≡◌, ◌≢◌, ℕ, List, slice_set, None, Some, Result, Ok, Err, IsSome}
+use Rattle.std.specs.Prelude.{◌≡◌, ◌≢◌, ℕ, slice_set, None, Some, Result, Ok, Err, IsSome}
 use Rattle.slot_cache.specs.State.{CacheState, settled_with, slot_in, with_made}
 use Rattle.slot_cache.specs.declared.doubted.Doubted.{Doubted}
 use Rattle.slot_cache.specs.declared.faults.SettleFault.{SettleFault}

@@ -1,5 +1,5 @@
 -- What loading a cache gives.
-use Rattle.std.specs.Prelude.{◌≡◌, ◌<◌, ℕ, List, length, Some, None, IsTrue, false}
+use Rattle.std.specs.Prelude.{◌≡◌, ℕ, List, Some, None, IsTrue}
 use Rattle.disk_trait.specs.declared.disk.Pages as pages
 use Rattle.disk_trait.specs.declared.faults.Faults as faults
 use Rattle.slot_cache.specs.Cache.{count_of, disk_of, faults_of, header_of, state_of}

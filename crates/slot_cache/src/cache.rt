@@ -47,8 +47,8 @@ impl From<DiskFault> for SettleFault {
 
 impl<D: Disk> CachedSlots<D> {
     ghost use Rattle.slot_cache.specs.Loading.{IsLoaded, LoadRefused};
-    ghost use Rattle.slot_cache.specs.Cache.{Holds, IsHonest, IsSteady, IsTold, MayLeave, Stays, count_of, disk_of};
-    ghost use Rattle.slot_cache.specs.Cache.{faults_of, file_of, header_of, state_of};
+    ghost use Rattle.slot_cache.specs.Cache.{Holds, IsSteady, IsTold, Stays, count_of, disk_of};
+    ghost use Rattle.slot_cache.specs.Cache.{faults_of, header_of, state_of};
 
     /// Loads a file of `count` slots: reads each slot, and takes all the memory that is wanted. A refusal gives the
     /// disk back.

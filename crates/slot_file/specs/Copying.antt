@@ -10,7 +10,7 @@ use Rattle.slot_file.specs.Disks.{SameDisk}
 use Rattle.slot_file.specs.Layout.{header_block, slot_start}
 use Rattle.slot_file.specs.Slots.{IsTold, OnlyLooked, faults_of, file_of, header_of, slot_now}
 use Rattle.slot_file.specs.declared.copies.CopyFault.{CopyFault}
-use Rattle.slot_file.specs.declared.copies.CopyFault.TheVariants.{Damaged, Device, NotEmpty}
+use Rattle.slot_file.specs.declared.copies.CopyFault.TheVariants.{Damaged}
 use Rattle.slot_file.specs.declared.header.Header.{Header}
 use Rattle.slot_file.specs.declared.slot.Slot.{Slot}
 use Rattle.slot_file.specs.declared.slot.Slot.TheVariants as slot

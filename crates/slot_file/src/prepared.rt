@@ -1,7 +1,7 @@
 //! Making an empty file of slots.
 
-ghost use Rattle.std.specs.Prelude.{◌≡◌, ◌≢◌, ◌⊎◌, ◌≤◌, ◌<◌, ◌+◌, ◌↔◌, ◌*◌, ◌++◌, replicate, ℕ, List, [], length, drop};
-ghost use Rattle.std.specs.Prelude.{None, Err, IsTrue, IsOk, OnOk, OnErr};
+ghost use Rattle.std.specs.Prelude.{◌≡◌, ◌≢◌, ◌≤◌, ◌<◌, ◌+◌, ◌*◌, ◌++◌, replicate, [], length};
+ghost use Rattle.std.specs.Prelude.{Err, IsTrue, IsOk, OnOk};
 ghost use Rattle.disk_trait.specs.Faults.{HasCause};
 ghost use Rattle.disk_trait.specs.Images.{Only};
 ghost use Rattle.slot_file.specs.Disks.{RisesAt, SameDisk};

@@ -1,7 +1,7 @@
 //! A file of slots that is open.
 
-ghost use Rattle.std.specs.Prelude.{◌≡◌, ◌≢◌, ◌⊎◌, ◌≤◌, ◌<◌, ◌↔◌, ◌+◌, ◌^◌, ℕ, List, length, take, IsTrue, None, Some};
-ghost use Rattle.std.specs.Prelude.{IsOk, IfOk, IfErr, OnOk, OnErr, Ok, Err, if◌then◌else◌, is_ok};
+ghost use Rattle.std.specs.Prelude.{◌≡◌, ◌≢◌, ◌⊎◌, ◌≤◌, ◌<◌, ◌↔◌, ◌+◌, ℕ, List, length, take, IsTrue, None, Some};
+ghost use Rattle.std.specs.Prelude.{IsOk, IfOk, IfErr, OnOk, Ok, Err, if◌then◌else◌, is_ok};
 ghost use Rattle.disk_trait.specs.Faults.{HasCause};
 ghost use Rattle.slot_file.specs.Doubts.{IsSure};
 ghost use Rattle.disk_trait.specs.Images.{Only, Follows};

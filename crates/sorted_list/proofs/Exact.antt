@@ -1,5 +1,5 @@
 -- Items of which the order tells all apart: one is equal to this one where this one is among them.
-use Rattle.std.proofs.Common.{◌≡◌, ◌⊎◌, ◌↔◌, ℕ, zero, suc, ◌<◌, Bool, true, false, IsTrue, List, ◌∷◌, length, inl, inr, refl, sym, ⊎_elim, arith}
+use Rattle.std.proofs.Common.{◌≡◌, ◌⊎◌, ◌↔◌, zero, suc, Bool, true, false, IsTrue, List, ◌∷◌, inl, inr, refl, sym, arith}
 use Rattle.std.specs.Cmp.{IsTotalOrder, tied_itself}
 use Rattle.std.specs.List.{Contains}
 use Rattle.std.specs.declared.cmp.Ordering.{Ordering}

@@ -1,6 +1,6 @@
 //! Ports, at which links are accepted and from which others are dialled.
 
-ghost use Rattle.std.specs.Prelude.{◌≡◌, ◌≢◌, ◌↔◌, None, false, IsTrue, IfOk, OnOk, OnErr};
+ghost use Rattle.std.specs.Prelude.{◌≡◌, ◌≢◌, ◌↔◌, None, false, IsTrue, IfOk, OnErr};
 ghost use Rattle.disk_trait.specs.Faults.{HasCause};
 ghost use Rattle.stream_io.specs.Net.{Accepts, Dials, HangsUp, PortOnward, PortState, SameLinks};
 ghost use Rattle.stream_io.specs.Store.{RisesWhere};

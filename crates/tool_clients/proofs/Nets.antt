@@ -1,5 +1,5 @@
 -- How serving clients over a net ends.
-use Rattle.std.proofs.Common.{◌≡◌, ◌++◌, ℕ, List, length, map, Some, Result, Ok, Err, All, IsTrue, IfOk, OnErr, sym, ap, ◌∙◌, subst, arith}
+use Rattle.std.proofs.Common.{◌≡◌, ◌++◌, List, length, map, Some, Result, Ok, Err, All, IsTrue, IfOk, OnErr, sym, ap, ◌∙◌, subst}
 use Rattle.std.proofs.lemmas.List.{length-map}
 use Rattle.client_service.specs.Ports.{Place, ServedClients, places_of}
 use Rattle.disk_trait.specs.Faults.{Rose}
@@ -10,7 +10,7 @@ use Rattle.memory.specs.declared.NoMemory.{NoMemory}
 use Rattle.reference_value.specs.declared.cells.Cells as cells
 use Rattle.stream_io.specs.Net.{IsNewPort, PortState, SomeUnaccepted}
 use Rattle.tool_base.specs.Ending.{Ending}
-use Rattle.tool_clients.specs.Serving.{NetEnds, no_memory, ports_of, served}
+use Rattle.tool_clients.specs.Serving.{NetEnds, no_memory, served}
 use Rattle.tool_service.specs.Nets.{ServiceEnds}
 use Rattle.tool_signing.specs.Ports.{NetRun}
 use Rattle.tool_words.specs.Words.{AggregateWords}

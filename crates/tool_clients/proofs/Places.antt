@@ -1,6 +1,5 @@
 -- Places as ports and cells.
 use Rattle.std.proofs.Common.{◌≡◌, List, [], ◌∷◌, length, map, refl, ap, arith}
-use Rattle.std.specs.List.{zip}
 use Rattle.client_service.specs.Ports.{Place, places_of, reference_state}
 use Rattle.disk_trait.specs.declared.faults.Faults as faults
 use Rattle.reference_value.specs.declared.cells.Cells as cells

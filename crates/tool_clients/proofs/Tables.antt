@@ -1,5 +1,5 @@
 -- Serving with a table of a store, from what serving over a net says.
-use Rattle.std.proofs.Common.{◌≡◌, ◌+◌, ◌-◌, ◌^◌, ◌≤◌, min, ℕ, List, [], ◌∷◌, None}
+use Rattle.std.proofs.Common.{◌≡◌, ◌+◌, ◌-◌, ◌^◌, ◌≤◌, min, List, [], ◌∷◌, None}
 use Rattle.std.proofs.lemmas.List.Elements.{All-cons, All-nil}
 use Rattle.disk_trait.specs.declared.faults.Faults as faults
 use Rattle.leased_session.specs.Signing.{DeskState}

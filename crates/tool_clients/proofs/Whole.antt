@@ -23,7 +23,7 @@ use Rattle.tool_base.specs.Touched.{Keeps}
 use Rattle.tool_base.specs.World.{Failed, IsRead, from_to}
 use Rattle.tool_clients.specs.Aggregate.{TableEnds, no_memory, no_ports, no_table, not_loaded, served}
 use Rattle.tool_clients.specs.Desks.{ReadsReference}
-use Rattle.tool_clients.specs.Serving.{HaveCells, ServedTable, ServesTable, ServesWith, faults_of}
+use Rattle.tool_clients.specs.Serving.{ServedTable, ServesTable, ServesWith, faults_of}
 use Rattle.tool_desk.specs.Files.{reference_name}
 use Rattle.tool_desk.specs.Reference.{IsReferenceOf, IsReferenceViewed}
 use Rattle.tool_disks.specs.Disks.{DeviceFails, Stays}

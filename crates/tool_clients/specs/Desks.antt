@@ -1,5 +1,5 @@
 -- What an aggregator signs with for its clients, by the files that its words name.
-use Rattle.std.specs.Prelude.{◌≡◌, ◌^◌, map, List, ℕ, IsTrue}
+use Rattle.std.specs.Prelude.{◌≡◌, map, IsTrue}
 use Rattle.client_service.specs.Ports.{Place}
 use Rattle.leased_session.specs.Signing.{DeskState}
 use Rattle.share_files.specs.Reference.{HasReferenceLayout}

@@ -1,5 +1,5 @@
 -- What an aggregator did over the ports of a net, with a table of a store.
-use Rattle.std.specs.Prelude.{◌≡◌, ◌≤◌, ◌+◌, ◌-◌, ◌^◌, ◌++◌, min, map, ℕ, List, [], ◌∷◌, All, length, None, Some}
+use Rattle.std.specs.Prelude.{◌≡◌, ◌≤◌, ◌+◌, ◌-◌, ◌^◌, ◌++◌, min, map, ℕ, List, All, length, None, Some}
 use Rattle.std.specs.Prelude.{Ok, IsTrue, false}
 use Rattle.std.specs.List.{sum_by}
 use Rattle.client_service.specs.Ports.{Place, ServedClients, reference_state}
@@ -9,7 +9,7 @@ use Rattle.leased_session.specs.Signing.{DeskState}
 use Rattle.leased_session.specs.Tables.{TableSeen}
 use Rattle.reference_value.specs.declared.cells.Cells as cells
 use Rattle.share_files.specs.declared.reference.RefHeader.{RefHeader}
-use Rattle.stream_io.specs.Net.{IsNewPort, NetState, PortState, SomeUnaccepted}
+use Rattle.stream_io.specs.Net.{IsNewPort, PortState, SomeUnaccepted}
 use Rattle.tool_base.specs.Ending as ending
 use Rattle.tool_base.specs.Ending.{Ending}
 use Rattle.tool_base.specs.World.{StoreRun}

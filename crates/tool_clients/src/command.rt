@@ -1,14 +1,9 @@
 //! The command `aggregate`.
 
-ghost use Rattle.std.specs.Prelude.{◌≡◌, All, vec_len};
 ghost use Rattle.tool_base.specs.Endings.{ending};
 ghost use Rattle.tool_base.specs.World.{from_to};
-ghost use Rattle.tool_clients.specs.Aggregate.{AggregateRun, TableRun};
-ghost use Rattle.tool_clients.specs.Serving.{ServesWith};
-ghost use Rattle.tool_desk.specs.Files.{HaveSizesOf};
-ghost use Rattle.tool_desk.specs.Members.{address, placed};
+ghost use Rattle.tool_clients.specs.Aggregate.{AggregateRun};
 ghost use Rattle.tool_signing.specs.Ports.{over_net};
-ghost use Rattle.tool_signing.specs.Tasks.{desk_of};
 ghost use Rattle.tool_words.specs.Rows.{aggregate_words};
 
 use crate::serving::serve_table;

@@ -1,7 +1,6 @@
 //! Clients, served with a table that a store has, over the ports of a net.
 
 ghost use Rattle.std.specs.Prelude.{◌≡◌, ◌≤◌, All, vec_len};
-ghost use Rattle.client_service.specs.Ports.{reference_state};
 ghost use Rattle.leaf_table.specs.Table.{plan_of};
 ghost use Rattle.leased_session.specs.Signing.{desk_state};
 ghost use Rattle.leased_session.specs.Tables.{table_seen};

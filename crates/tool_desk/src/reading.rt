@@ -1,6 +1,6 @@
 //! Files of a dealing that are read whole.
 
-ghost use Rattle.std.specs.Prelude.{◌≡◌, IfOk, IfErr};
+ghost use Rattle.std.specs.Prelude.{IfOk, IfErr};
 ghost use Rattle.tool_base.specs.Endings.{ending};
 ghost use Rattle.tool_base.specs.World.{IsCalm, IsPart, from_to};
 ghost use Rattle.tool_desk.specs.Key.{FailsKey, IsKeyRead};

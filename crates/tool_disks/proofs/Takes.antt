@@ -1,5 +1,5 @@
 -- Disks that are taken, loaded and given back.
-use Rattle.std.proofs.Common.{◌≡◌, ◌≢◌, ◌⊎◌, ◌+◌, ◌-◌, ◌^◌, ◌≤◌, min, ℕ, Bool, true, false, List, Option, Some, None, if◌then◌else◌, IsTrue, inl, inr, refl, sym, ap, ◌∙◌, subst, arith}
+use Rattle.std.proofs.Common.{◌≡◌, ◌≢◌, ◌⊎◌, ◌+◌, ◌-◌, ◌^◌, ◌≤◌, min, ℕ, Bool, true, false, List, Some, None, if◌then◌else◌, IsTrue, inl, inr, refl, sym, ap, ◌∙◌, subst, arith}
 use Rattle.std.specs.Str.{bytes_eq}
 use Rattle.disk_trait.specs.Faults.{Rose}
 use Rattle.opening_journal.specs.declared.faults.JournalLoad.{JournalLoad}
@@ -17,7 +17,7 @@ use Rattle.stream_io.specs.Store.{Handed, PagesState, Returned, StoreOnward, Sto
 use Rattle.tool_base.specs.Ending.{Ending}
 use Rattle.tool_base.specs.Touched.{Keeps}
 use Rattle.tool_base.specs.World.{IsCalm, from_to}
-use Rattle.tool_disks.specs.Disks.{DeviceFails, IsOut, Stays}
+use Rattle.tool_disks.specs.Disks.{DeviceFails, Stays}
 use Rattle.tool_disks.specs.Loads.{FailsToLoad, IsDamagedFile, IsOtherFile, ReadsAs, damaged, device, end_of_journal, end_of_slots, no_memory, other_file}
 use Rattle.tool_disks.proofs.Outs.{IsBackAs, Round, back_as, out_same, round, taken_out}
 

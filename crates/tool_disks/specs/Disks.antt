@@ -1,9 +1,9 @@
 -- A disk of a store while a command works on it, and once it is back.
-use Rattle.std.specs.Prelude.{◌≡◌, ◌⊎◌, ◌↔◌, ◌+◌, ◌-◌, ◌^◌, min, ℕ, false, List, [], ◌∷◌, Some, None, IsTrue}
+use Rattle.std.specs.Prelude.{◌≡◌, ◌⊎◌, ℕ, false, List, None, IsTrue}
 use Rattle.std.specs.Str.{bytes_eq}
 use Rattle.disk_trait.specs.Faults.{Rose}
 use Rattle.stream_io.specs.Store.{OthersLeave, PagesState, SameLoans, StoreOnward, StoreState, added, handed}
-use Rattle.tool_base.specs.Touched.{DeviceRose, Keeps}
+use Rattle.tool_base.specs.Touched.{DeviceRose}
 use Rattle.tool_base.specs.World.{StoreRun}
 
 -- The disk of this name is out, made or taken, and was not out before. All other names are as they were.

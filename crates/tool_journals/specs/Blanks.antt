@@ -9,7 +9,6 @@ use Rattle.stream_io.specs.Store.{PagesState, StoreState}
 use Rattle.tool_base.specs.Ending as ending
 use Rattle.tool_base.specs.Ending.{Ending}
 use Rattle.tool_base.specs.Outputs.{IsNew, IsNotNew}
-use Rattle.tool_base.specs.Touched.{DeviceRose}
 use Rattle.tool_base.specs.World.{StoreRun}
 use Rattle.tool_disks.specs.Disks.{DeviceFails, IsOut}
 

@@ -5,7 +5,7 @@ ghost use Rattle.tool_base.specs.Endings.{ending};
 ghost use Rattle.tool_base.specs.Grammars.{FailsGrammar};
 ghost use Rattle.tool_base.specs.Touched.{EndsTouching};
 ghost use Rattle.tool_base.specs.World.{IsCalm, IsPart, from_to};
-ghost use Rattle.tool_journals.specs.Enrol.{EnrolEnds, GoWith, IsEnrolled, begins_with, enrol_fault};
+ghost use Rattle.tool_journals.specs.Enrol.{EnrolEnds, GoWith, IsEnrolled, enrol_fault};
 ghost use Rattle.tool_journals.specs.Enrol.{enrol_fault_number, table_header};
 
 use crate::blank::{Blank, new_blank};

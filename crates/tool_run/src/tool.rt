@@ -1,9 +1,8 @@
 //! The top call.
 
 ghost use Rattle.std.specs.Prelude.{◌≡◌, ◌⊎◌, map, string_bytes, ◌==◌, if◌then◌else◌};
-ghost use Rattle.tool_base.specs.Ending as spec;
 ghost use Rattle.tool_base.specs.Endings.{ending};
-ghost use Rattle.tool_run.specs.ToolRun.{CommandRun, EndsSo, IsAnswered, IsCutShort, IsPrinted, ToolRun, WordsRun};
+ghost use Rattle.tool_run.specs.ToolRun.{CommandRun, EndsSo, IsCutShort, IsPrinted, ToolRun, WordsRun};
 ghost use Rattle.tool_words.specs.Rows.{row};
 ghost use Rattle.tool_words.specs.Words.{OutputsDiffer, command_of};
 ghost use Rattle.tool_base.specs.World.{IsBack, IsNetBack, output_run};

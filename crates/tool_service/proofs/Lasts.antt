@@ -1,5 +1,5 @@
 -- What a journal leaves, and the first exits of the command.
-use Rattle.std.proofs.Common.{◌≡◌, ◌↔◌, ◌⊎◌, ◌^◌, ℕ, List, [], Some, None, IsTrue, inl, inr, refl, sym, subst, arith}
+use Rattle.std.proofs.Common.{◌≡◌, ◌↔◌, ◌⊎◌, ◌^◌, ℕ, List, [], Some, None, IsTrue, inl, inr, refl, sym, subst}
 use Rattle.std.proofs.lemmas.List.Elements.{All-nil}
 use Rattle.disk_trait.specs.Faults.{Rose}
 use Rattle.disk_trait.specs.declared.disk.Pages as pages

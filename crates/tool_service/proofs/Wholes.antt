@@ -15,11 +15,11 @@ use Rattle.tool_disks.specs.Loads.{FailsToLoad}
 use Rattle.tool_disks.proofs.Takes.{other_gone, other_not_loaded, other_reads_as, other_stays}
 use Rattle.tool_disks.specs.Headers.{book_header}
 use Rattle.tool_service.specs.Journals.{HasBook, IsBook, LeavesJournal, book, no_book}
-use Rattle.tool_service.specs.Nets.{NetEnds, ServedNet}
+use Rattle.tool_service.specs.Nets.{NetEnds}
 use Rattle.tool_service.specs.Nets as nets
 use Rattle.tool_service.specs.Services.{BookEnds, StaysThere}
 use Rattle.tool_service.specs.Services as services
-use Rattle.tool_service.specs.Trustee.{HasNoBook, IsTrustee, ServedTrustee, TrusteeEnds, TrusteeRun, handed_of}
+use Rattle.tool_service.specs.Trustee.{HasNoBook, IsTrustee, TrusteeEnds, TrusteeRun, handed_of}
 use Rattle.tool_service.specs.Trustee as trustee
 use Rattle.tool_words.specs.Words.{TrusteeWords}
 use Rattle.trustee_core.specs.Trustee.{journal_header}

@@ -34,7 +34,7 @@ use Rattle.tool_signing.specs.Sign.{SignEnds, SigningRun}
 use Rattle.tool_signing.specs.Sign as sign
 use Rattle.tool_signing.specs.Signs.{SignedTable, TableEnds}
 use Rattle.tool_signing.specs.Signs as signs
-use Rattle.tool_signing.specs.Tasks.{FailsTask, IsTask, LacksTask}
+use Rattle.tool_signing.specs.Tasks.{FailsTask, LacksTask}
 use Rattle.tool_signing.specs.Tasks as tasks
 use Rattle.tool_words.specs.Words.{SignWords}
 

@@ -1,7 +1,7 @@
 -- Sessions over what a dealer made: what they sign.
 use Rattle.std.proofs.Common.{◌≡◌, ℕ, Bool, true, false, List, Option, Some, Result, Ok, if◌then◌else◌, refl, sym, ap, ◌∙◌}
 use Rattle.aggregator_node.specs.Hearing.{kept_in}
-use Rattle.aggregator_node.specs.Runs.{CellsRead, HasRun, Opens, SameSession, Second, SignRun, Signs, second_all, second_answered, second_lost, second_refused, second_unread, signed}
+use Rattle.aggregator_node.specs.Runs.{CellsRead, HasRun, SameSession, Second, SignRun, second_all, second_answered, second_lost, second_refused, second_unread, signed}
 use Rattle.aggregator_node.specs.Runs as runs
 use Rattle.aggregator_node.specs.declared.desk.Address.{Address}
 use Rattle.aggregator_node.specs.declared.fault.SignFault.{SignFault}

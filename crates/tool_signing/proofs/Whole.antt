@@ -28,10 +28,10 @@ use Rattle.tool_signing.proofs.Writes.{as-signed, is_written, keeps_unwritten, k
 use Rattle.tool_signing.specs.Leases.{AllLeave, IsBurntIn, IsLeasedIn, LeaseIsLeft}
 use Rattle.tool_signing.specs.Leases as leases
 use Rattle.tool_signing.specs.Ports.{NetRun, Signing, is_exact, over_net}
-use Rattle.tool_signing.specs.Sign.{SignEnds, SigningRun}
+use Rattle.tool_signing.specs.Sign.{SigningRun}
 use Rattle.tool_signing.specs.Sign as sign
 use Rattle.tool_signing.specs.Signs.{SignedTable, TableEnds}
-use Rattle.tool_signing.specs.Tasks.{FailsTask, GoesWith, HasFiles, IsTask, LacksTask, ReadsReference, desk_of, message_limit}
+use Rattle.tool_signing.specs.Tasks.{FailsTask, GoesWith, HasFiles, IsTask, LacksTask, desk_of, message_limit}
 use Rattle.tool_signing.specs.Tasks as tasks
 use Rattle.tool_signing.specs.Writes.{WriteEnds, one_output}
 use Rattle.tool_signing.specs.Writes as writes

@@ -1,6 +1,6 @@
 //! The command `sign`.
 
-ghost use Rattle.std.specs.Prelude.{◌≡◌, drop, map, option_map, IfOk, IfErr, OnOk};
+ghost use Rattle.std.specs.Prelude.{drop, IfOk, IfErr, OnOk};
 ghost use Rattle.tool_base.specs.Endings.{ending};
 ghost use Rattle.tool_base.specs.Outputs.{IsNew};
 ghost use Rattle.tool_base.specs.World.{IsBack, IsCalm, from_to};

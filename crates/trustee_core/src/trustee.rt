@@ -1,6 +1,6 @@
 //! The trustee.
 
-ghost use Rattle.std.specs.Prelude.{◌≡◌, ◌≢◌, ◌≤◌, ◌^◌, ℕ, [], length, IfOk, IfErr, IfSome, OnOk, None, Some, Ok, Err};
+ghost use Rattle.std.specs.Prelude.{◌≡◌, ◌≢◌, ◌≤◌, ◌^◌, [], length, IfOk, IfErr, IfSome, OnOk, None, Some, Ok, Err};
 ghost use Rattle.opening_journal.specs.Entries.{JournalState, StandsFor};
 ghost use Rattle.opening_journal.specs.Journal.{Enters, Holds, IsTold, disk_of, header_of, params_of, state_of};
 ghost use Rattle.trustee_core.specs.Codes.{refusal_code};

@@ -1,7 +1,7 @@
 //! A count under a lock.
 #![tactic(auto)]
 
-ghost use Rattle.std.specs.Prelude.{◌≡◌, ◌+◌, ◌-◌, ◌*◌, ◌^◌, ◌<◌, ◌≤◌, min, [], length, false, All, IfSome};
+ghost use Rattle.std.specs.Prelude.{◌≡◌, ◌+◌, ◌-◌, ◌*◌, ◌^◌, ◌<◌, ◌≤◌, min, [], false, All, IfSome};
 ghost use Rattle.turn_lock.specs.Pass.{first_pass};
 ghost use Rattle.turn_bench.specs.Turns.{IsDone};
 

@@ -1,6 +1,6 @@
 //! A link that waits until another one was answered.
 
-ghost use Rattle.std.specs.Prelude.{◌≡◌, ◌&&◌, ◌+◌, ◌-◌, ◌<◌, ◌≤◌, ◌^◌, IfSome, IsSome, IsTrue, is_none, length, min};
+ghost use Rattle.std.specs.Prelude.{◌≡◌, ◌&&◌, ◌+◌, ◌-◌, ◌<◌, ◌≤◌, ◌^◌, IfSome, IsSome, IsTrue, is_none, min};
 ghost use Rattle.std.specs.Prelude.{refl};
 ghost use Rattle.waiting_io.specs.Waiting.{with_vain};
 

@@ -1,7 +1,7 @@
-use Rattle.std.proofs.Common.{◌≡◌, ◌+◌, ◌<◌, ◌%◌, ℕ, List, [], ◌∷◌, ◌++◌, length, take, take_all, slice_set, refl, sym, ◌∙◌, ap, arith}
+use Rattle.std.proofs.Common.{◌≡◌, ◌+◌, ◌%◌, ℕ, List, [], ◌∷◌, ◌++◌, length, take, take_all, slice_set, refl, sym, ◌∙◌, ap, arith}
 use Rattle.std.proofs.lemmas.List.{length-set, take_more_set}
 use Rattle.disk_trait.specs.Generator.{draw_of}
-use Rattle.drill_events.specs.Draws.{bytes_of, draw_at, entropy_of, state_at}
+use Rattle.drill_events.specs.Draws.{bytes_of, draw_at, entropy_of}
 use Rattle.drill_events.proofs.Drawing.{bytes-more, bytes-none, state-next, state-none}
 use Rattle.drill_events.proofs.draws.draw_entropy.Goals as goal
 

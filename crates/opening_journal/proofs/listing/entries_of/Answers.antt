@@ -1,6 +1,5 @@
-use Rattle.std.proofs.Common.{◌≡◌, ◌<◌, ◌++◌, ◌+◌, ℕ, List, length, take, sum_by, inl, inr, sym, ◌∙◌, ap, subst, arith}
+use Rattle.std.proofs.Common.{◌<◌, ◌++◌, ◌+◌, ℕ, List, length, take, sum_by, inl, inr, sym, ◌∙◌, ap, subst, arith}
 use Rattle.std.proofs.lemmas.Bool.{cases_eq}
-use Rattle.std.proofs.lemmas.List.{take_all}
 use Rattle.opening_journal.specs.Entries.{IsLegalList, map_of, state_of_slot}
 use Rattle.opening_journal.specs.EntrySlots.{room_of}
 use Rattle.opening_journal.specs.Loading.{entries_of_slot}

@@ -1,4 +1,4 @@
-use Rattle.std.proofs.Common.{◌≡◌, ◌*◌, [], ◌∷◌, ◌++◌, ℕ, List, replicate, get_or, sym, ◌∙◌, IsTrue, refl, ap, subst, inl, inr, ⊎_elim}
+use Rattle.std.proofs.Common.{◌≡◌, ◌*◌, [], ◌∷◌, ◌++◌, ℕ, List, replicate, get_or, ◌∙◌, IsTrue, refl, ap, subst, inl, inr, ⊎_elim}
 use Rattle.std.proofs.lemmas.Result.{on_ok_weaker}
 use Rattle.disk_trait.specs.Images.{written, Torn}
 use Rattle.slot_file.specs.Layout.{blank_file, header_block, slot_size}

@@ -1,4 +1,4 @@
-use Rattle.std.proofs.Common.{◌≡◌, ◌*◌, ◌++◌, ℕ, List, replicate, IsTrue}
+use Rattle.std.proofs.Common.{◌≡◌, ◌*◌, ◌++◌, replicate, IsTrue}
 use Rattle.slot_file.specs.Disks.{SameDisk}
 use Rattle.slot_file.specs.Fresh.{StaysShut}
 use Rattle.slot_file.specs.Layout.{slot_size}

@@ -1,4 +1,4 @@
-use Rattle.std.proofs.Common.{◌≡◌, ◌+◌, ◌∙◌, ℕ, [], List, drop, length, map, refl, ap, arith}
+use Rattle.std.proofs.Common.{◌+◌, ◌∙◌, ℕ, [], length, map, refl, ap, arith}
 use Rattle.std.proofs.lemmas.List.{length-map}
 use Rattle.std.proofs.lemmas.List.Elements.{All-weaker}
 use Rattle.leased_session.specs.Signing.{DeskState}
@@ -7,7 +7,6 @@ use Rattle.reference_value.specs.declared.paged.Paged.{Paged}
 use Rattle.stream_io.specs.Store.{pages_state}
 use Rattle.tool_base.proofs.Nets.{net_none}
 use Rattle.tool_base.proofs.Runs.{calm_none, onward_none, onward_on, part_of}
-use Rattle.tool_base.specs.World.{from_to}
 use Rattle.tool_clients.specs.Aggregate.{ended, no_desk}
 use Rattle.tool_clients.specs.Desks.{no_key_files, no_references}
 use Rattle.tool_clients.specs.Desks as desks

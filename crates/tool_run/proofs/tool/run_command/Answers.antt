@@ -1,4 +1,4 @@
-use Rattle.std.proofs.Common.{◌≡◌, ◌⊎◌, List, [], refl}
+use Rattle.std.proofs.Common.{◌≡◌, ◌⊎◌, [], refl}
 use Rattle.tool_base.specs.Ending as ending
 use Rattle.tool_base.specs.World.{from_to}
 use Rattle.tool_base.proofs.Writing.{ends_untouched}

@@ -1,10 +1,8 @@
 use Rattle.std.proofs.Common.{◌≡◌, Some, map, string_bytes, None, refl}
 use Rattle.tool_words.specs.Rows.{row}
 use Rattle.tool_words.specs.Words.{command_of}
-use Rattle.tool_base.specs.World.{from_to}
 use Rattle.tool_words.proofs.Commands.{outputs_differ}
 use Rattle.tool_base.proofs.Runs.{back_calm, calm_none}
-use Rattle.tool_base.proofs.Writing.{ends_untouched}
 use Rattle.tool_run.proofs.Running.{usage_run}
 use Rattle.tool_run.proofs.tool.run_words.Goals as goal
 

@@ -1,12 +1,10 @@
-use Rattle.std.proofs.Common.{◌≡◌, ◌≢◌, ◌+◌, sym, subst, refl, arith, inl, inr, ◌∙◌}
+use Rattle.std.proofs.Common.{◌≡◌, sym, subst, refl, arith, inl, inr, ◌∙◌}
 use Rattle.std.proofs.lemmas.List.Elements.{All-push}
 use Rattle.std.proofs.lemmas.Result.{err_from_is_err_and}
 use Rattle.stream_io.specs.Store.{pages_state}
-use Rattle.tool_base.proofs.Runs.{calm_none, onward_none, onward_on, part_of}
+use Rattle.tool_base.proofs.Runs.{calm_none, onward_none, part_of}
 use Rattle.tool_base.specs.Ending.{Ending}
-use Rattle.tool_base.specs.Ending as spec
 use Rattle.tool_base.specs.World.{from_to}
-use Rattle.tool_desk.specs.Files.{reference_name}
 use Rattle.tool_desk.specs.Reference.{no_memory}
 use Rattle.tool_views.specs.Views.{FailsReferences, not_one_file, not_viewed}
 use Rattle.tool_views.proofs.Outs.{adds_ended, adds_kept, adds_more, adds_none, fails_out, out_on, reads_viewed}

@@ -1,4 +1,4 @@
-use Rattle.std.proofs.Common.{◌≡◌, ◌∙◌, IsTrue, sym}
+use Rattle.std.proofs.Common.{◌∙◌, IsTrue, sym}
 use Rattle.approval_book.specs.Listed.{is_listed, settled, unsettled}
 use Rattle.approval_book.proofs.Listings.{is_old, settles-sure}
 use Rattle.approval_book.proofs.book.Book.add.Goals as goal

@@ -1,6 +1,6 @@
-use Rattle.std.proofs.Common.{◌≡◌, ◌∙◌, ◌+◌, Bool, nat_eq, ◌||◌, None, Some, ap, sym, arith}
+use Rattle.std.proofs.Common.{◌∙◌, Bool, nat_eq, ◌||◌, ap, sym, arith}
 use Rattle.std.specs.Cmp.Lexicographic.{pointwise}
-use Rattle.approval_book.proofs.Listings.{WasMade, made_half, was_made}
+use Rattle.approval_book.proofs.Listings.{made_half, was_made}
 use Rattle.approval_book.proofs.book.Book.settle.Goals as goal
 
 pub id_in_doubt-requires : goal.id_in_doubt-requires

@@ -1,6 +1,6 @@
-use Rattle.std.proofs.Common.{◌≡◌, ◌+◌, ℕ, ◌∙◌, ap, sym, refl, arith}
-use Rattle.disk_trait.specs.Generator.{draw_of, state_after}
-use Rattle.drill_events.specs.Draws.{draw_at, event_at, state_at}
+use Rattle.std.proofs.Common.{◌≡◌, ◌+◌, ℕ, ◌∙◌, ap, arith}
+use Rattle.disk_trait.specs.Generator.{draw_of}
+use Rattle.drill_events.specs.Draws.{draw_at, state_at}
 use Rattle.drill_events.specs.Events.{event_of}
 use Rattle.drill_events.proofs.Drawing.{state-next}
 use Rattle.drill_events.proofs.draws.Schedule.draw.Goals as goal

@@ -1,6 +1,5 @@
 use Rattle.std.proofs.Common.{◌≡◌, true, false}
 use Rattle.leaf_table.specs.Leasing as leasing
-use Rattle.leaf_table.specs.Leasing.{IsCoalition}
 use Rattle.leaf_table.specs.Table.{plan_of, state_of}
 use Rattle.leaf_table.proofs.Entering.{enters-after, enters-err}
 use Rattle.leaf_table.proofs.Events.{leases-in, leases-unsettled}

@@ -1,7 +1,6 @@
-use Rattle.std.proofs.Common.{◌≡◌, ◌<◌, ◌^◌, ℕ, List, None, length, refl, sym, ◌∙◌, ap, subst, arith}
+use Rattle.std.proofs.Common.{◌≡◌, ◌<◌, ◌^◌, ℕ, length, refl, sym, ◌∙◌, ap, subst}
 use Rattle.opening_journal.specs.Loading.{IsJournalFile, LoadRefused, entries_of, no_memory}
 use Rattle.opening_journal.specs.Opening.{settled_with}
-use Rattle.opening_journal.specs.declared.faults.JournalLoad.{JournalLoad}
 use Rattle.opening_journal.proofs.Held.{has-loads}
 use Rattle.opening_journal.proofs.Listed.{entries-same, refused-load}
 use Rattle.slot_cache.specs.Cache.{state_of}

@@ -1,4 +1,4 @@
-use Rattle.std.proofs.Common.{◌≡◌, ◌<◌, ◌∷◌, ◌++◌, [], List, Some, length, set, sym, ◌∙◌, ap, subst, arith, length-append}
+use Rattle.std.proofs.Common.{◌≡◌, ◌<◌, ◌∷◌, [], List, Some, length, set, sym, ◌∙◌, ap, subst, arith, length-append}
 use Rattle.opening_journal.specs.Entries.{leaf_of}
 use Rattle.opening_journal.specs.EntrySlots.{room_in, slot_with}
 use Rattle.opening_journal.specs.Inside.{IsHeld}

@@ -1,6 +1,5 @@
-use Rattle.std.proofs.Common.{◌≡◌, ◌<◌, ◌∷◌, ◌++◌, [], List, None, Ok, length, refl, sym, ◌∙◌, ap, subst, arith, length-append}
-use Rattle.opening_journal.specs.Entries.{leaf_of}
-use Rattle.opening_journal.specs.EntrySlots.{room_in, slot_with}
+use Rattle.std.proofs.Common.{◌≡◌, ◌∷◌, [], List, None, Ok, length, refl, sym, ◌∙◌, ap, subst, arith, length-append}
+use Rattle.opening_journal.specs.EntrySlots.{room_in}
 use Rattle.opening_journal.specs.Inside.{IsHeld}
 use Rattle.opening_journal.specs.declared.entry.Entry.{Entry}
 use Rattle.slot_cache.specs.Cache.{header_of, state_of}

@@ -1,12 +1,10 @@
-use Rattle.std.proofs.Common.{◌≡◌, ℕ, List, set, refl, sym, ◌∙◌, ap, subst, arith}
+use Rattle.std.proofs.Common.{◌≡◌, set, refl, sym, ◌∙◌, ap, arith}
 use Rattle.std.proofs.lemmas.List.{length-set}
-use Rattle.slot_cache.specs.State.{HasSlots, slot_in}
+use Rattle.slot_cache.specs.State.{HasSlots}
 use Rattle.slot_cache.specs.declared.doubted.Doubted.{Doubted}
-use Rattle.slot_file.specs.Files.{IsPut, with_b}
 use Rattle.slot_file.specs.Layout.{slot_at}
 use Rattle.slot_file.specs.Slots.{IsTold, doubt_of, file_of, header_of}
 use Rattle.slot_file.specs.declared.header.Header.{Header}
-use Rattle.slot_file.specs.declared.slot.Slot.{Slot}
 use Rattle.slot_file.specs.declared.slot.Slot.TheVariants.{Half}
 use Rattle.slot_file.specs.declared.slots.Doubt.TheVariants.{Nowhere}
 use Rattle.slot_cache.proofs.Files.{doubt-put, has-sure, put-made, put-shown, renamed, whole-set}

@@ -1,6 +1,6 @@
 use Rattle.std.proofs.Common.{◌≡◌, ℕ, List, None, set, refl, sym, ◌∙◌, ap, subst}
 use Rattle.std.proofs.lemmas.List.{get_or_read, length-set}
-use Rattle.slot_cache.specs.State.{HasSlots, slot_in, with_made}
+use Rattle.slot_cache.specs.State.{HasSlots, slot_in}
 use Rattle.slot_file.specs.Copies.{is_damaged}
 use Rattle.slot_file.specs.Slots.{IsTold, doubt_of, file_of, header_of}
 use Rattle.slot_file.specs.declared.slot.Slot.{Slot}
