@@ -36,7 +36,7 @@ fn memory_fault(fault: DealFault) -> NoMemory
 }
 
 /// The parameter set of a drill.
-#[tactic(auto, unfolding(lms_bytes::specs::Params::codes_fault, lms_bytes::specs::ParameterSets::lms_row, lms_bytes::specs::ParameterSets::lmots_row))]
+#[tactic(auto, unfolding(lms_bytes::specs::ParameterSets::lms_row, lms_bytes::specs::ParameterSets::lmots_row))]
 fn params() -> Params
     ensures lms { result.lms ≡ 5 }
     ensures ots { result.ots ≡ 3 }

@@ -43,7 +43,7 @@ pub fn rehearse(alloc: Global, entropy: &[u8], message: &[u8]) -> Result<Rehears
 }
 
 /// The parameter set of a rehearsal.
-#[tactic(auto, unfolding(lms_bytes::specs::Params::codes_fault, lms_bytes::specs::ParameterSets::lms_row, lms_bytes::specs::ParameterSets::lmots_row))]
+#[tactic(auto, unfolding(lms_bytes::specs::ParameterSets::lms_row, lms_bytes::specs::ParameterSets::lmots_row))]
 fn params() -> Params
     ensures lms { result.lms ≡ 5 }
     ensures ots { result.ots ≡ 3 }
