@@ -6,4 +6,4 @@ mod headers;
 mod loads;
 
 pub use headers::header_of;
-pub use loads::{end_of_journal, end_of_slots, load_fault_number};
+pub use loads::{DAMAGED, end_of_journal, end_of_slots, load_fault_number};

@@ -9,8 +9,8 @@ use slot_cache::CacheLoad;
 use slot_file::LoadFault;
 use tool_base::Ending;
 
-/// The fault that an end names where a slot is damaged.
-const DAMAGED: u8 = 6;
+/// The number that users see of a damaged slot.
+pub const DAMAGED: u8 = 6;
 
 /// The number that users see of a fault of a file's header or length.
 pub fn load_fault_number(fault: LoadFault) -> u8

@@ -17,6 +17,7 @@ use aggregator_node::{Address, Desk};
 use coalition_map::Members;
 use disk_trait::Pages;
 use leased_session::Signed;
+use lms_bytes::LIMIT;
 use memory::NoMemory;
 use reference_value::Paged;
 use share_files::RefHeader;
@@ -30,7 +31,7 @@ use tool_desk::{
 use tool_words::SignWords;
 
 /// How long a message may be that is signed, in bytes.
-const MESSAGE_LIMIT: u64 = 16_777_216;
+const MESSAGE_LIMIT: u64 = LIMIT as u64;
 
 /// What is signed with the files of a dealing: the message, and the members that are asked, each at its address.
 #[derive(Drop)]

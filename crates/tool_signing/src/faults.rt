@@ -8,9 +8,7 @@ use aggregator_node::SignFault;
 use leaf_table::TableFault;
 use session_core::SessionFault;
 use tool_base::{Ending, Unsigned};
-
-/// The fault that an end names where a slot is damaged.
-const DAMAGED: u8 = 6;
+use tool_disks::DAMAGED;
 
 /// The end where a session gave no signature. A command's table has no lock, so no turn of it is ever used up: that is
 /// told as want of memory, which claims nothing of store, net or members.
