@@ -1,54 +1,25 @@
-//! Runs the tool as a user does, over files: on keys and signatures of twelve parameter sets that another
-//! implementation made, and on words and files that it has to refuse; and then over files in memory. It prints the
-//! status behind each line.
+//! Runs the tool as a user does, over files: on keys, signatures, rehearsals and dealings that another implementation
+//! made, and on words and files that it has to refuse. It prints the status behind each line, and behind that the length
+//! and the SHA-256 of files that the command wrote or had to leave alone. Then it runs the tool over files in memory,
+//! whose calls can fail.
 #![tactic(auto)]
 
+mod dealing;
 mod in_memory;
+mod rows;
+mod verifying;
 
 use host_io::{FileStore, StdoutSink, TcpNet};
+use rows::{DEALINGS, FAULTY, REFUSED, REHEARSALS, VECTORS};
+use sha2::{Digest, Sha256};
+use share_files::{read_reference, read_share, read_tree};
 use std::alloc::{AllocError, Global};
-use std::io;
+use std::io::{self, ErrorKind};
+use stream_io::Store;
 use tool_run::{SystemClocks, run_tool};
 
-/// The vectors, by their LMS and LM-OTS typecodes.
-const VECTORS: [&str; 12] = [
-    "5-1", "5-2", "5-3", "5-4", "10-5", "10-6", "10-7", "10-8", "6-3", "9-4", "11-7", "14-8",
-];
-
-/// Words that end otherwise: a signature of another set, a message in the place of the key, and a file that is not
-/// there.
-const REFUSED: [&str; 3] = [
-    "verify 5-3.key 5-3.message 5-4.signature",
-    "verify 10-8.message 10-8.message 10-8.signature",
-    "verify 10-8.key 10-8.message none",
-];
-
-/// Words that are no command: no word, a word too few or too many, an option, no name of a command, outputs of one
-/// name, numbers that are none or too great or too long, and an empty prefix.
-const FAULTY: [&str; 12] = [
-    "",
-    "verify 10-8.key 10-8.message",
-    "verify 10-8.key 10-8.message 10-8.signature more",
-    "verify 10-8.key -x 10-8.signature",
-    "help",
-    "rehearse e m a a",
-    "deal e 5 3 3  a",
-    "deal e 5 3 3 +2 a",
-    "deal e 5 3 3 4294967296 a",
-    "deal e 5 3 3 00000000002 a",
-    "deal e 5 3 3 2 a b",
-    "deal e 5 3 3 2 ",
-];
-
-/// The words `verify NAME.key NAME.message NAME.signature`.
-fn verify_words(alloc: Global, name: &str) -> Result<Vec<String>, AllocError> {
-    let mut words = Vec::new(alloc);
-    words.push(String::from_str(alloc, "verify")?)?;
-    words.push(format!(in alloc; "{name}.key")?)?;
-    words.push(format!(in alloc; "{name}.message")?)?;
-    words.push(format!(in alloc; "{name}.signature")?)?;
-    Ok(words)
-}
+/// No file here is longer.
+const FILE_LIMIT: u64 = 1 << 24;
 
 /// The words of a text.
 fn words_of(alloc: Global, text: &str) -> Result<Vec<String>, AllocError> {
@@ -59,19 +30,42 @@ fn words_of(alloc: Global, text: &str) -> Result<Vec<String>, AllocError> {
     Ok(words)
 }
 
-/// The lists of words that the tool is run with.
-fn cases(alloc: Global) -> Result<Vec<Vec<String>>, AllocError> {
-    let mut cases = Vec::new(alloc);
-    for name in VECTORS {
-        cases.push(verify_words(alloc, name)?)?;
+/// Prints the name of a file, its length and its SHA-256.
+fn print_file(rt: HostRuntime, store: &mut FileStore<HostRuntime>, name: &str) -> io::Result<()> {
+    let Ok(bytes) = store.read_all(rt.alloc(), name, FILE_LIMIT) else {
+        return println!(rt; "{name} is not read");
+    };
+    let length = bytes.len();
+    let digest = hex::encode(rt.alloc(), Sha256::digest(&bytes))?;
+    println!(rt; "{name} {length} {digest}")
+}
+
+/// Reads a file.
+fn read(rt: HostRuntime, store: &mut FileStore<HostRuntime>, name: &str) -> io::Result<Vec<u8>> {
+    match store.read_all(rt.alloc(), name, FILE_LIMIT) {
+        Ok(bytes) => Ok(bytes),
+        Err(_) => Err(io::Error::from(ErrorKind::NotFound)),
     }
-    for text in REFUSED {
-        cases.push(words_of(alloc, text)?)?;
+}
+
+/// Prints what the readers of the first dealing's files say.
+fn print_readings(rt: HostRuntime, store: &mut FileStore<HostRuntime>) -> io::Result<()> {
+    let share = read(rt, store, "a.share3")?;
+    let tree = read(rt, store, "a.tree")?;
+    let reference = read(rt, store, "a.ref")?;
+    match (
+        &read_share(&share),
+        &read_tree(&tree),
+        &read_reference(&reference),
+    ) {
+        (Ok(share), Ok(tree), Ok(reference)) => {
+            let (k, n) = (reference.header.plan.k(), reference.header.plan.n());
+            println!(rt; "trustee {} has a share", share.member)?;
+            println!(rt; "the tree has {} bytes of nodes", tree.nodes.len())?;
+            println!(rt; "{} bytes of leaves for {k} of {n}", reference.leaves.len())
+        }
+        _ => println!(rt; "the files are not read"),
     }
-    for text in FAULTY {
-        cases.push(words_of(alloc, text)?)?;
-    }
-    Ok(cases)
 }
 
 fn main(rt: HostRuntime) -> io::Result<()> {
@@ -79,17 +73,25 @@ fn main(rt: HostRuntime) -> io::Result<()> {
     let mut net = TcpNet::new(rt);
     let mut time = SystemClocks::new(rt);
     let mut out = StdoutSink::new(rt);
-    for words in &cases(rt.alloc())? {
-        let status = run_tool(
-            &rt,
-            rt.alloc(),
-            words.as_slice(),
-            &mut store,
-            &mut net,
-            &mut time,
-            &mut out,
-        );
-        println!(rt; "status {status}")?;
+    for cases in [VECTORS, FAULTY, REHEARSALS, DEALINGS, REFUSED] {
+        for (command, files) in cases {
+            let words = words_of(rt.alloc(), command)?;
+            let status = run_tool(
+                &rt,
+                rt.alloc(),
+                words.as_slice(),
+                &mut store,
+                &mut net,
+                &mut time,
+                &mut out,
+            );
+            println!(rt; "status {status}")?;
+            for name in files.split_whitespace() {
+                print_file(rt, &mut store, name)?;
+            }
+        }
     }
-    in_memory::print_runs(&rt, rt)
+    print_readings(rt, &mut store)?;
+    verifying::print_runs(&rt, rt)?;
+    dealing::print_runs(&rt, rt)
 }
