@@ -1,5 +1,5 @@
-//! Runs of `rehearse` and `deal` over files in memory: what stands after each failed call, and each refusal of a dealing
-//! with its line.
+//! Runs of `rehearse` and `deal` over files in memory: what stands after each failed call, and each refusal of a
+//! dealing with its line.
 
 use crate::in_memory::{print_run, store_of};
 use std::io;
@@ -25,8 +25,8 @@ const REFUSED: &[(&str, usize)] = &[
 ];
 
 /// Runs the words over a store with the file `e` of so many bytes, which count up from 0, and the empty file `m`. The
-/// listed calls of the store fail, and the output has this much room. Behind the status it prints the outputs that are in
-/// the store.
+/// listed calls of the store fail, and the output has this much room. Behind the status it prints the outputs that are
+/// in the store.
 fn print_dealing<R: Threads + Wait + Sync>(
     threads: &R,
     rt: HostRuntime,

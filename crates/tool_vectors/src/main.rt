@@ -1,7 +1,7 @@
 //! Runs the tool as a user does, over files: on keys, signatures, rehearsals and dealings that another implementation
-//! made, and on words and files that it has to refuse. It prints the status behind each line, and behind that the length
-//! and the SHA-256 of files that the command wrote or had to leave alone. Then it runs the tool over files in memory,
-//! whose calls can fail.
+//! made, and on words and files that it has to refuse. It prints the status behind each line, and behind that the
+//! length and the SHA-256 of files that the command wrote or had to leave alone. Then it runs the tool over files in
+//! memory, whose calls can fail.
 #![tactic(auto)]
 
 mod dealing;

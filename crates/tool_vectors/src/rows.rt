@@ -3,8 +3,8 @@
 /// Words, and names of files.
 pub(crate) type Rows = &'static [(&'static str, &'static str)];
 
-/// Keys, messages and signatures that another implementation made, by their LMS and LM-OTS typecodes, and words that end
-/// otherwise: a signature of another set, a message in the place of the key, and a file that is not there.
+/// Keys, messages and signatures that another implementation made, by their LMS and LM-OTS typecodes, and words that
+/// end otherwise: a signature of another set, a message in the place of the key, and a file that is not there.
 pub(crate) const VECTORS: Rows = &[
     ("verify 5-1.key 5-1.message 5-1.signature", ""),
     ("verify 5-2.key 5-2.message 5-2.signature", ""),
