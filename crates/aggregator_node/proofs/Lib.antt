@@ -1,4 +1,5 @@
 pub mod Addressing
+pub mod Counting
 pub mod Frames
 pub mod Hearing
 pub mod Reaching

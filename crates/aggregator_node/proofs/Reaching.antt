@@ -50,12 +50,12 @@ call-not : (addresses : List Address) (ask : List ℕ) (s : State) (member : ℕ
 call-not addresses ask s member port after members talks answer f (nowhere none) is told steady reach by =
     let lost = subst (λ (x : Result Reply SignFault). LostBy DialFailed x) (sym is) by in
     absurd (cc)
-call-not addresses ask s member port after members talks answer f (undialled place a at onward same nobody) is told steady reach by =
+call-not addresses ask s member port after members talks answer f (undialled place a at onward rose same nobody) is told steady reach by =
     let there = found (place_of addresses member) place (λ (p : List ℕ). IsTrue (port.reaches p) × Apart addresses p members) at reach.0 in
     let not = nobody told steady in
     let yes = there.0 in
     absurd (cc)
-call-not addresses ask s member port after members talks answer f (dialled place start talk steady a x at onward dials asks) is told settled reach by =
+call-not addresses ask s member port after members talks answer f (dialled place start talk steady a x at onward quiet dials asks) is told settled reach by =
     asked-not s member ask start talk x f asks is by
 
 still-one : (addresses : List Address) (f g : List ℕ → Bool) (place : List ℕ) (members : List ℕ) → ((p : List ℕ) → bytes_eq p place ≡ false → g p ≡ f p) → (o : Option (List ℕ))
@@ -81,8 +81,8 @@ call-after : (addresses : List Address) (ask : List ℕ) (s : State) (member : �
     → Calls addresses ask s member port after talks answer → answer ≡ Ok reply → IsTrue port.told → IsTrue port.steady → Reachable addresses port.reaches (member ∷ members)
     → After addresses port after members
 call-after addresses ask s member port after members talks answer reply (nowhere none) is told steady reach = absurd (cc)
-call-after addresses ask s member port after members talks answer reply (undialled place a at onward same nobody) is told steady reach = absurd (cc)
-call-after addresses ask s member port after members talks answer reply (dialled place start talk calm a x at onward dials asks) is told steady reach =
+call-after addresses ask s member port after members talks answer reply (undialled place a at onward rose same nobody) is told steady reach = absurd (cc)
+call-after addresses ask s member port after members talks answer reply (dialled place start talk calm a x at onward quiet dials asks) is told steady reach =
     let there = found (place_of addresses member) place (λ (p : List ℕ). IsTrue (port.reaches p) × Apart addresses p members) at reach.0 in
     record {
       told = onward.told ∙ told;

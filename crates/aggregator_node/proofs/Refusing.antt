@@ -72,8 +72,8 @@ taken-of s member frame old new answer reply is (awaited mid a only quiet wrote 
 called-taken : (addresses : List Address) (ask : List ℕ) (s : State) (member : ℕ) (port after : PortState) (talks : List Talk) (answer : Result Reply SignFault) (reply : Reply) → answer ≡ Ok reply
     → Calls addresses ask s member port after talks answer → IsTrue (is_answer s member reply)
 called-taken addresses ask s member port after talks answer reply is (nowhere none) = absurd (cc)
-called-taken addresses ask s member port after talks answer reply is (undialled place a found onward same nobody) = absurd (cc)
-called-taken addresses ask s member port after talks answer reply is (dialled place start talk steady a x found onward dials asked) = taken-of s member ask start talk x reply is asked
+called-taken addresses ask s member port after talks answer reply is (undialled place a found onward rose same nobody) = absurd (cc)
+called-taken addresses ask s member port after talks answer reply is (dialled place start talk steady a x found onward quiet dials asked) = taken-of s member ask start talk x reply is asked
 
 -- where a member that was called refused
 pub called-refused : (addresses : List Address) (ask : List ℕ) (s last : State) (member : ℕ) (port after : PortState) (talks : List Talk) (answer : Result Reply SignFault) (result : Result Bool SignFault)

@@ -46,8 +46,8 @@ asked-not s member frame old new answer f (awaited mid a only quiet wrote h) is 
 calls-not : (addresses : List Address) (ask : List ℕ) (s : State) (member : ℕ) (port after : PortState) (talks : List Talk) (answer : Result Reply SignFault) (f : SessionFault)
     → Calls addresses ask s member port after talks answer → answer ≡ Err (Session f) → ⊥
 calls-not addresses ask s member port after talks answer f (nowhere none) is = absurd (cc)
-calls-not addresses ask s member port after talks answer f (undialled place a found onward same nobody) is = absurd (cc)
-calls-not addresses ask s member port after talks answer f (dialled place start talk steady a x found onward dials asks) is = asked-not s member ask start talk x f asks is
+calls-not addresses ask s member port after talks answer f (undialled place a found onward rose same nobody) is = absurd (cc)
+calls-not addresses ask s member port after talks answer f (dialled place start talk steady a x found onward quiet dials asks) is = asked-not s member ask start talk x f asks is
 
 -- the outcome of round one is no fault of the session
 pub first-not : (addresses : List Address) (ask : List ℕ) (port : PortState) (s : State) (members : List ℕ) (talks : List Talk) (last : State) (end : Result (Unit {0}) SignFault) (f : SessionFault)

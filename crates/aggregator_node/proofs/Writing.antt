@@ -62,8 +62,8 @@ module _ (told : Bool) (leaves : List ℕ) (turned : State) (message first : Lis
   call-wrote : (addresses : List Address) (s : State) (member : ℕ) (port after : PortState) (members : List ℕ) (talks : List Talk) (answer : Result Reply SignFault)
       → Calls addresses first s member port after talks answer → IsTrue port.told → Wrotes told leaves turned message first 0 (member ∷ members) talks
   call-wrote addresses s member port after members talks answer (nowhere none) tells = tt
-  call-wrote addresses s member port after members talks answer (undialled place a found onward same nobody) tells = tt
-  call-wrote addresses s member port after members talks answer (dialled place start talk steady a x found onward dials asks) tells =
+  call-wrote addresses s member port after members talks answer (undialled place a found onward rose same nobody) tells = tt
+  call-wrote addresses s member port after members talks answer (dialled place start talk steady a x found onward quiet dials asks) tells =
       (asked-wrote s member first start talk x [] asks (dials.link.told tells) (dials.link.written tells), tt)
 
   -- a call that was answered, before those of the members after it
@@ -71,8 +71,8 @@ module _ (told : Bool) (leaves : List ℕ) (turned : State) (message first : Lis
       → Calls addresses first s member port after talks answer → IsTrue port.told → (IsTrue after.told → Wrotes told leaves turned message first 0 members later)
       → Wrotes told leaves turned message first 0 (member ∷ members) (talks ++ later)
   call-more addresses s member port after members talks later answer reply is (nowhere none) tells next = absurd (cc)
-  call-more addresses s member port after members talks later answer reply is (undialled place a found onward same nobody) tells next = absurd (cc)
-  call-more addresses s member port after members talks later answer reply is (dialled place start talk steady a x found onward dials asks) tells next =
+  call-more addresses s member port after members talks later answer reply is (undialled place a found onward rose same nobody) tells next = absurd (cc)
+  call-more addresses s member port after members talks later answer reply is (dialled place start talk steady a x found onward quiet dials asks) tells next =
       (asked-wrote s member first start talk x [] asks (dials.link.told tells) (dials.link.written tells), next (onward.told ∙ tells))
 
   first-wrote : (addresses : List Address) (port : PortState) (s : State) (members : List ℕ) (talks : List Talk) (last : State) (end : Result (Unit {0}) SignFault)
@@ -119,8 +119,8 @@ module _ (first : List ℕ) where
   call-whole : (addresses : List Address) (s : State) (member : ℕ) (port after : PortState) (members : List ℕ) (talks later : List Talk) (answer : Result Reply SignFault) (reply : Reply) → answer ≡ Ok reply
       → Calls addresses first s member port after talks answer → IsTrue port.told → (IsTrue after.told → Wholes first members later) → Wholes first (member ∷ members) (talks ++ later)
   call-whole addresses s member port after members talks later answer reply is (nowhere none) tells next = absurd (cc)
-  call-whole addresses s member port after members talks later answer reply is (undialled place a found onward same nobody) tells next = absurd (cc)
-  call-whole addresses s member port after members talks later answer reply is (dialled place start talk steady a x found onward dials asks) tells next = (
+  call-whole addresses s member port after members talks later answer reply is (undialled place a found onward rose same nobody) tells next = absurd (cc)
+  call-whole addresses s member port after members talks later answer reply is (dialled place start talk steady a x found onward quiet dials asks) tells next = (
     (asked-told s member first start talk x asks ∙ dials.link.told tells, asked-whole s member first start talk x reply [] is asks (dials.link.told tells) (dials.link.written tells)),
     next (onward.told ∙ tells),
   )
@@ -128,8 +128,8 @@ module _ (first : List ℕ) where
   call-alone : (addresses : List Address) (s : State) (member : ℕ) (port after : PortState) (members : List ℕ) (talks : List Talk) (answer : Result Reply SignFault) (reply : Reply) → answer ≡ Ok reply
       → Calls addresses first s member port after talks answer → IsTrue port.told → Wholes first (member ∷ members) talks
   call-alone addresses s member port after members talks answer reply is (nowhere none) tells = absurd (cc)
-  call-alone addresses s member port after members talks answer reply is (undialled place a found onward same nobody) tells = absurd (cc)
-  call-alone addresses s member port after members talks answer reply is (dialled place start talk steady a x found onward dials asks) tells =
+  call-alone addresses s member port after members talks answer reply is (undialled place a found onward rose same nobody) tells = absurd (cc)
+  call-alone addresses s member port after members talks answer reply is (dialled place start talk steady a x found onward quiet dials asks) tells =
       ((asked-told s member first start talk x asks ∙ dials.link.told tells, asked-whole s member first start talk x reply [] is asks (dials.link.told tells) (dials.link.written tells)), tt)
 
   first-whole : (addresses : List Address) (port : PortState) (s : State) (members : List ℕ) (talks : List Talk) (last : State) (end : Result (Unit {0}) SignFault) → end ≡ Ok tt

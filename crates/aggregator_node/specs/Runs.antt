@@ -11,6 +11,7 @@ use Rattle.aggregator_node.specs.declared.fault.SignFault.{SignFault}
 use Rattle.aggregator_node.specs.declared.fault.SignFault.TheVariants.{Lost, NoMemory, Session}
 use Rattle.aggregator_node.specs.declared.fault.Why.TheVariants.{DialFailed, NoAddress}
 use Rattle.coalition_map.specs.Coalitions.{leaf_members}
+use Rattle.disk_trait.specs.Faults.{Rose}
 use Rattle.disk_trait.specs.declared.faults.Faults as faults
 use Rattle.lms_verify.specs.Accepts.{AcceptsAt}
 use Rattle.lms_verify.specs.UndividedKey.{UndividedKey, rfc_signature}
@@ -58,17 +59,18 @@ pub record IsSecondFrame
   pub tag_is : IsTrue told → tag ≡ tag_in s.key.params s.plan leaves s.leaf member
 
 -- A member is dialled and asked in round one: the port and the session as they stand before, the port after, the talk
--- on its link if there is one, and what came.
+-- on its link if there is one, and what came. The port's count rises where dialling failed, and nowhere else.
 pub data Calls (addresses : List Address) (ask : List ℕ) (s : State) (member : ℕ) (port : PortState)
     : PortState → List Talk → Result Reply SignFault → Type 0 where
   nowhere : place_of addresses member ≡ None
       → Calls addresses ask s member port port [] (Err (Lost member 1 NoAddress))
   undialled : (place : List ℕ) (after : PortState) → place_of addresses member ≡ Some place
-      → PortOnward port after → SameLinks port after
+      → PortOnward port after → Rose port.count after.count → SameLinks port after
       → (IsTrue port.told → IsTrue port.steady → port.reaches place ≡ false)
       → Calls addresses ask s member port after [] (Err (Lost member 1 DialFailed))
   dialled : (place : List ℕ) (start talk : Talk) (steady : Bool) (after : PortState) (answer : Result Reply SignFault)
-      → place_of addresses member ≡ Some place → PortOnward port after → Dials port place start steady after
+      → place_of addresses member ≡ Some place → PortOnward port after → after.count ≡ port.count
+      → Dials port place start steady after
       → Asked s member ask start talk answer
       → Calls addresses ask s member port after (talk ∷ []) answer
 

@@ -1,5 +1,6 @@
 -- What a session is run with.
 use Rattle.std.specs.Prelude.{◌≡◌, ◌≤◌, ℕ, List, length, None, IfSome, IsTrue}
+use Rattle.std.specs.List.{sum_by}
 use Rattle.coalition_map.specs.Coalitions.{PlanNumbers, leaf_members}
 use Rattle.disk_trait.specs.declared.faults.Faults as faults
 use Rattle.lms_bytes.specs.MessageId.{message_id}
@@ -8,6 +9,7 @@ use Rattle.reference_value.specs.declared.cells.Cells as cells
 use Rattle.session_core.specs.State.{State}
 use Rattle.share_files.specs.Reference.{leaves_length}
 use Rattle.stream_io.specs.Net.{PortOnward, PortState}
+use Rattle.stream_io.specs.Talk.{Talk}
 
 -- a session that may run: of this key, plan and message, and in round one. The message has at most 2^24 bytes.
 pub record MayRun (key : PublicKey) (plan : PlanNumbers) (message : List ℕ) (s : State) : Type 0 where
@@ -37,3 +39,7 @@ pub record OnlyDials (old new : PortState) : Type 0 where
   pub onward : PortOnward old new
   pub talks : new.talks ≡ old.talks
   pub accepting : new.accept_count ≡ old.accept_count
+
+-- internal: the counts of faults of links together
+abbrev pub counts_of : List Talk → ℕ
+counts_of talks = sum_by (λ (talk : Talk). talk.count) talks

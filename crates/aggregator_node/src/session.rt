@@ -6,7 +6,7 @@ ghost use Rattle.std.specs.Vec.{vec_capacity, vec_len};
 ghost use Rattle.aggregator_node.specs.Faults.{LostBy};
 ghost use Rattle.aggregator_node.specs.Runs.{AskedAgain, First, HasCalled, HasRun, SameSession, Second, SignRun};
 ghost use Rattle.aggregator_node.specs.Runs.{bytes_in, first_frame, reads_of};
-ghost use Rattle.aggregator_node.specs.Tasks.{IsExact, IsTask, MayRun, OnlyDials};
+ghost use Rattle.aggregator_node.specs.Tasks.{IsExact, IsTask, MayRun, OnlyDials, counts_of};
 ghost use Rattle.coalition_map.specs.Coalitions.{leaf_members};
 ghost use Rattle.disk_trait.specs.Faults.{Rose};
 ghost use Rattle.reference_value.specs.Stay.{CellsOnward, CellsStay};
@@ -54,6 +54,8 @@ pub fn run_session<R: Cells, P: Port>(
         (reads_of R.Cells.own R.Faults cells.old cells.new) message.now (P.state port.old) (P.state port.new)
         session.old session.new (bytes_in result) }
     ensures dialled { LostBy Why.DialFailed result → Rose (P.state port.old).count (P.state port.new).count }
+    ensures unwritten { LostBy Why.WriteFailed result → Rose (P.state port.old).count (P.state port.new).count }
+    ensures unread { LostBy Why.ReadFailed result → Rose (P.state port.old).count (P.state port.new).count }
     ensures reads { IsTrue (P.state port.old).steady → ¬ LostBy Why.ReadFailed result }
     ensures reference { result ≡ Err (SignFault.Session Reference) → Rose (R.count cells.old) (R.count cells.new) }
     ensures succeeds { IsExact R.Cells.own R.Faults cells.old → result ≢ Err (SignFault.Session Reference) }
@@ -107,6 +109,8 @@ fn digest_of(key: &PublicKey, session: &Session, message: &[u8]) -> Val
 fn hang_up_all<P: Port>(port: &mut P, mut links: Vec<P::Link>)
     ensures kept { IsTrue (P.state port.old).told → (P.state port.new).talks
         ≡ (P.state port.old).talks ++ map (λ link. P.Link.talk link) links.items }
+    ensures count { counts_of (map (λ link. P.Link.talk link) links.items) ≢ 0
+        → Rose (P.state port.old).count (P.state port.new).count }
     ensures onward { PortOnward (P.state port.old) (P.state port.new) }
     ensures accepting { (P.state port.new).accept_count ≡ (P.state port.old).accept_count }
 {

@@ -28,8 +28,8 @@ accepted_as key message (Ok signed) accepted = accepted
 accepted_as key message (Err fault) accepted = accepted
 
 pub port_as : (before now : PortState) (result : Result Signed SignFault) → PortCauses before now result → PortCauses before now (signature_in result)
-port_as before now (Ok signed) p = record { dialled = p.dialled; reads = p.reads; onward = p.onward; accepting = p.accepting }
-port_as before now (Err fault) p = record { dialled = p.dialled; reads = p.reads; onward = p.onward; accepting = p.accepting }
+port_as before now (Ok signed) p = record { dialled = p.dialled; unwritten = p.unwritten; unread = p.unread; reads = p.reads; onward = p.onward; accepting = p.accepting }
+port_as before now (Err fault) p = record { dialled = p.dialled; unwritten = p.unwritten; unread = p.unread; reads = p.reads; onward = p.onward; accepting = p.accepting }
 
 pub reference_as : (before now : ℕ) (result : Result Signed SignFault) → (result ≡ Err (sign.Session Reference) → Rose before now)
     → signature_in result ≡ Err (sign.Session Reference) → Rose before now

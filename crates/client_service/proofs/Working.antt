@@ -76,7 +76,7 @@ module _ (desk : DeskState) where
   -- a link was accepted and served
   pub working-more : (old mid : WorkerState) (port : PortState) (post : Post) (reference : ReferenceState) (link : Talk) (steady : Bool) (served : Served) (frames : ℕ) (worn : Bool)
       → Working desk old mid → Accepts mid.post.port link steady port → PortOnward mid.post.port port → port.accept_count ≡ mid.post.port.accept_count
-      → HasServedLink desk mid.reference (record { pass = mid.post.pass; port = port; faults = mid.post.faults }) post link served → SameReference mid.reference reference
+      → HasServedLink desk mid.reference (record { pass = mid.post.pass; port = port; faults = mid.post.faults }) post link steady served → SameReference mid.reference reference
       → frames ≡ min (mid.frames + served.frames) (2 ^ 32 - 1)
       → Working desk old (record { post = post; reference = reference; connections = mid.connections + 1; frames = frames; worn = worn; failed = mid.failed })
   working-more old mid port post reference link steady served frames worn a accepts onward quiet b same sum =
@@ -88,6 +88,9 @@ module _ (desk : DeskState) where
         done = b.done;
         accepted = accepts;
         serves = serves-told desk old.reference mid.reference _ _ _ _ _ a.same b.serves;
+        most = b.most;
+        full = b.full;
+        answers = b.answers;
         hung_up = b.hung_up;
       } in
       record {
@@ -109,9 +112,9 @@ module _ (desk : DeskState) where
       }
 
   -- a link that ended by a worn pass
-  pub link-worn : (reference : ReferenceState) (old new : Post) (link : Talk) (served : Served) → HasServedLink desk reference old new link served → served.ended ≡ Worn
+  pub link-worn : (reference : ReferenceState) (old new : Post) (link : Talk) (steady : Bool) (served : Served) → HasServedLink desk reference old new link steady served → served.ended ≡ Worn
       → 2 ^ 62 ≤ new.pass.greatest
-  link-worn reference old new link served b is = serves-worn desk reference _ _ _ _ _ b.serves is
+  link-worn reference old new link steady served b is = serves-worn desk reference _ _ _ _ _ b.serves is
 
   -- no further link was accepted
   pub worked-refused : (old mid : WorkerState) (port : PortState) (failed : Bool) → Working desk old mid → SameLinks mid.post.port port → PortOnward mid.post.port port

@@ -1,5 +1,5 @@
 -- What a worker does with the links of its clients.
-use Rattle.std.specs.Prelude.{◌==◌, ℕ, Bool, List, [], ◌∷◌, Result, Ok, Err, if◌then◌else◌}
+use Rattle.std.specs.Prelude.{◌≡◌, ◌≢◌, ◌≤◌, ◌==◌, ℕ, Bool, List, [], ◌∷◌, Result, Ok, Err, IsTrue, if◌then◌else◌}
 use Rattle.std.specs.List.{flat_map, sum_by}
 use Rattle.aggregator_node.specs.declared.fault.SignFault.{SignFault}
 use Rattle.client_node.specs.Clients.{ReferenceState, Request, Serves}
@@ -7,9 +7,11 @@ use Rattle.client_node.specs.Failures.{failure_of}
 use Rattle.leaf_table.specs.declared.lease.Lease.{Lease}
 use Rattle.leaf_table.specs.declared.table.TableName.{TableName}
 use Rattle.leased_session.specs.Signing.{DeskState, Signature}
+use Rattle.round_frames.specs.declared.fault.FrameFault.TheVariants.{ReadFault}
 use Rattle.stream_io.specs.Net.{Accepts, HangsUp, PortOnward, PortState, SameLinks}
 use Rattle.stream_io.specs.Talk.{Talk}
 use Rattle.trustee_node.specs.declared.served.Served.{Served}
+use Rattle.trustee_node.specs.declared.served.ServedEnd.TheVariants.{Frame, Full}
 use Rattle.turn_lock.specs.Pass.{Seen}
 
 -- where a worker stands: what its pass has seen, its port, and the count of faults of the reference that it reads
@@ -25,7 +27,8 @@ pub record Connection : Type 0 where
   pub requests : List Request
   pub served : Served
 
--- A link was accepted, served and hung up. The members of its requests were dialled from the same port.
+-- A link was accepted, served and hung up. The members of its requests were dialled from the same port. It is full only
+-- once 65536 requests were answered, and a steady link never fails to be read.
 pub record ServesLink (desk : DeskState) (reference : ReferenceState) (old new : Post) (one : Connection)
     : Type 0 where
   pub steady : Bool
@@ -36,6 +39,9 @@ pub record ServesLink (desk : DeskState) (reference : ReferenceState) (old new :
       (record { pass = old.pass; port = begun; faults = old.faults; talk = one.link })
       one.requests one.served.frames one.served.ended
       (record { pass = new.pass; port = done; faults = new.faults; talk = one.talk })
+  pub most : one.served.frames ≤ 65536
+  pub full : one.served.ended ≡ Full → one.served.frames ≡ 65536
+  pub answers : IsTrue steady → one.served.ended ≢ Frame ReadFault
   pub hung_up : HangsUp done one.talk new.port
 
 -- no link was accepted, and no further one was asked for

@@ -1,5 +1,5 @@
 -- What the worker of a port has done.
-use Rattle.std.specs.Prelude.{◌≡◌, ◌≤◌, ◌*◌, ◌-◌, ◌^◌, ℕ, Bool, true, false, List, length, min, IsTrue}
+use Rattle.std.specs.Prelude.{◌≡◌, ◌≢◌, ◌≤◌, ◌*◌, ◌-◌, ◌^◌, ℕ, Bool, true, false, List, length, min, IsTrue}
 use Rattle.client_node.specs.Clients.{ReferenceState, Request, SameReference, Serves}
 use Rattle.client_node.specs.Turns.{IsIdle}
 use Rattle.client_service.specs.Ports.{reference_state}
@@ -9,10 +9,12 @@ use Rattle.leaf_table.specs.declared.lease.Lease.{Lease}
 use Rattle.leaf_table.specs.declared.table.TableName.{TableName}
 use Rattle.leased_session.specs.Signing.{DeskState}
 use Rattle.reference_value.specs.declared.cells.Cells as cells
+use Rattle.round_frames.specs.declared.fault.FrameFault.TheVariants.{ReadFault}
 use Rattle.stream_io.specs.Net.{HangsUp, PortOnward, PortState}
 use Rattle.stream_io.specs.Store.{RisesWhere}
 use Rattle.stream_io.specs.Talk.{Talk}
 use Rattle.trustee_node.specs.declared.served.Served.{Served}
+use Rattle.trustee_node.specs.declared.served.ServedEnd.TheVariants.{Frame, Full}
 use Rattle.trustee_node.specs.declared.worker.Worker.{Worker}
 use Rattle.turn_lock.specs.Lock.{Lock}
 use Rattle.turn_lock.specs.Pass.{Seen}
@@ -49,9 +51,9 @@ pub record IsReady {X : Type 0} (c : cells.Ghosts X) (lock : Lock Lease TableNam
   pub tree_n : desk.tree.n ≡ desk.key.params.n
   pub tree_h : desk.tree.h ≡ desk.key.params.h
 
--- internal: a link was served from where the worker stood, and hung up where it stands
+-- internal: a link, steady where this says so, was served from where the worker stood, and hung up where it stands
 pub record HasServedLink (desk : DeskState) (reference : ReferenceState) (old new : Post) (link : Talk)
-    (served : Served) : Type 0 where
+    (steady : Bool) (served : Served) : Type 0 where
   pub talk : Talk
   pub requests : List Request
   pub done : PortState
@@ -59,6 +61,8 @@ pub record HasServedLink (desk : DeskState) (reference : ReferenceState) (old ne
       (record { pass = old.pass; port = old.port; faults = old.faults; talk = link }) requests served.frames
       served.ended (record { pass = new.pass; port = done; faults = new.faults; talk = talk })
   pub most : served.frames ≤ 65536
+  pub full : served.ended ≡ Full → served.frames ≡ 65536
+  pub answers : IsTrue steady → served.ended ≢ Frame ReadFault
   pub hung_up : HangsUp done talk new.port
   pub onward : PortOnward done new.port
 

@@ -120,7 +120,7 @@ fn serve_link<X: Cells, D: Disk, P: Port>(
     ensures served { HasServedLink (desk_state desk.now) (reference_state X.Cells.own X.Faults cells.old)
         (record { pass = pass.old; port = P.state port.old; faults = X.count cells.old })
         (record { pass = pass.new; port = P.state port.new; faults = X.count cells.new })
-        (P.Link.talk link) result }
+        (P.Link.talk link) (P.Link.steady link) result }
     ensures ready { IsReady X.Cells.own lock.now (desk_state desk.now) pass.new cells.new }
     ensures cells { CellsStay X.Cells.own X.Faults cells.old cells.new }
 {

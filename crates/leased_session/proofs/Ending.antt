@@ -183,8 +183,8 @@ asked-comes leaf s member frame old new answer (awaited mid a only quiet wrote h
 calls-comes : (leaf : ℕ) (addresses : List Address) (ask : List ℕ) (s : State) (member : ℕ) (port after : PortState) (talks : List Talk) (answer : Result Reply SignFault) → Calls addresses ask s member port after talks answer
     → Comes leaf s member answer
 calls-comes leaf addresses ask s member port after talks answer (nowhere none) = tt
-calls-comes leaf addresses ask s member port after talks answer (undialled place a found onward same nobody) = tt
-calls-comes leaf addresses ask s member port after talks answer (dialled place start talk steady a x found onward dials asks) = asked-comes leaf s member ask start talk x asks
+calls-comes leaf addresses ask s member port after talks answer (undialled place a found onward rose same nobody) = tt
+calls-comes leaf addresses ask s member port after talks answer (dialled place start talk steady a x found onward quiet dials asks) = asked-comes leaf s member ask start talk x asks
 
 -- round one: how it ends, and what is kept of it where nobody is lost
 

@@ -4,7 +4,7 @@ use Rattle.aggregator_node.specs.Faults.{LostBy}
 use Rattle.aggregator_node.specs.Tasks.{IsExact}
 use Rattle.aggregator_node.specs.declared.fault.SignFault.{SignFault}
 use Rattle.aggregator_node.specs.declared.fault.SignFault.TheVariants.{Session}
-use Rattle.aggregator_node.specs.declared.fault.Why.TheVariants.{DialFailed, ReadFailed}
+use Rattle.aggregator_node.specs.declared.fault.Why.TheVariants.{DialFailed, ReadFailed, WriteFailed}
 use Rattle.disk_trait.specs.Faults.{Rose}
 use Rattle.disk_trait.specs.declared.faults.Faults as faults
 use Rattle.reference_value.specs.Stay.{CellsStay}
@@ -12,9 +12,12 @@ use Rattle.reference_value.specs.declared.cells.Cells as cells
 use Rattle.session_core.specs.declared.faults.SessionFault.TheVariants.{Reference}
 use Rattle.stream_io.specs.Net.{PortOnward, PortState}
 
--- Nobody fails to be dialled unless the port's count rose, and no read fails at a steady port. No link is accepted.
+-- Nobody fails to be dialled, written to or read unless the port's count rose, and no read fails at a steady port. No
+-- link is accepted.
 pub record PortCauses {V : Type 0} (before now : PortState) (result : Result V SignFault) : Type 0 where
   pub dialled : LostBy DialFailed result → Rose before.count now.count
+  pub unwritten : LostBy WriteFailed result → Rose before.count now.count
+  pub unread : LostBy ReadFailed result → Rose before.count now.count
   pub reads : IsTrue before.steady → ¬ LostBy ReadFailed result
   pub onward : PortOnward before now
   pub accepting : now.accept_count ≡ before.accept_count

@@ -5,6 +5,8 @@ use Rattle.disk_trait.specs.declared.faults.Faults as faults
 use Rattle.lms_bytes.specs.declared.params.Params.{Params}
 use Rattle.opening_journal.specs.Entries.{IsLegalList, JournalState, StandsFor}
 use Rattle.opening_journal.specs.Loading.{IsJournalFile}
+use Rattle.opening_journal.specs.Opening.{SettlesTo}
+use Rattle.opening_journal.specs.declared.entry.Entry.{Entry}
 use Rattle.opening_journal.specs.declared.faults.Entered.{Entered}
 use Rattle.opening_journal.specs.declared.faults.JournalFault.{JournalFault}
 use Rattle.opening_journal.specs.declared.faults.JournalFault.TheVariants.{Damaged, Device}
@@ -51,7 +53,7 @@ module _ {D : Type 0} {p : pages.Ghosts D} {f : faults.Ghosts D} where
     pub images : IsTold journal → IsHonest journal → (image : List ℕ) → p.may_leave (disk_of journal) image
         → Keeps journal image
     pub cause : faults_of journal ≡ 0 → (state_of journal).doubt ≡ None
-    pub legal : IsLegalList (state_of journal).entries
+    pub legal : (entries : List Entry) → SettlesTo (state_of journal) entries → IsLegalList entries
 
   -- what no call changes
   pub record Stays (old new : Journal D p f) : Type 0 where

@@ -96,8 +96,8 @@ module _ (d : Dealing) (key : PublicKey) (leaf : ℕ) (id : MessageId) (message 
       → Calls addresses ask s member port after talks answer → (place_of addresses member ≡ None → ⊥) → (LostBy DialFailed answer → ⊥) → IsTrue port.told → SameEar s start member
       → AllGave d start message (member ∷ members) (talks ++ later) → Called s members member later talks answer after
   call-goes addresses ask s member port after talks answer members later (nowhere none) has dials told ear gave = absurd (has none)
-  call-goes addresses ask s member port after talks answer members later (undialled place a at onward same nobody) has dials told ear gave = absurd (dials refl)
-  call-goes addresses ask s member port after talks answer members later (dialled place begin talk steady a x at onward made asks) has dials told ear gave =
+  call-goes addresses ask s member port after talks answer members later (undialled place a at onward rose same nobody) has dials told ear gave = absurd (dials refl)
+  call-goes addresses ask s member port after talks answer members later (dialled place begin talk steady a x at onward quiet made asks) has dials told ear gave =
       let own = gave.0 in
       let begin_told = made.link.told told in
       let kept = asked-later s member ask begin talk x asks in

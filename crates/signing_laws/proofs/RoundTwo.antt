@@ -32,15 +32,15 @@ IsTold talk = IsTrue talk.told
 call-told : (addresses : List Address) (ask : List ℕ) (s : State) (member : ℕ) (port after : PortState) (talks : List Talk) (answer : Result Reply SignFault)
     → Calls addresses ask s member port after talks answer → IsTrue port.told → All IsTold talks
 call-told addresses ask s member port after talks answer (nowhere none) told = All-nil IsTold
-call-told addresses ask s member port after talks answer (undialled place a at onward same nobody) told = All-nil IsTold
-call-told addresses ask s member port after talks answer (dialled place begin talk steady a x at onward made asks) told =
+call-told addresses ask s member port after talks answer (undialled place a at onward rose same nobody) told = All-nil IsTold
+call-told addresses ask s member port after talks answer (dialled place begin talk steady a x at onward quiet made asks) told =
     All-cons IsTold talk [] ((asked-later s member ask begin talk x asks).told ∙ made.link.told told) (All-nil IsTold)
 
 call-onward : (addresses : List Address) (ask : List ℕ) (s : State) (member : ℕ) (port after : PortState) (talks : List Talk) (answer : Result Reply SignFault)
     → Calls addresses ask s member port after talks answer → IsTrue port.told → IsTrue after.told
 call-onward addresses ask s member port after talks answer (nowhere none) told = told
-call-onward addresses ask s member port after talks answer (undialled place a at onward same nobody) told = onward.told ∙ told
-call-onward addresses ask s member port after talks answer (dialled place begin talk steady a x at onward made asks) told = onward.told ∙ told
+call-onward addresses ask s member port after talks answer (undialled place a at onward rose same nobody) told = onward.told ∙ told
+call-onward addresses ask s member port after talks answer (dialled place begin talk steady a x at onward quiet made asks) told = onward.told ∙ told
 
 pub first-told : (addresses : List Address) (ask : List ℕ) (port : PortState) (s : State) (members : List ℕ) (talks : List Talk) (last : State) (end : Result (Unit {0}) SignFault)
     → First addresses ask port s members talks last end → IsTrue port.told → All IsTold talks

@@ -1,3 +1,4 @@
+pub mod Heard
 pub mod Names
 pub mod Nets
 pub mod Runs

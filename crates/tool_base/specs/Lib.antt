@@ -1,6 +1,7 @@
 pub mod Ending
 pub mod Endings
 pub mod Grammars
+pub mod Heard
 pub mod OutputOf
 pub mod Outputs
 pub mod Reads

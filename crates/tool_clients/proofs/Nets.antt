@@ -9,6 +9,7 @@ use Rattle.leased_session.specs.Tables.{TableSeen}
 use Rattle.memory.specs.declared.NoMemory.{NoMemory}
 use Rattle.reference_value.specs.declared.cells.Cells as cells
 use Rattle.stream_io.specs.Net.{IsNewPort, PortState, SomeUnaccepted}
+use Rattle.tool_base.proofs.Heard.{heard_new}
 use Rattle.tool_base.specs.Ending.{Ending}
 use Rattle.tool_clients.specs.Serving.{NetEnds, no_memory, served}
 use Rattle.tool_service.specs.Nets.{ServiceEnds}
@@ -29,9 +30,9 @@ module _ {X P : Type 0} (c : cells.Ghosts X) (f : faults.Ghosts X) (state : P �
       → IfOk totals (λ totals. ServedClients desk words.connections old new places_before places_after totals)
       → (IsTrue net.before.told → net.after.kept ≡ net.before.kept ++ map state ports_new)
       → (SomeUnaccepted (map state ports_new) → Rose net.before.port_count net.after.port_count)
-      → OnErr totals (table_same × ports_same × cells_same) → ServiceEnds (map state ports_new) totals end
+      → OnErr totals (table_same × ports_same × cells_same) → (ports_same → map state ports_new ≡ map state ports_old) → ServiceEnds (map state ports_new) totals end
       → NetEnds c f words desk (table_same × cells_same) old new own_old own_new net end
-  net_ends (Ok totals) end many made serves kept deaf refused ends =
+  net_ends (Ok totals) end many made serves kept deaf refused back ends =
       let was = ports_are c f state ports_old own_old before in
       let now = ports_are c f state ports_new own_new after in
       served places_before places_after end (have_cells c f state ports_old ports_new own_old own_new before after) (record {
@@ -43,4 +44,7 @@ module _ {X P : Type 0} (c : cells.Ghosts X) (f : faults.Ghosts X) (state : P �
         ends = subst (λ (l : List PortState). ServiceEnds l (Ok totals) end) (sym now) ends;
         deaf = λ some. deaf (subst SomeUnaccepted now some);
       })
-  net_ends (Err none) end many made serves kept deaf refused ends = rw ends (no_memory (refused.0, refused.2))
+  net_ends (Err none) end many made serves kept deaf refused back ends =
+      rw ends (no_memory (refused.0, refused.2)
+      (heard_new net.before net.after (Some words.place) (map state ports_old) made
+      (λ told. kept told ∙ ap (λ (l : List PortState). net.before.kept ++ l) (back refused.1))))

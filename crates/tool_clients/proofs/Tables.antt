@@ -27,8 +27,8 @@ module _ {X : Type 0} (c : cells.Ghosts X) (f : faults.Ghosts X) (words : Aggreg
   Ends end = TableEnds words (from_to a e) net desk (ServesWith c f words (from_to a e) net desk olds news) end (words.table ∷ [])
 
   pub ends_whole : (end : Ending) → NetEnds c f words desk (same × rest) old new olds news net end → Ends end
-  ends_whole _ (nets.no_memory is) = no_memory (words.table ∷ []) (All-cons (Stays (from_to a e)) words.table [] (stays is.0) (All-nil (Stays (from_to a e))))
-  ends_whole _ (nets.no_ports is rose never) = no_ports old.state.entries table_is rose never (stays is.0)
+  ends_whole _ (nets.no_memory is heard) = no_memory (words.table ∷ []) heard (All-cons (Stays (from_to a e)) words.table [] (stays is.0) (All-nil (Stays (from_to a e))))
+  ends_whole _ (nets.no_ports is heard rose never) = no_ports old.state.entries table_is heard rose never (stays is.0)
   ends_whole _ (nets.served places_old places_new end have over) = served end (record {
     places_old = places_old;
     places_new = places_new;

@@ -160,11 +160,11 @@ module _ (a b c d : StoreState) (count : ℕ) (counts : List ℕ) (goes : ViewsO
         → TableEnds words (from_to b c) net desk (ServesWith cg fg words (from_to b c) net desk olds news) end touched
         → AllRead cg fg header olds news → sum_of counts ≡ sum_of (map fg.count news)
         → TableEnds words (from_to a d) net desk (ServedTable words (from_to a d) net header desk) end touched
-    ends_in header (no_memory touched stays) reads counted = no_memory touched (All-weaker (Stays (from_to b c)) (Stays (from_to a d)) stays_in touched stays)
-    ends_in header (no_table read) reads counted = no_table (failed_in words.table read)
-    ends_in header (not_loaded end fails stays) reads counted = not_loaded end (not_loaded_in (table_header desk.key) (2 ^ desk.plan.h) words.table end fails) (stays_in words.table stays)
-    ends_in header (no_ports entries have rose never stays) reads counted =
-        no_ports entries (reads_as_in words.table (IsTable (table_header desk.key) desk.plan entries) have) rose never (stays_in words.table stays)
+    ends_in header (no_memory touched heard stays) reads counted = no_memory touched heard (All-weaker (Stays (from_to b c)) (Stays (from_to a d)) stays_in touched stays)
+    ends_in header (no_table read heard) reads counted = no_table (failed_in words.table read) heard
+    ends_in header (not_loaded end fails heard stays) reads counted = not_loaded end (not_loaded_in (table_header desk.key) (2 ^ desk.plan.h) words.table end fails) heard (stays_in words.table stays)
+    ends_in header (no_ports entries have heard rose never stays) reads counted =
+        no_ports entries (reads_as_in words.table (IsTable (table_header desk.key) desk.plan entries) have) heard rose never (stays_in words.table stays)
     ends_in {X} {cg} {fg} header {olds} {news} (served end serves) reads counted = served end (served_in cg fg header olds news end serves reads counted)
 
 -- the reference that is read through views

@@ -7,6 +7,7 @@ use Rattle.leased_session.specs.Signing.{DeskState}
 use Rattle.share_files.specs.declared.reference.RefHeader.{RefHeader}
 use Rattle.tool_base.specs.Ending as ending
 use Rattle.tool_base.specs.Ending.{Ending}
+use Rattle.tool_base.specs.Heard.{HeardNobody}
 use Rattle.tool_base.specs.Touched.{Keeps}
 use Rattle.tool_base.specs.World.{Failed, IsNetBack, IsRead, StoreRun}
 use Rattle.tool_clients.specs.Desks.{FailsDesk, IsDesk}
@@ -17,16 +18,19 @@ use Rattle.tool_signing.specs.Ports.{NetRun}
 use Rattle.tool_signing.specs.Tables.{IsTable, table_header}
 use Rattle.tool_words.specs.Words.{AggregateWords}
 
--- how serving with the table of the words ends, with the names that it touched, where clients that were served are so
+-- How serving with the table of the words ends, with the names that it touched, where clients that were served are so.
+-- At every other end nobody was heard.
 pub data TableEnds (words : AggregateWords) (store : StoreRun) (net : NetRun) (desk : DeskState)
     (Serves : Ending → Type 0) : Ending → List (List ℕ) → Type 0 where
-  no_memory : (touched : List (List ℕ)) → All (Stays store) touched
+  no_memory : (touched : List (List ℕ)) → HeardNobody net.before net.after → All (Stays store) touched
       → TableEnds words store net desk Serves ending.NoMemory touched
-  no_table : IsRead store words.table Failed → TableEnds words store net desk Serves ending.StoreFailed []
+  no_table : IsRead store words.table Failed → HeardNobody net.before net.after
+      → TableEnds words store net desk Serves ending.StoreFailed []
   not_loaded : (end : Ending) → FailsToLoad (table_header desk.key) (2 ^ desk.plan.h) store words.table end
-      → Stays store words.table → TableEnds words store net desk Serves end (words.table ∷ [])
+      → HeardNobody net.before net.after → Stays store words.table
+      → TableEnds words store net desk Serves end (words.table ∷ [])
   no_ports : (entries : List Lease) → ReadsAs store words.table (IsTable (table_header desk.key) desk.plan entries)
-      → Rose net.before.port_count net.after.port_count
+      → HeardNobody net.before net.after → Rose net.before.port_count net.after.port_count
       → (IsTrue net.before.told → IsTrue net.before.steady → net.before.offers words.place ≡ false)
       → Stays store words.table → TableEnds words store net desk Serves ending.NetFailed (words.table ∷ [])
   served : (end : Ending) → Serves end

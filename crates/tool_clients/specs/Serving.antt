@@ -12,6 +12,7 @@ use Rattle.share_files.specs.declared.reference.RefHeader.{RefHeader}
 use Rattle.stream_io.specs.Net.{IsNewPort, PortState, SomeUnaccepted}
 use Rattle.tool_base.specs.Ending as ending
 use Rattle.tool_base.specs.Ending.{Ending}
+use Rattle.tool_base.specs.Heard.{HeardNobody}
 use Rattle.tool_base.specs.World.{StoreRun}
 use Rattle.tool_clients.specs.Desks.{ReadsReference}
 use Rattle.tool_disks.specs.Loads.{ReadsAs}
@@ -73,12 +74,13 @@ pub record HaveCells {X : Type 0} (c : cells.Ghosts X) (f : faults.Ghosts X) (ol
   pub before : map (λ (place : Place). place.faults) places_old ≡ map f.count olds
   pub after : map (λ (place : Place). place.faults) places_new ≡ map f.count news
 
--- internal: how serving over a net ends with a table that is loaded: clients were served, or no ports were had and all
+-- internal: how serving over a net ends with a table that is loaded: clients were served, or nobody was heard and all
 -- is as it was
 pub data NetEnds {X : Type 0} (c : cells.Ghosts X) (f : faults.Ghosts X) (words : AggregateWords) (desk : DeskState)
     (same : Type 0) (old new : TableSeen) (olds news : List X) (net : NetRun) : Ending → Type 0 where
-  no_memory : same → NetEnds c f words desk same old new olds news net ending.NoMemory
-  no_ports : same → Rose net.before.port_count net.after.port_count
+  no_memory : same → HeardNobody net.before net.after
+      → NetEnds c f words desk same old new olds news net ending.NoMemory
+  no_ports : same → HeardNobody net.before net.after → Rose net.before.port_count net.after.port_count
       → (IsTrue net.before.told → IsTrue net.before.steady → net.before.offers words.place ≡ false)
       → NetEnds c f words desk same old new olds news net ending.NetFailed
   served : (places_old places_new : List Place) (end : Ending) → HaveCells c f olds news places_old places_new

@@ -22,6 +22,7 @@ use Rattle.tool_disks.specs.Disks.{Stays}
 use Rattle.tool_disks.proofs.Outs.{keeps_calm}
 use Rattle.tool_service.specs.Journals.{LeavesJournal, StandsAs}
 use Rattle.tool_base.proofs.Nets.{net_none}
+use Rattle.tool_service.proofs.Serving.{heard_none}
 use Rattle.tool_service.specs.Services.{end_of_call}
 use Rattle.tool_service.specs.Trustee.{TrusteeEnds, TrusteeRun, no_journal, no_memory, no_share}
 use Rattle.tool_words.specs.Words.{TrusteeWords}
@@ -59,11 +60,11 @@ module _ (words : TrusteeWords) (a c : StoreState) (net : NetState) (time : Time
   run_calm end ends = record { touched = []; ends = ends; keeps = keeps_calm [] a c calm; net = net_none net; time = refl }
 
   pub run_unread : (end : Ending) → (end ≡ ending.NoMemory) ⊎ FailsGrammar share_fault_number (from_to a c) words.share end → TrusteeRun words before after end
-  run_unread end (inl is) = run_calm end (rw is (no_memory [] (All-nil (Stays (from_to a c)))))
-  run_unread end (inr fails) = run_calm end (no_share end fails)
+  run_unread end (inl is) = run_calm end (rw is (no_memory [] (heard_none net net refl) (All-nil (Stays (from_to a c)))))
+  run_unread end (inr fails) = run_calm end (no_share end fails (heard_none net net refl))
 
   pub run_untaken : (share : Share) (fault : CallFault) (end : Ending) → end ≡ end_of_call fault → IsShareRead (from_to a c) words.share share
       → (fault ≡ call.Failed → Rose a.count c.count) → (fault ≡ call.Failed → IsTrue a.told → IsTrue a.steady → a.file words.journal ≡ None)
       → TrusteeRun words before after end
-  run_untaken share call.Failed end is read rose gone = run_calm end (rw is (no_journal share read (rose refl, gone refl)))
-  run_untaken share call.NoMemory end is read rose gone = run_calm end (rw is (no_memory [] (All-nil (Stays (from_to a c)))))
+  run_untaken share call.Failed end is read rose gone = run_calm end (rw is (no_journal share read (rose refl, gone refl) (heard_none net net refl)))
+  run_untaken share call.NoMemory end is read rose gone = run_calm end (rw is (no_memory [] (heard_none net net refl) (All-nil (Stays (from_to a c)))))

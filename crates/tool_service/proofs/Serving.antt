@@ -1,5 +1,5 @@
 -- How a service over ports ends.
-use Rattle.std.proofs.Common.{◌≡◌, ◌++◌, ◌||◌, ℕ, Bool, true, false, zero, suc, nat_lt, List, [], ◌∷◌, length, map, Option, Some, Result, Ok, Err, All, IsTrue, IfOk, OnErr, refl, sym, ap, ◌∙◌, arith}
+use Rattle.std.proofs.Common.{◌≡◌, ◌++◌, append-nil, ◌||◌, ℕ, Bool, true, false, zero, suc, nat_lt, List, [], ◌∷◌, length, map, Option, Some, Result, Ok, Err, All, IsTrue, IfOk, OnErr, refl, sym, ap, ◌∙◌, subst, arith}
 use Rattle.std.proofs.lemmas.Bool.{false≢true, ltb-false}
 use Rattle.std.proofs.lemmas.List.{length-map}
 use Rattle.std.proofs.lemmas.List.Elements.{All-cons, All-head, All-nil, All-tail}
@@ -12,10 +12,11 @@ use Rattle.tool_base.specs.Ending.{Ending}
 use Rattle.tool_base.specs.World.{TimeState}
 use Rattle.tool_words.specs.Words.{TrusteeWords}
 use Rattle.trustee_node.specs.Workers.{ClockState, clock_state}
-use Rattle.trustee_service.specs.Ports.{PortRun, ServedPorts}
+use Rattle.opening_journal.specs.declared.entry.Entry.{Entry}
+use Rattle.trustee_service.specs.Ports.{IsPortRun, PortEnds, PortRun, ServedPorts, failed, full, none_waits}
 use Rattle.trustee_service.specs.Trustees.{TrusteeState}
 use Rattle.trustee_service.specs.declared.totals.Totals.{Totals}
-use Rattle.tool_service.specs.Nets.{HasAccepted, IsNewClock, NetEnds, ServiceEnds, no_memory, served}
+use Rattle.tool_service.specs.Nets.{HasAccepted, HeardNobody, IsNewClock, NetEnds, ServiceEnds, no_memory, served}
 
 or_false : (a b : Bool) → (a || b) ≡ false → (a ≡ false) × (b ≡ false)
 or_false true b is = absurd (false≢true (sym is))
@@ -31,6 +32,20 @@ none_accepted n is = let few = ltb-false 0 n is in omega (arith, few)
 some_accepted : (n : ℕ) → nat_lt 0 n ≡ true → n ≡ 0 → ⊥
 some_accepted zero is none = false≢true is
 some_accepted (suc n) is none = omega (arith, none)
+
+silent_ports : (net : NetState) (place : Option (List ℕ)) (ports : List PortState) → All (IsNewPort net place) ports → All (λ port. port.talks ≡ []) ports
+silent_ports net place [] new = All-nil (λ port. port.talks ≡ [])
+silent_ports net place (port ∷ ports) new =
+    All-cons (λ port. port.talks ≡ []) port ports (All-head (IsNewPort net place) port ports new).talks (silent_ports net place ports (All-tail (IsNewPort net place) port ports new))
+
+-- ports came back as they were made
+pub heard_new : (old new : NetState) (place : Option (List ℕ)) (ports : List PortState) → All (IsNewPort old place) ports
+    → (IsTrue old.told → new.kept ≡ old.kept ++ ports) → HeardNobody old new
+heard_new old new place ports made kept = record { ports = ports; kept = kept; silent = silent_ports old place ports made }
+
+-- no port came back
+pub heard_none : (old new : NetState) → new.kept ≡ old.kept → HeardNobody old new
+heard_none old new is = record { ports = []; kept = λ told. is ∙ sym (append-nil old.kept); silent = All-nil (λ port. port.talks ≡ []) }
 
 module _ {P : Type 0} (state : P → PortState) where
   -- whether a port failed to accept
@@ -65,6 +80,22 @@ module _ {C : Type 0} (told : C → Bool) (answers : C → ℕ → ℕ) (time : 
       (dated_by clocks (λ is. All-tail (λ clock. IsTrue (told clock)) clock clocks (tells is))
       (λ is j. All-tail (λ clock. answers clock j ≡ time.answers j) clock clocks (same is j)))
 
+accepted-by : (asked done : ℕ) (before after : PortState) → PortEnds asked done before after → before.accept_count ≡ 0 → IsTrue after.steady → after.accept_count ≡ 0
+accepted-by asked done before after (full all same) none_yet is = same ∙ none_yet
+accepted-by asked done before after (none_waits empty same) none_yet is = same ∙ none_yet
+accepted-by asked done before after (failed rose unsteady) none_yet is = absurd (unsteady is)
+
+module _ (share : Share) (ids : Option (List (List ℕ))) (asked : ℕ) (log last : List Entry) (net : NetState) (place : Option (List ℕ)) (is_steady : IsTrue net.steady) where
+  all-accepted : (runs : List PortRun) → All (IsPortRun share ids asked log last) runs → All (IsNewPort net place) (map (λ (run : PortRun). run.before) runs)
+      → All HasAccepted (map (λ (run : PortRun). run.after) runs)
+  all-accepted [] are new = All-nil HasAccepted
+  all-accepted (run ∷ runs) are new =
+      let one = All-head (IsPortRun share ids asked log last) run runs are in
+      let made = All-head (IsNewPort net place) run.before (map (λ (run : PortRun). run.before) runs) new in
+      All-cons HasAccepted run.after (map (λ (run : PortRun). run.after) runs)
+      (accepted-by asked (length run.served) run.before run.after one.ends made.accept_count (rw one.onward.steady (made.steady is_steady)))
+      (all-accepted runs (All-tail (IsPortRun share ids asked log last) run runs are) (All-tail (IsNewPort net place) run.before (map (λ (run : PortRun). run.before) runs) new))
+
 module _ (words : TrusteeWords) (share : Share) (ids : Option (List (List ℕ))) (same : Type 0) (old new : TrusteeState)
     (net_old net_new : NetState) (time : TimeState) where
   pub net_ends : (ports_old ports_new : List PortState) (clocks : List ClockState) (totals : Result Totals NoMemory) (end : Ending)
@@ -72,9 +103,9 @@ module _ (words : TrusteeWords) (share : Share) (ids : Option (List (List ℕ)))
       → IfOk totals (λ totals. ServedPorts share ids words.connections old new ports_old ports_new clocks totals)
       → (IsTrue net_old.told → net_new.kept ≡ net_old.kept ++ ports_new)
       → (SomeUnaccepted ports_new → Rose net_old.port_count net_new.port_count)
-      → (rest : Type 0) → OnErr totals (same × rest) → ServiceEnds ports_new totals end
+      → (rest : Type 0) → OnErr totals (same × rest) → (rest → ports_new ≡ ports_old) → ServiceEnds ports_new totals end
       → NetEnds words share ids same old new net_old net_new time end
-  net_ends ports_old ports_new clocks (Ok totals) end many made dated serves kept deaf rest refused ends = served end (record {
+  net_ends ports_old ports_new clocks (Ok totals) end many made dated serves kept deaf rest refused back ends = served end (record {
     ports_old = ports_old;
     ports_new = ports_new;
     clocks = clocks;
@@ -86,8 +117,11 @@ module _ (words : TrusteeWords) (share : Share) (ids : Option (List (List ℕ)))
     kept = kept;
     ends = ends;
     deaf = deaf;
+    hears = λ is. subst (All HasAccepted) serves.after (all-accepted share ids words.connections old.entries new.entries net_old (Some words.place) is serves.runs serves.are
+        (subst (All (IsNewPort net_old (Some words.place))) (sym serves.before) made));
   })
-  net_ends ports_old ports_new clocks (Err none) end many made dated serves kept deaf rest refused ends = rw ends (no_memory refused.0)
+  net_ends ports_old ports_new clocks (Err none) end many made dated serves kept deaf rest refused back ends =
+      rw ends (no_memory refused.0 (heard_new net_old net_new (Some words.place) ports_old made (λ told. kept told ∙ ap (λ l. net_old.kept ++ l) (back refused.1))))
 
   pub ports_many : {P : Type 0} (state : P → PortState) (ports_old ports_new : List P) (clocks : List ClockState) (totals : Result Totals NoMemory)
       → IfOk totals (λ totals. ServedPorts share ids words.connections old new (map state ports_old) (map state ports_new) clocks totals)

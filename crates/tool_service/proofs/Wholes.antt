@@ -25,6 +25,7 @@ use Rattle.tool_words.specs.Words.{TrusteeWords}
 use Rattle.trustee_core.specs.Trustee.{journal_header}
 use Rattle.trustee_service.specs.Trustees.{TrusteeState}
 use Rattle.tool_base.proofs.Nets.{net_none}
+use Rattle.tool_service.proofs.Serving.{heard_none}
 
 module _ (words : TrusteeWords) (a e : StoreState) (net : NetState) (time : TimeState) where
   -- the journal was not loaded
@@ -34,7 +35,7 @@ module _ (words : TrusteeWords) (a e : StoreState) (net : NetState) (time : Time
       → TrusteeRun words (record { store = a; net = net; time = time }) (record { store = e; net = net; time = time }) end
   run_refused share end read fails stays now back = record {
     touched = words.journal ∷ [];
-    ends = trustee.journal_not_loaded share end read fails stays;
+    ends = trustee.journal_not_loaded share end read fails stays (heard_none net net refl);
     keeps = back.keeps;
     net = net_none net;
     time = refl;
@@ -71,7 +72,7 @@ module _ (words : TrusteeWords) (a b c e : StoreState) (net_old net_new : NetSta
 
   module _ (share : Share) (old new : TrusteeState) (doubt : Option Entry) (same : Type 0)
       (trustee_is : IsTrustee words before after share old.entries) (stays_journal : same → Stays (from_to a e) words.journal)
-      (fresh : old.faults ≡ 0) (name_is : new.name ≡ old.name) (kind : IsTrue a.told → a.disks words.journal ≡ handed_of old.name)
+      (fresh : old.faults ≡ 0) (tells : IsTrue a.told → IsTrue old.name.told) (steadies : IsTrue a.steady → IsTrue old.name.steady) (name_is : new.name ≡ old.name) (kind : IsTrue a.told → a.disks words.journal ≡ handed_of old.name)
       (left : LeavesJournal (from_to a e) words.journal share (record { entries = new.entries; doubt = doubt }))
       (sure : new.faults ≡ 0 → doubt ≡ None) (rise : min (a.disk_count + new.faults) (2 ^ 64 - 1) ≤ e.disk_count) where
     with_stays : (names : List (List ℕ)) → same → All (StaysThere (from_to b c)) names → All (Stays (from_to a e)) (words.journal ∷ names)
@@ -79,9 +80,9 @@ module _ (words : TrusteeWords) (a b c e : StoreState) (net_old net_new : NetSta
 
     net_whole : (ids : Option (List (List ℕ))) (end : Ending) (names : List (List ℕ)) → HasBook (from_to b c) share words.book ids → All (StaysThere (from_to b c)) names
         → NetEnds words share ids same old new net_old net_new time end → TrusteeEnds words before after end (words.journal ∷ names)
-    net_whole ids _ names has there (nets.no_memory is) = trustee.no_memory (words.journal ∷ names) (with_stays names is there)
-    net_whole ids _ names has there (nets.no_ports is rose offers) =
-        trustee.no_ports share old.entries ids (words.journal ∷ names) trustee_is (has_book share words.book ids has) rose offers (with_stays names is there)
+    net_whole ids _ names has there (nets.no_memory is heard) = trustee.no_memory (words.journal ∷ names) heard (with_stays names is there)
+    net_whole ids _ names has there (nets.no_ports is heard rose offers) =
+        trustee.no_ports share old.entries ids (words.journal ∷ names) trustee_is (has_book share words.book ids has) heard rose offers (with_stays names is there)
     net_whole ids _ names has there (nets.served end net) = trustee.served end names (record {
       share = share;
       old = old;
@@ -89,6 +90,8 @@ module _ (words : TrusteeWords) (a b c e : StoreState) (net_old net_new : NetSta
       trustee_is = trustee_is;
       fresh = fresh;
       name_is = name_is;
+      told = tells;
+      steady = steadies;
       kind = kind;
       doubt = doubt;
       left = left;
@@ -102,11 +105,11 @@ module _ (words : TrusteeWords) (a b c e : StoreState) (net_old net_new : NetSta
     pub ends_whole : (end : Ending) (names : List (List ℕ))
         → BookEnds words share same old new (record { store = b; net = net_old; time = time }) (record { store = c; net = net_new; time = mid }) end names
         → TrusteeEnds words before after end (words.journal ∷ names)
-    ends_whole _ _ (services.absent name named is read) =
-        trustee.no_book share old.entries name trustee_is (no_book_there name named read) (stays_journal is)
-    ends_whole _ _ (services.no_memory is) = trustee.no_memory (words.journal ∷ []) (with_stays [] is (All-nil (StaysThere (from_to b c))))
-    ends_whole _ _ (services.not_loaded name end named is fails there) =
+    ends_whole _ _ (services.absent name named is heard read) =
+        trustee.no_book share old.entries name trustee_is (no_book_there name named read) heard (stays_journal is)
+    ends_whole _ _ (services.no_memory is heard) = trustee.no_memory (words.journal ∷ []) heard (with_stays [] is (All-nil (StaysThere (from_to b c))))
+    ends_whole _ _ (services.not_loaded name end named is heard fails there) =
         trustee.book_not_loaded share old.entries name end trustee_is named
         (other_not_loaded a b c e words.journal touched disk now taken goes keeps step comes told_is honest_is steady_is (book_header share) 1024 name end fails)
-        (stays_journal is) (whole_stays name there)
+        heard (stays_journal is) (whole_stays name there)
     ends_whole _ _ (services.with_book ids end names has there net) = net_whole ids end names has there net

@@ -2,6 +2,7 @@
 use Rattle.std.specs.Prelude.{◌≡◌, ◌↔◌, ◌^◌, ℕ, List, length, Option, Some, None, IsTrue, Contains}
 use Rattle.approval_book.specs.Listed.{is_listed}
 use Rattle.opening_journal.specs.Entries.{IsLegalList, JournalState, StandsFor}
+use Rattle.opening_journal.specs.Opening.{SettlesTo}
 use Rattle.opening_journal.specs.Loading.{IsJournalFile, entries_of_file}
 use Rattle.opening_journal.specs.declared.entry.Entry.{Entry}
 use Rattle.share_files.specs.declared.share.Share.{Share}
@@ -30,7 +31,7 @@ pub record LeavesJournal (store : StoreRun) (name : List ℕ) (share : Share) (s
   pub stands : IsTrue store.before.told → StandsAs share state file
   pub images : IsTrue store.before.told → IsTrue (store.before.disks name).honest → (image : List ℕ)
       → store.after.leaves name image → StandsAs share state image
-  pub legal : IsLegalList state.entries
+  pub legal : (entries : List Entry) → SettlesTo state entries → IsLegalList entries
 
 -- the book of this share's trustee, whose 1024 slots list just these ids
 pub record IsBook (share : Share) (ids : List (List ℕ)) (file : List ℕ) : Type 0 where

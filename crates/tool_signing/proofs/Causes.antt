@@ -1,8 +1,10 @@
 -- Which count rose, by the end of the command.
-use Rattle.std.proofs.Common.{◌≡◌, ◌+◌, ◌-◌, ◌^◌, ◌≤◌, min, ℕ, List, [], Option, Result, Ok, Err, IfErr, refl, ap, subst, arith}
+use Rattle.std.proofs.Common.{◌≡◌, ◌⊎◌, inl, inr, ◌+◌, ◌-◌, ◌^◌, ◌≤◌, min, ℕ, List, [], Option, Result, Ok, Err, IfErr, refl, ap, subst, arith}
+use Rattle.aggregator_node.specs.Faults.{LostBy}
 use Rattle.aggregator_node.specs.Runs.{CellsRead}
 use Rattle.aggregator_node.specs.declared.fault.SignFault.{SignFault}
 use Rattle.aggregator_node.specs.declared.fault.SignFault.TheVariants as fault
+use Rattle.aggregator_node.specs.declared.fault.Why.TheVariants.{DialFailed, ReadFailed, WriteFailed}
 use Rattle.disk_trait.specs.Faults.{Rose}
 use Rattle.leaf_table.specs.declared.faults.TableFault.{TableFault}
 use Rattle.leaf_table.specs.declared.faults.TableFault.TheVariants as table
@@ -29,7 +31,7 @@ use Rattle.tool_disks.specs.Loads as loads
 use Rattle.tool_base.specs.Touched.{DeviceRose}
 use Rattle.slot_file.specs.declared.header.Header.{Header}
 use Rattle.tool_signing.specs.Faults.{end_of_fault}
-use Rattle.tool_signing.specs.Ports.{NetRun, Signing, answer_of}
+use Rattle.tool_signing.specs.Ports.{NetRun, SignedOver, Signing, answer_of}
 use Rattle.tool_signing.specs.Sign.{SignEnds, SigningRun}
 use Rattle.tool_signing.specs.Sign as sign
 use Rattle.tool_signing.specs.Signs.{SignedTable, TableEnds}
@@ -298,3 +300,16 @@ module _ (words : SignWords) (store : StoreRun) where
 
     pub net-rose : SigningRun words store net ending.NetFailed → Rose net.before.port_count net.after.port_count
     net-rose run = ends-net ending.NetFailed run.touched run.ends refl
+
+-- a port that was new counts what failed over its links, and the net counts such a port
+pub links-rose : (signing : Signing) (old new : TableSeen) (net : NetRun) (outcome : Result Signature SignFault) → SignedOver signing old new net outcome
+    → LostBy DialFailed outcome ⊎ LostBy WriteFailed outcome ⊎ LostBy ReadFailed outcome → Rose net.before.count net.after.count
+links-rose signing old new net outcome over lost =
+    let rose : Rose over.port.count over.done.count = elim lost [
+      | inl one ↦ over.dialled.dialled one
+      | inr more ↦ elim more [
+        | inl one ↦ over.dialled.unwritten one
+        | inr one ↦ over.dialled.unread one
+      ]
+    ] in
+    over.count.rose (λ none. omega (arith, rose, none))

@@ -16,8 +16,8 @@ use Rattle.tool_signing.proofs.Exacts.{exact-parts}
 use Rattle.tool_signing.specs.Ports.{IsUnread, is_exact}
 
 pub causes_as : (before now : PortState) (result : Result Signed SignFault) → PortCauses before now result → PortCauses before now (signature_in result)
-causes_as before now (Ok signed) causes = record { dialled = causes.dialled; reads = causes.reads; onward = causes.onward; accepting = causes.accepting }
-causes_as before now (Err fault) causes = record { dialled = causes.dialled; reads = causes.reads; onward = causes.onward; accepting = causes.accepting }
+causes_as before now (Ok signed) causes = record { dialled = causes.dialled; unwritten = causes.unwritten; unread = causes.unread; reads = causes.reads; onward = causes.onward; accepting = causes.accepting }
+causes_as before now (Err fault) causes = record { dialled = causes.dialled; unwritten = causes.unwritten; unread = causes.unread; reads = causes.reads; onward = causes.onward; accepting = causes.accepting }
 
 pub accepted_as : (key : PublicKey) (message : List ℕ) (result : Result Signed SignFault) → IfOk result (λ signed. AcceptsAt key message signed.bytes.items signed.leaf)
     → IfOk (signature_in result) (λ signature. AcceptsAt key message signature.bytes signature.leaf)

@@ -1,9 +1,14 @@
 //! What follows from the definitions. No function here does anything.
 
-ghost use Rattle.std.specs.Prelude.{◌≡◌, ℕ, List, Ok};
+ghost use Rattle.std.specs.Prelude.{◌≡◌, ◌⊎◌, ℕ, List, Ok, Result};
+ghost use Rattle.aggregator_node.specs.Faults.{LostBy};
 ghost use Rattle.aggregator_node.specs.Runs.{CellsRead, HasRun};
 ghost use Rattle.aggregator_node.specs.declared.desk.Address.{Address};
+ghost use Rattle.aggregator_node.specs.declared.fault.SignFault.{SignFault};
+ghost use Rattle.aggregator_node.specs.declared.fault.Why.TheVariants.{DialFailed, ReadFailed, WriteFailed};
 ghost use Rattle.disk_trait.specs.Faults.{Rose};
+ghost use Rattle.leased_session.specs.Signing.{Signature};
+ghost use Rattle.leased_session.specs.Tables.{TableSeen};
 ghost use Rattle.lms_verify.specs.UndividedKey.{UndividedKey, rfc_signature};
 ghost use Rattle.merkle_path.specs.Tree.{TreeNodes};
 ghost use Rattle.reference_value.specs.Dealing.{Dealing, leaf_randomizer};
@@ -13,14 +18,15 @@ ghost use Rattle.tool_base.specs.Ending as ending;
 ghost use Rattle.tool_base.specs.Touched.{DeviceRose};
 ghost use Rattle.tool_base.specs.World.{from_to};
 ghost use Rattle.tool_signing.specs.Dealt.{IsDealt};
-ghost use Rattle.tool_signing.specs.Ports.{NetRun};
+ghost use Rattle.tool_signing.specs.Ports.{NetRun, SignedOver, Signing};
 ghost use Rattle.tool_signing.specs.Sign.{SigningRun};
 ghost use Rattle.tool_words.specs.Words.{SignWords};
 
 use stream_io::Store;
 
-/// The causes of three ends of `sign`: the store fails only where its count of faults rose, a device only where that of
-/// its disks and views rose, and the net only where its count of failed ports rose.
+/// The causes of four ends of `sign`: the store fails only where its count of faults rose, a device only where that of
+/// its disks and views rose, and the net only where its count of failed ports rose. A member is lost since it could not
+/// be dialled, written to or read only where the net's count of faults rose.
 pub fn causes<S: Store>(before: &S, after: &S)
     ensures store { (words : SignWords) (net : NetRun)
         → SigningRun words (from_to (S.state before.now) (S.state after.now)) net ending.StoreFailed
@@ -31,6 +37,10 @@ pub fn causes<S: Store>(before: &S, after: &S)
     ensures net { (words : SignWords) (net : NetRun)
         → SigningRun words (from_to (S.state before.now) (S.state after.now)) net ending.NetFailed
         → Rose net.before.port_count net.after.port_count }
+    ensures links { (signing : Signing) (old new : TableSeen) (net : NetRun) (outcome : Result Signature SignFault)
+        → SignedOver signing old new net outcome
+        → LostBy DialFailed outcome ⊎ LostBy WriteFailed outcome ⊎ LostBy ReadFailed outcome
+        → Rose net.before.count net.after.count }
 {}
 
 /// A signature of a session over what a dealer made is that of the undivided key, for the session's leaf, the dealer's

@@ -1,21 +1,21 @@
 -- Grants that stand in one legal log.
-use Rattle.std.proofs.Common.{◌≡◌, ◌<◌, ◌^◌, ℕ, List, [], ◌∷◌, ◌++◌, Option, All, length, get_or, take, refl, sym, ap, ◌∙◌, subst, arith, append_assoc, append-nil, length-append, take_at}
+use Rattle.std.proofs.Common.{◌≡◌, ◌<◌, ◌^◌, ℕ, List, [], ◌∷◌, ◌++◌, Option, All, length, get_or, take, None, Some, inl, inr, refl, sym, ap, ◌∙◌, subst, arith, append_assoc, append-nil, length-append, take_at}
 use Rattle.std.proofs.Math.Seq.{get_or-append_seam}
-use Rattle.std.proofs.lemmas.List.Elements.{All-append, All-cons, All-head, All-nil, All-tail}
+use Rattle.std.proofs.lemmas.List.Elements.{All-append, All-cons, All-head, All-nil, All-tail, All-weaker}
 use mathlib.Core.List.{IsPrefix}
 use Rattle.approval_book.specs.Decisions.{BookAnswer, BookDecides, Decided, Denied, decided, denied}
 use Rattle.lms_bytes.specs.declared.ask.Ask.{Ask}
 use Rattle.opening_journal.specs.Entries.{Adds, IsLegalList, JournalState, leaf_of, map_of}
-use Rattle.opening_journal.specs.Opening.{settled_with}
+use Rattle.opening_journal.specs.Opening.{SettlesTo, settled_with}
 use Rattle.opening_journal.specs.declared.entry.Entry.{Entry}
 use Rattle.share_files.specs.declared.share.Share.{Share}
 use Rattle.trustee_core.specs.Decisions.{Granted, Refused}
 use Rattle.trustee_core.specs.Growth.{IsBelow}
 use Rattle.trustee_core.specs.Lives.{OneOpening}
-use Rattle.trustee_core.proofs.Adding.{below-same, below-then, no-doubt, push-below}
+use Rattle.trustee_core.proofs.Adding.{IsSound, below-same, below-then, no-doubt, push-below}
 use Rattle.trustee_core.proofs.Living.{opening-of}
-use Rattle.trustee_core.proofs.Stepping.{Fits, Steps, fits-later, granted-fits}
-use Rattle.trustee_node.specs.Places.{StandUnder, granted_by, granted_in, if_granted}
+use Rattle.trustee_core.proofs.Stepping.{Fits, Steps, fits-later, granted-fits, steps-loaded, steps-none, steps-then}
+use Rattle.trustee_node.specs.Places.{IsLegal, Runs, StandUnder, run, stopped, granted_by, granted_in, if_granted}
 use Rattle.trustee_node.specs.Turns.{Answers, InTurn, NoTurn, Outcome, ServedTurns, Turn, device, ended, next, step, torn, worn}
 use Rattle.trustee_node.proofs.Prefixes.{prefix-then}
 use Rattle.trustee_node.proofs.Standing.{served-begins}
@@ -82,3 +82,37 @@ all-fit share last (turns ∷ others) legal all =
 
 pub one-opening : (share : Share) (last : List Entry) (passes : List (List Turn)) → IsLegalList last → All (StandUnder share last) passes → OneOpening share (granted_by passes)
 one-opening share last passes legal all = opening-of share (settled_with last) (granted_by passes) (all-fit share last passes legal all)
+
+-- an entry in doubt may follow where both lists are legal
+sound-of : (state : JournalState) → IsLegal state → IsSound state
+sound-of state legal entry is = legal-at state.entries [] (state.entries ++ entry ∷ []) entry refl (legal (state.entries ++ entry ∷ []) (inr (entry, is, refl)))
+
+granted-append : (passes rest : List (List Turn)) → granted_by (passes ++ rest) ≡ granted_by passes ++ granted_by rest
+granted-append [] rest = refl
+granted-append (turns ∷ passes) rest =
+    ap (λ (l : List Ask). granted_in turns ++ l) (granted-append passes rest) ∙ sym (append_assoc (granted_in turns) (granted_by passes) (granted_by rest))
+
+record RunsTo (share : Share) (before last : JournalState) (passes : List (List Turn)) : Type 0 where
+  pub steps : Steps (2 ^ share.params.h) before last
+  pub fits : All (Fits (2 ^ share.params.h) last) (granted_by passes)
+
+runs-to : (share : Share) (before last : JournalState) (passes : List (List Turn)) → IsSound before → Runs share before passes last → RunsTo share before last passes
+runs-to share before last passes sound (stopped state) =
+    record { steps = steps-none (2 ^ share.params.h) state sound; fits = All-nil (Fits (2 ^ share.params.h) state) }
+runs-to share before last _ sound (run begun after end kept entries passes rest settles same begins legal stand more) =
+    let count = 2 ^ share.params.h in
+    let plain = legal after.entries (inl refl) in
+    let loaded = steps-loaded count begun kept entries sound settles same in
+    let served = legal-steps count entries after.entries begins plain in
+    let doubts : Steps count (settled_with after.entries) after = record { sound = sound-of after legal; keeps = λ leaf within. below-same _ _ refl } in
+    let later = runs-to share after end rest (sound-of after legal) more in
+    let on = steps-then count (settled_with after.entries) after end doubts later.steps in
+    let here = All-weaker (Fits count (settled_with after.entries)) (Fits count end) (λ ask fits. fits-later count (settled_with after.entries) end ask on fits) (granted_by passes)
+        (all-fit share after.entries passes plain stand) in
+    record {
+      steps = steps-then count begun (settled_with entries) end loaded (steps-then count (settled_with entries) (settled_with after.entries) end served on);
+      fits = subst (All (Fits count end)) (sym (granted-append passes rest)) (All-append (Fits count end) (granted_by passes) (granted_by rest) here later.fits);
+    }
+
+pub one-opening-of-runs : (share : Share) (before last : JournalState) (passes : List (List Turn)) → IsLegal before → Runs share before passes last → OneOpening share (granted_by passes)
+one-opening-of-runs share before last passes legal runs = opening-of share last (granted_by passes) (runs-to share before last passes (sound-of before legal) runs).fits

@@ -1,8 +1,10 @@
 -- Where turns stand in a log.
-use Rattle.std.specs.Prelude.{◌≡◌, ◌≤◌, ◌+◌, ◌++◌, ℕ, List, [], ◌∷◌, length, take, Option}
+use Rattle.std.specs.Prelude.{◌≡◌, ◌≤◌, ◌<◌, ◌^◌, ◌+◌, ◌++◌, ℕ, List, [], ◌∷◌, All, length, take, Option}
 use mathlib.Core.List.{IsPrefix}
 use Rattle.approval_book.specs.Decisions.{Decided, Denied}
 use Rattle.lms_bytes.specs.declared.ask.Ask.{Ask}
+use Rattle.opening_journal.specs.Entries.{IsLegalList, JournalState, map_of}
+use Rattle.opening_journal.specs.Opening.{SettlesTo}
 use Rattle.opening_journal.specs.declared.entry.Entry.{Entry}
 use Rattle.share_files.specs.declared.share.Share.{Share}
 use Rattle.trustee_core.specs.Decisions.{Granted, Refused}
@@ -43,3 +45,16 @@ granted_in (turn ∷ turns) = if_granted turn.outcome turn.ask (granted_in turns
 abbrev pub granted_by : List (List Turn) → List Ask
 granted_by [] = []
 granted_by (turns ∷ others) = granted_in turns ++ granted_by others
+
+-- the entries may follow one another, whether the one in doubt was made or was not
+abbrev pub IsLegal : JournalState → Type 0
+IsLegal state = (entries : List Entry) → SettlesTo state entries → IsLegalList entries
+
+-- One run of a journal's trustee after the other: each begins with entries that make of each leaf what the journal kept
+-- of it, and its passes stand under the entries that it ends with.
+pub data Runs (share : Share) : JournalState → List (List Turn) → JournalState → Type 0 where
+  stopped : (state : JournalState) → Runs share state [] state
+  run : (before after last : JournalState) (kept entries : List Entry) (passes rest : List (List Turn))
+      → SettlesTo before kept → ((leaf : ℕ) → leaf < 2 ^ share.params.h → map_of entries leaf ≡ map_of kept leaf)
+      → IsPrefix entries after.entries → IsLegal after → All (StandUnder share after.entries) passes
+      → Runs share after rest last → Runs share before (passes ++ rest) last

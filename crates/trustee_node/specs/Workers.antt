@@ -101,5 +101,5 @@ pub record Worked (share : Share) (ids : Option (List (List ℕ))) (old new : Wo
 pub data WorkEnds (asked : ℕ) (new : WorkerState) : Type 0 where
   served_all : new.connections ≡ asked → new.failed ≡ false → WorkEnds asked new
   no_further : (IsTrue new.port.told → new.port.waiting ≡ 0) → new.failed ≡ false → WorkEnds asked new
-  accept_failed : new.failed ≡ true → WorkEnds asked new
+  accept_failed : new.failed ≡ true → (IsTrue new.port.steady → ⊥) → WorkEnds asked new
   pass_worn : new.worn ≡ true → new.failed ≡ false → WorkEnds asked new

@@ -139,7 +139,7 @@ module _ (share : Share) (ids : Option (List (List ℕ))) where
       ends-by : worker.pass.greatest < 2 ^ 62 → WorkEnds asked worker → PortEnds asked (length worked.served) port worker.port
       ends-by small (served_all all sound) = full (sym worked.connections ∙ all) (sound-same sound)
       ends-by small (no_further waits sound) = none_waits (λ told. waits (worked.onward.told ∙ told)) (sound-same sound)
-      ends-by small (accept_failed is) = failed (worked.accepts.rose is)
+      ends-by small (accept_failed is unsteady) = failed (worked.accepts.rose is) unsteady
       ends-by small (pass_worn is sound) = absurd (let some = worked.worn is in let never = worked.serves.draws.fresh small in omega (arith, some, never))
 
       port-run : worker.pass.greatest < 2 ^ 62 → IsPortRun share ids asked lock.opening_log worker.pass.log run

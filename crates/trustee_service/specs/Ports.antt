@@ -24,7 +24,7 @@ pub data PortEnds (asked served : ℕ) (before after : PortState) : Type 0 where
   full : served ≡ asked → after.accept_count ≡ before.accept_count → PortEnds asked served before after
   none_waits : (IsTrue before.told → after.waiting ≡ 0) → after.accept_count ≡ before.accept_count
       → PortEnds asked served before after
-  failed : Rose before.accept_count after.accept_count → PortEnds asked served before after
+  failed : Rose before.accept_count after.accept_count → (IsTrue after.steady → ⊥) → PortEnds asked served before after
 
 -- A port was served: its connections had their turns one after the other, between these two logs, each was of a link
 -- that waited, and the port's talks grew by just theirs

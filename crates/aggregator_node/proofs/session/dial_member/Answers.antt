@@ -24,7 +24,7 @@ returns-in_default-dial-clause-called g c =
     record {
       answer = Err (Lost c.args.member 1 DialFailed);
       talks = [];
-      calls = undialled c.in-Some.place.now (g.P.Port.state c.dial.new.self) c.in-Some.ensures.some d.onward d.refused d.nobody;
+      calls = undialled c.in-Some.place.now (g.P.Port.state c.dial.new.self) c.in-Some.ensures.some d.onward d.cause.failed d.refused d.nobody;
       links = sym (append-nil _);
       state = refl;
       told = refl;
@@ -40,7 +40,7 @@ returns-clause-called g c =
     record {
       answer = h.answer;
       talks = last ∷ [];
-      calls = dialled c.in-Some.place.now start last (g.P.Link.Faults.steady c.in-Ok.link) (g.P.Port.state c.dial.new.self) h.answer c.in-Some.ensures.some c.in-Ok.ensures.onward c.in-Ok.ensures.link
+      calls = dialled c.in-Some.place.now start last (g.P.Link.Faults.steady c.in-Ok.link) (g.P.Port.state c.dial.new.self) h.answer c.in-Some.ensures.some c.in-Ok.ensures.onward c.in-Ok.ensures.cause.succeeded c.in-Ok.ensures.link
           (subst (λ (f : List _). Asked c.args.session.now c.args.member f start last h.answer) frame h.asked);
       links = ap (λ (l : List _). map talk l) c.push_reserved.ensures.items ∙ map_push talk _ _;
       state = h.state;

@@ -64,7 +64,7 @@ returns-then-eq-clause-worked g c =
     (g.P.Link.Stream.talk c.in-Link.link) (g.P.Link.Faults.steady c.in-Link.link) c.serve_link-served.result c.saturating_add-worker.result true
     v.working (a.link c.in-Link.link c.in-Link.is) a.onward (a.accept_cause.same (λ is. absurd (cc))) e.served
     (record { told = e.cells.told; steady = e.cells.steady; leaves = e.cells.leaves }) c.saturating_add-worker.ensures)
-    v.sound (λ _. link-worn desk _ _ _ _ _ e.served (search rules))
+    v.sound (λ _. link-worn desk _ _ _ _ _ _ e.served (search rules))
 
 pub returns-clause-worked : goal.returns-clause-worked
 returns-clause-worked g c =

@@ -2,6 +2,7 @@ use Rattle.std.proofs.Common.{◌≡◌, ◌++◌, ◌∙◌, map, refl, ap, ari
 use Rattle.std.proofs.lemmas.List.{length-map}
 use Rattle.leased_session.specs.Signing.{desk_state}
 use Rattle.leased_session.specs.Tables.{table_seen}
+use Rattle.tool_base.proofs.Heard.{heard_none}
 use Rattle.tool_base.proofs.Nets.{net_back}
 use Rattle.tool_base.specs.Endings.{ending}
 use Rattle.tool_clients.specs.Serving.{no_memory, no_ports}
@@ -16,10 +17,10 @@ returns-in-Err-Failed-clause-ends g c =
     let found = c.in-Err-Failed.is in
     let fault = c.in-Err-Failed.field-0-is in
     let ports = c.in-Err-Failed.ensures in
-    no_ports (refl, refl) (ports.port_cause.rose (cc)) (λ told steady. not_true _ (ports.unoffered told steady (cc)))
+    no_ports (refl, refl) (heard_none _ _ ports.refused.kept) (ports.port_cause.rose (cc)) (λ told steady. not_true _ (ports.unoffered told steady (cc)))
 
 pub returns-in-Err-NoMemory-clause-ends : goal.returns-in-Err-NoMemory-clause-ends
-returns-in-Err-NoMemory-clause-ends g c = no_memory (refl, refl)
+returns-in-Err-NoMemory-clause-ends g c = no_memory (refl, refl) (heard_none _ _ c.in-Err-NoMemory.ensures.refused.kept)
 
 pub returns-clause-ends : goal.returns-clause-ends
 returns-clause-ends g c =
@@ -46,7 +47,7 @@ returns-clause-ends g c =
     c.serve_clients-table.result.1 (ending c.end_of_service-end.result) many made.new_ports serves.served
     (λ told. gathers.kept (rw onward.told told) ∙ ap (λ kept. kept ++ map state after.ports.items) made.kept)
     (λ deaf. let rose = gathers.port_count.rose deaf in let later = onward.port_count in omega (arith, rose, later))
-    serves.refused (rw (← c.deref.ensures.value) c.end_of_service-end.ensures.ends)
+    serves.refused (λ same. ap (map state) same) (rw (← c.deref.ensures.value) c.end_of_service-end.ensures.ends)
 
 pub returns-clause-net : goal.returns-clause-net
 returns-clause-net g c =

@@ -1,4 +1,4 @@
-use Rattle.std.proofs.Common.{◌≡◌, ◌^◌, ◌∷◌, [], Some, IsTrue, sym, ap, ◌∙◌, subst, arith}
+use Rattle.std.proofs.Common.{◌≡◌, ◌^◌, ◌∷◌, [], Some, IsTrue, refl, sym, ap, ◌∙◌, subst, arith}
 use Rattle.std.proofs.lemmas.List.Elements.{All-nil}
 use Rattle.leaf_table.specs.Loaded.{IsLoaded}
 use Rattle.leaf_table.specs.Table.{disk_of}
@@ -12,6 +12,7 @@ use Rattle.tool_disks.specs.Disks.{Stays}
 use Rattle.tool_disks.specs.Loads.{FailsToLoad}
 use Rattle.tool_disks.proofs.Outs.{keeps_calm, out_here, taken_out}
 use Rattle.tool_disks.proofs.Takes.{back, reads_as, slots_not_loaded, stays}
+use Rattle.tool_base.proofs.Heard.{heard_none}
 use Rattle.tool_base.proofs.Nets.{net_none}
 use Rattle.tool_clients.specs.Aggregate.{no_memory, no_table, not_loaded}
 use Rattle.tool_clients.proofs.Tables.{ends_whole}
@@ -30,7 +31,7 @@ returns-in-Err-Failed-clause-run g c =
     let calm : IsCalm (g.S.Store.state c.args.store.now) (g.S.Store.state c.take_disk.new.self) = record { same = take.refused; onward = take.onward } in
     record {
       touched = [];
-      ends = no_table (take.cause.rose (cc), λ told steady. take.absent told steady (cc));
+      ends = no_table (take.cause.rose (cc), λ told steady. take.absent told steady (cc)) (heard_none net net refl);
       keeps = keeps_calm [] _ _ calm;
       ports = net_none net;
     }
@@ -42,7 +43,7 @@ returns-in-Err-NoMemory-clause-run g c =
     let calm : IsCalm (g.S.Store.state c.args.store.now) (g.S.Store.state c.take_disk.new.self) = record { same = take.refused; onward = take.onward } in
     record {
       touched = [];
-      ends = no_memory [] (All-nil (Stays (from_to (g.S.Store.state c.args.store.now) (g.S.Store.state c.take_disk.new.self))));
+      ends = no_memory [] (heard_none net net refl) (All-nil (Stays (from_to (g.S.Store.state c.args.store.now) (g.S.Store.state c.take_disk.new.self))));
       keeps = keeps_calm [] _ _ calm;
       ports = net_none net;
     }
@@ -72,7 +73,7 @@ returns-in-Err-clause-run g c =
     let whole = back first _ last name disk now out.taken out.onward step comes kind.told kind.honest kind.steady in
     record {
       touched = name ∷ [];
-      ends = not_loaded _ fails
+      ends = not_loaded _ fails (heard_none _ _ refl)
           (stays first _ last name disk now out.taken out.onward step comes kind.told kind.honest kind.steady load.unwritten.same load.unwritten.images);
       keeps = whole.keeps;
       ports = net_none (g.N.Net.state c.args.net.now);

@@ -7,7 +7,7 @@ use Rattle.tool_words.specs.Rows.{trustee_words}
 use Rattle.tool_base.specs.Endings.{ending}
 use Rattle.tool_service.specs.Nets.{no_memory, no_ports}
 use Rattle.tool_base.proofs.Nets.{net_back}
-use Rattle.tool_service.proofs.Serving.{dated_by, net_ends, not_true, ports_many}
+use Rattle.tool_service.proofs.Serving.{dated_by, heard_new, heard_none, net_ends, not_true, ports_many}
 use Rattle.tool_service.proofs.nets.serve_net.Goals as goal
 
 pub returns-in-Err-Failed-clause-ends : goal.returns-in-Err-Failed-clause-ends
@@ -15,13 +15,16 @@ returns-in-Err-Failed-clause-ends g c =
     let found = c.in-Err-Failed.is in
     let fault = c.in-Err-Failed.field-0-is in
     let ports = c.in-Err-Failed.ensures in
-    no_ports refl (ports.port_cause.rose (cc)) (λ told steady. not_true _ (ports.unoffered told steady (cc)))
+    no_ports refl (heard_none _ _ ports.refused.kept) (ports.port_cause.rose (cc)) (λ told steady. not_true _ (ports.unoffered told steady (cc)))
 
 pub returns-in-Err-NoMemory-clause-ends : goal.returns-in-Err-NoMemory-clause-ends
-returns-in-Err-NoMemory-clause-ends g c = no_memory refl
+returns-in-Err-NoMemory-clause-ends g c = no_memory refl (heard_none _ _ c.in-Err-NoMemory.ensures.refused.kept)
 
 pub returns-in-Err-clause-ends : goal.returns-in-Err-clause-ends
-returns-in-Err-clause-ends g c = no_memory refl
+returns-in-Err-clause-ends g c =
+    let made = c.in-Ok.ensures.made in
+    let onward = c.in-Ok.ensures.onward in
+    no_memory refl (heard_new _ _ _ _ made.new_ports (λ told. c.gather.ensures.kept.kept (rw onward.told told) ∙ ap (λ kept. kept ++ map g.N.Port.Port.state c.in-Ok.ports.items) made.kept))
 
 pub returns-clause-ends : goal.returns-clause-ends
 returns-clause-ends g c =
@@ -40,7 +43,7 @@ returns-clause-ends g c =
     serves.served
     (λ told. gathers.kept (rw onward.told told) ∙ ap (λ kept. kept ++ map state c.serve_ports-trustee.new.ports.items) made.kept)
     (λ deaf. let rose = gathers.port_count.rose deaf in let later = onward.port_count in omega (arith, rose, later))
-    _ serves.refused (rw (← c.deref.ensures.value) c.end_of_service-end.ensures.ends)
+    _ serves.refused (λ same. ap (map state) same) (rw (← c.deref.ensures.value) c.end_of_service-end.ensures.ends)
 
 pub returns-clause-net : goal.returns-clause-net
 returns-clause-net g c =

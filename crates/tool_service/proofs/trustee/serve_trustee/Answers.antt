@@ -170,7 +170,7 @@ returns g c =
     record {
       touched = name ∷ touched;
       ends = ends_whole words first out_state served_state last _ _ _ _ _ touched disk now taken goes keeps step comes told honest steady
-          share old new (state_of (journal_of done)).doubt same trustee_is stays_journal fresh named (λ t. taken.kind t ∙ handed_first) left ended.holds.cause
+          share old new (state_of (journal_of done)).doubt same trustee_is stays_journal fresh (λ t. subst (λ b. IsTrue b) (sym told_first) (taken.given.told t)) (λ s. subst (λ b. IsTrue b) (sym steady_first) (taken.given.steady s)) named (λ t. taken.kind t ∙ handed_first) left ended.holds.cause
           (omega (arith, rises, counted)) _ touched served.ended.cause;
       keeps = round.keeps;
       net = served.net;

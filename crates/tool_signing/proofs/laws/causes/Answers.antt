@@ -1,4 +1,4 @@
-use Rattle.tool_signing.proofs.Causes.{device-rose, net-rose, store-rose}
+use Rattle.tool_signing.proofs.Causes.{device-rose, links-rose, net-rose, store-rose}
 use Rattle.tool_signing.proofs.laws.causes.Goals as goal
 
 pub returns-clause-store : goal.returns-clause-store
@@ -9,3 +9,6 @@ returns-clause-device g c = λ words net run. device-rose words _ net run
 
 pub returns-clause-net : goal.returns-clause-net
 returns-clause-net g c = λ words net run. net-rose words _ net run
+
+pub returns-clause-links : goal.returns-clause-links
+returns-clause-links g c = λ signing old new net outcome over lost. links-rose signing old new net outcome over lost
