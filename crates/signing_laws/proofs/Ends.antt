@@ -34,7 +34,8 @@ use Rattle.tool_signing.specs.Ports.{NetRun, SignedOver, Signing, answer_of}
 use Rattle.tool_signing.specs.Signs.{SignedTable, TableEnds}
 use Rattle.tool_signing.specs.Signs as signs
 use Rattle.tool_signing.specs.Tables.{IsTable, table_header}
-use Rattle.tool_signing.specs.Tasks.{IsTask}
+use Rattle.tool_signing.specs.Sign.{session_words}
+use Rattle.tool_signing.specs.Tasks.{IsTask, message_in}
 use Rattle.tool_words.specs.Words.{SignWords}
 use Rattle.signing_laws.specs.AllIsWell.{AllIsWell, IsQuiet}
 use Rattle.signing_laws.specs.Answering.{AllGave}
@@ -73,7 +74,7 @@ unread-in : (leaf : ℕ) (result : Result (List ℕ) SignFault) → result ≡ E
 unread-in leaf result is = ap (signed_with leaf) is
 
 module _ (words : SignWords) (store : StoreRun) (net : NetRun) (d : Dealing) (key : UndividedKey) (message : List ℕ) (leaf : ℕ) (well : AllIsWell words store net d key message leaf) (signing : Signing)
-    (task : IsTask words store signing) where
+    (task : IsTask (session_words words) store (message_in store words.message) signing) where
   abbrev public : PublicKey
   public = public_key_of key
 
@@ -276,4 +277,23 @@ module _ (words : SignWords) (store : StoreRun) (net : NetRun) (d : Dealing) (ke
     | inr signed ↦
         let told_as : answer_of outcome ≡ answer_of written = ap answer_of signed in
         absurd (cc)
+  ]
+
+  abbrev made_of : Signature → Result Signature Ending
+  made_of made = Ok made
+
+  -- where there is a signature, it is the undivided key's
+  pub table-made : (answer : Result Signature Ending) (touched : List (List ℕ)) (made : Signature) → TableEnds signing words.table store net answer touched → answer ≡ made_of made
+      → made ≡ record { leaf = leaf; bytes = signature }
+  table-made answer touched made (signs.no_table idle fails) is = absurd (cc)
+  table-made answer touched made (signs.no_memory names idle stays) is = absurd (cc)
+  table-made answer touched made (signs.not_loaded e idle fails stays) is = absurd (cc)
+  table-made answer touched made (signs.no_port entries idle reads rose never stays) is = absurd (cc)
+  table-made answer touched made (signs.signed outcome st) is = elim (table-signed outcome st) [
+    | inl none ↦
+        let told_as : answer_of outcome ≡ unsigned ending.NoMemory = ap answer_of none in
+        absurd (cc)
+    | inr signed ↦
+        let told_as : answer_of outcome ≡ answer_of written = ap answer_of signed in
+        cc
   ]

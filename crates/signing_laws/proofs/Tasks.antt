@@ -33,12 +33,13 @@ use Rattle.tool_desk.specs.Members.{IsCoalition, members_placed}
 use Rattle.tool_desk.specs.Tree.{tree_bytes, tree_file_fault}
 use Rattle.tool_desk.specs.declared.files.KeyFiles.{KeyFiles}
 use Rattle.tool_signing.specs.Ports.{NetRun}
-use Rattle.tool_signing.specs.Tasks.{FailsTask, HasFiles, LacksTask, message_limit}
+use Rattle.tool_signing.specs.Sign.{session_words}
+use Rattle.tool_signing.specs.Tasks.{FailsTask, HasFiles, LacksTask, message_in, message_limit}
 use Rattle.tool_signing.specs.Tasks as tasks
 use Rattle.tool_words.specs.Words.{SignWords}
 use Rattle.signing_laws.specs.AllIsWell.{HasDealtFiles, IsDealing, NothingFails}
 use Rattle.signing_laws.proofs.Parses.{key-passes, one-key, one-reference, one-tree, reference-passes, tree-passes}
-use Rattle.signing_laws.proofs.FilesRead.{grammar-well, new-well, reads-well, same-file, view-well}
+use Rattle.signing_laws.proofs.FilesRead.{grammar-well, reads-well, same-file, view-well}
 use Rattle.signing_laws.proofs.Sets.{same-key}
 
 -- a set that can be dealt has few nodes
@@ -125,7 +126,7 @@ module _ (d : Dealing) (key : UndividedKey) (dealing : IsDealing d key) where
       pub header_params : header.params ≡ d.params
       pub header_id : header.id ≡ d.id
 
-    pub are-dealt : (key_files : KeyFiles) (header : RefHeader) → HasFiles words store key_files header → AreDealt key_files header
+    pub are-dealt : (key_files : KeyFiles) (header : RefHeader) → HasFiles (session_words words) store key_files header → AreDealt key_files header
     are-dealt key_files header read =
         let public_same = one-key key_files.key public (sym (same-file store (key_name words.prefix) (public_file d) (public_bytes key_files.key) has.key (read.files_are.key.1 fails.store_told)) ∙ public-is) in
         let tree_same = one-tree key_files.tree.params d.params key_files.tree.id d.id key_files.tree.nodes.nodes (dealt_tree d).nodes key_files.tree.id_length id-length
@@ -180,16 +181,15 @@ module _ (d : Dealing) (key : UndividedKey) (dealing : IsDealing d key) where
           subst (λ (p : PlanNumbers). IsCoalition p (members_placed words.places)) (sym is)
           (number, coalition.within, get_or_default (coalitions d.plan.n d.plan.k) number (members_placed words.places) [] coalition.within ∙ coalition.members_are)
 
-      lacks-well : (key_files : KeyFiles) (header : RefHeader) → AreDealt key_files header → (end : Ending) → LacksTask words store key_files header end → end ≡ ending.NoMemory
+      lacks-well : (key_files : KeyFiles) (header : RefHeader) → AreDealt key_files header → (end : Ending) → LacksTask (session_words words) (message_in store words.message) key_files header end → end ≡ ending.NoMemory
       lacks-well key_files header are end tasks.no_memory = refl
       lacks-well key_files header are end (tasks.no_message e bad) = reads-well store fails.store_told fails.store_holds message_limit words.message message has.message_is has.limit end bad
       lacks-well key_files header are end (tasks.other_key m e read other) = other-well key_files header are end other
       lacks-well key_files header are end (tasks.no_coalition m read same bad) = absurd (bad (is-coalition header.plan are.plan_is))
 
       -- every test before the table is passed
-      pub task-well : (end : Ending) → FailsTask words store end → end ≡ ending.NoMemory
-      task-well end (tasks.out_is_not_new e bad) = new-well store fails.store_told fails.store_holds words.out has.out_is_new end bad
-      task-well end (tasks.no_key_files e new bad) = key-files-well end bad
-      task-well end (tasks.no_reference key_files e new are bad) =
+      pub task-well : (end : Ending) → FailsTask (session_words words) store (message_in store words.message) end → end ≡ ending.NoMemory
+      task-well end (tasks.no_key_files e bad) = key-files-well end bad
+      task-well end (tasks.no_reference key_files e are bad) =
           view-well store fails.store_told fails.store_holds (reference_name words.prefix) (reference_file d) has.reference_is reference-file-passes end bad
       task-well end (tasks.no_task key_files header e read lacks) = lacks-well key_files header (are-dealt key_files header read) end lacks

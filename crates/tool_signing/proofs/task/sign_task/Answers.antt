@@ -1,5 +1,5 @@
 use Rattle.std.proofs.Common.{rules}
-use Rattle.tool_signing.proofs.command.sign_task.Goals as goal
+use Rattle.tool_signing.proofs.task.sign_task.Goals as goal
 
 pub sign_with_table-signed-requires-clause-cells : goal.sign_with_table-signed-requires-clause-cells
 sign_with_table-signed-requires-clause-cells g c =
