@@ -1,5 +1,5 @@
 use Rattle.std.proofs.Common.{ℕ, ◌≡◌, ◌+◌, ◌*◌, ◌<◌, ◌≤◌, max, rules, arith}
-use Rattle.turn_bench.proofs.count.meet.Goals as goal
+use Rattle.bench_calls.proofs.turns.meet.Goals as goal
 
 both_bounded : (a b c p q r each : ℕ) → c ≡ a + b → r ≡ p + q → a ≤ p * each → b ≤ q * each → c ≤ r * each
 both_bounded a b c p q r each sum joined first second = rw (sum, joined) (omega arith)

@@ -1,6 +1,6 @@
 use Rattle.std.proofs.Common.{All}
-use Rattle.turn_bench.specs.Turns.{IsDone}
-use Rattle.turn_bench.proofs.count.meet_all.Given as goal
+use Rattle.bench_calls.specs.Turns.{IsDone}
+use Rattle.bench_calls.proofs.turns.meet_all.Given as goal
 
 abbrev pub invariant-loop-other : goal.invariant-loop-other
 invariant-loop-other l = record { pass : IsDone l.lock l.each l.pass; others : All (IsDone l.lock l.each) l.passes.items }

@@ -1,19 +1,25 @@
-//! A count under a lock.
-#![tactic(auto)]
+//! Takes turns of one lock in many threads beside each other, and prints how many were taken. `bench/turns` times it.
 
 ghost use Rattle.std.specs.Prelude.{◌≡◌, ◌+◌, ◌-◌, ◌*◌, ◌^◌, ◌<◌, ◌≤◌, min, [], false, All, IfSome};
 ghost use Rattle.turn_lock.specs.Pass.{first_pass};
-ghost use Rattle.turn_bench.specs.Turns.{IsDone};
+ghost use Rattle.bench_calls.specs.Turns.{IsDone};
 
+use crate::refuse;
 use std::alloc::Global;
 use std::sync::Wait;
-use std::thread;
 use std::thread::Threads;
+use std::{io, thread};
 use turn_lock::{Kept, Pass, TurnLock};
+
+/// The words behind the first.
+const WORDS: &str = "1 to 4096 threads, and turns of each";
+
+/// The most passes of one lock.
+const MOST: u32 = 4096;
 
 /// A number that each turn raises.
 #[derive(Drop)]
-pub struct Count {
+struct Count {
     turns: u64,
 }
 
@@ -30,6 +36,7 @@ impl Kept for Count {
 }
 
 impl Count {
+    /// Raises the number, where it is not at its end.
     fn raise(&mut self)
         ensures { self.new.turns ≡ min (self.old.turns + 1) (2 ^ 64 - 1) }
     {
@@ -37,7 +44,7 @@ impl Count {
     }
 }
 
-// Takes so many turns, unless the pass is worn before.
+/// Takes so many turns, unless the pass is worn before.
 fn count_each(rt: &impl Wait, lock: &TurnLock<Count>, pass: &mut Pass<Count>, each: u64)
     requires lock { pass.old.lock ≡ lock.now }
     requires idle { pass.old.in_turn ≡ false }
@@ -57,6 +64,7 @@ fn count_each(rt: &impl Wait, lock: &TurnLock<Count>, pass: &mut Pass<Count>, ea
     }
 }
 
+/// Takes so many turns by each pass, in threads beside each other.
 fn count_beside<R: Threads + Wait + Sync>(
     rt: &R,
     lock: &TurnLock<Count>,
@@ -76,6 +84,7 @@ fn count_beside<R: Threads + Wait + Sync>(
     }
 }
 
+/// Joins a pass that has taken its turns to another.
 fn meet(lock: &TurnLock<Count>, pass: &mut Pass<Count>, other: Pass<Count>, each: u64)
     requires pass { IsDone lock.now each pass.old }
     requires other { IsDone lock.now each other }
@@ -84,6 +93,7 @@ fn meet(lock: &TurnLock<Count>, pass: &mut Pass<Count>, other: Pass<Count>, each
     lock.meet(pass, other);
 }
 
+/// Joins all passes to one, where there is one.
 fn meet_all(lock: &TurnLock<Count>, mut passes: Vec<Pass<Count>>, each: u64) -> Option<Pass<Count>>
     requires { All (IsDone lock.now each) passes.items }
     ensures { IfSome result (IsDone lock.now each) }
@@ -96,7 +106,7 @@ fn meet_all(lock: &TurnLock<Count>, mut passes: Vec<Pass<Count>>, each: u64) -> 
 }
 
 /// Takes this many turns in each of so many threads, and gives how many were taken, or nothing where memory ran out.
-pub fn take_turns<R: Threads + Wait + Sync>(
+fn take_turns<R: Threads + Wait + Sync>(
     rt: &R,
     alloc: Global,
     threads: u32,
@@ -115,4 +125,27 @@ pub fn take_turns<R: Threads + Wait + Sync>(
     }
     let count = lock.close(pass);
     Some(count.turns)
+}
+
+/// Takes so many turns in each of so many threads, and gives the status.
+pub(crate) fn run<R: Threads + Wait + Sync>(
+    host: &R,
+    rt: HostRuntime,
+    words: &[String],
+) -> io::Result<u8> {
+    let [threads, each] = words else {
+        return refuse(rt, WORDS);
+    };
+    let (Ok(threads), Ok(each)) = (threads.parse::<u32>(), each.parse::<u64>()) else {
+        return refuse(rt, WORDS);
+    };
+    if threads == 0 || threads > MOST {
+        return refuse(rt, WORDS);
+    }
+    let Some(turns) = take_turns(host, rt.alloc(), threads, each) else {
+        println!(rt; "no memory")?;
+        return Ok(14);
+    };
+    println!(rt; "{turns} turns")?;
+    Ok(0)
 }

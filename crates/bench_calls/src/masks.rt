@@ -1,11 +1,14 @@
 //! Computes chain masks under one key, by the plain call or by the keyed state, and prints the exclusive or of the
 //! first bytes. `bench/masks` times both.
-#![tactic(auto)]
 
+use crate::hashing::first_byte;
+use crate::refuse;
 use lms_bytes::Params;
 use mask_prf::{MacKey, chain_mask};
-use std::process::ExitCode;
-use std::{env, io};
+use std::io;
+
+/// The words behind the first.
+const WORDS: &str = "keyed or plain, and a number of masks";
 
 /// The trustee key of each mask.
 const KEY: [u8; 32] = [0x4b; 32];
@@ -14,41 +17,37 @@ const KEY: [u8; 32] = [0x4b; 32];
 const ID: [u8; 16] = [0x1d; 16];
 
 /// The mask of a place, by a state made once for all places.
-fn keyed(params: &Params, leaves: u32) -> u8 {
+fn keyed(params: &Params, masks: u32) -> u8 {
     let key = MacKey::new(&KEY);
     let mut all = 0;
-    for q in 0..leaves {
+    for q in 0..masks {
         all ^= first_byte(key.chain_mask(params, &ID, q, 0, 0).bytes());
     }
     all
 }
 
 /// The mask of a place, by a key that is taken in anew for each place.
-fn plain(params: &Params, leaves: u32) -> u8 {
+fn plain(params: &Params, masks: u32) -> u8 {
     let mut all = 0;
-    for q in 0..leaves {
+    for q in 0..masks {
         all ^= first_byte(chain_mask(&KEY, params, &ID, q, 0, 0).bytes());
     }
     all
 }
 
-fn first_byte(bytes: &[u8]) -> u8 {
-    bytes.first().copied().unwrap_or(0)
-}
-
-fn main(rt: HostRuntime) -> io::Result<ExitCode> {
-    let mut words = env::args(&rt)?.skip(1);
-    let way = words.next();
-    let leaves = words.next().and_then(|word| word.parse::<u32>().ok());
-    let (Some(way), Some(leaves), Ok(params)) = (way, leaves, Params::of_codes(5, 4)) else {
-        println!(rt; "wanted: keyed or plain, and a number of masks")?;
-        return Ok(ExitCode::from(2));
+/// Computes so many masks, and gives the status.
+pub(crate) fn run(rt: HostRuntime, words: &[String]) -> io::Result<u8> {
+    let ([way, masks], Ok(params)) = (words, Params::of_codes(5, 4)) else {
+        return refuse(rt, WORDS);
+    };
+    let Ok(masks) = masks.parse::<u32>() else {
+        return refuse(rt, WORDS);
     };
     let all = if way.as_str() == "plain" {
-        plain(&params, leaves)
+        plain(&params, masks)
     } else {
-        keyed(&params, leaves)
+        keyed(&params, masks)
     };
-    println!(rt; "{leaves} masks: {all}")?;
-    Ok(ExitCode::SUCCESS)
+    println!(rt; "{masks} masks: {all}")?;
+    Ok(0)
 }

@@ -1,17 +1,19 @@
 //! Leases the leaves of a table over a disk in memory and asks for them again, or makes just the calls of the disk that
 //! leasing makes. `bench/leases` times both.
-#![tactic(auto)]
 
 ghost use Rattle.std.specs.Prelude.{◌≡◌};
 
+use crate::refuse;
 use coalition_map::Plan;
 use disk_trait::{Disk, DiskFault, MemDisk};
 use leaf_table::Table;
 use lms_bytes::MessageId;
 use slot_file::{Header, prepare};
 use std::alloc::Global;
-use std::process::ExitCode;
-use std::{env, io};
+use std::io;
+
+/// The words behind the first.
+const WORDS: &str = "lease or call, and how often";
 
 /// How many leaves there are.
 const LEAVES: u32 = 1024;
@@ -81,7 +83,7 @@ fn call(disk: &mut MemDisk, times: u32) -> u32 {
 }
 
 /// Does one or the other so many times, over a new table of coalitions of three of five trustees.
-fn run(alloc: Global, way: &str, times: u32) -> Option<u32> {
+fn repeat(alloc: Global, way: &str, times: u32) -> Option<u32> {
     let mut disk = prepared(alloc)?;
     if way == "call" {
         return Some(call(&mut disk, times));
@@ -91,18 +93,18 @@ fn run(alloc: Global, way: &str, times: u32) -> Option<u32> {
     Some(lease(&mut table, &plan, times))
 }
 
-fn main(rt: HostRuntime) -> io::Result<ExitCode> {
-    let mut words = env::args(&rt)?.skip(1);
-    let way = words.next();
-    let times = words.next().and_then(|word| word.parse::<u32>().ok());
-    let (Some(way), Some(times)) = (way, times) else {
-        println!(rt; "wanted: lease or call, and how often")?;
-        return Ok(ExitCode::from(2));
+/// Leases or calls so often, and gives the status.
+pub(crate) fn run(rt: HostRuntime, words: &[String]) -> io::Result<u8> {
+    let [way, times] = words else {
+        return refuse(rt, WORDS);
     };
-    let Some(right) = run(rt.alloc(), way.as_str(), times) else {
+    let Ok(times) = times.parse::<u32>() else {
+        return refuse(rt, WORDS);
+    };
+    let Some(right) = repeat(rt.alloc(), way.as_str(), times) else {
         println!(rt; "no memory")?;
-        return Ok(ExitCode::from(14));
+        return Ok(14);
     };
     println!(rt; "{right} of {times}")?;
-    Ok(ExitCode::SUCCESS)
+    Ok(0)
 }

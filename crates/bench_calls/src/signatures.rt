@@ -1,22 +1,21 @@
 //! Verifies one signature many times, says how many blocks of SHA-256 that takes in, or hashes so many blocks.
 //! `bench/verify` times both.
-#![tactic(auto)]
 
+use crate::hashing::hash_blocks;
+use crate::refuse;
 use host_io::FileStore;
 use lms_bytes::{Params, PublicKey, SigView, Val, digit, read_public, read_signature};
 use lms_verify::{Verdict, verify};
 use ots_chain::MessageHash;
-use sha2::{Digest, Sha256};
 use std::alloc::Global;
-use std::process::ExitCode;
-use std::{env, io};
+use std::io;
 use stream_io::Store;
+
+/// The words behind the first.
+const WORDS: &str = "verify, blocks or hash, a name, and a number";
 
 /// The longest file that is read, in bytes.
 const LIMIT: u64 = 67_108_864;
-
-/// What is hashed at once: 1024 blocks with its padding.
-const PIECE: [u8; 65527] = [0x55; 65527];
 
 /// A key, a message and its signature, as bytes.
 #[derive(Drop)]
@@ -104,50 +103,40 @@ fn blocks(key: &PublicKey, signed: &Signed) -> Option<usize> {
     )
 }
 
-/// Hashes so many blocks, in pieces, and gives the exclusive or of some bytes.
-fn hash(blocks: u32) -> u8 {
-    let mut all = 0;
-    for _ in 0..blocks / 1024 {
-        let digest: [u8; 32] = Sha256::digest(&PIECE);
-        all ^= digest.last().copied().unwrap_or(0);
-    }
-    all
-}
-
-/// Verifies the signature of this name so often, or says how many blocks that takes in.
-fn run(rt: HostRuntime, way: &str, name: &str, times: u32) -> io::Result<ExitCode> {
+/// Verifies the signature of this name so often, or says how many blocks that takes in, and gives the status.
+fn run_signed(rt: HostRuntime, way: &str, name: &str, times: u32) -> io::Result<u8> {
     let mut store = FileStore::new(rt);
     let Some(signed) = read_signed(rt.alloc(), &mut store, name) else {
         println!(rt; "{name} cannot be read")?;
-        return Ok(ExitCode::from(3));
+        return Ok(3);
     };
     let Ok(key) = read_public(&signed.key) else {
         println!(rt; "{name}.key is no key")?;
-        return Ok(ExitCode::from(4));
+        return Ok(4);
     };
     if way == "blocks" {
         println!(rt; "{} blocks", blocks(&key, &signed).unwrap_or(0))?;
-        return Ok(ExitCode::SUCCESS);
+        return Ok(0);
     }
     let Verdict::Accepted { leaf } = verify_often(&key, &signed, times) else {
         println!(rt; "not accepted")?;
-        return Ok(ExitCode::from(1));
+        return Ok(1);
     };
     println!(rt; "accepted leaf {leaf}")?;
-    Ok(ExitCode::SUCCESS)
+    Ok(0)
 }
 
-fn main(rt: HostRuntime) -> io::Result<ExitCode> {
-    let mut words = env::args(&rt)?.skip(1);
-    let (way, name) = (words.next(), words.next());
-    let number = words.next().and_then(|word| word.parse::<u32>().ok());
-    let (Some(way), Some(name), Some(number)) = (way, name, number) else {
-        println!(rt; "wanted: verify, blocks or hash, a name, and a number")?;
-        return Ok(ExitCode::from(2));
+/// Verifies, counts blocks or hashes, and gives the status.
+pub(crate) fn run(rt: HostRuntime, words: &[String]) -> io::Result<u8> {
+    let [way, name, number] = words else {
+        return refuse(rt, WORDS);
+    };
+    let Ok(number) = number.parse::<u32>() else {
+        return refuse(rt, WORDS);
     };
     if way.as_str() == "hash" {
-        println!(rt; "{number} blocks: {}", hash(number))?;
-        return Ok(ExitCode::SUCCESS);
+        println!(rt; "{number} blocks: {}", hash_blocks(u64::from(number)))?;
+        return Ok(0);
     }
-    run(rt, way.as_str(), name.as_str(), number)
+    run_signed(rt, way.as_str(), name.as_str(), number)
 }

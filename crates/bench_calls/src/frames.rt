@@ -1,14 +1,17 @@
 //! Reads an ask with a message of 16 MiB from memory, or takes the two hashes of such a message at once, a number of
 //! times, and prints the exclusive or of the first bytes. `bench/frames` times both.
-#![tactic(auto)]
 
+use crate::hashing::first_byte;
+use crate::refuse;
 use lms_bytes::{IdHash, Params, Val};
 use memory_io::MemSource;
 use ots_chain::MessageHash;
 use round_frames::next_ask;
 use std::alloc::{AllocError, Global};
-use std::process::ExitCode;
-use std::{env, io};
+use std::io;
+
+/// The words behind the first.
+const WORDS: &str = "read or hash, and how often";
 
 /// The length of the message, 16 MiB.
 const MESSAGE: usize = 16_777_216;
@@ -49,17 +52,13 @@ fn hash(params: &Params, bytes: &[u8]) -> u8 {
     first_byte(&id.finish().hash) ^ first_byte(digest.finish().bytes())
 }
 
-fn first_byte(bytes: &[u8]) -> u8 {
-    bytes.first().copied().unwrap_or(0)
-}
-
-fn main(rt: HostRuntime) -> io::Result<ExitCode> {
-    let mut words = env::args(&rt)?.skip(1);
-    let way = words.next();
-    let times = words.next().and_then(|word| word.parse::<u32>().ok());
-    let (Some(way), Some(times), Ok(params)) = (way, times, Params::of_codes(5, 3)) else {
-        println!(rt; "wanted: read or hash, and how often")?;
-        return Ok(ExitCode::from(2));
+/// Reads or hashes so often, and gives the status.
+pub(crate) fn run(rt: HostRuntime, words: &[String]) -> io::Result<u8> {
+    let ([way, times], Ok(params)) = (words, Params::of_codes(5, 3)) else {
+        return refuse(rt, WORDS);
+    };
+    let Ok(times) = times.parse::<u32>() else {
+        return refuse(rt, WORDS);
     };
     let mut all = 0;
     for _ in 0..times {
@@ -71,5 +70,5 @@ fn main(rt: HostRuntime) -> io::Result<ExitCode> {
         };
     }
     println!(rt; "{times} messages: {all}")?;
-    Ok(ExitCode::SUCCESS)
+    Ok(0)
 }

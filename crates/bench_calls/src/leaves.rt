@@ -1,13 +1,15 @@
 //! Builds leaves of a reference, or hashes as many blocks as they take, and prints the exclusive or of some bytes.
 //! `bench/leaves` times both.
-#![tactic(auto)]
 
+use crate::hashing::{hash_blocks, last_byte};
+use crate::refuse;
 use coalition_map::Plan;
 use lms_bytes::{Params, Val};
 use reference_value::{build_leaf, leaf_bytes};
-use sha2::{Digest, Sha256};
-use std::process::ExitCode;
-use std::{env, io};
+use std::io;
+
+/// The words behind the first.
+const WORDS: &str = "build or hash, and a number of leaves";
 
 /// The identifier, the seed, the key of the randomizers and the keys of five trustees.
 const ID: [u8; 16] = [0x1d; 16];
@@ -22,9 +24,6 @@ const KEYS: [[u8; 32]; 5] = [[1; 32], [2; 32], [3; 32], [4; 32], [5; 32]];
 /// steps; for each of its 16 values and each member two blocks; and for the randomizer, the masks of it and the tags,
 /// with the blocks of each key.
 const BLOCKS: u32 = 67 * 16 + 67 * 16 * 3 * 2 + 4 + 3 * (2 + 2 + 2);
-
-/// What is hashed at once: 1024 blocks with its padding.
-const PIECE: [u8; 65527] = [0x55; 65527];
 
 /// Builds so many leaves, each into the same bytes.
 fn build(params: &Params, plan: &Plan, leaves: u32, out: &mut [u8]) -> u8 {
@@ -44,37 +43,20 @@ fn build(params: &Params, plan: &Plan, leaves: u32, out: &mut [u8]) -> u8 {
     all
 }
 
-/// Hashes as many blocks as so many leaves take, in pieces.
-fn hash(leaves: u32) -> u8 {
-    let mut all = 0;
-    for _ in 0..leaves as u64 * BLOCKS as u64 / 1024 {
-        let digest: [u8; 32] = Sha256::digest(&PIECE);
-        all ^= last_byte(&digest);
-    }
-    all
-}
-
-fn last_byte(bytes: &[u8]) -> u8 {
-    bytes.last().copied().unwrap_or(0)
-}
-
-fn main(rt: HostRuntime) -> io::Result<ExitCode> {
-    let mut words = env::args(&rt)?.skip(1);
-    let way = words.next();
-    let leaves = words.next().and_then(|word| word.parse::<u32>().ok());
-    let (Some(way), Some(leaves), Ok(params)) = (way, leaves, Params::of_codes(6, 3)) else {
-        println!(rt; "wanted: build or hash, and a number of leaves")?;
-        return Ok(ExitCode::from(2));
+/// Builds so many leaves, or hashes as many blocks as they take, and gives the status.
+pub(crate) fn run(rt: HostRuntime, words: &[String]) -> io::Result<u8> {
+    let ([way, leaves], Ok(params)) = (words, Params::of_codes(6, 3)) else {
+        return refuse(rt, WORDS);
     };
-    let Ok(plan) = Plan::new(5, 3, params.h) else {
-        return Ok(ExitCode::from(2));
+    let (Ok(leaves), Ok(plan)) = (leaves.parse::<u32>(), Plan::new(5, 3, params.h)) else {
+        return refuse(rt, WORDS);
     };
     let all = if way.as_str() == "hash" {
-        hash(leaves)
+        hash_blocks(u64::from(leaves) * u64::from(BLOCKS))
     } else {
         let mut out = vec![in rt.alloc(); 0; leaf_bytes(&params, plan.k())]?;
         build(&params, &plan, leaves, &mut out)
     };
     println!(rt; "{leaves} leaves: {all}")?;
-    Ok(ExitCode::SUCCESS)
+    Ok(0)
 }
