@@ -1,7 +1,7 @@
-//! Runs of `verify`, `rehearse` and `deal` over files: on keys, signatures, rehearsals and dealings that another
-//! implementation made, and on words and files that the tool has to refuse. Behind each status are the length and the
-//! SHA-256 of files that the command wrote or had to leave alone. Then the same commands run over files in memory,
-//! whose calls can fail.
+//! Runs of `verify`, `rehearse`, `deal` and `drill` over files: on keys, signatures, rehearsals and dealings that
+//! another implementation made, and on words and files that the tool has to refuse. Behind each status are the length
+//! and the SHA-256 of files that the command wrote or had to leave alone. Then the same commands run over files in
+//! memory, whose calls can fail.
 
 mod dealing;
 mod rows;
@@ -11,7 +11,7 @@ use crate::scene::{Files, print_ran, read, run, store_of, words_of};
 use host_io::{FileStore, StdoutSink};
 use memory_io::MemNet;
 use memory_store::MemStore;
-use rows::{DEALINGS, FAULTY, REFUSED, REHEARSALS, VECTORS};
+use rows::{DEALINGS, DRILLS, FAULTY, REFUSED, REHEARSALS, VECTORS};
 use sha2::{Digest, Sha256};
 use share_files::{read_reference, read_share, read_tree};
 use std::io;
@@ -94,7 +94,7 @@ pub(crate) fn print_runs<R: Threads + Wait + Sync, N: Net>(
     rt: HostRuntime,
     net: &mut N,
 ) -> io::Result<()> {
-    for rows in [VECTORS, FAULTY, REHEARSALS, DEALINGS, REFUSED] {
+    for rows in [VECTORS, FAULTY, REHEARSALS, DEALINGS, REFUSED, DRILLS] {
         for (command, files) in rows {
             print_status(threads, rt, net, command)?;
             for name in files.split_whitespace() {

@@ -99,6 +99,9 @@ pub(crate) const DEALINGS: Rows = &[
     ),
 ];
 
+/// A drill whose outcome another implementation found as well.
+pub(crate) const DRILLS: Rows = &[("drill 7 40 0", "")];
+
 /// Dealings that are refused, and a look for what the last one must not have written.
 pub(crate) const REFUSED: Rows = &[
     ("deal 239 5 3 5 3 new", ""),
