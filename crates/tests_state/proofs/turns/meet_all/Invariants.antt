@@ -1,5 +1,5 @@
 use Rattle.std.proofs.Common.{◌≡◌, false, All}
-use Rattle.state_tests.proofs.turns.meet_all.Given as goal
+use Rattle.tests_state.proofs.turns.meet_all.Given as goal
 
 abbrev pub invariant-loop-other : goal.invariant-loop-other
 invariant-loop-other l = record {
