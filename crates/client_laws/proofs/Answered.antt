@@ -31,8 +31,8 @@ use Rattle.session_core.specs.State.{State, started}
 use Rattle.session_core.specs.declared.faults.SessionFault.TheVariants.{Reference}
 use Rattle.share_files.specs.Reference.{leaves_length}
 use Rattle.share_files.specs.declared.reference.RefHeader.{RefHeader}
-use Rattle.signing_laws.specs.Answering.{AllGave}
-use Rattle.signing_laws.proofs.Sessions.{IsReady, session-goes}
+use Rattle.laws_signing.specs.Answering.{AllGave}
+use Rattle.laws_signing.proofs.Sessions.{IsReady, session-goes}
 use Rattle.stream_io.specs.Net.{PortState}
 use Rattle.stream_io.specs.Talk.{Talk}
 use Rattle.tool_base.specs.World.{StoreRun}

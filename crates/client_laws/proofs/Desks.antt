@@ -13,11 +13,11 @@ use Rattle.lms_verify.specs.UndividedKey.{UndividedKey, leaf_key, public_key_of}
 use Rattle.merkle_path.specs.Tree.{tree_of}
 use Rattle.reference_value.specs.Dealing.{Dealing, reference}
 use Rattle.share_files.specs.declared.reference.RefHeader.{RefHeader}
-use Rattle.signing_laws.proofs.Dialling.{all-placed}
-use Rattle.signing_laws.proofs.FilesRead.{same-file}
-use Rattle.signing_laws.proofs.Parses.{one-key, one-reference, one-tree}
-use Rattle.signing_laws.proofs.Sets.{same-key}
-use Rattle.signing_laws.proofs.Tasks.{id-length, public-is, same-nodes, same-plan, tree-is}
+use Rattle.laws_signing.proofs.Dialling.{all-placed}
+use Rattle.laws_signing.proofs.FilesRead.{same-file}
+use Rattle.laws_signing.proofs.Parses.{one-key, one-reference, one-tree}
+use Rattle.laws_signing.proofs.Sets.{same-key}
+use Rattle.laws_signing.proofs.Tasks.{id-length, public-is, same-nodes, same-plan, tree-is}
 use Rattle.tool_base.specs.World.{StoreRun}
 use Rattle.tool_desk.specs.Files.{key_name, reference_name, tree_name}
 use Rattle.tool_desk.specs.Members.{members_placed}

@@ -16,7 +16,7 @@ use Rattle.leaf_table.specs.declared.lease.Lease.{Lease}
 use Rattle.leaf_table.specs.declared.table.TableName.{TableName}
 use Rattle.lms_bytes.specs.MessageId.{message_id_bytes}
 use Rattle.lms_bytes.specs.declared.message.MessageId.{MessageId}
-use Rattle.signing_laws.proofs.Leaves.{lease-own}
+use Rattle.laws_signing.proofs.Leaves.{lease-own}
 use Rattle.turn_lock.specs.Pass.{Seen}
 
 module _ (plan : PlanNumbers) (members : List ℕ) (message : MessageId) (c : ℕ) (coalition : IsCoalition plan members c) where

@@ -26,7 +26,7 @@ use Rattle.leased_session.specs.Signing.{DeskState, Signature}
 use Rattle.leased_session.specs.Tables.{TableSeen}
 use Rattle.lms_bytes.specs.MessageId.{message_id, message_id_bytes}
 use Rattle.lms_bytes.specs.declared.message.MessageId.{MessageId}
-use Rattle.signing_laws.proofs.Leaves.{lease-own}
+use Rattle.laws_signing.proofs.Leaves.{lease-own}
 use Rattle.trustee_node.specs.declared.served.ServedEnd.{ServedEnd}
 use Rattle.trustee_service.specs.declared.totals.Totals.{Totals}
 use Rattle.turn_lock.specs.Pass.{Seen}

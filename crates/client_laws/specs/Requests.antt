@@ -19,8 +19,8 @@ use Rattle.lms_verify.specs.UndividedKey.{UndividedKey, public_key_of, rfc_signa
 use Rattle.reference_value.specs.Dealing.{Dealing, leaf_randomizer}
 use Rattle.session_core.specs.State.{started}
 use Rattle.share_files.specs.declared.reference.RefHeader.{RefHeader}
-use Rattle.signing_laws.specs.AllIsWell.{IsDealing, IsQuiet}
-use Rattle.signing_laws.specs.Answering.{AllGave}
+use Rattle.laws_signing.specs.AllIsWell.{IsDealing, IsQuiet}
+use Rattle.laws_signing.specs.Answering.{AllGave}
 use Rattle.stream_io.specs.Net.{PortState}
 use Rattle.stream_io.specs.Talk.{Talk}
 use Rattle.tool_base.specs.World.{StoreRun}

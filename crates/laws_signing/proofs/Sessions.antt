@@ -35,10 +35,10 @@ use Rattle.session_core.specs.declared.faults.SessionFault.TheVariants.{Referenc
 use Rattle.session_core.proofs.Dealt.{signature-accepted}
 use Rattle.stream_io.specs.Net.{PortState}
 use Rattle.stream_io.specs.Talk.{Talk}
-use Rattle.signing_laws.specs.Answering.{AllGave, message_masks, second_round}
-use Rattle.signing_laws.proofs.RoundOne.{Goes, Ready, first-goes, one}
-use Rattle.signing_laws.proofs.RoundTwo.{Ends, all-before, first-told, second-goes, two}
-use Rattle.signing_laws.proofs.Seats.{Kept, front-none, kept-faultless, kept-seats, number}
+use Rattle.laws_signing.specs.Answering.{AllGave, message_masks, second_round}
+use Rattle.laws_signing.proofs.RoundOne.{Goes, Ready, first-goes, one}
+use Rattle.laws_signing.proofs.RoundTwo.{Ends, all-before, first-told, second-goes, two}
+use Rattle.laws_signing.proofs.Seats.{Kept, front-none, kept-faultless, kept-seats, number}
 
 -- one string leads to one root
 one-root : (key : PublicKey) (message signature : List ℕ) (q : ℕ) (a b : List ℕ) → LeadsTo key message signature q a → LeadsTo key message signature q b → a ≡ b

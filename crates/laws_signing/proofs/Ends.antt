@@ -36,14 +36,14 @@ use Rattle.tool_signing.specs.Signs as signs
 use Rattle.tool_signing.specs.Tables.{IsTable, table_header}
 use Rattle.tool_signing.specs.Tasks.{IsTask}
 use Rattle.tool_words.specs.Words.{SignWords}
-use Rattle.signing_laws.specs.AllIsWell.{AllIsWell, IsQuiet}
-use Rattle.signing_laws.specs.Answering.{AllGave}
-use Rattle.signing_laws.proofs.Dialling.{all-placed}
-use Rattle.signing_laws.proofs.FilesRead.{device-not, read-not, same-file}
-use Rattle.signing_laws.proofs.Leaves.{lease-own, leases-well, one-table}
-use Rattle.signing_laws.proofs.Parses.{one-reference}
-use Rattle.signing_laws.proofs.Sessions.{IsReady, session-goes}
-use Rattle.signing_laws.proofs.Tasks.{AreDealt, are-dealt, id-length}
+use Rattle.laws_signing.specs.AllIsWell.{AllIsWell, IsQuiet}
+use Rattle.laws_signing.specs.Answering.{AllGave}
+use Rattle.laws_signing.proofs.Dialling.{all-placed}
+use Rattle.laws_signing.proofs.FilesRead.{device-not, read-not, same-file}
+use Rattle.laws_signing.proofs.Leaves.{lease-own, leases-well, one-table}
+use Rattle.laws_signing.proofs.Parses.{one-reference}
+use Rattle.laws_signing.proofs.Sessions.{IsReady, session-goes}
+use Rattle.laws_signing.proofs.Tasks.{AreDealt, are-dealt, id-length}
 
 -- what was added to a count that did not rise was nothing
 none-added : (before after more : ℕ) → IsQuiet before after → min (before + more) (2 ^ 64 - 1) ≤ after → more ≡ 0

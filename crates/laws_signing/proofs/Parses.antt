@@ -19,7 +19,7 @@ use Rattle.share_files.proofs.HeadParts.{HeadLies, head_lies, head_passes}
 use Rattle.share_files.proofs.References.{reference_lies, want_is}
 use Rattle.share_files.proofs.Shares.{plan_passes}
 use Rattle.share_files.proofs.TreeFiles.{length_passes, tree_lies, tree_length_passes, zero_passes}
-use Rattle.signing_laws.proofs.Sets.{same-set}
+use Rattle.laws_signing.proofs.Sets.{same-set}
 
 -- two keys with the same parts
 pub record SameKey (a b : PublicKey) : Type 0 where

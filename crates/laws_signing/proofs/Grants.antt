@@ -40,10 +40,10 @@ use Rattle.session_core.proofs.Places.{place-here, place-later}
 use Rattle.sha2.proofs.Facts256.{length-sha256}
 use Rattle.stream_io.specs.Talk.{Talk}
 use Rattle.tool_signing.specs.Tasks.{message_limit}
-use Rattle.signing_laws.specs.AllIsWell.{IsDealing}
-use Rattle.signing_laws.specs.Answering.{Answers, Gave, IsShareOf, grants, message_masks, second_round}
-use Rattle.signing_laws.specs.Answering as answering
-use Rattle.signing_laws.proofs.Hearing.{hear-more}
+use Rattle.laws_signing.specs.AllIsWell.{IsDealing}
+use Rattle.laws_signing.specs.Answering.{Answers, Gave, IsShareOf, grants, message_masks, second_round}
+use Rattle.laws_signing.specs.Answering as answering
+use Rattle.laws_signing.proofs.Hearing.{hear-more}
 
 -- the head of a member's grant: the present ask of a session, and code 0
 abbrev grant_head : State → ℕ → ReplyHead

@@ -20,10 +20,10 @@ use Rattle.session_core.specs.State.{State, body_room, started}
 use Rattle.session_core.specs.declared.faults.SessionFault.TheVariants.{Reference}
 use Rattle.stream_io.specs.Net.{PortState}
 use Rattle.stream_io.specs.Talk.{Talk}
-use Rattle.signing_laws.specs.Answering.{AllGave, Answers, Gave, message_masks, second_round}
-use Rattle.signing_laws.proofs.Hearing.{Later, SameEar, Taken, asked-hears, asked-later, asked-taken, hear-same}
-use Rattle.signing_laws.proofs.RoundOne.{Ready, start-waits}
-use Rattle.signing_laws.proofs.Seats.{Front, IsBelow, Kept, Waits, answered, front-later, front-more, number, numbers-more, waits}
+use Rattle.laws_signing.specs.Answering.{AllGave, Answers, Gave, message_masks, second_round}
+use Rattle.laws_signing.proofs.Hearing.{Later, SameEar, Taken, asked-hears, asked-later, asked-taken, hear-same}
+use Rattle.laws_signing.proofs.RoundOne.{Ready, start-waits}
+use Rattle.laws_signing.proofs.Seats.{Front, IsBelow, Kept, Waits, answered, front-later, front-more, number, numbers-more, waits}
 
 abbrev IsTold : Talk → Type 0
 IsTold talk = IsTrue talk.told

@@ -36,10 +36,10 @@ use Rattle.tool_signing.specs.Ports.{NetRun}
 use Rattle.tool_signing.specs.Tasks.{FailsTask, HasFiles, LacksTask, message_limit}
 use Rattle.tool_signing.specs.Tasks as tasks
 use Rattle.tool_words.specs.Words.{SignWords}
-use Rattle.signing_laws.specs.AllIsWell.{HasDealtFiles, IsDealing, NothingFails}
-use Rattle.signing_laws.proofs.Parses.{key-passes, one-key, one-reference, one-tree, reference-passes, tree-passes}
-use Rattle.signing_laws.proofs.FilesRead.{grammar-well, new-well, reads-well, same-file, view-well}
-use Rattle.signing_laws.proofs.Sets.{same-key}
+use Rattle.laws_signing.specs.AllIsWell.{HasDealtFiles, IsDealing, NothingFails}
+use Rattle.laws_signing.proofs.Parses.{key-passes, one-key, one-reference, one-tree, reference-passes, tree-passes}
+use Rattle.laws_signing.proofs.FilesRead.{grammar-well, new-well, reads-well, same-file, view-well}
+use Rattle.laws_signing.proofs.Sets.{same-key}
 
 -- a set that can be dealt has few nodes
 few-nodes : (n h : ℕ) → IsHashLength n → h ≤ 10 → n * (2 ^ (h + 1) - 1) ≤ 65504

@@ -20,7 +20,7 @@ use Rattle.tool_signing.specs.Ports.{NetRun}
 use Rattle.tool_signing.specs.Tables.{IsTable, table_header}
 use Rattle.tool_signing.specs.Tasks.{message_limit}
 use Rattle.tool_words.specs.Words.{SignWords}
-use Rattle.signing_laws.specs.Answering.{AllGave}
+use Rattle.laws_signing.specs.Answering.{AllGave}
 
 -- a dealing that can be made, and its undivided key
 pub record IsDealing (d : Dealing) (key : UndividedKey) : Type 0 where

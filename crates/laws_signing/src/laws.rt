@@ -7,8 +7,8 @@ ghost use Rattle.lms_verify.specs.UndividedKey.{UndividedKey, public_key_of, rfc
 ghost use Rattle.reference_value.specs.Dealing.{Dealing, leaf_randomizer};
 ghost use Rattle.session_core.specs.State.{started};
 ghost use Rattle.share_files.specs.declared.share.Share.{Share};
-ghost use Rattle.signing_laws.specs.AllIsWell.{AllIsWell, IsDealing};
-ghost use Rattle.signing_laws.specs.Answering.{Gave, IsShareOf, grants};
+ghost use Rattle.laws_signing.specs.AllIsWell.{AllIsWell, IsDealing};
+ghost use Rattle.laws_signing.specs.Answering.{Gave, IsShareOf, grants};
 ghost use Rattle.stream_io.specs.Talk.{Talk};
 ghost use Rattle.tool_base.specs.Ending as ending;
 ghost use Rattle.tool_base.specs.Ending.{Ending};

@@ -22,9 +22,9 @@ use Rattle.session_core.specs.Seats.{Seat, empty_seat, filled_seat, has_seat, is
 use Rattle.session_core.specs.State.{State, body_room, started}
 use Rattle.stream_io.specs.Net.{PortState}
 use Rattle.stream_io.specs.Talk.{Talk}
-use Rattle.signing_laws.specs.Answering.{AllGave, Answers, message_masks, second_round}
-use Rattle.signing_laws.proofs.Hearing.{SameEar, Taken, asked-hears, asked-later, asked-taken, hear-same}
-use Rattle.signing_laws.proofs.Seats.{Front, IsBelow, Kept, Waits, answered, front-later, front-more, number, numbers-more, waits}
+use Rattle.laws_signing.specs.Answering.{AllGave, Answers, message_masks, second_round}
+use Rattle.laws_signing.proofs.Hearing.{SameEar, Taken, asked-hears, asked-later, asked-taken, hear-same}
+use Rattle.laws_signing.proofs.Seats.{Front, IsBelow, Kept, Waits, answered, front-later, front-more, number, numbers-more, waits}
 
 -- a session in round one with these seats
 abbrev pub one : PublicKey → PlanNumbers → ℕ → MessageId → List Seat → State

@@ -10,10 +10,10 @@ use Rattle.tool_signing.specs.Ports.{NetRun}
 use Rattle.tool_signing.specs.Sign.{SignEnds, SigningRun, no_task, not_signed, not_written, signed}
 use Rattle.tool_signing.specs.Writes.{IsWritten}
 use Rattle.tool_words.specs.Words.{SignWords}
-use Rattle.signing_laws.specs.AllIsWell.{AllIsWell}
-use Rattle.signing_laws.proofs.Ends.{table-ends, table-signed}
-use Rattle.signing_laws.proofs.FilesRead.{written-well}
-use Rattle.signing_laws.proofs.Tasks.{task-well}
+use Rattle.laws_signing.specs.AllIsWell.{AllIsWell}
+use Rattle.laws_signing.proofs.Ends.{table-ends, table-signed}
+use Rattle.laws_signing.proofs.FilesRead.{written-well}
+use Rattle.laws_signing.proofs.Tasks.{task-well}
 
 module _ (words : SignWords) (store : StoreRun) (net : NetRun) (d : Dealing) (key : UndividedKey) (message : List ℕ) (leaf : ℕ) (well : AllIsWell words store net d key message leaf) where
   abbrev signature : List ℕ

@@ -12,7 +12,7 @@ use Rattle.tool_disks.specs.Disks.{DeviceFails}
 use Rattle.tool_desk.specs.Reference.{FailsReference}
 use Rattle.tool_desk.specs.Reference as viewed
 use Rattle.stream_io.specs.Store.{has_name}
-use Rattle.signing_laws.specs.AllIsWell.{StoreHolds}
+use Rattle.laws_signing.specs.AllIsWell.{StoreHolds}
 
 -- the file of a name is the file that is there
 pub same-file : (store : StoreRun) (name a b : List ℕ) → store.before.file name ≡ Some a → store.before.file name ≡ Some b → a ≡ b
