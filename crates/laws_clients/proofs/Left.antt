@@ -1,8 +1,8 @@
 -- What the leases of requests leave in the file of a table.
 use Rattle.std.proofs.Common.{◌≡◌, ◌<◌, ◌^◌, ℕ, List, [], ◌∷◌, length, inl, inr, refl, sym, subst, append-nil, arith}
-use Rattle.client_laws.specs.Uses.{LeafIsLeft, Uses}
-use Rattle.client_laws.proofs.Ids.{same-id, used-short}
-use Rattle.client_laws.proofs.Leased.{LeasedIn, same-message, stands-leased, used-leased}
+use Rattle.laws_clients.specs.Uses.{LeafIsLeft, Uses}
+use Rattle.laws_clients.proofs.Ids.{same-id, used-short}
+use Rattle.laws_clients.proofs.Leased.{LeasedIn, same-message, stands-leased, used-leased}
 use Rattle.client_node.specs.Clients.{Request}
 use Rattle.coalition_map.specs.Coalitions.{PlanNumbers}
 use Rattle.leaf_table.specs.Entries.{OneLease, map_of}

@@ -1,7 +1,7 @@
 -- A desk of a dealing has the dealing's key, plan, tree and reference.
 use Rattle.std.proofs.Common.{◌≡◌, ℕ, List, All, Contains, None, get_or, refl, sym, ap, ◌∙◌}
 use Rattle.aggregator_node.specs.Addresses.{place_of}
-use Rattle.client_laws.specs.Requests.{IsDealtDesk}
+use Rattle.laws_clients.specs.Requests.{IsDealtDesk}
 use Rattle.client_service.specs.Ports.{Place}
 use Rattle.dealer.specs.Dealt.{dealt_tree}
 use Rattle.dealer.specs.Files.{public_file, reference_file, tree_file}

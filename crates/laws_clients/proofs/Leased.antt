@@ -2,8 +2,8 @@
 use Rattle.std.proofs.Common.{◌≡◌, ◌<◌, ◌^◌, ℕ, List, ◌++◌, Option, Some, Result, inl, inr, refl, sym, ap, ◌∙◌, subst, append-nil}
 use mathlib.Core.List.{IsPrefix}
 use Rattle.aggregator_node.specs.declared.fault.SignFault.{SignFault}
-use Rattle.client_laws.specs.Uses.{AnsweredWith, CameTo, ServedWith, SignedWith, Uses, WorkedWith}
-use Rattle.client_laws.proofs.Prefixes.{either-begins, legal-front}
+use Rattle.laws_clients.specs.Uses.{AnsweredWith, CameTo, ServedWith, SignedWith, Uses, WorkedWith}
+use Rattle.laws_clients.proofs.Prefixes.{either-begins, legal-front}
 use Rattle.client_node.specs.Clients.{Answers, IsSigned, ReferenceState, Request, Serves, Stand}
 use Rattle.client_node.specs.Clients as clients
 use Rattle.client_node.specs.Logs.{LeaseShows, Shows}

@@ -3,10 +3,10 @@ use Rattle.std.proofs.Common.{◌≡◌, ◌<◌, ℕ, zero, suc, List, [], ◌�
 use Rattle.std.proofs.lemmas.List.{get_or-map, length-map}
 use Rattle.aggregator_node.specs.declared.fault.SignFault.{SignFault}
 use Rattle.aggregator_node.specs.declared.fault.SignFault.TheVariants as sign
-use Rattle.client_laws.specs.Every.{AllAnswered, EachServed, EachWorked, IsAnswered, OneAnswered}
-use Rattle.client_laws.specs.Requests.{IsAnswer, IsComplete, IsDealtDesk, IsDealtRun, IsDealtTable, answer, worn}
-use Rattle.client_laws.proofs.Answered.{request-complete}
-use Rattle.client_laws.proofs.Desks.{plan-is}
+use Rattle.laws_clients.specs.Every.{AllAnswered, EachServed, EachWorked, IsAnswered, OneAnswered}
+use Rattle.laws_clients.specs.Requests.{IsAnswer, IsComplete, IsDealtDesk, IsDealtRun, IsDealtTable, answer, worn}
+use Rattle.laws_clients.proofs.Answered.{request-complete}
+use Rattle.laws_clients.proofs.Desks.{plan-is}
 use Rattle.client_node.specs.Clients.{Answers, IsSigned, Request, Serves, Stand}
 use Rattle.client_node.specs.Clients as clients
 use Rattle.client_service.specs.Ports.{Place, PortRun, requests_in}

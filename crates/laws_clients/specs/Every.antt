@@ -1,6 +1,6 @@
 -- What every request at all ports of a run comes to, if all is well for it.
 use Rattle.std.specs.Prelude.{◌<◌, ℕ, List, Option, length}
-use Rattle.client_laws.specs.Requests.{IsAnswer, IsWell}
+use Rattle.laws_clients.specs.Requests.{IsAnswer, IsWell}
 use Rattle.client_node.specs.Clients.{Answers, IsSigned, ReferenceState, Request, Serves, Stand}
 use Rattle.client_node.specs.Clients as clients
 use Rattle.client_service.specs.Ports.{Place, PortRun, ServedClients}

@@ -6,9 +6,9 @@ use Rattle.aggregator_node.specs.Runs.{CellsRead}
 use Rattle.aggregator_node.specs.declared.fault.SignFault.{SignFault}
 use Rattle.aggregator_node.specs.declared.fault.SignFault.TheVariants as sign
 use Rattle.aggregator_node.specs.declared.fault.Why.TheVariants.{DialFailed}
-use Rattle.client_laws.specs.Requests.{IsComplete, IsDealtDesk, IsDealtTable, IsWell, RanWith, answer, no_memory, signed, worn}
-use Rattle.client_laws.proofs.Desks.{key-is, leaves-are, places, plan-is, tree-same}
-use Rattle.client_laws.proofs.LeaseTurns.{TurnFinds, turn-finds, turn_bare, turn_failed, turn_found, turn_worn}
+use Rattle.laws_clients.specs.Requests.{IsComplete, IsDealtDesk, IsDealtTable, IsWell, RanWith, answer, no_memory, signed, worn}
+use Rattle.laws_clients.proofs.Desks.{key-is, leaves-are, places, plan-is, tree-same}
+use Rattle.laws_clients.proofs.LeaseTurns.{TurnFinds, turn-finds, turn_bare, turn_failed, turn_found, turn_worn}
 use Rattle.client_node.specs.Clients.{IsExact, IsSigned, Request, Stand}
 use Rattle.client_node.specs.Signing.{SignsInTurns}
 use Rattle.client_node.specs.Signing as signing

@@ -1,9 +1,9 @@
 //! What follows from the definitions. No function here does anything.
 
 ghost use Rattle.std.specs.Prelude.{◌≡◌, ℕ, Contains};
-ghost use Rattle.client_laws.specs.Every.{AllAnswered};
-ghost use Rattle.client_laws.specs.Requests.{IsComplete, IsDealtDesk, IsDealtRun, IsDealtTable, IsWell};
-ghost use Rattle.client_laws.specs.Uses.{Comes, LeafIsLeft, Uses};
+ghost use Rattle.laws_clients.specs.Every.{AllAnswered};
+ghost use Rattle.laws_clients.specs.Requests.{IsComplete, IsDealtDesk, IsDealtRun, IsDealtTable, IsWell};
+ghost use Rattle.laws_clients.specs.Uses.{Comes, LeafIsLeft, Uses};
 ghost use Rattle.client_node.specs.Clients.{IsSigned, Request, Stand};
 ghost use Rattle.client_service.specs.Ports.{Place, requests_in};
 ghost use Rattle.leased_session.specs.Signing.{DeskState};

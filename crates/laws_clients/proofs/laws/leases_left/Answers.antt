@@ -1,6 +1,6 @@
-use Rattle.client_laws.proofs.Coming.{request-comes}
-use Rattle.client_laws.proofs.Left.{use-left, uses-apart}
-use Rattle.client_laws.proofs.laws.leases_left.Goals as goal
+use Rattle.laws_clients.proofs.Coming.{request-comes}
+use Rattle.laws_clients.proofs.Left.{use-left, uses-apart}
+use Rattle.laws_clients.proofs.laws.leases_left.Goals as goal
 
 pub returns-clause-comes : goal.returns-clause-comes
 returns-clause-comes g c = λ words net header desk end run request. request-comes run.serves.over.served request

@@ -4,7 +4,7 @@ use Rattle.std.proofs.lemmas.List.{drop_at, take_at}
 use Rattle.std.proofs.lemmas.Nat.{from_be_bytes-to_be_bytes_4}
 use Rattle.aggregator_node.specs.Runs.{CellsRead}
 use Rattle.aggregator_node.specs.declared.fault.SignFault.{SignFault}
-use Rattle.client_laws.specs.Uses.{AnsweredWith, CameTo, ServedWith, SignedWith, Uses, WorkedWith}
+use Rattle.laws_clients.specs.Uses.{AnsweredWith, CameTo, ServedWith, SignedWith, Uses, WorkedWith}
 use Rattle.client_node.specs.Clients.{Answers, IsSigned, ReferenceState, Request, Serves, Stand}
 use Rattle.client_node.specs.Clients as clients
 use Rattle.client_node.specs.Logs.{Shows}

@@ -2,7 +2,7 @@
 use Rattle.std.proofs.Common.{◌≡◌, ◌⊎◌, ◌<◌, ℕ, zero, suc, List, [], ◌∷◌, length, get_or, Contains, Option, None, Some, Result, Ok, Err, IfOk, inl, inr, refl, sym, subst, arith}
 use Rattle.std.proofs.lemmas.List.Elements.{Contains-append_cases}
 use Rattle.aggregator_node.specs.declared.fault.SignFault.{SignFault}
-use Rattle.client_laws.specs.Uses.{AnsweredWith, CameTo, Comes, IsUnleased, ServedWith, SignedWith, Uses, WorkedWith}
+use Rattle.laws_clients.specs.Uses.{AnsweredWith, CameTo, Comes, IsUnleased, ServedWith, SignedWith, Uses, WorkedWith}
 use Rattle.client_node.specs.Clients.{Answers, IsSigned, ReferenceState, Request, Serves, Stand}
 use Rattle.client_node.specs.Clients as clients
 use Rattle.client_node.specs.Logs.{Shows}

@@ -1,5 +1,5 @@
-use Rattle.client_laws.proofs.Every.{run-answered}
-use Rattle.client_laws.proofs.laws.all_answered.Goals as goal
+use Rattle.laws_clients.proofs.Every.{run-answered}
+use Rattle.laws_clients.proofs.laws.all_answered.Goals as goal
 
 pub returns : goal.returns
 returns g c = λ words net header desk end d key run dealt. run-answered words _ net header desk end d key run dealt
