@@ -31,7 +31,7 @@ returns-in-Err-Failed-clause-run g c =
     let calm : IsCalm (g.S.Store.state c.args.store.now) (g.S.Store.state c.take_disk.new.self) = record { same = take.refused; onward = take.onward } in
     record {
       touched = [];
-      ends = no_table (take.cause.rose (cc), λ told steady. take.absent told steady (cc)) (heard_none words.place net net refl);
+      ends = no_table (take.cause.rose (cc), λ told steady. take.absent told steady (cc)) (heard_none _ net net refl);
       keeps = keeps_calm [] _ _ calm;
       ports = net_none net;
     }
@@ -43,7 +43,7 @@ returns-in-Err-NoMemory-clause-run g c =
     let calm : IsCalm (g.S.Store.state c.args.store.now) (g.S.Store.state c.take_disk.new.self) = record { same = take.refused; onward = take.onward } in
     record {
       touched = [];
-      ends = no_memory [] (heard_none words.place net net refl) (All-nil (Stays (from_to (g.S.Store.state c.args.store.now) (g.S.Store.state c.take_disk.new.self))));
+      ends = no_memory [] (heard_none _ net net refl) (All-nil (Stays (from_to (g.S.Store.state c.args.store.now) (g.S.Store.state c.take_disk.new.self))));
       keeps = keeps_calm [] _ _ calm;
       ports = net_none net;
     }
