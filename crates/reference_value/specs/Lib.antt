@@ -1,3 +1,4 @@
+pub mod Commitments
 pub mod Dealing
 pub mod Places
 pub mod Joins
