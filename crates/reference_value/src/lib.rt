@@ -12,6 +12,6 @@ mod whole;
 pub use cells::{Cells, RefFault};
 pub use joins::{join_chains, join_randomizer};
 pub use leaf::build_leaf;
-pub use paged::Paged;
+pub use paged::{Paged, read_behind_header};
 pub use share_files::leaf_bytes;
 pub use whole::Whole;

@@ -30,7 +30,7 @@ pub want_is : (params : Params) (head : List ℕ) (k want : ℕ) → params.lms 
     → want ≡ 32 + leaf_length params k * 2 ^ params.h → want ≡ length_of (lms_at head) (ots_at head) (slice_index head 6)
 want_is params head k want lms ots threshold size = size ∙ (sym (length_of-codes params k) ∙ rw (lms, ots, threshold) refl)
 
-commits_length_of-codes : (params : Params) (k : ℕ) → commits_length_of params.lms params.ots k ≡ 32 + leaf_commits_length params k * 2 ^ params.h
+pub commits_length_of-codes : (params : Params) (k : ℕ) → commits_length_of params.lms params.ots k ≡ 32 + leaf_commits_length params k * 2 ^ params.h
 commits_length_of-codes params k = rw (height_of-lms params, chain_count-ots params, width_of-ots params) refl
 
 -- the length that the reader of a commitment file asks for

@@ -30,10 +30,17 @@ pub fn leaf_bytes(params: &Params, k: u8) -> usize
     params.n as usize + TAG * k as usize + chain_bytes(params) * params.p as usize
 }
 
+/// The length of the commitments to a chain's masks in a leaf, where each leaf has `k` members.
+pub fn chain_commits_bytes(params: &Params, k: u8) -> usize
+    ensures length { result ≡ 32 * k * 2 ^ params.now.w }
+    ensures small { result ≤ 2 ^ 21 }
+{
+    (COMMITMENT * k as usize) << params.w
+}
+
 /// The length of the commitments of a leaf, where each leaf has `k` members.
 pub fn leaf_commits_bytes(params: &Params, k: u8) -> usize
     ensures { result ≡ leaf_commits_length params.now k }
 {
-    let cell = COMMITMENT * k as usize;
-    cell + (cell << params.w) * params.p as usize
+    COMMITMENT * k as usize + chain_commits_bytes(params, k) * params.p as usize
 }
