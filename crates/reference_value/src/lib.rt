@@ -2,6 +2,7 @@
 #![tactic(auto)]
 
 mod cells;
+mod committed;
 mod joins;
 pub mod laws;
 mod layout;
@@ -10,6 +11,7 @@ mod paged;
 mod whole;
 
 pub use cells::{Cells, RefFault};
+pub use committed::build_committed_leaf;
 pub use joins::{join_chains, join_randomizer};
 pub use leaf::build_leaf;
 pub use paged::{Paged, read_behind_header};
