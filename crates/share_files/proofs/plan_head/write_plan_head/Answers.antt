@@ -1,6 +1,6 @@
 use Rattle.std.proofs.Common.{◌∙◌, sym, arith}
 use Rattle.std.proofs.lemmas.List.{take_all}
-use Rattle.share_files.proofs.reference_layout.write_ref_head.Goals as goal
+use Rattle.share_files.proofs.plan_head.write_plan_head.Goals as goal
 
 pub returns : goal.returns
 returns c =
