@@ -162,7 +162,13 @@ pub fn build_committed_leaf(
     }) q }
 {
     let members = plan.members(plan.coalition_of(q));
-    let leaf = Leaf { params, id, q, members, keys };
+    let leaf = Leaf {
+        params,
+        id,
+        q,
+        members,
+        keys,
+    };
     let n = params.n as usize;
     let c = randomizer(random_key, params, id, q);
     let (front, chains) = out.split_at_mut(n + TAG * plan.k() as usize);
