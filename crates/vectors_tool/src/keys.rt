@@ -72,7 +72,7 @@ fn print_status<R: Threads + Wait + Sync, N: Net>(
 
 /// Runs a command over a store that has these files, with so much room for its output, and prints what came of it. The
 /// listed calls of the store fail. It gives the store.
-fn print_in_memory<R: Threads + Wait + Sync>(
+pub(crate) fn print_in_memory<R: Threads + Wait + Sync>(
     threads: &R,
     rt: HostRuntime,
     text: &str,

@@ -24,7 +24,8 @@ pub(crate) const VECTORS: Rows = &[
 ];
 
 /// Words that are no command: no word, a word too few or too many, an option, no name of a command, outputs of one
-/// name, numbers that are none or too great or too long, and an empty prefix.
+/// name, numbers that are none or too great or too long, an empty prefix, and words after `hss`, `blame` and
+/// `commit`.
 pub(crate) const FAULTY: Rows = &[
     ("", ""),
     ("verify 10-8.key 10-8.message", ""),
@@ -38,6 +39,15 @@ pub(crate) const FAULTY: Rows = &[
     ("deal e 5 3 3 00000000002 a", ""),
     ("deal e 5 3 3 2 a b", ""),
     ("deal e 5 3 3 2 ", ""),
+    ("hss", ""),
+    ("hss verify a b c", ""),
+    ("hss check a b", ""),
+    ("hss check a b c d", ""),
+    ("hss sign a t l s m k s", ""),
+    ("hss sign a t l s m o o 1=x", ""),
+    ("hss sign  t l s m k s 1=x", ""),
+    ("blame a t m o", ""),
+    ("deal e 5 3 3 2 a commit b", ""),
 ];
 
 /// Rehearsals, each with the files that are printed behind it. A file of entropy is named by its length, and its bytes
