@@ -14,6 +14,7 @@ use vector::{KEY, MESSAGE, SIGNATURE};
 
 /// Where the public key of the lower level lies in the signature, and where its signature does.
 const LOW_KEY: usize = 1384;
+
 const LOW_SIGNATURE: usize = 1440;
 
 /// The verdict on so many bytes of the signature and of a 0 behind it, with one byte changed.
@@ -29,12 +30,66 @@ const FAULTS: [(usize, u8, usize, HssFault); 9] = [
     (0, 0, 3, HssFault::Short),
     (3, 2, 2732, HssFault::Levels { got: 2 }),
     (0, 1, 2732, HssFault::Levels { got: 0x0100_0001 }),
-    (0, 0, 4, HssFault::Sig { level: 0, fault: SigFault::Short }),
-    (7, 0x43, 2732, HssFault::Sig { level: 0, fault: SigFault::Leaf { q: 0x43 } }),
-    (0, 0, 799, HssFault::Sig { level: 0, fault: SigFault::TooShort { got: 795 } }),
-    (1388, 0x80, 2732, HssFault::Pub { level: 1, fault: KeyFault::UnknownOts { code: 0x8000_0004 } }),
-    (0, 0, 2731, HssFault::Sig { level: 1, fault: SigFault::Length { got: 1291, want: 1292 } }),
-    (2732, 0, 2733, HssFault::Sig { level: 1, fault: SigFault::Length { got: 1293, want: 1292 } }),
+    (
+        0,
+        0,
+        4,
+        HssFault::Sig {
+            level: 0,
+            fault: SigFault::Short,
+        },
+    ),
+    (
+        7,
+        0x43,
+        2732,
+        HssFault::Sig {
+            level: 0,
+            fault: SigFault::Leaf { q: 0x43 },
+        },
+    ),
+    (
+        0,
+        0,
+        799,
+        HssFault::Sig {
+            level: 0,
+            fault: SigFault::TooShort { got: 795 },
+        },
+    ),
+    (
+        1388,
+        0x80,
+        2732,
+        HssFault::Pub {
+            level: 1,
+            fault: KeyFault::UnknownOts { code: 0x8000_0004 },
+        },
+    ),
+    (
+        0,
+        0,
+        2731,
+        HssFault::Sig {
+            level: 1,
+            fault: SigFault::Length {
+                got: 1291,
+                want: 1292,
+            },
+        },
+    ),
+    (
+        2732,
+        0,
+        2733,
+        HssFault::Sig {
+            level: 1,
+            fault: SigFault::Length {
+                got: 1293,
+                want: 1292,
+            },
+        },
+    ),
 ];
 
 #[test]
@@ -51,20 +106,33 @@ fn a_signature_is_accepted_for_its_message_alone(rt: HostRuntime) {
     let key = read_hss_key(&KEY).expect(&rt, "a key");
     assert!(rt; verdict_on(&key, 4, 0, 2732) == HssVerdict::Accepted { levels: 2 });
     let got = Val::of(&[
-        0xef, 0x80, 0x32, 0xaf, 0x1f, 0x64, 0x08, 0x44, 0x76, 0x07, 0x53, 0xd7, 0x33, 0xb0, 0xd3, 0xee,
-        0xd7, 0x7c, 0xfc, 0x26, 0xcc, 0xb1, 0x9d, 0xf7,
+        0xef, 0x80, 0x32, 0xaf, 0x1f, 0x64, 0x08, 0x44, 0x76, 0x07, 0x53, 0xd7, 0x33, 0xb0, 0xd3,
+        0xee, 0xd7, 0x7c, 0xfc, 0x26, 0xcc, 0xb1, 0x9d, 0xf7,
     ]);
-    let other = HssVerdict::OtherRoot { level: 0, got, want: key.top.root };
+    let other = HssVerdict::OtherRoot {
+        level: 0,
+        got,
+        want: key.top.root,
+    };
     assert!(rt; verdict_on(&key, 652, 0xec, 2732) == other);
     let got = Val::of(&[
-        0x4d, 0xf9, 0x38, 0x1c, 0xcd, 0x57, 0xe4, 0x3f, 0xbb, 0x0b, 0x26, 0x54, 0xb0, 0xf7, 0x44, 0xb7,
-        0x05, 0x7a, 0x13, 0x0d, 0x44, 0xfc, 0xf4, 0x21, 0x40, 0x8b, 0xf6, 0x3a, 0x6f, 0xe4, 0x0c, 0x11,
+        0x4d, 0xf9, 0x38, 0x1c, 0xcd, 0x57, 0xe4, 0x3f, 0xbb, 0x0b, 0x26, 0x54, 0xb0, 0xf7, 0x44,
+        0xb7, 0x05, 0x7a, 0x13, 0x0d, 0x44, 0xfc, 0xf4, 0x21, 0x40, 0x8b, 0xf6, 0x3a, 0x6f, 0xe4,
+        0x0c, 0x11,
     ]);
     let want = Val::of(&[
-        0x01, 0x3d, 0x8d, 0xb1, 0x39, 0xc2, 0xb0, 0x45, 0x3f, 0x35, 0x18, 0x5d, 0x73, 0xb4, 0x57, 0x6c,
-        0x0e, 0x28, 0xb9, 0x51, 0x3d, 0x83, 0x41, 0x29, 0x01, 0xbb, 0xa7, 0xaf, 0xef, 0x5d, 0x02, 0x93,
+        0x01, 0x3d, 0x8d, 0xb1, 0x39, 0xc2, 0xb0, 0x45, 0x3f, 0x35, 0x18, 0x5d, 0x73, 0xb4, 0x57,
+        0x6c, 0x0e, 0x28, 0xb9, 0x51, 0x3d, 0x83, 0x41, 0x29, 0x01, 0xbb, 0xa7, 0xaf, 0xef, 0x5d,
+        0x02, 0x93,
     ]);
-    assert!(rt; verdict_on(&key, 2172, 0x63, 2732) == HssVerdict::OtherRoot { level: 1, got, want });
+    assert!(rt;
+        verdict_on(&key, 2172, 0x63, 2732)
+            == HssVerdict::OtherRoot {
+                level: 1,
+                got,
+                want
+            }
+    );
 }
 
 /// How many bytes of the key, a place, the byte that is put there, and why that is no key.
@@ -73,7 +141,13 @@ const KEY_FAULTS: [(usize, usize, u8, HssKeyFault, u8); 5] = [
     (52, 3, 0, HssKeyFault::Levels { got: 0 }, 2),
     (52, 3, 9, HssKeyFault::Levels { got: 9 }, 2),
     (4, 0, 0, HssKeyFault::Key(KeyFault::Short), 3),
-    (51, 0, 0, HssKeyFault::Key(KeyFault::Length { got: 47, want: 48 }), 7),
+    (
+        51,
+        0,
+        0,
+        HssKeyFault::Key(KeyFault::Length { got: 47, want: 48 }),
+        7,
+    ),
 ];
 
 /// What is read from so many bytes of the key, with one byte changed.
@@ -97,8 +171,19 @@ fn two_levels_are_joined(rt: HostRuntime) -> Result<(), Fail> {
     let low_bytes = &SIGNATURE[LOW_KEY..LOW_SIGNATURE];
     let low = read_public(low_bytes).expect(&rt, "a key");
     let top_signature = &SIGNATURE[4..LOW_KEY];
-    assert!(rt; matches!(verify(&top, low_bytes, top_signature), Verdict::Accepted { .. }));
-    let (key, signature) = join_two(rt.alloc(), &top, top_signature, &low, &SIGNATURE[LOW_SIGNATURE..])?;
+    assert!(rt;
+        matches!(
+            verify(&top, low_bytes, top_signature),
+            Verdict::Accepted { .. }
+        )
+    );
+    let (key, signature) = join_two(
+        rt.alloc(),
+        &top,
+        top_signature,
+        &low,
+        &SIGNATURE[LOW_SIGNATURE..],
+    )?;
     assert!(rt; key.as_slice() == KEY.as_slice());
     assert!(rt; signature.as_slice() == SIGNATURE.as_slice());
     Ok(())
@@ -109,7 +194,10 @@ fn verdicts_and_faults_read_as_sentences(rt: HostRuntime) -> Result<(), Fail> {
     let accepted = HssVerdict::Accepted { levels: 2 };
     let text = format!(in rt.alloc(); "{accepted}")?;
     assert!(rt; text.as_str() == "accepted: 2 levels signed");
-    let malformed = HssVerdict::Malformed(HssFault::Sig { level: 1, fault: SigFault::Leaf { q: 32 } });
+    let malformed = HssVerdict::Malformed(HssFault::Sig {
+        level: 1,
+        fault: SigFault::Leaf { q: 32 },
+    });
     let text = format!(in rt.alloc(); "{malformed}")?;
     assert!(rt;
         text.as_str()
