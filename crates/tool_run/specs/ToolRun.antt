@@ -12,6 +12,7 @@ use Rattle.tool_journals.specs.Approve.{ApproveEnds}
 use Rattle.tool_journals.specs.Enrol.{EnrolEnds}
 use Rattle.tool_journals.specs.Migrate.{MigrateEnds}
 use Rattle.tool_run.specs.Drill.{DrillEnds}
+use Rattle.tool_run.specs.HssCheck.{HssCheckEnds}
 use Rattle.tool_run.specs.Rehearse.{RehearseEnds}
 use Rattle.tool_run.specs.Verify.{VerifyEnds}
 use Rattle.tool_service.specs.Trustee.{TrusteeRun}
