@@ -1,5 +1,5 @@
 -- What a session is run with.
-use Rattle.std.specs.Prelude.{◌≡◌, ◌≤◌, ℕ, List, length, None, IfSome, IsTrue}
+use Rattle.std.specs.Prelude.{◌≡◌, ◌+◌, ◌≤◌, ℕ, List, length, min, None, IfSome, IsTrue}
 use Rattle.std.specs.List.{sum_by}
 use Rattle.coalition_map.specs.Coalitions.{PlanNumbers, leaf_members}
 use Rattle.disk_trait.specs.declared.faults.Faults as faults
@@ -43,3 +43,12 @@ pub record OnlyDials (old new : PortState) : Type 0 where
 -- internal: the counts of faults of links together
 abbrev pub counts_of : List Talk → ℕ
 counts_of talks = sum_by (λ (talk : Talk). talk.count) talks
+
+-- how many of these links have counted a fault
+abbrev pub faulty_links : List Talk → ℕ
+faulty_links talks = sum_by (λ (talk : Talk). min talk.count 1) talks
+
+-- a count is at most this, and at most one more where a dial failed
+pub record RisesOnce (failed : Type 0) (before now : ℕ) : Type 0 where
+  pub once : now ≤ before + 1
+  pub same : (failed → ⊥) → now ≤ before

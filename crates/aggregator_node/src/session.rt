@@ -6,7 +6,7 @@ ghost use Rattle.std.specs.Vec.{vec_capacity, vec_len};
 ghost use Rattle.aggregator_node.specs.Faults.{LostBy};
 ghost use Rattle.aggregator_node.specs.Runs.{AskedAgain, First, HasCalled, HasRun, SameSession, Second, SignRun};
 ghost use Rattle.aggregator_node.specs.Runs.{bytes_in, first_frame, reads_of};
-ghost use Rattle.aggregator_node.specs.Tasks.{IsExact, IsTask, MayRun, OnlyDials, counts_of};
+ghost use Rattle.aggregator_node.specs.Tasks.{IsExact, IsTask, MayRun, OnlyDials, RisesOnce, counts_of, faulty_links};
 ghost use Rattle.coalition_map.specs.Coalitions.{leaf_members};
 ghost use Rattle.disk_trait.specs.Faults.{Rose};
 ghost use Rattle.reference_value.specs.Stay.{CellsOnward, CellsStay};
@@ -111,6 +111,8 @@ fn hang_up_all<P: Port>(port: &mut P, mut links: Vec<P::Link>)
         ≡ (P.state port.old).talks ++ map (λ link. P.Link.talk link) links.items }
     ensures count { counts_of (map (λ link. P.Link.talk link) links.items) ≢ 0
         → Rose (P.state port.old).count (P.state port.new).count }
+    ensures most { (P.state port.new).count ≤ (P.state port.old).count
+        + faulty_links (map (λ link. P.Link.talk link) links.items) }
     ensures onward { PortOnward (P.state port.old) (P.state port.new) }
     ensures accepting { (P.state port.new).accept_count ≡ (P.state port.old).accept_count }
 {
@@ -143,6 +145,7 @@ fn ask_all<R: Cells, P: Port>(
         (reads_of R.Cells.own R.Faults cells.old cells.new) task.now.message.now (P.state port.old) session.old
         (map (λ link. P.Link.talk link) links.new.items) session.new (bytes_in result) }
     ensures dialled { LostBy Why.DialFailed result → Rose (P.state port.old).count (P.state port.new).count }
+    ensures once { RisesOnce (LostBy Why.DialFailed result) (P.state port.old).count (P.state port.new).count }
     ensures reads { IsTrue (P.state port.old).steady → ¬ LostBy Why.ReadFailed result }
     ensures reference { result ≡ Err (SignFault.Session Reference) → Rose (R.count cells.old) (R.count cells.new) }
     ensures succeeds { IsExact R.Cells.own R.Faults cells.old → result ≢ Err (SignFault.Session Reference) }
@@ -178,6 +181,7 @@ fn dial_all<R: Cells, P: Port>(
     ensures whole { OnOk result ((vec_len links.new ≡ length task.now.members.now)
         ⊎ (AreMasks session.new.first → ⊥)) }
     ensures dialled { LostBy Why.DialFailed result → Rose (P.state port.old).count (P.state port.new).count }
+    ensures once { RisesOnce (LostBy Why.DialFailed result) (P.state port.old).count (P.state port.new).count }
     ensures reads { IsTrue (P.state port.old).steady → ¬ LostBy Why.ReadFailed result }
     ensures steady { IsTrue (P.state port.old).steady → All (λ link. IsTrue (P.Link.steady link)) links.new.items }
     ensures port { OnlyDials (P.state port.old) (P.state port.new) }
@@ -213,6 +217,7 @@ fn dial_member<R: Cells, P: Port>(
         (P.state port.old) (P.state port.new) (map (λ link. P.Link.talk link) links.old.items)
         (map (λ link. P.Link.talk link) links.new.items) result }
     ensures dialled { LostBy Why.DialFailed result → Rose (P.state port.old).count (P.state port.new).count }
+    ensures once { RisesOnce (LostBy Why.DialFailed result) (P.state port.old).count (P.state port.new).count }
     ensures reads { IsTrue (P.state port.old).steady → ¬ LostBy Why.ReadFailed result }
     ensures steady { IsTrue (P.state port.old).steady → All (λ link. IsTrue (P.Link.steady link)) links.old.items
         → All (λ link. IsTrue (P.Link.steady link)) links.new.items }

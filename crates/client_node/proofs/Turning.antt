@@ -103,7 +103,7 @@ module _ {D : Type 0} {p : pages.Ghosts D} {f : faults.Ghosts D} where
   sure table none = (holds table).cause none
 
   pub one_lease : (table : Table D p f) → OneLease (state_of table).entries
-  one_lease table = (holds table).one_lease
+  one_lease table = (holds table).one_lease _ (inl refl)
 
   -- the plan of the table that was taken
   pub plan-of : (plan : PlanNumbers) (name : Option TableName) (table : Table D p f) → Some (name_of table) ≡ name → IfSome name (λ n. n.plan ≡ plan) → plan_of table ≡ plan

@@ -85,8 +85,8 @@ module _ (desk : DeskState) (asked : ℕ) where
     ends-by : worker.post.pass.greatest < 2 ^ 62 → WorkEnds asked worker → PortEnds asked (length done.worked.served) place.port worker.post.port
     ends-by small (served_all all sound) = full (sym done.worked.connections ∙ all) (sound-same sound)
     ends-by small (no_further waits sound) = none_waits (λ told. waits (onward.told ∙ told)) (sound-same sound)
-    ends-by small (accept_failed is) =
-        failed (let rose = done.worked.accepts.rose is in let was = ap (λ (p : PortState). p.accept_count) port-was in omega (arith, rose, was))
+    ends-by small (accept_failed is unsteady) =
+        failed (let rose = done.worked.accepts.rose is in let was = ap (λ (p : PortState). p.accept_count) port-was in omega (arith, rose, was)) unsteady
     ends-by small (pass_worn is sound) = absurd (let large = done.worked.worn is in omega (arith, large, small))
 
     port-run : worker.post.pass.greatest < 2 ^ 62 → IsPortRun desk asked lock.name lock.opening_log worker.post.pass.log run

@@ -84,5 +84,5 @@ pub record Worked (desk : DeskState) (old new : WorkerState) : Type 0 where
 pub data WorkEnds (asked : ℕ) (new : WorkerState) : Type 0 where
   served_all : new.connections ≡ asked → new.failed ≡ false → WorkEnds asked new
   no_further : (IsTrue new.post.port.told → new.post.port.waiting ≡ 0) → new.failed ≡ false → WorkEnds asked new
-  accept_failed : new.failed ≡ true → WorkEnds asked new
+  accept_failed : new.failed ≡ true → (IsTrue new.post.port.steady → ⊥) → WorkEnds asked new
   pass_worn : new.worn ≡ true → new.failed ≡ false → WorkEnds asked new

@@ -51,6 +51,7 @@ impl FaultCount {
     pub fn fail(&mut self) -> Failed
         ensures rose { Rose self.old self.new }
         ensures later { self.old ≤ self.new }
+        ensures once { self.new ≤ self.old + 1 }
     {
         self.add(1);
         Failed
@@ -58,7 +59,8 @@ impl FaultCount {
 
     /// Counts a fault where that is so.
     pub fn add_where(&mut self, failed: bool)
-        ensures { RisesWhere (IsTrue failed) self.old self.new }
+        ensures rises { RisesWhere (IsTrue failed) self.old self.new }
+        ensures once { self.new ≤ self.old + 1 }
     {
         if failed {
             self.add(1);

@@ -1,17 +1,20 @@
 -- What holds of every leaf table.
-use Rattle.std.proofs.Common.{◌≡◌, ◌<◌, ℕ, List, length, inl, inr, sym, ◌∙◌, ap, subst, arith}
+use Rattle.std.proofs.Common.{◌≡◌, ◌<◌, ℕ, List, Some, length, inl, inr, sym, ◌∙◌, ap, subst, arith}
 use Rattle.std.proofs.lemmas.List.{length-set}
 use Rattle.disk_trait.specs.declared.disk.Pages as pages
 use Rattle.disk_trait.specs.declared.faults.Faults as faults
-use Rattle.leaf_table.specs.Entries.{map_of}
+use Rattle.leaf_table.specs.Entries.{Follows, OneLease, map_of, may_follow}
 use Rattle.leaf_table.specs.Loading.{IsTableFile}
 use Rattle.leaf_table.specs.Slots.{HasEntries, use_of_slot}
-use Rattle.leaf_table.specs.State.{IsSound, StandsFor, lease_of, state_with}
-use Rattle.leaf_table.specs.Table.{Holds, Keeps, header_of}
+use Rattle.leaf_table.specs.Runs.{KeepsOneLease}
+use Rattle.leaf_table.specs.State.{IsSound, StandsFor, TableState, lease_of, state_with}
+use Rattle.leaf_table.specs.Table.{Holds, Keeps, header_of, state_of}
 use Rattle.leaf_table.specs.declared.lease.Lease.{Lease}
 use Rattle.leaf_table.specs.declared.table.Table.{Table}
-use Rattle.leaf_table.proofs.Sound.{have-made, leaf_of-lease}
+use Rattle.leaf_table.proofs.Legal.{legal-more}
+use Rattle.leaf_table.proofs.Sound.{have-made, leaf_of-lease, may-follow}
 use Rattle.slot_cache.specs.State.{CacheState, HasSlots, StandsFor as CacheStandsFor, slot_in, with_made}
+use Rattle.slot_cache.specs.declared.doubted.Doubted.{Doubted}
 use Rattle.slot_cache.specs.Cache.{state_of as cache_state}
 use Rattle.slot_cache.proofs.Held.{holds as cache_holds}
 use Rattle.slot_file.specs.Copies.{is_damaged}
@@ -56,6 +59,19 @@ stands header cache entries file version sound stands_for = elim stands_for [
       )
 ]
 
+follows-doubted : (state : TableState) (d : Doubted) → IsSound state → state.doubt ≡ Some d → Follows state.entries (lease_of d)
+follows-doubted state d sound is =
+    let own = leaf_of-lease d.slot d.after in
+    let there = sound.slots d.slot (sound.within d is) in
+    ap (λ (k : ℕ). may_follow (lease_of d) (map_of state.entries k)) own ∙ ap (may_follow (lease_of d)) (sym there)
+    ∙ may-follow (lease_of d) (slot_in state.slots d.slot) d.after (sound.next d is) (sound.makes d is)
+
+-- the entry in doubt may follow too
+keeps-sound : (state : TableState) → IsSound state → KeepsOneLease state
+keeps-sound state sound settled (inl same) = subst (λ (s : TableState). OneLease s.entries) (sym same) sound.legal
+keeps-sound state sound settled (inr made) =
+    subst (λ (s : TableState). OneLease s.entries) (sym made.2) (legal-more state.entries (lease_of made.0) sound.legal (follows-doubted state made.0 sound made.1))
+
 module _ {D : Type 0} {p : pages.Ghosts D} {f : faults.Ghosts D} (table : Table D p f) where
   keeps : (file : List ℕ) → CacheStandsFor (header_of table) (cache_state table.slots) file → Keeps table file
   keeps file stands_for =
@@ -73,5 +89,5 @@ module _ {D : Type 0} {p : pages.Ghosts D} {f : faults.Ghosts D} (table : Table 
         reads = λ told. keeps _ (cache.reads told);
         images = λ told honest image leaves. keeps image (cache.images told honest image leaves);
         cause = cache.cause;
-        one_lease = table.sound.legal;
+        one_lease = keeps-sound (state_of table) table.sound;
       }

@@ -4,7 +4,7 @@ use Rattle.coalition_map.specs.Coalitions.{PlanNumbers}
 use Rattle.disk_trait.specs.declared.disk.Pages as pages
 use Rattle.disk_trait.specs.declared.faults.Faults as faults
 use Rattle.leaf_table.specs.Loading.{IsTableFile}
-use Rattle.leaf_table.specs.Entries.{OneLease}
+use Rattle.leaf_table.specs.Runs.{KeepsOneLease}
 use Rattle.leaf_table.specs.State.{StandsFor, TableState, state_with}
 use Rattle.leaf_table.specs.declared.faults.TableFault.{TableFault}
 use Rattle.leaf_table.specs.declared.faults.TableFault.TheVariants.{Damaged, Device}
@@ -44,13 +44,14 @@ module _ {D : Type 0} {p : pages.Ghosts D} {f : faults.Ghosts D} where
     pub stands : StandsFor file (state_of table)
 
   -- What holds of every table: what a read gives and each image that a crash may leave is a file that loads and stands
-  -- for it, an entry is in doubt only where a call of the disk has failed, and each entry may follow those before it.
+  -- for it, an entry is in doubt only where a call of the disk has failed, and each entry may follow those before it,
+  -- the one in doubt too.
   pub record Holds (table : Table D p f) : Type 0 where
     pub reads : IsTold table → Keeps table (p.reads (disk_of table))
     pub images : IsTold table → IsHonest table → (image : List ℕ) → p.may_leave (disk_of table) image
         → Keeps table image
     pub cause : faults_of table ≡ 0 → (state_of table).doubt ≡ None
-    pub one_lease : OneLease (state_of table).entries
+    pub one_lease : KeepsOneLease (state_of table)
 
   -- what no call changes
   pub record Stays (old new : Table D p f) : Type 0 where

@@ -1,6 +1,6 @@
 -- What ports and nets are in one state, and what their calls make of them.
 use Rattle.std.specs.Prelude.{◌≡◌, ◌≢◌, ◌+◌, ◌-◌, ◌++◌, ◌≤◌, ℕ, Bool, false, List, [], ◌∷◌, length, Option, Some, None}
-use Rattle.std.specs.Prelude.{IsTrue, All, ⊤}
+use Rattle.std.specs.Prelude.{IsTrue, All, min, ⊤}
 use Rattle.std.specs.Str.{bytes_eq}
 use Rattle.stream_io.specs.Store.{RisesWhere}
 use Rattle.stream_io.specs.Talk.{Talk}
@@ -63,9 +63,10 @@ pub record Dials (old : PortState) (place : List ℕ) (talk : Talk) (steady : Bo
       → new.reaches other ≡ old.reaches other
   pub talks : new.talks ≡ old.talks
 
--- A link was hung up, and its conversation is kept. The count rises where the link's is not 0.
+-- A link was hung up, and its conversation is kept. The count rises where the link's is not 0, by one.
 pub record HangsUp (old : PortState) (talk : Talk) (new : PortState) : Type 0 where
   pub count : RisesWhere (talk.count ≢ 0) old.count new.count
+  pub once : new.count ≤ old.count + min talk.count 1
   pub accept_count : new.accept_count ≡ old.accept_count
   pub waiting : new.waiting ≡ old.waiting
   pub reaches : new.reaches ≡ old.reaches

@@ -1,6 +1,6 @@
 //! Ports, at which links are accepted and from which others are dialled.
 
-ghost use Rattle.std.specs.Prelude.{◌≡◌, ◌≢◌, ◌↔◌, None, false, IsTrue, IfOk, OnErr};
+ghost use Rattle.std.specs.Prelude.{◌≡◌, ◌≢◌, ◌↔◌, ◌+◌, ◌≤◌, None, false, IsTrue, IfOk, OnErr};
 ghost use Rattle.disk_trait.specs.Faults.{HasCause};
 ghost use Rattle.stream_io.specs.Net.{Accepts, Dials, HangsUp, PortOnward, PortState, SameLinks};
 ghost use Rattle.stream_io.specs.Store.{RisesWhere};
@@ -49,7 +49,7 @@ pub trait Port: Faults {
         ensures succeeds { IsTrue (state self.old).steady → result ≢ Accepted.Failed }
         ensures onward { PortOnward (state self.old) (state self.new) };
 
-    /// Dials a place. It fails where nobody is there to be dialled.
+    /// Dials a place. It fails where nobody is there to be dialled, and counts that once.
     fn dial(&mut self, place: &str) -> Result<Self::Link, Failed>
         ensures link { IfOk result (λ link. Dials (state self.old) place.now (Self.Link.talk link)
             (Self.Link.steady link) (state self.new)) }
@@ -57,6 +57,7 @@ pub trait Port: Faults {
         ensures nobody { IsTrue (state self.old).told → IsTrue (state self.old).steady
             → OnErr result ((state self.old).reaches place.now ≡ false) }
         ensures cause { HasCause (state self.old).count (state self.new).count result }
+        ensures once { (state self.new).count ≤ (state self.old).count + 1 }
         ensures accepting { (state self.new).accept_count ≡ (state self.old).accept_count }
         ensures onward { PortOnward (state self.old) (state self.new) };
 

@@ -46,5 +46,5 @@ module _ {X P : Type 0} (c : cells.Ghosts X) (f : faults.Ghosts X) (state : P �
       })
   net_ends (Err none) end many made serves kept deaf refused back ends =
       rw ends (no_memory (refused.0, refused.2)
-      (heard_new net.before net.after (Some words.place) (map state ports_old) made
+      (heard_new net.before net.after words.place (map state ports_old) made
       (λ told. kept told ∙ ap (λ (l : List PortState). net.before.kept ++ l) (back refused.1))))

@@ -22,15 +22,15 @@ use Rattle.tool_words.specs.Words.{AggregateWords}
 -- At every other end nobody was heard.
 pub data TableEnds (words : AggregateWords) (store : StoreRun) (net : NetRun) (desk : DeskState)
     (Serves : Ending → Type 0) : Ending → List (List ℕ) → Type 0 where
-  no_memory : (touched : List (List ℕ)) → HeardNobody net.before net.after → All (Stays store) touched
+  no_memory : (touched : List (List ℕ)) → HeardNobody words.place net.before net.after → All (Stays store) touched
       → TableEnds words store net desk Serves ending.NoMemory touched
-  no_table : IsRead store words.table Failed → HeardNobody net.before net.after
+  no_table : IsRead store words.table Failed → HeardNobody words.place net.before net.after
       → TableEnds words store net desk Serves ending.StoreFailed []
   not_loaded : (end : Ending) → FailsToLoad (table_header desk.key) (2 ^ desk.plan.h) store words.table end
-      → HeardNobody net.before net.after → Stays store words.table
+      → HeardNobody words.place net.before net.after → Stays store words.table
       → TableEnds words store net desk Serves end (words.table ∷ [])
   no_ports : (entries : List Lease) → ReadsAs store words.table (IsTable (table_header desk.key) desk.plan entries)
-      → HeardNobody net.before net.after → Rose net.before.port_count net.after.port_count
+      → HeardNobody words.place net.before net.after → Rose net.before.port_count net.after.port_count
       → (IsTrue net.before.told → IsTrue net.before.steady → net.before.offers words.place ≡ false)
       → Stays store words.table → TableEnds words store net desk Serves ending.NetFailed (words.table ∷ [])
   served : (end : Ending) → Serves end

@@ -78,9 +78,9 @@ pub record HaveCells {X : Type 0} (c : cells.Ghosts X) (f : faults.Ghosts X) (ol
 -- is as it was
 pub data NetEnds {X : Type 0} (c : cells.Ghosts X) (f : faults.Ghosts X) (words : AggregateWords) (desk : DeskState)
     (same : Type 0) (old new : TableSeen) (olds news : List X) (net : NetRun) : Ending → Type 0 where
-  no_memory : same → HeardNobody net.before net.after
+  no_memory : same → HeardNobody words.place net.before net.after
       → NetEnds c f words desk same old new olds news net ending.NoMemory
-  no_ports : same → HeardNobody net.before net.after → Rose net.before.port_count net.after.port_count
+  no_ports : same → HeardNobody words.place net.before net.after → Rose net.before.port_count net.after.port_count
       → (IsTrue net.before.told → IsTrue net.before.steady → net.before.offers words.place ≡ false)
       → NetEnds c f words desk same old new olds news net ending.NetFailed
   served : (places_old places_new : List Place) (end : Ending) → HaveCells c f olds news places_old places_new

@@ -7,6 +7,7 @@ use Rattle.stream_io.specs.Net.{NetState}
 use Rattle.stream_io.specs.Store.{StoreState}
 use Rattle.stream_io.specs.declared.call_fault.CallFault.{CallFault}
 use Rattle.stream_io.specs.declared.call_fault.CallFault.TheVariants as call
+use Rattle.tool_base.specs.Heard.{HeardNobody}
 use Rattle.tool_base.specs.Ending.{Ending}
 use Rattle.tool_base.specs.Touched.{EndsTouching}
 use Rattle.tool_base.specs.World.{IsCalm, TimeState, from_to}
@@ -15,7 +16,7 @@ use Rattle.tool_disks.specs.Loads.{FailsToLoad, ReadsAs}
 use Rattle.tool_disks.proofs.Outs.{IsBackAs, ends_calm, keeps_calm}
 use Rattle.tool_disks.specs.Headers.{book_header}
 use Rattle.tool_service.specs.Journals.{IsBook, book, no_book}
-use Rattle.tool_service.specs.Nets.{HeardNobody, NetEnds}
+use Rattle.tool_service.specs.Nets.{NetEnds}
 use Rattle.tool_service.specs.Services.{BookEnds, StaysThere, absent, end_of_call, no_memory, not_loaded, with_book}
 use Rattle.tool_words.specs.Words.{TrusteeWords}
 use Rattle.trustee_service.specs.Trustees.{TrusteeState}
@@ -37,13 +38,13 @@ module _ (words : TrusteeWords) (share : Share) (same : Type 0) (old new : Trust
     ends = BookEnds words share same old new (record { store = a; net = net_old; time = time }) (record { store = c; net = net_new; time = later })
 
     -- its disk was not handed out
-    pub run_absent : HeardNobody net_old net_new → (fault : CallFault) (end : Ending) → end ≡ end_of_call fault → same → IsCalm a c
+    pub run_absent : HeardNobody words.place net_old net_new → (fault : CallFault) (end : Ending) → end ≡ end_of_call fault → same → IsCalm a c
         → (fault ≡ call.Failed → Rose a.count c.count) → (fault ≡ call.Failed → IsTrue a.told → IsTrue a.steady → a.file name ≡ None)
         → EndsTouching ends (from_to a c) end
     run_absent heard call.Failed end ended kept calm rose gone = rw ended (ends_calm a c calm ends _ (absent name is kept heard (rose refl, gone refl)))
     run_absent heard call.NoMemory end ended kept calm rose gone = rw ended (ends_calm a c calm ends _ (no_memory kept heard))
 
-    pub run_refused : HeardNobody net_old net_new → (now : PagesState) (end : Ending) → same → IsBackAs a name now c → StaysThere (from_to a c) name
+    pub run_refused : HeardNobody words.place net_old net_new → (now : PagesState) (end : Ending) → same → IsBackAs a name now c → StaysThere (from_to a c) name
         → FailsToLoad (book_header share) 1024 (from_to a c) name end → EndsTouching ends (from_to a c) end
     run_refused heard now end kept back stays fails =
         record { touched = name ∷ []; cause = not_loaded name end is kept heard fails stays; keeps = back.keeps }

@@ -6,7 +6,7 @@ use Rattle.disk_trait.specs.declared.disk.Pages as pages
 use Rattle.disk_trait.specs.declared.faults.Faults as faults
 use Rattle.lms_bytes.specs.declared.params.Params.{Params}
 use Rattle.opening_journal.specs.Journal.{Holds, Keeps, disk_of, header_of, params_of, state_of}
-use Rattle.opening_journal.specs.Entries.{StandsFor}
+use Rattle.opening_journal.specs.Entries.{HasEntries, StandsFor}
 use Rattle.opening_journal.specs.Loading.{IsJournalFile}
 use Rattle.opening_journal.specs.declared.journal.Journal.{Journal}
 use Rattle.share_files.specs.declared.share.Share.{Share}
@@ -22,7 +22,7 @@ use Rattle.tool_disks.specs.Disks.{Stays}
 use Rattle.tool_disks.proofs.Outs.{keeps_calm}
 use Rattle.tool_service.specs.Journals.{LeavesJournal, StandsAs}
 use Rattle.tool_base.proofs.Nets.{net_none}
-use Rattle.tool_service.proofs.Serving.{heard_none}
+use Rattle.tool_base.proofs.Heard.{heard_none}
 use Rattle.tool_service.specs.Services.{end_of_call}
 use Rattle.tool_service.specs.Trustee.{TrusteeEnds, TrusteeRun, no_journal, no_memory, no_share}
 use Rattle.tool_words.specs.Words.{TrusteeWords}
@@ -35,6 +35,13 @@ module _ {D : Type 0} {p : pages.Ghosts D} {f : faults.Ghosts D} (share : Share)
     loads = subst (λ h. IsJournalFile h (2 ^ share.params.h) file) header_is (subst (λ (q : Params). IsJournalFile (header_of journal) (2 ^ q.h) file) params_is keeps.loads);
     stands = subst (λ (q : Params). StandsFor q.n (2 ^ q.h) file (state_of journal)) params_is keeps.stands;
   }
+
+  -- a journal with no entry in doubt whose file this is has its entries there
+  pub has_entries : (file : List ℕ) → (state_of journal).doubt ≡ None → Keeps journal file → HasEntries share.params.n (2 ^ share.params.h) file (state_of journal).entries
+  has_entries file none keeps = elim (stands_as file keeps).stands [
+    | inl has ↦ has
+    | inr made ↦ absurd (let some = made.1 in cc)
+  ]
 
   pub leaves_journal : (a e : StoreState) (name : List ℕ) (disk : D) → disk ≡ disk_of journal → (IsTrue a.told → IsTrue (p.told disk))
       → (IsTrue a.told → IsTrue (a.disks name).honest → IsTrue (p.honest disk)) → (IsTrue a.told → e.file name ≡ Some (p.reads disk))
@@ -60,11 +67,11 @@ module _ (words : TrusteeWords) (a c : StoreState) (net : NetState) (time : Time
   run_calm end ends = record { touched = []; ends = ends; keeps = keeps_calm [] a c calm; net = net_none net; time = refl }
 
   pub run_unread : (end : Ending) → (end ≡ ending.NoMemory) ⊎ FailsGrammar share_fault_number (from_to a c) words.share end → TrusteeRun words before after end
-  run_unread end (inl is) = run_calm end (rw is (no_memory [] (heard_none net net refl) (All-nil (Stays (from_to a c)))))
-  run_unread end (inr fails) = run_calm end (no_share end fails (heard_none net net refl))
+  run_unread end (inl is) = run_calm end (rw is (no_memory [] (heard_none words.place net net refl) (All-nil (Stays (from_to a c)))))
+  run_unread end (inr fails) = run_calm end (no_share end fails (heard_none words.place net net refl))
 
   pub run_untaken : (share : Share) (fault : CallFault) (end : Ending) → end ≡ end_of_call fault → IsShareRead (from_to a c) words.share share
       → (fault ≡ call.Failed → Rose a.count c.count) → (fault ≡ call.Failed → IsTrue a.told → IsTrue a.steady → a.file words.journal ≡ None)
       → TrusteeRun words before after end
-  run_untaken share call.Failed end is read rose gone = run_calm end (rw is (no_journal share read (rose refl, gone refl) (heard_none net net refl)))
-  run_untaken share call.NoMemory end is read rose gone = run_calm end (rw is (no_memory [] (heard_none net net refl) (All-nil (Stays (from_to a c)))))
+  run_untaken share call.Failed end is read rose gone = run_calm end (rw is (no_journal share read (rose refl, gone refl) (heard_none words.place net net refl)))
+  run_untaken share call.NoMemory end is read rose gone = run_calm end (rw is (no_memory [] (heard_none words.place net net refl) (All-nil (Stays (from_to a c)))))

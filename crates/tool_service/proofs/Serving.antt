@@ -8,6 +8,7 @@ use Rattle.disk_trait.specs.Faults.{Rose}
 use Rattle.memory.specs.declared.NoMemory.{NoMemory}
 use Rattle.share_files.specs.declared.share.Share.{Share}
 use Rattle.stream_io.specs.Net.{IsNewPort, NetState, PortState, SomeUnaccepted}
+use Rattle.tool_base.proofs.Heard.{heard_new}
 use Rattle.tool_base.specs.Ending.{Ending}
 use Rattle.tool_base.specs.World.{TimeState}
 use Rattle.tool_words.specs.Words.{TrusteeWords}
@@ -16,7 +17,7 @@ use Rattle.opening_journal.specs.declared.entry.Entry.{Entry}
 use Rattle.trustee_service.specs.Ports.{IsPortRun, PortEnds, PortRun, ServedPorts, failed, full, none_waits}
 use Rattle.trustee_service.specs.Trustees.{TrusteeState}
 use Rattle.trustee_service.specs.declared.totals.Totals.{Totals}
-use Rattle.tool_service.specs.Nets.{HasAccepted, HeardNobody, IsNewClock, NetEnds, ServiceEnds, no_memory, served}
+use Rattle.tool_service.specs.Nets.{HasAccepted, IsNewClock, NetEnds, ServiceEnds, no_memory, served}
 
 or_false : (a b : Bool) → (a || b) ≡ false → (a ≡ false) × (b ≡ false)
 or_false true b is = absurd (false≢true (sym is))
@@ -32,20 +33,6 @@ none_accepted n is = let few = ltb-false 0 n is in omega (arith, few)
 some_accepted : (n : ℕ) → nat_lt 0 n ≡ true → n ≡ 0 → ⊥
 some_accepted zero is none = false≢true is
 some_accepted (suc n) is none = omega (arith, none)
-
-silent_ports : (net : NetState) (place : Option (List ℕ)) (ports : List PortState) → All (IsNewPort net place) ports → All (λ port. port.talks ≡ []) ports
-silent_ports net place [] new = All-nil (λ port. port.talks ≡ [])
-silent_ports net place (port ∷ ports) new =
-    All-cons (λ port. port.talks ≡ []) port ports (All-head (IsNewPort net place) port ports new).talks (silent_ports net place ports (All-tail (IsNewPort net place) port ports new))
-
--- ports came back as they were made
-pub heard_new : (old new : NetState) (place : Option (List ℕ)) (ports : List PortState) → All (IsNewPort old place) ports
-    → (IsTrue old.told → new.kept ≡ old.kept ++ ports) → HeardNobody old new
-heard_new old new place ports made kept = record { ports = ports; kept = kept; silent = silent_ports old place ports made }
-
--- no port came back
-pub heard_none : (old new : NetState) → new.kept ≡ old.kept → HeardNobody old new
-heard_none old new is = record { ports = []; kept = λ told. is ∙ sym (append-nil old.kept); silent = All-nil (λ port. port.talks ≡ []) }
 
 module _ {P : Type 0} (state : P → PortState) where
   -- whether a port failed to accept
@@ -121,7 +108,7 @@ module _ (words : TrusteeWords) (share : Share) (ids : Option (List (List ℕ)))
         (subst (All (IsNewPort net_old (Some words.place))) (sym serves.before) made));
   })
   net_ends ports_old ports_new clocks (Err none) end many made dated serves kept deaf rest refused back ends =
-      rw ends (no_memory refused.0 (heard_new net_old net_new (Some words.place) ports_old made (λ told. kept told ∙ ap (λ l. net_old.kept ++ l) (back refused.1))))
+      rw ends (no_memory refused.0 (heard_new net_old net_new words.place ports_old made (λ told. kept told ∙ ap (λ l. net_old.kept ++ l) (back refused.1))))
 
   pub ports_many : {P : Type 0} (state : P → PortState) (ports_old ports_new : List P) (clocks : List ClockState) (totals : Result Totals NoMemory)
       → IfOk totals (λ totals. ServedPorts share ids words.connections old new (map state ports_old) (map state ports_new) clocks totals)

@@ -25,7 +25,7 @@ use Rattle.tool_words.specs.Words.{TrusteeWords}
 use Rattle.trustee_core.specs.Trustee.{journal_header}
 use Rattle.trustee_service.specs.Trustees.{TrusteeState}
 use Rattle.tool_base.proofs.Nets.{net_none}
-use Rattle.tool_service.proofs.Serving.{heard_none}
+use Rattle.tool_base.proofs.Heard.{heard_none}
 
 module _ (words : TrusteeWords) (a e : StoreState) (net : NetState) (time : TimeState) where
   -- the journal was not loaded
@@ -35,7 +35,7 @@ module _ (words : TrusteeWords) (a e : StoreState) (net : NetState) (time : Time
       → TrusteeRun words (record { store = a; net = net; time = time }) (record { store = e; net = net; time = time }) end
   run_refused share end read fails stays now back = record {
     touched = words.journal ∷ [];
-    ends = trustee.journal_not_loaded share end read fails stays (heard_none net net refl);
+    ends = trustee.journal_not_loaded share end read fails stays (heard_none words.place net net refl);
     keeps = back.keeps;
     net = net_none net;
     time = refl;

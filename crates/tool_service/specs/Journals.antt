@@ -1,7 +1,7 @@
 -- Journals and books of a service, by their files.
 use Rattle.std.specs.Prelude.{◌≡◌, ◌↔◌, ◌^◌, ℕ, List, length, Option, Some, None, IsTrue, Contains}
 use Rattle.approval_book.specs.Listed.{is_listed}
-use Rattle.opening_journal.specs.Entries.{IsLegalList, JournalState, StandsFor}
+use Rattle.opening_journal.specs.Entries.{HasEntries, IsLegalList, JournalState, StandsFor}
 use Rattle.opening_journal.specs.Opening.{SettlesTo}
 use Rattle.opening_journal.specs.Loading.{IsJournalFile, entries_of_file}
 use Rattle.opening_journal.specs.declared.entry.Entry.{Entry}
@@ -17,6 +17,7 @@ use Rattle.trustee_core.specs.Trustee.{journal_header}
 pub record IsJournal (share : Share) (entries : List Entry) (file : List ℕ) : Type 0 where
   pub loads : IsJournalFile (journal_header share) (2 ^ share.params.h) file
   pub entries_are : entries ≡ entries_of_file share.params.n (2 ^ share.params.h) file
+  pub has : HasEntries share.params.n (2 ^ share.params.h) file entries
 
 -- the journal of this share's trustee, which stands for this state
 pub record StandsAs (share : Share) (state : JournalState) (file : List ℕ) : Type 0 where
@@ -24,7 +25,7 @@ pub record StandsAs (share : Share) (state : JournalState) (file : List ℕ) : T
   pub stands : StandsFor share.params.n (2 ^ share.params.h) file state
 
 -- The journal of this name stands for this state at the end, in each image that a crash may leave too. Each of its
--- entries may follow those before.
+-- entries may follow those before, the one in doubt too.
 pub record LeavesJournal (store : StoreRun) (name : List ℕ) (share : Share) (state : JournalState) : Type 0 where
   pub file : List ℕ
   pub is_read : IsTrue store.before.told → store.after.file name ≡ Some file

@@ -1,4 +1,6 @@
 pub mod Journals
+pub mod Lives
 pub mod Nets
 pub mod Services
+pub mod Steady
 pub mod Trustee

@@ -7,6 +7,7 @@ use Rattle.share_files.specs.declared.share.Share.{Share}
 use Rattle.stream_io.specs.Net.{IsNewPort, NetState, PortState, SomeUnaccepted}
 use Rattle.tool_base.specs.Ending as ending
 use Rattle.tool_base.specs.Ending.{Ending}
+use Rattle.tool_base.specs.Heard.{HeardNobody}
 use Rattle.tool_base.specs.World.{TimeState}
 use Rattle.tool_words.specs.Words.{TrusteeWords}
 use Rattle.trustee_node.specs.Workers.{ClockState}
@@ -18,12 +19,6 @@ use Rattle.trustee_service.specs.declared.totals.Totals.{Totals}
 pub record IsNewClock (time : TimeState) (clock : ClockState) : Type 0 where
   pub told : IsTrue time.told → IsTrue clock.told
   pub answers : IsTrue time.told → (j : ℕ) → clock.answers j ≡ time.answers j
-
--- nobody was heard: the ports that were given back have no conversations
-pub record HeardNobody (old new : NetState) : Type 0 where
-  pub ports : List PortState
-  pub kept : IsTrue old.told → new.kept ≡ old.kept ++ ports
-  pub silent : All (λ port. port.talks ≡ []) ports
 
 -- a port that did not fail to accept
 abbrev pub HasAccepted : PortState → Type 0
@@ -55,8 +50,9 @@ pub record ServedNet (words : TrusteeWords) (share : Share) (ids : Option (List 
 -- How service over a net ends: the trustee was served, or no ports were had and it is as it was.
 pub data NetEnds (words : TrusteeWords) (share : Share) (ids : Option (List (List ℕ))) (same : Type 0)
     (old new : TrusteeState) (net_old net_new : NetState) (time : TimeState) : Ending → Type 0 where
-  no_memory : same → HeardNobody net_old net_new → NetEnds words share ids same old new net_old net_new time ending.NoMemory
-  no_ports : same → HeardNobody net_old net_new → Rose net_old.port_count net_new.port_count
+  no_memory : same → HeardNobody words.place net_old net_new
+      → NetEnds words share ids same old new net_old net_new time ending.NoMemory
+  no_ports : same → HeardNobody words.place net_old net_new → Rose net_old.port_count net_new.port_count
       → (IsTrue net_old.told → IsTrue net_old.steady → net_old.offers words.place ≡ false)
       → NetEnds words share ids same old new net_old net_new time ending.NetFailed
   served : (end : Ending) → ServedNet words share ids old new net_old net_new time end

@@ -5,12 +5,13 @@ use Rattle.stream_io.specs.declared.call_fault.CallFault.{CallFault}
 use Rattle.stream_io.specs.declared.call_fault.CallFault.TheVariants as call
 use Rattle.tool_base.specs.Ending as ending
 use Rattle.tool_base.specs.Ending.{Ending}
+use Rattle.tool_base.specs.Heard.{HeardNobody}
 use Rattle.tool_base.specs.World.{Failed, IsRead, Outside, StoreRun, from_to}
 use Rattle.tool_disks.specs.Disks.{Stays}
 use Rattle.tool_disks.specs.Loads.{FailsToLoad}
 use Rattle.tool_disks.specs.Headers.{book_header}
 use Rattle.tool_service.specs.Journals.{HasBook}
-use Rattle.tool_service.specs.Nets.{HeardNobody, NetEnds}
+use Rattle.tool_service.specs.Nets.{NetEnds}
 use Rattle.tool_words.specs.Words.{TrusteeWords}
 use Rattle.trustee_service.specs.Trustees.{TrusteeState}
 
@@ -28,11 +29,13 @@ pub record StaysThere (store : StoreRun) (name : List ℕ) : Type 0 where
 -- internal: how a service ends once the journal is loaded, with the names that it touched beside the journal's
 pub data BookEnds (words : TrusteeWords) (share : Share) (same : Type 0) (old new : TrusteeState)
     (before after : Outside) : Ending → List (List ℕ) → Type 0 where
-  absent : (name : List ℕ) → words.book ≡ Some name → same → HeardNobody before.net after.net
+  absent : (name : List ℕ) → words.book ≡ Some name → same → HeardNobody words.place before.net after.net
       → IsRead (from_to before.store after.store) name Failed
       → BookEnds words share same old new before after ending.StoreFailed []
-  no_memory : same → HeardNobody before.net after.net → BookEnds words share same old new before after ending.NoMemory []
-  not_loaded : (name : List ℕ) (end : Ending) → words.book ≡ Some name → same → HeardNobody before.net after.net
+  no_memory : same → HeardNobody words.place before.net after.net
+      → BookEnds words share same old new before after ending.NoMemory []
+  not_loaded : (name : List ℕ) (end : Ending) → words.book ≡ Some name → same
+      → HeardNobody words.place before.net after.net
       → FailsToLoad (book_header share) 1024 (from_to before.store after.store) name end
       → StaysThere (from_to before.store after.store) name
       → BookEnds words share same old new before after end (name ∷ [])

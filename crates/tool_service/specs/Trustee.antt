@@ -10,13 +10,14 @@ use Rattle.stream_io.specs.Store.{Handed}
 use Rattle.tool_base.specs.Ending as ending
 use Rattle.tool_base.specs.Ending.{Ending}
 use Rattle.tool_base.specs.Grammars.{FailsGrammar, IsShareRead, share_fault_number}
+use Rattle.tool_base.specs.Heard.{HeardNobody}
 use Rattle.tool_base.specs.Touched.{Keeps}
 use Rattle.tool_base.specs.World.{Failed, IsNetBack, IsRead, Outside, StoreRun, from_to}
 use Rattle.tool_disks.specs.Disks.{Stays}
 use Rattle.tool_disks.specs.Loads.{FailsToLoad, ReadsAs}
 use Rattle.tool_disks.specs.Headers.{book_header}
 use Rattle.tool_service.specs.Journals.{HasBook, IsJournal, LeavesJournal}
-use Rattle.tool_service.specs.Nets.{HeardNobody, ServedNet}
+use Rattle.tool_service.specs.Nets.{ServedNet}
 use Rattle.tool_words.specs.Words.{TrusteeWords}
 use Rattle.trustee_core.specs.Trustee.{journal_header}
 use Rattle.trustee_core.specs.declared.kept.TrusteeName.{TrusteeName}
@@ -67,26 +68,31 @@ pub record ServedTrustee (words : TrusteeWords) (before after : Outside) (end : 
 
 -- how the command ends, with the names that it touched
 pub data TrusteeEnds (words : TrusteeWords) (before after : Outside) : Ending → List (List ℕ) → Type 0 where
-  no_memory : (touched : List (List ℕ)) → HeardNobody before.net after.net → All (Stays (store_of before after)) touched
+  no_memory : (touched : List (List ℕ)) → HeardNobody words.place before.net after.net
+      → All (Stays (store_of before after)) touched
       → TrusteeEnds words before after ending.NoMemory touched
   no_share : (end : Ending) → FailsGrammar share_fault_number (store_of before after) words.share end
-      → HeardNobody before.net after.net → TrusteeEnds words before after end []
+      → HeardNobody words.place before.net after.net → TrusteeEnds words before after end []
   no_journal : (share : Share) → IsShareRead (store_of before after) words.share share
-      → IsRead (store_of before after) words.journal Failed → HeardNobody before.net after.net → TrusteeEnds words before after ending.StoreFailed []
+      → IsRead (store_of before after) words.journal Failed → HeardNobody words.place before.net after.net
+      → TrusteeEnds words before after ending.StoreFailed []
   journal_not_loaded : (share : Share) (end : Ending) → IsShareRead (store_of before after) words.share share
       → FailsToLoad (journal_header share) (2 ^ share.params.h) (store_of before after) words.journal end
-      → Stays (store_of before after) words.journal → HeardNobody before.net after.net → TrusteeEnds words before after end (words.journal ∷ [])
+      → Stays (store_of before after) words.journal → HeardNobody words.place before.net after.net
+      → TrusteeEnds words before after end (words.journal ∷ [])
   no_book : (share : Share) (entries : List Entry) (name : List ℕ) → IsTrustee words before after share entries
-      → HasNoBook words before after name → HeardNobody before.net after.net → Stays (store_of before after) words.journal
+      → HasNoBook words before after name → HeardNobody words.place before.net after.net
+      → Stays (store_of before after) words.journal
       → TrusteeEnds words before after ending.StoreFailed (words.journal ∷ [])
   book_not_loaded : (share : Share) (entries : List Entry) (name : List ℕ) (end : Ending)
       → IsTrustee words before after share entries → words.book ≡ Some name
       → FailsToLoad (book_header share) 1024 (store_of before after) name end
-      → HeardNobody before.net after.net → Stays (store_of before after) words.journal → Stays (store_of before after) name
+      → HeardNobody words.place before.net after.net → Stays (store_of before after) words.journal
+      → Stays (store_of before after) name
       → TrusteeEnds words before after end (words.journal ∷ name ∷ [])
   no_ports : (share : Share) (entries : List Entry) (ids : Option (List (List ℕ))) (touched : List (List ℕ))
       → IsTrustee words before after share entries → HasBook (store_of before after) share words.book ids
-      → HeardNobody before.net after.net → Rose before.net.port_count after.net.port_count
+      → HeardNobody words.place before.net after.net → Rose before.net.port_count after.net.port_count
       → (IsTrue before.net.told → IsTrue before.net.steady → before.net.offers words.place ≡ false)
       → All (Stays (store_of before after)) touched → TrusteeEnds words before after ending.NetFailed touched
   served : (end : Ending) (books : List (List ℕ)) → ServedTrustee words before after end

@@ -1,6 +1,7 @@
 //! Commands that serve: a trustee over the ports of a net.
 #![tactic(auto)]
 
+pub mod laws;
 mod nets;
 mod trustee;
 

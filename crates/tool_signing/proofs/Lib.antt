@@ -1,4 +1,3 @@
-pub mod Doubts
 pub mod Causes
 pub mod Dealt
 pub mod Exacts

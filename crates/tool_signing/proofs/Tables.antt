@@ -11,7 +11,6 @@ use Rattle.leased_session.specs.Tables.{table_seen}
 use Rattle.slot_file.specs.declared.header.Header.{Header}
 use Rattle.stream_io.specs.Store.{StoreState, Taken, handed, pages_state}
 use Rattle.tool_base.specs.World.{from_to}
-use Rattle.tool_signing.proofs.Doubts.{keeps-sound}
 use Rattle.tool_signing.specs.Tables.{IsFresh, IsTable, LeavesTable, StandsAs, handed_of}
 
 module _ {D : Type 0} {p : pages.Ghosts D} {f : faults.Ghosts D} (header : Header) (plan : PlanNumbers) where
@@ -60,5 +59,5 @@ module _ {D : Type 0} {p : pages.Ghosts D} {f : faults.Ghosts D} (header : Heade
           stands_as image (holds.images (subst (λ d. IsTrue (p.told d)) is (tells told)) (subst (λ d. IsTrue (p.honest d)) is (honest told is_honest)) image
           (subst (λ d. p.may_leave d image) is ((leaves told image).0 left)));
       many = subst (λ (q : PlanNumbers). length (state_of table).slots ≡ 2 ^ q.h) plan_is table.count;
-      one_lease = keeps-sound (state_of table) table.sound;
+      one_lease = holds.one_lease;
     }

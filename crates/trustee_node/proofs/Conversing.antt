@@ -14,14 +14,13 @@ use Rattle.round_frames.specs.declared.fault.FrameFault.TheVariants.{ReadFault, 
 use Rattle.share_files.specs.declared.share.Share.{Share}
 use Rattle.stream_io.specs.Store.{RisesWhere}
 use Rattle.stream_io.specs.Talk.{Talk, Took, WrotePart}
-use Rattle.trustee_node.specs.Connections.{EndsBy, FaultBehind, HasWritten, HaveMoments, IsDated, IsLinkFault, LeftBehind, ReadsAsks, end_by, read_none, read_one}
+use Rattle.trustee_node.specs.Connections.{EndsBy, FaultBehind, HasWritten, HaveMoments, IsDated, IsLinkFault, LeftBehind, ReadsAsks, WroteButLast, end_by, read_none, read_one}
 use Rattle.trustee_node.specs.Replies.{outcome_in, replies, reply_bytes}
 use Rattle.trustee_node.specs.Turns.{Turn, is_code, is_worn, with_code}
 use Rattle.trustee_node.specs.declared.served.ServedEnd.{ServedEnd}
 use Rattle.trustee_node.specs.declared.served.ServedEnd.TheVariants.{Frame}
 use Rattle.trustee_node.specs.declared.turn.Answer.{Answer}
 use Rattle.trustee_node.specs.declared.turn.Answer.TheVariants as answer
-use Rattle.trustee_node.proofs.Masks.{part-behind}
 use Rattle.trustee_node.proofs.Serving.{with_code-append}
 use Rattle.trustee_node.proofs.Turning.{eleven}
 
@@ -180,9 +179,17 @@ written-more share turns turn old mid last new before same now =
     let bytes = reply_bytes share turn.ask turn.outcome in
     now ∙ ap (λ (l : List ℕ). l ++ bytes) (same ∙ before) ∙ append_assoc old (replies share turns) bytes ∙ ap (λ (l : List ℕ). old ++ l) (sym (replies-more share turns turn))
 
-pub written-part : (share : Share) (turns : List Turn) (turn : Turn) (old mid new : Talk) → mid.written ≡ old.written ++ replies share turns → WrotePart mid new (reply_bytes share turn.ask turn.outcome) → WrotePart old new (replies share (turns ++ turn ∷ []))
+pub written-part : (share : Share) (turns : List Turn) (turn : Turn) (old mid new : Talk) → mid.written ≡ old.written ++ replies share turns → WrotePart mid new (reply_bytes share turn.ask turn.outcome) → WroteButLast share old new (turns ++ turn ∷ [])
 written-part share turns turn old mid new before part =
-    subst (WrotePart old new) (sym (replies-more share turns turn)) (part-behind old mid new (replies share turns) (reply_bytes share turn.ask turn.outcome) before part)
+    let beginning = take part.size (reply_bytes share turn.ask turn.outcome) in
+    record {
+      before = turns;
+      last = turn;
+      turns_are = refl;
+      size = part.size;
+      short = part.short;
+      written = part.written ∙ ap (λ (l : List ℕ). l ++ beginning) before ∙ append_assoc old.written (replies share turns) beginning;
+    }
 
 -- whether the last turn was worn
 pub worn-is : (given : Answer) → is_worn (outcome_in given) ≡ true → is_code 11 (outcome_in given) ≡ 1

@@ -108,7 +108,7 @@ runs-to share before last _ sound (run begun after end kept entries passes rest 
     let later = runs-to share after end rest (sound-of after legal) more in
     let on = steps-then count (settled_with after.entries) after end doubts later.steps in
     let here = All-weaker (Fits count (settled_with after.entries)) (Fits count end) (λ ask fits. fits-later count (settled_with after.entries) end ask on fits) (granted_by passes)
-        (all-fit share after.entries passes plain stand) in
+    (all-fit share after.entries passes plain stand) in
     record {
       steps = steps-then count begun (settled_with entries) end loaded (steps-then count (settled_with entries) (settled_with after.entries) end served on);
       fits = subst (All (Fits count end)) (sym (granted-append passes rest)) (All-append (Fits count end) (granted_by passes) (granted_by rest) here later.fits);

@@ -1,5 +1,6 @@
 -- A connection: the asks that were read and when, what was written, and how it ended.
-use Rattle.std.specs.Prelude.{◌≡◌, ◌≢◌, ◌⊎◌, ◌≤◌, ◌+◌, ◌++◌, ⊤, ℕ, Bool, List, [], ◌∷◌, length, drop, IsTrue}
+use Rattle.std.specs.Prelude.{◌≡◌, ◌≢◌, ◌⊎◌, ◌<◌, ◌≤◌, ◌+◌, ◌++◌, ⊤, ℕ, Bool, List, [], ◌∷◌}
+use Rattle.std.specs.Prelude.{length, take, drop, IsTrue}
 use Rattle.std.specs.Prelude.{Option, Ok, Err}
 use Rattle.lms_bytes.specs.declared.params.Params.{Params}
 use Rattle.opening_journal.specs.declared.entry.Entry.{Entry}
@@ -10,10 +11,10 @@ use Rattle.round_frames.specs.declared.fault.FrameFault.TheVariants.{End, Cut, M
 use Rattle.round_frames.specs.declared.fault.FrameFault.TheVariants.{ReadFault, NoMemory}
 use Rattle.share_files.specs.declared.share.Share.{Share}
 use Rattle.stream_io.specs.Store.{RisesWhere}
-use Rattle.stream_io.specs.Talk.{Talk, WrotePart}
+use Rattle.stream_io.specs.Talk.{Talk}
 use Rattle.trustee_core.specs.declared.kept.TrusteeName.{TrusteeName}
 use Rattle.turn_lock.specs.Pass.{Seen}
-use Rattle.trustee_node.specs.Replies.{replies}
+use Rattle.trustee_node.specs.Replies.{replies, reply_bytes}
 use Rattle.trustee_node.specs.Turns.{Serves, Turn, with_code}
 use Rattle.trustee_node.specs.declared.served.Served.{Served}
 use Rattle.trustee_node.specs.declared.served.ServedEnd.{ServedEnd}
@@ -47,11 +48,21 @@ pub record HasRead (params : Params) (old new : Talk) (ended : ServedEnd) (turns
   pub behind : LeftBehind params ended rest new.left
   pub all : new.taken ++ new.left ≡ old.taken ++ old.left
 
--- what was written: all replies, or a beginning where a write failed
+-- all replies but the last were written whole, and of the last a beginning that is not all of it
+pub record WroteButLast (share : Share) (old new : Talk) (turns : List Turn) : Type 0 where
+  pub before : List Turn
+  pub last : Turn
+  pub turns_are : turns ≡ before ++ (last ∷ [])
+  pub size : ℕ
+  pub short : size < length (reply_bytes share last.ask last.outcome)
+  pub written : new.written
+      ≡ old.written ++ (replies share before ++ take size (reply_bytes share last.ask last.outcome))
+
+-- what was written: all replies, or all but the last where a write failed
 abbrev pub HasWritten : Share → Talk → Talk → ServedEnd → List Turn → Type 0
 HasWritten share old new Closed turns = new.written ≡ old.written ++ replies share turns
 HasWritten share old new (Frame fault) turns = new.written ≡ old.written ++ replies share turns
-HasWritten share old new WriteFailed turns = WrotePart old new (replies share turns)
+HasWritten share old new WriteFailed turns = WroteButLast share old new turns
 HasWritten share old new Worn turns = new.written ≡ old.written ++ replies share turns
 HasWritten share old new Full turns = new.written ≡ old.written ++ replies share turns
 

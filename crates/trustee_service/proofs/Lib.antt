@@ -3,4 +3,4 @@ pub mod Gathering
 mod Joining
 pub mod Finishing
 mod Running
-mod Opening
+pub mod Opening

@@ -1,6 +1,7 @@
 -- Grants at several ports.
-use Rattle.std.proofs.Common.{◌≡◌, ℕ, List, [], ◌∷◌, ◌++◌, Option, All, map, refl, sym, ap, ◌∙◌, subst}
+use Rattle.std.proofs.Common.{◌≡◌, ◌≤◌, ℕ, List, [], ◌∷◌, ◌++◌, Option, All, length, map, arith, refl, sym, ap, ◌∙◌, subst}
 use Rattle.std.proofs.lemmas.List.Elements.{All-cons, All-head, All-nil, All-tail}
+use mathlib.Core.List.{IsPrefix}
 use Rattle.lms_bytes.specs.declared.ask.Ask.{Ask}
 use Rattle.opening_journal.specs.Entries.{IsLegalList}
 use Rattle.opening_journal.specs.declared.entry.Entry.{Entry}
@@ -14,6 +15,7 @@ use Rattle.trustee_node.specs.Turns.{InTurn, NoTurn, Outcome, Turn}
 use Rattle.trustee_node.specs.Workers.{ClockState, turns_of}
 use Rattle.trustee_node.proofs.Opening.{one-opening}
 use Rattle.trustee_node.proofs.Prefixes.{prefix-same}
+use Rattle.trustee_node.proofs.Standing.{served-begins}
 use Rattle.trustee_service.specs.Ports.{IsPortRun, PortRun, ServedPorts, turns_in}
 use Rattle.trustee_service.specs.Trustees.{TrusteeState}
 use Rattle.trustee_service.specs.declared.totals.Totals.{Totals}
@@ -35,7 +37,7 @@ granted-runs [] = refl
 granted-runs (run ∷ runs) =
     ap (λ (asks : List Ask). granted_in (turns_of run.served) ++ asks) (granted-runs runs) ∙ sym (granted-append (turns_of run.served) (turns_in runs))
 
-runs-stand : (share : Share) (ids : Option (List (List ℕ))) (asked : ℕ) (log last : List Entry) (runs : List PortRun) → All (IsPortRun share ids asked log last) runs
+pub runs-stand : (share : Share) (ids : Option (List (List ℕ))) (asked : ℕ) (log last : List Entry) (runs : List PortRun) → All (IsPortRun share ids asked log last) runs
     → All (StandUnder share last) (map (λ (run : PortRun). turns_of run.served) runs)
 runs-stand share ids asked log last [] are = All-nil (StandUnder share last)
 runs-stand share ids asked log last (run ∷ runs) are =
@@ -50,3 +52,10 @@ pub ports-opening : (share : Share) (ids : Option (List (List ℕ))) (asked : �
 ports-opening share ids asked old new before after clocks totals all legal =
     subst (OneOpening share) (granted-runs all.runs)
     (one-opening share new.entries (map (λ (run : PortRun). turns_of run.served) all.runs) legal (runs-stand share ids asked old.entries new.entries all.runs all.are))
+
+-- the log at the start begins the last one, where there is a port
+pub runs-begin : (share : Share) (ids : Option (List (List ℕ))) (asked : ℕ) (log last : List Entry) (runs : List PortRun) → 1 ≤ length runs → All (IsPortRun share ids asked log last) runs
+    → IsPrefix log last
+runs-begin share ids asked log last [] some are = absurd (omega (arith, some))
+runs-begin share ids asked log last (run ∷ runs) some are =
+    served-begins share ids log last (turns_of run.served) (All-head (IsPortRun share ids asked log last) run runs are).turns

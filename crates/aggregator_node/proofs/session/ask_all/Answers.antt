@@ -4,6 +4,7 @@ use Rattle.std.proofs.lemmas.Result.{err_from_is_err_and}
 use Rattle.session_core.specs.State.{State}
 use Rattle.session_core.specs.declared.faults.SessionFault.TheVariants.{Reference}
 use Rattle.aggregator_node.specs.Runs.{judged_in_one, judged_in_two, lost_in_one, lost_in_two, signed}
+use Rattle.aggregator_node.proofs.Tasks.{once-as, once-of}
 use Rattle.aggregator_node.proofs.Sessions.{count-as, dealt-as, err-as, exact-as, exact-stays, fails-as, fails-reference, first-as, first-not, joined-as, none-of, opens, run-as, same-err, second-end, sign-reference, stops-later, stops-reference, whole-as}
 use Rattle.reference_value.proofs.Staying.{stays-as, stays-then}
 use Rattle.lms_bytes.specs.declared.public_key.PublicKey.{PublicKey}
@@ -151,3 +152,20 @@ returns-clause-onward g c =
       stays = stays-then (stays-then (stays-as d.cells t.stays) a.stays) f.stays;
       count = (let x = ap count d.cells in let y = t.count in let z = a.count in let u = f.count in omega arith);
     }
+
+pub returns-in_err-dial_all-clause-once : goal.returns-in_err-dial_all-clause-once
+returns-in_err-dial_all-clause-once g c =
+    let p = err_from_is_err_and c.from_residual.result c.from_residual.ensures.1 in
+    once-as _ _ _ _ _ _ c.in_err-dial_all.was (sym p.2) p.1 c.dial_all.ensures.once
+
+pub returns-in_err-turn-clause-once : goal.returns-in_err-turn-clause-once
+returns-in_err-turn-clause-once g c = once-of _ _ _ _ _ c.in_ok-dial_all.was c.dial_all.ensures.once
+
+pub returns-in_err-ask_again-clause-once : goal.returns-in_err-ask_again-clause-once
+returns-in_err-ask_again-clause-once g c = once-of _ _ _ _ _ c.in_ok-dial_all.was c.dial_all.ensures.once
+
+pub returns-in_err-finish-clause-once : goal.returns-in_err-finish-clause-once
+returns-in_err-finish-clause-once g c = once-of _ _ _ _ _ c.in_ok-dial_all.was c.dial_all.ensures.once
+
+pub returns-clause-once : goal.returns-clause-once
+returns-clause-once g c = once-of _ _ _ _ _ c.in_ok-dial_all.was c.dial_all.ensures.once

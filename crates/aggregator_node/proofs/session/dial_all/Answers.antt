@@ -1,8 +1,8 @@
-use Rattle.std.proofs.Common.{true, false, ◌∙◌, arith, inr}
+use Rattle.std.proofs.Common.{true, false, sym, ◌∙◌, arith, inr}
 use Rattle.std.proofs.lemmas.Result.{err_from_is_err_and}
 use Rattle.aggregator_node.proofs.Refusing.{called-refused}
 use Rattle.aggregator_node.proofs.Rounds.{first-done, first-ends, first-more, first-refuses, ok-is}
-use Rattle.aggregator_node.proofs.Tasks.{called-as, dials-then, frame-same, lost-as, rose-later, same-then}
+use Rattle.aggregator_node.proofs.Tasks.{called-as, dials-then, frame-same, lost-as, ok-not, once-as, once-of, rises-later, rose-later, same-then}
 use Rattle.aggregator_node.specs.Runs.{first_frame}
 use Rattle.aggregator_node.proofs.session.dial_all.Goals as goal
 
@@ -20,6 +20,12 @@ returns-in_err-dial_member-clause-dialled g c lost =
     let v = c.members.invariant in
     let p = err_from_is_err_and c.from_residual.result c.from_residual.ensures.1 in
     rose-later _ _ _ v.port.onward.count (c.dial_member.ensures.dialled (lost-as _ _ _ _ _ p.1 p.2 c.in_err-dial_member.was lost))
+
+pub returns-in_err-dial_member-clause-once : goal.returns-in_err-dial_member-clause-once
+returns-in_err-dial_member-clause-once g c =
+    let v = c.members.invariant in
+    let p = err_from_is_err_and c.from_residual.result c.from_residual.ensures.1 in
+    rises-later _ _ _ v.undialled (once-as _ _ _ _ _ _ c.in_err-dial_member.was (sym p.2) p.1 c.dial_member.ensures.once)
 
 pub returns-in_err-dial_member-clause-reads : goal.returns-in_err-dial_member-clause-reads
 returns-in_err-dial_member-clause-reads g c steady lost =
@@ -40,6 +46,16 @@ returns-then-not-branch-clause-whole g c = inr (λ all.
     let h = c.dial_member.ensures.called in
     called-refused _ _ c.members.session _ _ _ _ _ h.answer c.dial_member.result (v.same.c ∙ c.requires.round) h.calls h.state h.told (ok-is _ _ false c.in_ok-dial_member.was c.if-not-branch.true) all)
 
+pub returns-then-not-branch-clause-once : goal.returns-then-not-branch-clause-once
+returns-then-not-branch-clause-once g c =
+    let v = c.members.invariant in
+    rises-later _ _ _ v.undialled (once-of _ _ _ _ _ c.in_ok-dial_member.was c.dial_member.ensures.once)
+
+pub returns-clause-once : goal.returns-clause-once
+returns-clause-once g c =
+    let v = c.members.invariant in
+    record { once = (let most = v.undialled in omega arith); same = λ _. v.undialled }
+
 pub returns-clause-run : goal.returns-clause-run
 returns-clause-run g c =
     let v = c.members.invariant in
@@ -58,6 +74,7 @@ members-preserved g c =
       room = (let a = v.room in let b = d.links.0 in omega arith);
       steady = λ s. d.steady (v.port.onward.steady ∙ s) (v.steady s);
       port = dials-then _ _ _ v.port d.port;
+      undialled = (let first = v.undialled in let last = d.once.same (ok-not _ _ _ c.in_ok-dial_member.was) in omega arith);
       same = same-then _ _ _ v.same d.same;
       cells = d.cells ∙ v.cells;
     }

@@ -17,6 +17,7 @@ invariant-members g l =
       room : length l.task.members.now ≤ l.links.cap;
       steady : IsTrue (state l.fn.port).steady → All (λ link. IsTrue (g.P.Link.Faults.steady link)) l.links.items;
       port : OnlyDials (state l.fn.port) (state l.port);
+      undialled : (state l.port).count ≤ (state l.fn.port).count;
       same : SameAsk l.fn.session l.session;
       cells : l.cells ≡ l.fn.cells;
     }

@@ -1,5 +1,5 @@
 use Rattle.std.proofs.Common.{◌≡◌, ◌≤◌, ◌+◌, ◌-◌, ◌^◌, ◌++◌, IsTrue, map, min}
-use Rattle.aggregator_node.specs.Tasks.{counts_of}
+use Rattle.aggregator_node.specs.Tasks.{counts_of, faulty_links}
 use Rattle.stream_io.specs.Net.{PortOnward}
 use Rattle.aggregator_node.proofs.session.hang_up_all.Given as goal
 
@@ -11,6 +11,7 @@ invariant-loop g l =
     record {
       all : IsTrue (state l.fn.port).told → (state l.port).talks ++ map talk l.links.items ≡ (state l.fn.port).talks ++ map talk l.fn.links.items;
       counts : min ((state l.fn.port).count + min 1 (counts_of (map talk l.fn.links.items))) (2 ^ 64 - 1) ≤ (state l.port).count + counts_of (map talk l.links.items);
+      most : (state l.port).count + faulty_links (map talk l.links.items) ≤ (state l.fn.port).count + faulty_links (map talk l.fn.links.items);
       onward : PortOnward (state l.fn.port) (state l.port);
       accepting : (state l.port).accept_count ≡ (state l.fn.port).accept_count;
       many : l.links.len + l.counter ≡ l.end;

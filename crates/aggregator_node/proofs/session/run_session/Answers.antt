@@ -1,10 +1,10 @@
-use Rattle.std.proofs.Common.{[], inl, inr, refl, sym, arith}
+use Rattle.std.proofs.Common.{[], ◌++◌, List, map, inl, inr, refl, sym, ap, ◌∙◌, arith}
 use Rattle.std.proofs.lemmas.List.{append-nil}
 use Rattle.std.proofs.lemmas.Result.{err_from_is_err_and}
 use Rattle.aggregator_node.specs.Runs.{no_memory}
-use Rattle.aggregator_node.specs.declared.fault.Why.TheVariants.{ReadFailed, WriteFailed}
+use Rattle.aggregator_node.specs.declared.fault.Why.TheVariants.{DialFailed, ReadFailed, WriteFailed}
 use Rattle.aggregator_node.proofs.Counting.{session-counts}
-use Rattle.aggregator_node.proofs.Tasks.{rose-later}
+use Rattle.aggregator_node.proofs.Tasks.{bytes-lost, rose-later}
 use Rattle.aggregator_node.proofs.session.run_session.Goals as goal
 
 pub returns-in_err-members-clause-ran : goal.returns-in_err-members-clause-ran
@@ -16,6 +16,7 @@ returns-in_err-members-clause-ran g c =
       run = no_memory;
       same = record { key = refl; plan = refl; leaf = refl; message = refl };
       later = omega arith;
+      counts = record { once = omega arith; same = λ _. omega arith };
     })
 
 pub returns-in_err-room-clause-ran : goal.returns-in_err-room-clause-ran
@@ -27,6 +28,7 @@ returns-in_err-room-clause-ran g c =
       run = no_memory;
       same = record { key = refl; plan = refl; leaf = refl; message = refl };
       later = omega arith;
+      counts = record { once = omega arith; same = λ _. omega arith };
     })
 
 pub returns-in_err-links-clause-ran : goal.returns-in_err-links-clause-ran
@@ -38,6 +40,7 @@ returns-in_err-links-clause-ran g c =
       run = no_memory;
       same = record { key = refl; plan = refl; leaf = refl; message = refl };
       later = omega arith;
+      counts = record { once = omega arith; same = λ _. omega arith };
     })
 
 pub returns-clause-unwritten : goal.returns-clause-unwritten
@@ -49,3 +52,21 @@ pub returns-clause-unread : goal.returns-clause-unread
 returns-clause-unread g c lost =
     rose-later _ _ _ c.ask_all-result.ensures.port.onward.count
     (c.hang_up_all.ensures.count (session-counts ReadFailed (inr refl) _ _ _ _ _ _ _ _ _ c.ask_all-result.ensures.run lost))
+
+pub returns-clause-ran : goal.returns-clause-ran
+returns-clause-ran g c =
+    let talk = g.P.Link.Stream.talk in
+    let a = c.ask_all-result.ensures in
+    let h = c.hang_up_all.ensures in
+    let talks = map talk c.ask_all-result.new.links.items in
+    record {
+      talks = talks;
+      hung_up = λ told. h.kept (a.port.onward.told ∙ told) ∙ ap (λ (l : List _). l ++ talks) a.port.talks;
+      run = a.run;
+      same = a.same;
+      later = a.onward.count;
+      counts = record {
+        once = (let x = a.once.once in let y = h.most in omega (arith, x, y));
+        same = λ not. (let x = a.once.same (λ lost. not (bytes-lost DialFailed _ lost)) in let y = h.most in omega (arith, x, y));
+      };
+    }

@@ -17,10 +17,10 @@ returns-in-Err-Failed-clause-ends g c =
     let found = c.in-Err-Failed.is in
     let fault = c.in-Err-Failed.field-0-is in
     let ports = c.in-Err-Failed.ensures in
-    no_ports (refl, refl) (heard_none _ _ ports.refused.kept) (ports.port_cause.rose (cc)) (λ told steady. not_true _ (ports.unoffered told steady (cc)))
+    no_ports (refl, refl) (heard_none _ _ _ ports.refused.kept) (ports.port_cause.rose (cc)) (λ told steady. not_true _ (ports.unoffered told steady (cc)))
 
 pub returns-in-Err-NoMemory-clause-ends : goal.returns-in-Err-NoMemory-clause-ends
-returns-in-Err-NoMemory-clause-ends g c = no_memory (refl, refl) (heard_none _ _ c.in-Err-NoMemory.ensures.refused.kept)
+returns-in-Err-NoMemory-clause-ends g c = no_memory (refl, refl) (heard_none _ _ _ c.in-Err-NoMemory.ensures.refused.kept)
 
 pub returns-clause-ends : goal.returns-clause-ends
 returns-clause-ends g c =

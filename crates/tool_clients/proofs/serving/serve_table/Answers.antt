@@ -31,7 +31,7 @@ returns-in-Err-Failed-clause-run g c =
     let calm : IsCalm (g.S.Store.state c.args.store.now) (g.S.Store.state c.take_disk.new.self) = record { same = take.refused; onward = take.onward } in
     record {
       touched = [];
-      ends = no_table (take.cause.rose (cc), λ told steady. take.absent told steady (cc)) (heard_none net net refl);
+      ends = no_table (take.cause.rose (cc), λ told steady. take.absent told steady (cc)) (heard_none _ net net refl);
       keeps = keeps_calm [] _ _ calm;
       ports = net_none net;
     }
@@ -43,7 +43,7 @@ returns-in-Err-NoMemory-clause-run g c =
     let calm : IsCalm (g.S.Store.state c.args.store.now) (g.S.Store.state c.take_disk.new.self) = record { same = take.refused; onward = take.onward } in
     record {
       touched = [];
-      ends = no_memory [] (heard_none net net refl) (All-nil (Stays (from_to (g.S.Store.state c.args.store.now) (g.S.Store.state c.take_disk.new.self))));
+      ends = no_memory [] (heard_none _ net net refl) (All-nil (Stays (from_to (g.S.Store.state c.args.store.now) (g.S.Store.state c.take_disk.new.self))));
       keeps = keeps_calm [] _ _ calm;
       ports = net_none net;
     }
@@ -73,7 +73,7 @@ returns-in-Err-clause-run g c =
     let whole = back first _ last name disk now out.taken out.onward step comes kind.told kind.honest kind.steady in
     record {
       touched = name ∷ [];
-      ends = not_loaded _ fails (heard_none _ _ refl)
+      ends = not_loaded _ fails (heard_none _ _ _ refl)
           (stays first _ last name disk now out.taken out.onward step comes kind.told kind.honest kind.steady load.unwritten.same load.unwritten.images);
       keeps = whole.keeps;
       ports = net_none (g.N.Net.state c.args.net.now);

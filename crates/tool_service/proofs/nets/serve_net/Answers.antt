@@ -7,7 +7,8 @@ use Rattle.tool_words.specs.Rows.{trustee_words}
 use Rattle.tool_base.specs.Endings.{ending}
 use Rattle.tool_service.specs.Nets.{no_memory, no_ports}
 use Rattle.tool_base.proofs.Nets.{net_back}
-use Rattle.tool_service.proofs.Serving.{dated_by, heard_new, heard_none, net_ends, not_true, ports_many}
+use Rattle.tool_base.proofs.Heard.{heard_new, heard_none}
+use Rattle.tool_service.proofs.Serving.{dated_by, net_ends, not_true, ports_many}
 use Rattle.tool_service.proofs.nets.serve_net.Goals as goal
 
 pub returns-in-Err-Failed-clause-ends : goal.returns-in-Err-Failed-clause-ends
@@ -15,10 +16,10 @@ returns-in-Err-Failed-clause-ends g c =
     let found = c.in-Err-Failed.is in
     let fault = c.in-Err-Failed.field-0-is in
     let ports = c.in-Err-Failed.ensures in
-    no_ports refl (heard_none _ _ ports.refused.kept) (ports.port_cause.rose (cc)) (λ told steady. not_true _ (ports.unoffered told steady (cc)))
+    no_ports refl (heard_none _ _ _ ports.refused.kept) (ports.port_cause.rose (cc)) (λ told steady. not_true _ (ports.unoffered told steady (cc)))
 
 pub returns-in-Err-NoMemory-clause-ends : goal.returns-in-Err-NoMemory-clause-ends
-returns-in-Err-NoMemory-clause-ends g c = no_memory refl (heard_none _ _ c.in-Err-NoMemory.ensures.refused.kept)
+returns-in-Err-NoMemory-clause-ends g c = no_memory refl (heard_none _ _ _ c.in-Err-NoMemory.ensures.refused.kept)
 
 pub returns-in-Err-clause-ends : goal.returns-in-Err-clause-ends
 returns-in-Err-clause-ends g c =

@@ -1,6 +1,7 @@
 use Rattle.std.proofs.Common.{◌≡◌, ◌^◌, ℕ, List, ◌∷◌, Some, IsTrue, refl, sym, ap, ◌∙◌, subst, arith}
-use Rattle.opening_journal.specs.Entries.{JournalState}
-use Rattle.opening_journal.specs.Journal.{disk_of, faults_of, state_of}
+use Rattle.opening_journal.proofs.Held.{holds}
+use Rattle.opening_journal.specs.Entries.{HasEntries, JournalState}
+use Rattle.opening_journal.specs.Journal.{Keeps, disk_of, faults_of, state_of}
 use Rattle.opening_journal.specs.Loading.{IsJournalFile, LoadRefused}
 use Rattle.share_files.specs.declared.share.Share.{Share}
 use Rattle.stream_io.specs.Store.{Handed, Taken, handed, pages_state}
@@ -13,7 +14,7 @@ use Rattle.tool_disks.proofs.Outs.{out_here, taken_out}
 use Rattle.tool_disks.proofs.Takes.{back, journal_not_loaded, round_rise, round_stays, stays, taken_calm, whole}
 use Rattle.tool_service.specs.Journals.{IsJournal}
 use Rattle.tool_service.specs.Trustee.{IsTrustee, handed_of}
-use Rattle.tool_service.proofs.Lasts.{leaves_journal, run_unread, run_untaken}
+use Rattle.tool_service.proofs.Lasts.{has_entries, leaves_journal, run_unread, run_untaken}
 use Rattle.tool_service.proofs.Wholes.{ends_whole, run_refused}
 use Rattle.tool_words.specs.Rows.{trustee_words}
 use Rattle.trustee_core.specs.Trustee.{journal_header, journal_of, share_of}
@@ -143,6 +144,9 @@ returns g c =
     let is_journal : IsTrue disk.told → IsJournal share old.entries disk.reads = λ t. record {
       loads = subst (λ h. IsJournalFile h count disk.reads) c.header_of-header.ensures (loaded.file t);
       entries_are = ap (λ j. (state_of j).entries) journal_is ∙ ap (λ (j : JournalState). j.entries) (loaded.entries t);
+      has = subst (HasEntries share.params.n count disk.reads) (ap (λ j. (state_of j).entries) (sym journal_is))
+          (has_entries share journal (loaded.named ∙ c.header_of-header.ensures) loaded.sized (holds journal) disk.reads (ap (λ (j : JournalState). j.doubt) (loaded.entries t))
+          (subst (Keeps journal) (loaded.unwritten.same t) ((holds journal).reads (subst (λ b. IsTrue b) (sym kind.told) t))));
     } in
     let before : Outside = record { store = first; net = g.N.Net.state c.args.net.now; time = g.T.Clocks.state c.args.time.now } in
     let after : Outside = record { store = last; net = g.N.Net.state c.serve_with_book-trustee.new.net; time = g.T.Clocks.state c.serve_with_book-trustee.new.time } in

@@ -12,7 +12,7 @@ use Rattle.tool_disks.specs.Loads.{FailsToLoad}
 use Rattle.tool_disks.proofs.Takes.{back, reads_as, slots_not_loaded, stays}
 use Rattle.tool_disks.specs.Headers.{book_header}
 use Rattle.tool_service.specs.Journals.{IsBook}
-use Rattle.tool_service.proofs.Serving.{heard_none}
+use Rattle.tool_base.proofs.Heard.{heard_none}
 use Rattle.tool_service.proofs.Booking.{run_absent, run_refused, run_with, run_without}
 use Rattle.tool_words.specs.Rows.{trustee_words}
 use Rattle.trustee_service.specs.Trustees.{trustee_state}
@@ -29,7 +29,7 @@ returns-in-Err-clause-ended g c =
     let is = c.in-Err.is in
     let calm : IsCalm (g.S.Store.state c.args.store.now) (g.S.Store.state c.take_disk.new.self) = record { same = take.refused; onward = take.onward } in
     run_absent (trustee_words c.args.words.now) c.args.share.now (c.args.trustee ≡ c.args.trustee) (trustee_state c.args.trustee) (trustee_state c.args.trustee)
-    _ _ _ _ _ _ c.in-Some.name.now (ap (option_map (λ b. b.now)) c.in-Some.is) (heard_none _ _ refl) c.in-Err.fault _ c.end_of_call.ensures refl calm
+    _ _ _ _ _ _ c.in-Some.name.now (ap (option_map (λ b. b.now)) c.in-Some.is) (heard_none _ _ _ refl) c.in-Err.fault _ c.end_of_call.ensures refl calm
     (λ failed. take.cause.rose (cc)) (λ failed told steady. take.absent told steady (cc))
 
 pub returns-in-Err-load-clause-ended : goal.returns-in-Err-load-clause-ended
@@ -54,7 +54,7 @@ returns-in-Err-load-clause-ended g c =
     subst (FailsToLoad (book_header c.args.share.now) 1024 (from_to first last) name) (sym c.end_of_slots.ensures)
     (slots_not_loaded first _ last name disk now taken goes step comes kind.told kind.honest kind.steady (book_header c.args.share.now) 1024 c.in-Err-load.fault refused load.succeeds load.cause) in
     run_refused (trustee_words c.args.words.now) c.args.share.now (c.args.trustee ≡ c.args.trustee) (trustee_state c.args.trustee) (trustee_state c.args.trustee)
-    _ _ _ _ _ _ name (ap (option_map (λ b. b.now)) c.in-Some.is) (heard_none _ _ refl) now _ refl
+    _ _ _ _ _ _ name (ap (option_map (λ b. b.now)) c.in-Some.is) (heard_none _ _ _ refl) now _ refl
     (back first _ last name disk now taken goes step comes kind.told kind.honest kind.steady)
     (record { file = disk.reads; was = taken.reads; stays = stays first _ last name disk now taken goes step comes kind.told kind.honest kind.steady load.unwritten.same load.unwritten.images })
     fails

@@ -14,4 +14,4 @@ returns-clause-kept g c =
     (gathers port_state _ _ _ _ c.as_slice-all.result.now c.some_failed.result c.some_unaccepted.result
     c.some_failed.ensures.some c.some_failed.ensures.none
     c.some_unaccepted.ensures.some c.some_unaccepted.ensures.none
-    c.add_where.ensures c.add_where-2.ensures)
+    c.add_where.ensures.rises c.add_where-2.ensures.rises)
