@@ -1,7 +1,6 @@
 -- How the parts of an HSS signature are read, and the first that does not read.
-use Rattle.std.specs.Prelude.{◌≡◌, ◌≢◌, ◌+◌, ◌<◌, ◌≤◌, ℕ, suc, List, [], ◌∷◌, ◌++◌, length, take, drop, Option, Some, None}
-use Rattle.std.specs.Prelude.{nat_lt, if◌then◌else◌}
-use Rattle.std.specs.List.{AllByRecursion}
+use Rattle.std.specs.Prelude.{◌≡◌, ◌≢◌, ◌+◌, ◌<◌, ◌≤◌, ℕ, suc, nat_lt, if◌then◌else◌}
+use Rattle.std.specs.Prelude.{List, [], ◌∷◌, ◌++◌, length, take, drop, Option, Some, None}
 use Rattle.lms_bytes.specs.Bytes.{bytes_at, str_to_u32}
 use Rattle.lms_bytes.specs.Params.{codes_fault}
 use Rattle.lms_bytes.specs.PublicKey.{public_bytes, public_fault, public_length}
@@ -49,8 +48,8 @@ pub data PartsFault : PublicKey → ℕ → ℕ → List ℕ → HssFault → Ty
       → signature_fault key.params parts ≡ Some fault → PartsFault key level 0 parts (Sig level fault)
   signed_key : (key : PublicKey) (level below : ℕ) (parts : List ℕ) (fault : HssFault)
       → SignedKeyFault key level parts fault → PartsFault key level (suc below) parts fault
-  further : (key : PublicKey) (level below : ℕ) (parts : List ℕ) (fault : HssFault) (signed : SignedKey) (behind : List ℕ)
-      → signature_fault key.params signed.signature ≡ None
+  further : (key : PublicKey) (level below : ℕ) (parts : List ℕ) (fault : HssFault)
+      → (signed : SignedKey) (behind : List ℕ) → signature_fault key.params signed.signature ≡ None
       → parts ≡ signed.signature ++ public_bytes signed.key ++ behind
       → PartsFault signed.key (level + 1) below behind fault → PartsFault key level (suc below) parts fault
 
@@ -67,8 +66,9 @@ abbrev pub AllRead : PublicKey → List SignedKey → List ℕ → Type 0
 AllRead key [] last = signature_fault key.params last ≡ None
 AllRead key (signed ∷ below) last = (signature_fault key.params signed.signature ≡ None) × AllRead signed.key below last
 
--- the string is these signed keys, as many as there are levels below the key, and this last signature
-pub record ArePartsOf (key : PublicKey) (below : ℕ) (parts : List ℕ) (keys : List SignedKey) (last : List ℕ) : Type 0 where
+-- internal: the string is these signed keys, as many as there are levels below the key, and this last signature
+pub record ArePartsOf (key : PublicKey) (below : ℕ) (parts : List ℕ) (keys : List SignedKey) (last : List ℕ)
+    : Type 0 where
   pub count : length keys ≡ below
   pub parts_are : parts ≡ signed_keys_bytes keys ++ last
   pub read : AllRead key keys last

@@ -40,8 +40,8 @@ impl Display for HssVerdict {
     }
 }
 
-/// Verifies an HSS signature that is all of `sig` (RFC 8554 section 6.3). All parts are read before a level is verified,
-/// and each level costs what its LMS signature costs. It takes no memory.
+/// Verifies an HSS signature that is all of `sig` (RFC 8554 section 6.3). All parts are read before a level is
+/// verified, and each level costs what its LMS signature costs. It takes no memory.
 pub fn hss_verify(key: &HssKey, message: &[u8], sig: &[u8]) -> HssVerdict
     ensures verdict { IsHssVerdict key.now message.now sig.now result }
     ensures accepted { HssAccepts (hss_key_bytes key.now) message.now sig.now

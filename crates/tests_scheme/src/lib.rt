@@ -8,6 +8,8 @@ mod dealer_tests;
 #[cfg(test)]
 mod dealings;
 #[cfg(test)]
+mod hss_levels_tests;
+#[cfg(test)]
 mod lms_bytes_tests;
 #[cfg(test)]
 mod lms_verify_tests;

@@ -1,5 +1,6 @@
 pub mod Deal
 pub mod Drill
+pub mod HssCheck
 pub mod Naming
 pub mod Rehearse
 pub mod ToolRun

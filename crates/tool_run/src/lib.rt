@@ -3,6 +3,7 @@
 
 mod deal;
 mod drilling;
+mod hss_check;
 mod rehearse;
 mod tool;
 mod verify;
