@@ -1,5 +1,5 @@
 -- A leaf in the making, whose masks are committed to.
-use Rattle.std.specs.Prelude.{◌≡◌, ◌≤◌, ℕ, ◌-◌, ◌*◌, ◌+◌, ◌^◌, List, [], length, map, slice_index_or}
+use Rattle.std.specs.Prelude.{◌≤◌, ℕ, ◌-◌, ◌*◌, ◌+◌, ◌^◌, List, [], length, map, slice_index_or}
 use Rattle.coalition_map.specs.Members.{IsAscendingIn}
 use Rattle.lms_bytes.specs.Bytes.{bytes_at, joined}
 use Rattle.lms_bytes.specs.declared.params.Params.{Params}

@@ -1,10 +1,10 @@
 //! Leaves of a reference whose masks are committed to as they are made.
 
 ghost use Rattle.std.specs.Prelude.{◌≡◌, ◌+◌, ◌*◌, ◌<◌, ◌^◌, length, map};
-ghost use Rattle.coalition_map.specs.Members.{IsAscendingIn};
 ghost use Rattle.lms_bytes.specs.Bytes.{bytes_at, joined};
 ghost use Rattle.reference_value.specs.Commitments.{commitments_to, leaf_commitments};
-ghost use Rattle.reference_value.specs.Committing.{AreMembers, cell_commits, mask_with, masked_cell, masked_row, member_mask, member_tag, row_commits};
+ghost use Rattle.reference_value.specs.Committing.{AreMembers, cell_commits, mask_with, masked_cell, masked_row};
+ghost use Rattle.reference_value.specs.Committing.{member_mask, member_tag, row_commits};
 ghost use Rattle.reference_value.specs.Dealing.{leaf_part, masked, value_of_seed};
 ghost use Rattle.share_files.specs.Commits.{leaf_commits_length};
 ghost use Rattle.share_files.specs.Reference.{leaf_length};

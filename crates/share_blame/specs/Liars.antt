@@ -59,9 +59,10 @@ pub record NamedAlone (d : Dealing) (s : State) (digest : List ℕ) (t : ℕ) : 
   pub named : IsNamed d s digest t
   pub alone : (u : ℕ) → IsBlamed (commitments d) s digest u → u ≡ t
 
--- all members gave masks in both rounds, which were joined to the dealer's reference and laid out with its tree, and the
--- signature is not accepted
-pub record EndsAstray (d : Dealing) (key : UndividedKey) (s : State) (tree : TreeNodes) (message : List ℕ) : Type 0 where
+-- all members gave masks in both rounds, which were joined to the dealer's reference and laid out with its tree, and
+-- the signature is not accepted
+pub record EndsAstray (d : Dealing) (key : UndividedKey) (s : State) (tree : TreeNodes) (message : List ℕ)
+    : Type 0 where
   pub dealing : IsOfDealing d key s
   pub tree_is : tree ≡ tree_of key.params key.id (leaf_key key)
   pub first : AreMasks s.first

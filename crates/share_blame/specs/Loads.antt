@@ -23,7 +23,8 @@ pub record IsOfPlan (header : RefHeader) (k n : ℕ) : Type 0 where
 -- of another key: the identifier or the typecodes differ from those of the reference
 abbrev pub key_fault : RefHeader → List ℕ → ℕ → ℕ → Option FileFault
 key_fault header id lms ots =
-    if bytes_eq id header.id && (lms == header.params.lms) && (ots == header.params.ots) then None else Some (OtherKey id)
+    if bytes_eq id header.id && (lms == header.params.lms) && (ots == header.params.ots) then None
+    else Some (OtherKey id)
 
 -- of another plan
 abbrev pub plan_fault : RefHeader → ℕ → ℕ → Option FileFault
@@ -41,4 +42,5 @@ head_difference header head =
 -- the first test that a file fails as the commitments that go with a reference of this header, or none
 unfoldable pub commits_fault : RefHeader → List ℕ → Option FileFault
 commits_fault header bytes = first_fault (
-    short_fault 32 bytes ∷ commits_head_fault (take 32 bytes) (length bytes) ∷ head_difference header (take 32 bytes) ∷ [])
+    short_fault 32 bytes ∷ commits_head_fault (take 32 bytes) (length bytes)
+    ∷ head_difference header (take 32 bytes) ∷ [])

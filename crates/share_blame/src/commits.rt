@@ -36,7 +36,8 @@ impl<V: Pages> Commits<V> {
             → OnOk result (length (V.reads pages) ≡ commits_length header.now.params header.now.plan) }
         ensures back { IfErr result (λ e. PagesStay V.Pages.own V.Faults pages e.0) }
         ensures file { IfErr result (λ e. (fault : FileFault) → e.1 ≡ File fault
-            → (V.count e.0 ≡ V.count pages) × (IsTrue (V.told pages) → commits_fault header.now (V.reads pages) ≡ Some fault)) }
+            → (V.count e.0 ≡ V.count pages)
+            × (IsTrue (V.told pages) → commits_fault header.now (V.reads pages) ≡ Some fault)) }
         ensures device { IfErr result (λ e. e.1 ≡ Device → Rose (V.count pages) (V.count e.0)) }
         ensures succeeds { IsTrue (V.told pages) → IsTrue (V.steady pages) → IfErr result (λ e. e.1 ≢ Device) }
     {

@@ -59,7 +59,8 @@ impl Places {
         self.leaf(q) + self.rank(q, t)
     }
 
-    /// Where the commitment to the mask lies that member `t` has for the value of chain `i` of leaf `q` after `j` steps.
+    /// Where the commitment to the mask lies that member `t` has for the value of chain `i` of leaf `q` after `j`
+    /// steps.
     pub(crate) fn cell(&self, q: u32, i: u16, j: u8, t: u8) -> usize
         requires leaf { q < 2 ^ self.now.params.h }
         requires chain { i < self.now.params.p }

@@ -18,8 +18,8 @@ commits_head_of params plan id = plan_head_of commits_magic params plan id
 abbrev pub commits_head : RefHeader → List ℕ
 commits_head header = plan_head commits_magic header
 
--- this project's profile: 32 bytes for each of k members, for the mask of the randomizer, and for the masks of p chains,
--- 2^w each
+-- this project's profile: 32 bytes for each of k members, for the mask of the randomizer, and for the masks of p
+-- chains, 2^w each
 abbrev pub leaf_commits_size : ℕ → ℕ → ℕ → ℕ
 leaf_commits_size k w p = 32 * k + 32 * k * 2 ^ w * p
 

@@ -1,8 +1,7 @@
-use Rattle.std.proofs.Common.{◌≡◌, ℕ, List, ◌*◌, ◌^◌, ◌<◌, ◌∙◌, length, map, refl, arith, mul-zero}
+use Rattle.std.proofs.Common.{◌≡◌, ℕ, List, ◌*◌, ◌^◌, ◌∙◌, length, refl, arith, mul-zero}
 use Rattle.lms_bytes.specs.Bytes.{joined}
 use Rattle.lms_bytes.proofs.Joined.{front-all, front-more, joined-at, joined-none, joined-same, row-fits}
-use Rattle.mask_prf.proofs.Lengths.{length-chain_mask_of}
-use Rattle.reference_value.specs.Committing.{masked_cell, masked_row, member_mask, row_commits}
+use Rattle.reference_value.specs.Committing.{masked_cell, masked_row, row_commits}
 use Rattle.reference_value.specs.Dealing.{value_of_seed, values_of_seed}
 use Rattle.reference_value.specs.declared.committed.Leaf.{Leaf}
 use Rattle.reference_value.proofs.Members.{length-value_of_seed}

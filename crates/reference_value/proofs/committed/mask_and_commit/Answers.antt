@@ -1,8 +1,7 @@
-use Rattle.std.proofs.Common.{◌≡◌, ◌-◌, length, ap, arith, ◌∙◌}
+use Rattle.std.proofs.Common.{◌-◌, length, ap, arith, ◌∙◌}
 use Rattle.sha2.specs.Sha256.{sha256}
 use Rattle.sha2.proofs.Facts256.{length-sha256}
 use Rattle.coalition_map.proofs.MemberLaws.{below-none, below-all, below-more_in, below-more_out}
-use Rattle.reference_value.specs.Committing.{member_mask}
 use Rattle.reference_value.proofs.Committing.{key-known, committing-none, committing-more, writing-all}
 use Rattle.reference_value.proofs.Members.{member-room}
 use Rattle.reference_value.proofs.committed.mask_and_commit.Goals as goal

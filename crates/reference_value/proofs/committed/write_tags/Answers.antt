@@ -1,7 +1,6 @@
-use Rattle.std.proofs.Common.{◌≡◌, ◌-◌, length, ap, arith, ◌∙◌}
+use Rattle.std.proofs.Common.{◌-◌, length, ap, arith, ◌∙◌}
 use Rattle.coalition_map.proofs.MemberLaws.{below-none, below-all, below-more_in, below-more_out}
 use Rattle.mask_prf.proofs.Lengths.{length-check_tag_of}
-use Rattle.reference_value.specs.Committing.{member_tag}
 use Rattle.reference_value.proofs.Committing.{key-known, writing-none, writing-more, writing-all}
 use Rattle.reference_value.proofs.Members.{member-room}
 use Rattle.reference_value.proofs.committed.write_tags.Goals as goal
