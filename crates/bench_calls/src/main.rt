@@ -21,7 +21,7 @@ use std::{env, io};
 const KINDS: &str = "frames, leaves, leases, masks, turns, verify or all";
 
 /// A few calls of each kind. Two ways to the same thing come to the same.
-const FEW: [&str; 10] = [
+const FEW: [&str; 11] = [
     "frames read 1",
     "frames hash 1",
     "leaves build 2",
@@ -32,6 +32,7 @@ const FEW: [&str; 10] = [
     "turns 4 250",
     "verify verify 5-4 3",
     "verify blocks 5-4 1",
+    "verify levels two 3",
 ];
 
 /// The words of a text.

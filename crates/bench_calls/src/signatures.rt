@@ -1,9 +1,10 @@
-//! Verifies one signature many times, says how many blocks of SHA-256 that takes in, or hashes so many blocks.
+//! Verifies one signature many times, of one LMS key or of several levels, says how many blocks of SHA-256 that takes in, or hashes so many blocks.
 //! `bench/verify` times both.
 
 use crate::hashing::hash_blocks;
 use crate::refuse;
 use host_io::FileStore;
+use hss_levels::{HssVerdict, hss_verify, read_hss_key};
 use lms_bytes::{Params, PublicKey, SigView, Val, digit, read_public, read_signature};
 use lms_verify::{Verdict, verify};
 use ots_chain::MessageHash;
@@ -12,7 +13,7 @@ use std::io;
 use stream_io::Store;
 
 /// The words behind the first.
-const WORDS: &str = "verify, blocks or hash, a name, and a number";
+const WORDS: &str = "verify, levels, blocks or hash, a name, and a number";
 
 /// The longest file that is read, in bytes.
 const LIMIT: u64 = 67_108_864;
@@ -126,6 +127,29 @@ fn run_signed(rt: HostRuntime, way: &str, name: &str, times: u32) -> io::Result<
     Ok(0)
 }
 
+/// Verifies the HSS signature of this name so often, at least once, and gives the status.
+fn run_levels(rt: HostRuntime, name: &str, times: u32) -> io::Result<u8> {
+    let mut store = FileStore::new(rt);
+    let Some(signed) = read_signed(rt.alloc(), &mut store, name) else {
+        println!(rt; "{name} cannot be read")?;
+        return Ok(3);
+    };
+    let Ok(key) = read_hss_key(&signed.key) else {
+        println!(rt; "{name}.key is no key")?;
+        return Ok(4);
+    };
+    let mut verdict = hss_verify(&key, &signed.message, &signed.signature);
+    for _ in 1..times {
+        verdict = hss_verify(&key, &signed.message, &signed.signature);
+    }
+    let HssVerdict::Accepted { levels } = verdict else {
+        println!(rt; "not accepted")?;
+        return Ok(1);
+    };
+    println!(rt; "accepted levels {levels}")?;
+    Ok(0)
+}
+
 /// Verifies, counts blocks or hashes, and gives the status.
 pub(crate) fn run(rt: HostRuntime, words: &[String]) -> io::Result<u8> {
     let [way, name, number] = words else {
@@ -137,6 +161,9 @@ pub(crate) fn run(rt: HostRuntime, words: &[String]) -> io::Result<u8> {
     if way.as_str() == "hash" {
         println!(rt; "{number} blocks: {}", hash_blocks(u64::from(number)))?;
         return Ok(0);
+    }
+    if way.as_str() == "levels" {
+        return run_levels(rt, name.as_str(), number);
     }
     run_signed(rt, way.as_str(), name.as_str(), number)
 }
