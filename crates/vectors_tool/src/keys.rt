@@ -11,7 +11,7 @@ use crate::scene::{Files, print_ran, read, run, store_of, words_of};
 use host_io::{FileStore, StdoutSink};
 use memory_io::MemNet;
 use memory_store::MemStore;
-use rows::{DEALINGS, DRILLS, FAULTY, REFUSED, REHEARSALS, VECTORS};
+use rows::{COMMITMENTS, DEALINGS, DRILLS, FAULTY, REFUSED, REHEARSALS, VECTORS};
 use sha2::{Digest, Sha256};
 use share_files::{read_reference, read_share, read_tree};
 use std::io;
@@ -94,7 +94,15 @@ pub(crate) fn print_runs<R: Threads + Wait + Sync, N: Net>(
     rt: HostRuntime,
     net: &mut N,
 ) -> io::Result<()> {
-    for rows in [VECTORS, FAULTY, REHEARSALS, DEALINGS, REFUSED, DRILLS] {
+    for rows in [
+        VECTORS,
+        FAULTY,
+        REHEARSALS,
+        DEALINGS,
+        REFUSED,
+        DRILLS,
+        COMMITMENTS,
+    ] {
         for (command, files) in rows {
             print_status(threads, rt, net, command)?;
             for name in files.split_whitespace() {

@@ -129,3 +129,16 @@ pub(crate) const REFUSED: Rows = &[
     ("deal 240 5 3 5 3 there", "there.share5"),
     ("verify there.pub empty empty.signature", ""),
 ];
+
+/// Dealings with commitments, which another implementation made as well; one whose commitments are too many, which is
+/// found behind two equal keys and before any output; and one whose last output is there.
+pub(crate) const COMMITMENTS: Rows = &[
+    ("deal 240 5 3 5 3 p commit", "p.ref p.share5 p.commit"),
+    ("deal 240 10 7 5 3 q commit", "q.ref q.commit"),
+    ("deal 176 5 1 3 2 r commit", "r.ref r.commit"),
+    ("deal 240 6 3 5 3 new commit", ""),
+    ("deal 240-same 6 3 5 3 new commit", ""),
+    ("deal 240 6 3 5 3 there commit", "there.share5"),
+    ("deal 240 5 3 5 3 taken commit", "taken.commit"),
+    ("verify taken.pub empty empty.signature", ""),
+];
