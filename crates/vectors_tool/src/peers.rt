@@ -69,6 +69,22 @@ pub(crate) const SESSION_24: &[Member] = &[
     },
 ];
 
+/// The same as they reply for a lower key.
+pub(crate) const SESSION_LOW: &[Member] = &[
+    Member {
+        place: "one",
+        sent: &[Sent::File("replies1.low")],
+    },
+    Member {
+        place: "two",
+        sent: &[Sent::File("replies2.low")],
+    },
+    Member {
+        place: "three",
+        sent: &[Sent::File("replies3.low")],
+    },
+];
+
 /// Trustee 2, whose link ends behind its first reply.
 pub(crate) const LOST: Member = Member {
     place: "two",

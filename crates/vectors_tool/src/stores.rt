@@ -7,8 +7,9 @@ use memory_store::MemStore;
 use std::alloc::Global;
 
 /// What another implementation dealt from, the message that it signed, what its trustees were asked and replied, and
-/// its signature, for hashes of 32 bytes and of 24.
-pub(crate) const SESSION_FILES: [&str; 16] = [
+/// its signature, for hashes of 32 bytes and of 24; and a lower key with its signature of the empty message, what was
+/// asked and replied for its signature, and key and signature of the two levels.
+pub(crate) const SESSION_FILES: [&str; 27] = [
     "entropy",
     "message",
     "signature",
@@ -25,6 +26,17 @@ pub(crate) const SESSION_FILES: [&str; 16] = [
     "replies1.24",
     "replies2.24",
     "replies3.24",
+    "low",
+    "signature.low",
+    "empty",
+    "two.key",
+    "two.signature",
+    "asks1.low",
+    "asks2.low",
+    "asks3.low",
+    "replies1.low",
+    "replies2.low",
+    "replies3.low",
 ];
 
 /// The files that stay as they are where others are changed, or calls fail.

@@ -1,6 +1,8 @@
-//! The runs of `sign` and of the commands that it needs, one after the other over one store.
+//! The runs of `sign`, of `hss sign` and of the commands that they need, one after the other over one store.
 
-use crate::peers::{EIGHT, GARBLED, LOST, Member, ONE, SESSION, SESSION_24, SEVEN, THREE, TWO};
+use crate::peers::{
+    EIGHT, GARBLED, LOST, Member, ONE, SESSION, SESSION_24, SESSION_LOW, SEVEN, THREE, TWO,
+};
 
 /// A command; the trustees who can be dialled; the places of those of whom all that they are asked is known, each with
 /// the name of the file that has it; and a file that the command writes, with the name of one of the same bytes.
@@ -178,6 +180,80 @@ pub(crate) const LOSE: &[Step] = &[
         members: &[SEVEN, TWO, THREE],
         asks: ASKS,
         out: Some(("lost.out", "signature")),
+        ..PLAIN
+    },
+];
+
+/// What the trustees are asked for the signature of a lower key.
+const ASKS_LOW: &[(&str, &str)] = &[
+    ("one", "asks1.low"),
+    ("two", "asks2.low"),
+    ("three", "asks3.low"),
+];
+
+/// A lower key that is signed: its own signature is not accepted, and no leaf is leased; its key is none; a trustee is
+/// not there; then key and signature of two levels, and the same again; and outputs that are there.
+pub(crate) const LEVELS: &[Step] = &[
+    Step {
+        words: "enrol A.ref upper",
+        ..PLAIN
+    },
+    Step {
+        words: "hss sign A upper low signature.low message k s 1=one 2=two 3=three",
+        out: Some(("upper", "fresh")),
+        ..PLAIN
+    },
+    Step {
+        words: "hss sign A upper low empty empty k s 1=one 2=two 3=three",
+        out: Some(("upper", "fresh")),
+        ..PLAIN
+    },
+    Step {
+        words: "hss sign A upper empty signature.low empty k s 1=one 2=two 3=three",
+        ..PLAIN
+    },
+    Step {
+        words: "hss sign A upper none signature.low empty k s 1=one 2=two 3=three",
+        ..PLAIN
+    },
+    Step {
+        words: "hss sign A upper low signature.low empty k s 1=one 2=two 3=three",
+        out: Some(("s", "none")),
+        ..PLAIN
+    },
+    Step {
+        words: "hss sign A upper low signature.low empty k s 1=one 2=two 3=three",
+        members: SESSION_LOW,
+        asks: ASKS_LOW,
+        out: Some(("s", "two.signature")),
+        ..PLAIN
+    },
+    Step {
+        words: "hss check k empty s",
+        out: Some(("k", "two.key")),
+        ..PLAIN
+    },
+    Step {
+        words: "verify k empty s",
+        ..PLAIN
+    },
+    Step {
+        words: "hss sign A upper low signature.low empty k2 s2 3=three 2=two 01=one",
+        members: SESSION_LOW,
+        asks: ASKS_LOW,
+        out: Some(("s2", "two.signature")),
+        ..PLAIN
+    },
+    Step {
+        words: "hss sign A upper low signature.low empty k s3 1=one 2=two 3=three",
+        ..PLAIN
+    },
+    Step {
+        words: "hss sign A upper low signature.low empty k3 s 1=one 2=two 3=three",
+        ..PLAIN
+    },
+    Step {
+        words: "hss sign A upper low signature.low empty k3 s3 1=one 2=two",
         ..PLAIN
     },
 ];
