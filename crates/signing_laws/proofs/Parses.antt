@@ -10,7 +10,7 @@ use Rattle.lms_bytes.specs.declared.params.Params.{Params}
 use Rattle.lms_bytes.specs.declared.public_key.PublicKey.{PublicKey}
 use Rattle.lms_bytes.proofs.Layouts.{codes_accepted, key_lies}
 use Rattle.share_files.specs.Head.{head_fault, length_fault, lms_at, ots_at, plan_fault, short_fault, zero_fault}
-use Rattle.share_files.specs.Reference.{leaves_length, length_of, reference_fault, reference_head, reference_head_fault, reference_head_of, reference_magic}
+use Rattle.share_files.specs.Reference.{leaves_length, length_of, plan_head_fault, reference_fault, reference_head, reference_head_fault, reference_head_of, reference_magic}
 use Rattle.share_files.specs.Sets.{CanBeDealt}
 use Rattle.share_files.specs.TreeFile.{HasTreeLayout, tree_fault, tree_head, tree_length, tree_magic}
 use Rattle.share_files.specs.declared.reference.RefHeader.{RefHeader}
@@ -117,14 +117,16 @@ one-reference header params plan id leaves leaves' bytes size left right =
 -- the head alone passes its tests, for a file of the length that it asks for
 head-alone-passes : (params : Params) (plan : PlanNumbers) (id head : List ℕ) (size : ℕ) → length id ≡ 16 → head ≡ reference_head_of params plan id
     → CanBeDealt params → IsPlan plan → plan.h ≡ params.h → size ≡ 32 + leaves_length params plan → reference_head_fault head size ≡ None
-unfolding reference_head_fault
+unfolding reference_head_fault plan_head_fault
 head-alone-passes params plan id head size id_length parts dealt is height whole =
     let lies = reference-head-lies params plan id [] head id_length (parts ∙ sym (append-nil (reference_head_of params plan id))) in
     let want : size ≡ length_of (lms_at head) (ots_at head) (slice_index head 6) = want_is params head plan.k size (sym lies.lms_is) (sym lies.ots_is) (sym lies.own6_at) whole in
+    let begins : plan_head_fault reference_magic head ≡ None =
     first_fault-passed (head_fault reference_magic head) _ (head_passes (codes "TLRF") 0 plan.k plan.n params id [] head lies dealt)
     ∙ (first_fault-passed (plan_fault head) _ (plan_passes (codes "TLRF") 0 plan params id [] head lies is height)
-    ∙ (first_fault-passed (zero_fault 5 head) _ (zero_passes 5 head lies.own5_at)
-    ∙ (first_fault-passed (length_fault size (length_of (lms_at head) (ots_at head) (slice_index head 6))) _ (length_passes size _ want) ∙ first_fault-end)))
+    ∙ (first_fault-passed (zero_fault 5 head) _ (zero_passes 5 head lies.own5_at) ∙ first_fault-end)) in
+    first_fault-passed (plan_head_fault reference_magic head) _ begins
+    ∙ (first_fault-passed (length_fault size (length_of (lms_at head) (ots_at head) (slice_index head 6))) _ (length_passes size _ want) ∙ first_fault-end)
 
 pub reference-passes : (params : Params) (plan : PlanNumbers) (id leaves bytes : List ℕ) → length id ≡ 16 → bytes ≡ reference_head_of params plan id ++ leaves
     → CanBeDealt params → IsPlan plan → plan.h ≡ params.h → length leaves ≡ leaves_length params plan → reference_fault bytes ≡ None
