@@ -3,6 +3,7 @@
 
 mod deal;
 mod drilling;
+pub mod laws;
 mod rehearse;
 mod tool;
 mod verify;
