@@ -1,3 +1,4 @@
+pub mod Built
 pub mod Exclusive
 pub mod FilesOf
 pub mod FirstShares

@@ -1,3 +1,4 @@
+pub mod Committed
 pub mod Dealt
 pub mod Entropy
 pub mod Faults

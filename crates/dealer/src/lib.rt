@@ -3,6 +3,7 @@
 
 mod building;
 mod checks;
+mod committed;
 mod dealing;
 mod entropy;
 mod faults;
@@ -11,6 +12,7 @@ pub mod laws;
 mod leaves;
 mod shares;
 
+pub use committed::{CommittedFault, deal_committed};
 pub use dealing::{Dealt, deal};
 pub use faults::DealFault;
 pub use files::{DealingFiles, public_file};

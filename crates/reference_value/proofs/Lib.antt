@@ -2,6 +2,7 @@ pub mod Parts
 pub mod Xor
 pub mod Chains
 pub mod Members
+pub mod Committing
 pub mod Reference
 pub mod Unmasking
 pub mod Pads

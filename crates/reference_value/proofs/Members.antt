@@ -15,7 +15,7 @@ use Rattle.mask_prf.specs.Masks.{chain_mask_of, check_tag_of, random_mask_of}
 use Rattle.lms_bytes.proofs.Lengths.{length-hash}
 use Rattle.mask_prf.proofs.Lengths.{length-chain_mask_of, length-check_tag_of, length-random_mask_of, length-randomizer_of}
 use Rattle.ots_chain.specs.Chains.{steps}
-use Rattle.reference_value.specs.Dealing.{Dealing, cell, cells, chain_mask, chain_value, check_tag, key_of, leaf_part, leaf_randomizer, masked, masked_randomizer, members_of, random_mask, tags}
+use Rattle.reference_value.specs.Dealing.{Dealing, cell, cells, chain_mask, chain_value, check_tag, key_of, leaf_part, leaf_randomizer, masked, masked_randomizer, members_of, random_mask, tags, value_of_seed}
 use Rattle.reference_value.specs.Masking.{masked_at, masked_chain}
 use Rattle.lms_bytes.proofs.Joined.{joined-at, joined-same, length-joined}
 use Rattle.reference_value.proofs.Xor.{length-xor}
@@ -25,8 +25,11 @@ unfolding steps
 length-steps params id q i from zero x e = e
 length-steps params id q i from (suc count) x e = length-hash params _
 
+pub length-value_of_seed : (params : Params) (id : List ℕ) (q : ℕ) (seed : List ℕ) (i j : ℕ) → length (value_of_seed params id q seed i j) ≡ params.n
+length-value_of_seed params id q seed i j = length-steps params id q i 0 j _ (length-hash params _)
+
 pub length-chain_value : (d : Dealing) (q i j : ℕ) → length (chain_value d q i j) ≡ d.params.n
-length-chain_value d q i j = length-steps d.params d.id q i 0 j _ (length-hash d.params _)
+length-chain_value d q i j = length-value_of_seed d.params d.id q d.seed i j
 
 -- what stands in a leaf once the trustees ts have put their masks on it
 abbrev pub random_of : Dealing → ℕ → List ℕ → List ℕ
@@ -134,7 +137,7 @@ length-below-le : (t : ℕ) (l : List ℕ) → length (below t l) ≤ length l
 length-below-le t l = omega (arith, length-filter (λ x. nat_lt x t) l, count_by-le-length (λ x. nat_lt x t) l)
 
 -- there is room for one more tag
-member-room : (e t : ℕ) (l : List ℕ) → IsAscendingIn 1 e l → Contains l t → length (below t l) + 1 ≤ length l
+pub member-room : (e t : ℕ) (l : List ℕ) → IsAscendingIn 1 e l → Contains l t → length (below t l) + 1 ≤ length l
 member-room e t l ascending member =
     omega (arith, length-below-le (t + 1) l, length-append (below t l) (t ∷ []), ap length (below-more_in 1 e t l ascending member))
 

@@ -26,17 +26,17 @@ part-part s place size r n inside =
     ap (take n) cut ∙ take-take n (size - r) (drop (place + r) s) (omega arith)
 
 -- a part of the second of two strings
-part-second : (a b : List ℕ) (place r n : ℕ) → place ≡ length a + r → bytes_at (a ++ b) place n ≡ bytes_at b r n
+pub part-second : (a b : List ℕ) (place r n : ℕ) → place ≡ length a + r → bytes_at (a ++ b) place n ≡ bytes_at b r n
 part-second a b place r n e = rw (e, drop-append-add a b r) refl
 
 -- a part of one of the joined strings
-joined-inside : (f : ℕ → List ℕ) (size count i r n : ℕ) → AllOfLength f size count → i < count → r + n ≤ size
+pub joined-inside : (f : ℕ → List ℕ) (size count i r n : ℕ) → AllOfLength f size count → i < count → r + n ≤ size
     → bytes_at (joined f count) (size * i + r) n ≡ bytes_at (f i) r n
 joined-inside f size count i r n sized inside within =
     sym (part-part (joined f count) (size * i) size r n within) ∙ ap (λ s. bytes_at s r n) (joined-at f size count i sized inside)
 
 -- the lengths of a leaf and of its parts
-length-members_of : (d : Dealing) (q : ℕ) → IsPlan d.plan → length (members_of d q) ≡ d.plan.k
+pub length-members_of : (d : Dealing) (q : ℕ) → IsPlan d.plan → length (members_of d q) ≡ d.plan.k
 length-members_of d q plan =
     let some = count_of-pos d.plan plan in
     (IsSubset-coalition d.plan (q % count_of d.plan) (mod-lt q some)).size

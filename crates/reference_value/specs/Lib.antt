@@ -1,3 +1,5 @@
+pub mod Commitments
+pub mod Committing
 pub mod Dealing
 pub mod Places
 pub mod Joins

@@ -15,7 +15,7 @@ use ots_chain::{chain, secret};
 use share_files::{TAG, chain_bytes};
 
 /// Writes the values of a chain, from no step to all.
-fn write_chain(params: &Params, id: &KeyId, q: u32, i: u16, seed: &Val, out: &mut [u8])
+pub(crate) fn write_chain(params: &Params, id: &KeyId, q: u32, i: u16, seed: &Val, out: &mut [u8])
     requires index { i < params.now.p }
     requires seed { length seed.now ≡ params.now.n }
     requires room { length out.old ≡ params.now.n * 2 ^ params.now.w }
@@ -44,7 +44,7 @@ fn write_chains(params: &Params, id: &KeyId, q: u32, seed: &Val, out: &mut [u8])
 }
 
 /// Puts a mask on the value at a place.
-fn mask_value(out: &mut [u8], place: usize, mask: &Val)
+pub(crate) fn mask_value(out: &mut [u8], place: usize, mask: &Val)
     requires { place + length mask.now ≤ length out.old }
     ensures front { take (place + length mask.now) out.new
         ≡ take place out.old ++ xor (bytes_at out.old place (length mask.now)) mask.now }

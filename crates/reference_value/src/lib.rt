@@ -2,6 +2,7 @@
 #![tactic(auto)]
 
 mod cells;
+mod committed;
 mod joins;
 pub mod laws;
 mod layout;
@@ -10,8 +11,9 @@ mod paged;
 mod whole;
 
 pub use cells::{Cells, RefFault};
+pub use committed::build_committed_leaf;
 pub use joins::{join_chains, join_randomizer};
 pub use leaf::build_leaf;
-pub use paged::Paged;
+pub use paged::{Paged, read_behind_header};
 pub use share_files::leaf_bytes;
 pub use whole::Whole;

@@ -83,8 +83,12 @@ impl<V: Pages> Cells for Paged<V> {
     }
 }
 
-/// Reads the bytes of the leaves from a place on, as many as `out` has.
-fn read_behind_header<V: Pages>(pages: &mut V, place: usize, out: &mut [u8]) -> Result<(), RefFault>
+/// Reads the bytes of the leaves, which stand behind a head of 32 bytes, from a place on, as many as `out` has.
+pub fn read_behind_header<V: Pages>(
+    pages: &mut V,
+    place: usize,
+    out: &mut [u8],
+) -> Result<(), RefFault>
     requires place { place ≤ 2 ^ 50 }
     requires some { 0 < length out.old }
     ensures bytes { IsTrue (V.told pages.old)

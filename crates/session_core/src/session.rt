@@ -83,7 +83,8 @@ impl Session {
 
     /// The leaf that signs.
     pub fn leaf(&self) -> u32
-        ensures { result ≡ self.now.leaf }
+        ensures leaf { result ≡ self.now.leaf }
+        ensures session { IsSession self.now }
     {
         self.leaf
     }

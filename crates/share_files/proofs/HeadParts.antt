@@ -45,6 +45,17 @@ head_lies m0 m1 m2 m3 own5 own6 own7 params id rest bytes id_length parts = reco
   rest_at = rw parts (drop_at id rest 16 id_length);
 }
 
+-- the same for any magic of four bytes
+pub head_lies-any : (magic : List ℕ) (own5 own6 own7 : ℕ) (params : Params) (id rest bytes : List ℕ) → length magic ≡ 4 → length id ≡ 16
+    → bytes ≡ head_bytes magic (own5 ∷ own6 ∷ own7 ∷ []) params id ++ rest → HeadLies magic own5 own6 own7 params id rest bytes
+head_lies-any [] own5 own6 own7 params id rest bytes four id_length parts = absurd (omega arith)
+head_lies-any (a ∷ []) own5 own6 own7 params id rest bytes four id_length parts = absurd (omega arith)
+head_lies-any (a ∷ b ∷ []) own5 own6 own7 params id rest bytes four id_length parts = absurd (omega arith)
+head_lies-any (a ∷ b ∷ c ∷ []) own5 own6 own7 params id rest bytes four id_length parts = absurd (omega arith)
+head_lies-any (a ∷ b ∷ c ∷ d ∷ []) own5 own6 own7 params id rest bytes four id_length parts =
+    head_lies a b c d own5 own6 own7 params id rest bytes id_length parts
+head_lies-any (a ∷ b ∷ c ∷ d ∷ e ∷ more) own5 own6 own7 params id rest bytes four id_length parts = absurd (omega arith)
+
 dealt-true : (params : Params) → CanBeDealt params → can_be_dealt params.lms params.ots ≡ true
 dealt-true params dealt =
     let low = dealt.height in

@@ -1,22 +1,26 @@
--- A reference file passes the tests of its reader.
+-- Files with a plan in their head pass the tests of their readers.
 use Rattle.std.proofs.Common.{◌≡◌, ℕ, ◌+◌, ◌-◌, ◌*◌, ◌^◌, List, [], ◌++◌, length, take, refl, sym, ap, ◌∙◌, append-nil, arith}
 use Rattle.std.specs.Prelude.{codes, slice_index}
 use Rattle.std.proofs.lemmas.List.{take_all, take_at}
 use Rattle.lms_bytes.specs.Bytes.{bytes_at}
 use Rattle.lms_bytes.specs.declared.params.Params.{Params}
 use Rattle.share_files.specs.Head.{lms_at, ots_at}
-use Rattle.share_files.specs.Reference.{HasReferenceLayout, leaf_length, length_of, reference_head, reference_length}
+use Rattle.share_files.specs.Commits.{commits_length_of, leaf_commits_length}
+use Rattle.share_files.specs.Reference.{HasReferenceLayout, leaf_length, length_of, plan_head, reference_head, reference_length}
 use Rattle.share_files.specs.declared.reference.RefHeader.{RefHeader}
 use Rattle.share_files.proofs.Dealt.{chain_count-ots, height_of-lms, node_length-lms, width_of-ots}
-use Rattle.share_files.proofs.HeadParts.{HeadLies, head_lies}
+use Rattle.share_files.proofs.HeadParts.{HeadLies, head_lies, head_lies-any}
 
 pub reference_lies : (header : RefHeader) (leaves bytes : List ℕ) → bytes ≡ reference_head header ++ leaves
     → HeadLies (codes "TLRF") 0 header.plan.k header.plan.n header.params header.id leaves bytes
 reference_lies header leaves bytes parts = head_lies _ _ _ _ 0 header.plan.k header.plan.n header.params header.id leaves bytes header.id_length parts
 
--- a head with nothing behind it
-pub head_alone : (header : RefHeader) (head : List ℕ) → head ≡ reference_head header → head ≡ reference_head header ++ []
-head_alone header head parts = parts ∙ sym (append-nil (reference_head header))
+-- a head with a plan, and nothing behind it
+pub plan_lies : (magic : List ℕ) (header : RefHeader) (head : List ℕ) → length magic ≡ 4 → head ≡ plan_head magic header
+    → HeadLies magic 0 header.plan.k header.plan.n header.params header.id [] head
+plan_lies magic header head four parts =
+    head_lies-any magic 0 header.plan.k header.plan.n header.params header.id [] head four header.id_length
+    (parts ∙ sym (append-nil (plan_head magic header)))
 
 length_of-codes : (params : Params) (k : ℕ) → length_of params.lms params.ots k ≡ 32 + leaf_length params k * 2 ^ params.h
 length_of-codes params k = rw (node_length-lms params, height_of-lms params, chain_count-ots params, width_of-ots params) refl
@@ -25,6 +29,14 @@ length_of-codes params k = rw (node_length-lms params, height_of-lms params, cha
 pub want_is : (params : Params) (head : List ℕ) (k want : ℕ) → params.lms ≡ lms_at head → params.ots ≡ ots_at head → k ≡ slice_index head 6
     → want ≡ 32 + leaf_length params k * 2 ^ params.h → want ≡ length_of (lms_at head) (ots_at head) (slice_index head 6)
 want_is params head k want lms ots threshold size = size ∙ (sym (length_of-codes params k) ∙ rw (lms, ots, threshold) refl)
+
+pub commits_length_of-codes : (params : Params) (k : ℕ) → commits_length_of params.lms params.ots k ≡ 32 + leaf_commits_length params k * 2 ^ params.h
+commits_length_of-codes params k = rw (height_of-lms params, chain_count-ots params, width_of-ots params) refl
+
+-- the length that the reader of a commitment file asks for
+pub commits_want_is : (params : Params) (head : List ℕ) (k want : ℕ) → params.lms ≡ lms_at head → params.ots ≡ ots_at head → k ≡ slice_index head 6
+    → want ≡ 32 + leaf_commits_length params k * 2 ^ params.h → want ≡ commits_length_of (lms_at head) (ots_at head) (slice_index head 6)
+commits_want_is params head k want lms ots threshold size = size ∙ (sym (commits_length_of-codes params k) ∙ rw (lms, ots, threshold) refl)
 
 -- the head that the leaves of a reference file follow
 pub front_is : (header : RefHeader) (leaves bytes : List ℕ) → bytes ≡ reference_head header ++ leaves → take 32 bytes ≡ reference_head header

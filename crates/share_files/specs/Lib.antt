@@ -1,3 +1,4 @@
+pub mod Commits
 pub mod FaultNumbers
 pub mod Head
 pub mod Reference

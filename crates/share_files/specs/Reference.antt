@@ -12,12 +12,18 @@ use Rattle.share_files.specs.declared.reference.RefHeader.{RefHeader}
 abbrev pub reference_magic : List ℕ
 reference_magic = codes "TLRF"
 
--- this project's profile: the head with a zero, k and n, 32 bytes
+-- this project's profile: a head with a zero, k and n, 32 bytes
+abbrev pub plan_head_of : List ℕ → Params → PlanNumbers → List ℕ → List ℕ
+plan_head_of magic params plan id = head_bytes magic (0 ∷ plan.k ∷ plan.n ∷ []) params id
+
+abbrev pub plan_head : List ℕ → RefHeader → List ℕ
+plan_head magic header = plan_head_of magic header.params header.plan header.id
+
 abbrev pub reference_head_of : Params → PlanNumbers → List ℕ → List ℕ
-reference_head_of params plan id = head_bytes reference_magic (0 ∷ plan.k ∷ plan.n ∷ []) params id
+reference_head_of params plan id = plan_head_of reference_magic params plan id
 
 abbrev pub reference_head : RefHeader → List ℕ
-reference_head header = reference_head_of header.params header.plan header.id
+reference_head header = plan_head reference_magic header
 
 -- this project's profile: the masked randomizer, a check tag for each of k members, and the cells of p chains, 2^w each
 abbrev pub leaf_size : ℕ → ℕ → ℕ → ℕ → ℕ
@@ -51,10 +57,14 @@ pub record HasReferenceLayout (header : RefHeader) (bytes leaves : List ℕ) : T
 abbrev pub length_of : ℕ → ℕ → ℕ → ℕ
 length_of lms ots k = 32 + leaf_size (node_length lms) k (width_of ots) (chain_count ots) * 2 ^ height_of lms
 
+-- the first test that a head of 32 bytes with a plan fails, whatever the length of its file, or none
+unfoldable pub plan_head_fault : List ℕ → List ℕ → Option FileFault
+plan_head_fault magic head = first_fault (head_fault magic head ∷ plan_fault head ∷ zero_fault 5 head ∷ [])
+
 -- the first test that a head of 32 bytes fails, as the head of a reference file of this length, or none
 unfoldable pub reference_head_fault : List ℕ → ℕ → Option FileFault
 reference_head_fault head size = first_fault (
-    head_fault reference_magic head ∷ plan_fault head ∷ zero_fault 5 head
+    plan_head_fault reference_magic head
     ∷ length_fault size (length_of (lms_at head) (ots_at head) (slice_index head 6)) ∷ [])
 
 -- the first test that bytes fail as a reference file, or none

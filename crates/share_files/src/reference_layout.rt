@@ -7,7 +7,8 @@ ghost use Rattle.share_files.specs.Sets.{CanBeDealt};
 ghost use Rattle.share_files.specs.declared.reference.RefHeader.{RefHeader};
 
 use crate::faults::FileFault;
-use crate::head::{check_front, check_length, check_zero, read_head, read_plan, write_head};
+use crate::head::{check_front, check_length};
+use crate::plan_head::{read_plan_head, write_plan_head};
 use crate::reference::{RefHeader, RefView};
 use crate::sizes::{HEAD, leaf_bytes};
 use lms_bytes::Params;
@@ -26,15 +27,9 @@ pub fn read_ref_header(head: &[u8; 32], file_length: u64) -> Result<RefHeader, F
     ensures faultless { OnOk result (reference_head_fault head.now file_length ≡ None) }
     ensures refused { IfErr result (λ fault. reference_head_fault head.now file_length ≡ Some fault) }
 {
-    let found = read_head(REFERENCE_MAGIC, head)?;
-    let plan = read_plan(head, &found.params)?;
-    check_zero(head, 5)?;
-    check_length(file_length, length_of_file(&found.params, plan.k()))?;
-    Ok(RefHeader {
-        params: found.params,
-        plan,
-        id: found.id,
-    })
+    let header = read_plan_head(REFERENCE_MAGIC, head)?;
+    check_length(file_length, length_of_file(&header.params, header.plan.k()))?;
+    Ok(header)
 }
 
 /// Reads a reference file that is all of `bytes`. The leaves are borrowed from it.
@@ -58,8 +53,7 @@ pub fn read_reference<'a>(bytes: &'a [u8]) -> Result<RefView<'a>, FileFault>
 pub fn write_ref_head(header: &RefHeader, out: &mut [u8; 32])
     ensures { out.new ≡ reference_head header.now }
 {
-    let own = [0, header.plan.k(), header.plan.n()];
-    write_head(REFERENCE_MAGIC, &own, &header.params, &header.id, out);
+    write_plan_head(REFERENCE_MAGIC, header, out);
 }
 
 /// How long the reference file of a parameter set and a threshold is, in bytes.

@@ -1,3 +1,4 @@
+mod Numbers
 pub mod Heard
 pub mod Names
 pub mod Nets

@@ -3,25 +3,31 @@ use Rattle.std.specs.Prelude.{ℕ, List, [], ◌∷◌, ◌++◌, codes}
 use Rattle.std.specs.Fmt.{decimal}
 use Rattle.drill_summary.specs.declared.summary.Summary.{Summary}
 use Rattle.hex.specs.Hex.{encode_lower}
-use Rattle.lms_bytes.specs.FaultNumbers.{signature_fault_number}
+use Rattle.hss_levels.specs.declared.faults.HssFault.{HssFault}
+use Rattle.hss_levels.specs.declared.faults.HssFault.TheVariants as hss
+use Rattle.hss_levels.specs.declared.verification.HssVerdict.{HssVerdict}
+use Rattle.hss_levels.specs.declared.verification.HssVerdict.TheVariants as levels
+use Rattle.lms_bytes.specs.FaultNumbers.{key_fault_number, signature_fault_number}
 use Rattle.lms_verify.specs.declared.verification.Verdict.{Verdict}
 use Rattle.lms_verify.specs.declared.verification.Verdict.TheVariants.{Accepted, Malformed, OtherRoot}
 use Rattle.tool_base.specs.declared.undealt.Undealt.{Undealt}
 use Rattle.tool_base.specs.declared.undealt.Undealt.TheVariants.{Code, Threshold, Coalitions, Height, Width}
-use Rattle.tool_base.specs.declared.undealt.Undealt.TheVariants.{Entropy, Keys}
+use Rattle.tool_base.specs.declared.undealt.Undealt.TheVariants.{Entropy, Keys, Commitments}
 use Rattle.tool_base.specs.declared.unsigned.Unsigned.{Unsigned}
 use Rattle.tool_base.specs.declared.unsigned.Unsigned.TheVariants.{Missing, SpentLeaf, WrongCheck, WrongRoot, NoLeaf}
-use Rattle.tool_base.specs.declared.unsigned.Unsigned.TheVariants.{Refused, Stray, NotACoalition}
+use Rattle.tool_base.specs.declared.unsigned.Unsigned.TheVariants.{Blamed, Refused, Stray, NotACoalition}
 
 -- an end, with what its line names
 pub data Ending : Type 0 where
   Verified : (verdict : Verdict) → Ending
+  Checked : (verdict : HssVerdict) → Ending
   Rehearsed : Ending
   Dealt : (leaves coalitions : ℕ) → Ending
   Enrolled : (number : ℕ) → Ending
   Migrated : (slots : ℕ) → Ending
   Approved : (slots : ℕ) → Ending
   Signed : (leaf : ℕ) → Ending
+  SignedLevels : (leaf : ℕ) → Ending
   Served : (connections frames : ℕ) → Ending
   Drilled : (summary : Summary) → Ending
   Usage : Ending
@@ -43,6 +49,7 @@ unsigned_status (Missing member round) = 6
 unsigned_status (SpentLeaf leaf member) = 7
 unsigned_status (WrongCheck leaf member) = 8
 unsigned_status (WrongRoot leaf got want) = 8
+unsigned_status (Blamed members) = 8
 unsigned_status (NoLeaf coalition) = 9
 unsigned_status (Refused member code) = 11
 unsigned_status (Stray member round) = 11
@@ -52,12 +59,16 @@ abbrev pub status_of : Ending → ℕ
 status_of (Verified (Accepted leaf)) = 0
 status_of (Verified (Malformed fault)) = 1
 status_of (Verified (OtherRoot got want)) = 1
+status_of (Checked (levels.Accepted count)) = 0
+status_of (Checked (levels.Malformed fault)) = 1
+status_of (Checked (levels.OtherRoot level got want)) = 1
 status_of Rehearsed = 0
 status_of (Dealt leaves coalitions) = 0
 status_of (Enrolled number) = 0
 status_of (Migrated slots) = 0
 status_of (Approved slots) = 0
 status_of (Signed leaf) = 0
+status_of (SignedLevels leaf) = 0
 status_of (Served connections frames) = 0
 status_of (Drilled summary) = 0
 status_of Usage = 2
@@ -87,10 +98,21 @@ undealt_line Width = codes "error 5 width" ++ end_of_line
 undealt_line (Entropy got want) =
     codes "error 5 entropy " ++ (decimal got ++ (codes " " ++ (decimal want ++ end_of_line)))
 undealt_line (Keys t u) = codes "error 5 keys " ++ (decimal t ++ (codes " " ++ (decimal u ++ end_of_line)))
+undealt_line (Commitments bytes) = codes "error 5 commitments " ++ (decimal bytes ++ end_of_line)
 
 -- two numbers, the first behind these words and the second behind those
 abbrev pub two_numbers : List ℕ → ℕ → List ℕ → ℕ → List ℕ
 two_numbers words first more second = words ++ (decimal first ++ (more ++ (decimal second ++ end_of_line)))
+
+-- numbers, each behind a space
+abbrev pub spaced : List ℕ → List ℕ
+spaced [] = []
+spaced (number ∷ numbers) = codes " " ++ (decimal number ++ spaced numbers)
+
+-- the numbers of members that are blamed, each behind a space, or ` none`
+abbrev pub blamed_words : List ℕ → List ℕ
+blamed_words [] = codes " none"
+blamed_words (member ∷ members) = spaced (member ∷ members)
 
 -- the line that says why nothing is signed
 abbrev pub unsigned_line : Unsigned → List ℕ
@@ -100,10 +122,28 @@ unsigned_line (WrongCheck leaf member) = two_numbers (codes "error 8 check leaf 
 unsigned_line (WrongRoot leaf got want) =
     codes "error 8 root leaf " ++ (decimal leaf
     ++ (codes " " ++ (encode_lower got ++ (codes " " ++ (encode_lower want ++ end_of_line)))))
+unsigned_line (Blamed members) = codes "error 8 blamed" ++ (blamed_words members ++ end_of_line)
 unsigned_line (NoLeaf coalition) = codes "error 9 no leaf coalition " ++ (decimal coalition ++ end_of_line)
 unsigned_line (Refused member code) = two_numbers (codes "error 11 member ") member (codes " code ") code
 unsigned_line (Stray member round) = two_numbers (codes "error 11 stray ") member (codes " round ") round
 unsigned_line NotACoalition = codes "error 18 not a coalition" ++ end_of_line
+
+-- the line that says why bytes are no HSS signature under a key; the top level is level 0
+abbrev pub hss_fault_line : HssFault → List ℕ
+hss_fault_line hss.Short = codes "not accepted: hss short" ++ end_of_line
+hss_fault_line (hss.Levels got) = codes "not accepted: hss levels " ++ (decimal got ++ end_of_line)
+hss_fault_line (hss.Sig level fault) =
+    two_numbers (codes "not accepted: hss sig ") (signature_fault_number fault) (codes " level ") level
+hss_fault_line (hss.Pub level fault) =
+    two_numbers (codes "not accepted: hss key ") (key_fault_number fault) (codes " level ") level
+
+-- the line of a verdict on an HSS signature
+abbrev pub levels_line : HssVerdict → List ℕ
+levels_line (levels.Accepted count) = codes "accepted levels " ++ (decimal count ++ end_of_line)
+levels_line (levels.Malformed fault) = hss_fault_line fault
+levels_line (levels.OtherRoot level got want) =
+    codes "not accepted: hss root " ++ (decimal level
+    ++ (codes " " ++ (encode_lower got ++ (codes " " ++ (encode_lower want ++ end_of_line)))))
 
 -- what the line of a drill says of its sessions, and then of its asks
 abbrev pub drilled_sessions : Summary → List ℕ
@@ -124,6 +164,7 @@ line_of (Verified (Malformed fault)) =
     codes "not accepted: malformed " ++ (decimal (signature_fault_number fault) ++ end_of_line)
 line_of (Verified (OtherRoot got want)) =
     codes "not accepted: root " ++ (encode_lower got ++ (codes " key " ++ (encode_lower want ++ end_of_line)))
+line_of (Checked verdict) = levels_line verdict
 line_of Rehearsed = codes "rehearsed leaf 0" ++ end_of_line
 line_of (Dealt leaves coalitions) =
     codes "dealt " ++ (decimal leaves
@@ -132,6 +173,7 @@ line_of (Enrolled number) = codes "enrolled " ++ (decimal number ++ end_of_line)
 line_of (Migrated slots) = codes "migrated " ++ (decimal slots ++ end_of_line)
 line_of (Approved slots) = codes "approved " ++ (decimal slots ++ end_of_line)
 line_of (Signed leaf) = codes "signed leaf " ++ (decimal leaf ++ end_of_line)
+line_of (SignedLevels leaf) = codes "signed leaf " ++ (decimal leaf ++ (codes " levels 2" ++ end_of_line))
 line_of (Served connections frames) =
     codes "served " ++ (decimal connections
     ++ (codes " connections " ++ (decimal frames ++ (codes " frames" ++ end_of_line))))

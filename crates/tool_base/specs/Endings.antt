@@ -3,7 +3,7 @@ use Rattle.std.specs.Prelude.{string_bytes}
 use Rattle.tool_base.specs.Ending as spec
 use Rattle.tool_base.specs.declared.ending.Ending.{Ending}
 use Rattle.tool_base.specs.declared.ending.Ending.TheVariants.{Verified, Rehearsed, Dealt, Enrolled, Migrated, Approved}
-use Rattle.tool_base.specs.declared.ending.Ending.TheVariants.{Signed, Served, Drilled, Usage}
+use Rattle.tool_base.specs.declared.ending.Ending.TheVariants.{Checked, Signed, SignedLevels, Served, Drilled, Usage}
 use Rattle.tool_base.specs.declared.ending.Ending.TheVariants.{StoreFailed, Unreadable, NotDealt, NotSigned}
 use Rattle.tool_base.specs.declared.ending.Ending.TheVariants.{DeviceFailed, TooLong, NotLoaded, NoMemory, Exists}
 use Rattle.tool_base.specs.declared.ending.Ending.TheVariants.{NetFailed, BookFull}
@@ -11,12 +11,14 @@ use Rattle.tool_base.specs.declared.ending.Ending.TheVariants.{NetFailed, BookFu
 -- the end, with the bytes of the names in it
 abbrev pub ending : Ending → spec.Ending
 ending (Verified verdict) = spec.Verified verdict
+ending (Checked verdict) = spec.Checked verdict
 ending Rehearsed = spec.Rehearsed
 ending (Dealt leaves coalitions) = spec.Dealt leaves coalitions
 ending (Enrolled number) = spec.Enrolled number
 ending (Migrated slots) = spec.Migrated slots
 ending (Approved slots) = spec.Approved slots
 ending (Signed leaf) = spec.Signed leaf
+ending (SignedLevels leaf) = spec.SignedLevels leaf
 ending (Served connections frames) = spec.Served connections frames
 ending (Drilled summary) = spec.Drilled summary
 ending Usage = spec.Usage

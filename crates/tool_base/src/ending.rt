@@ -1,7 +1,8 @@
 //! How a call ends, and the line that says so.
 
 ghost use Rattle.std.specs.Prelude.{◌≡◌, IfOk, string_bytes};
-ghost use Rattle.tool_base.specs.Ending.{drilled_asks, drilled_sessions, line_of};
+ghost use Rattle.tool_base.specs.Ending.{drilled_asks, drilled_sessions, hss_fault_line, levels_line, line_of};
+ghost use Rattle.hss_levels.specs.declared.verification.HssVerdict.TheVariants as levels;
 ghost use Rattle.lms_verify.specs.declared.verification.Verdict.TheVariants as verdict;
 ghost use Rattle.tool_base.specs.Ending as spec;
 ghost use Rattle.tool_base.specs.Endings.{ending};
@@ -11,6 +12,7 @@ use crate::undealt::Undealt;
 use crate::unsigned::Unsigned;
 use dealer::DealFault;
 use drill_summary::Summary;
+use hss_levels::{HssFault, HssVerdict};
 use lms_bytes::Val;
 use lms_verify::Verdict;
 use std::alloc::{AllocError, Global};
@@ -20,6 +22,8 @@ use std::alloc::{AllocError, Global};
 pub enum Ending {
     /// A signature was verified.
     Verified(Verdict),
+    /// A signature of one to eight levels was verified.
+    Checked(HssVerdict),
     /// A signature was made in a rehearsal, and written with its key.
     Rehearsed,
     /// A key was dealt, and its files were written.
@@ -32,6 +36,8 @@ pub enum Ending {
     Approved { slots: u32 },
     /// A signature was made with this leaf, and written.
     Signed { leaf: u32 },
+    /// A signature of two levels was made, the upper one with this leaf, and written with its key.
+    SignedLevels { leaf: u32 },
     /// So many connections were served, with so many replies.
     Served { connections: u32, frames: u32 },
     /// A drill was run.
@@ -72,9 +78,12 @@ impl Ending {
         match self {
             Ending::Verified(Verdict::Accepted { .. }) => 0,
             Ending::Verified(_) => 1,
+            Ending::Checked(HssVerdict::Accepted { .. }) => 0,
+            Ending::Checked(_) => 1,
             Ending::Rehearsed | Ending::Dealt { .. } | Ending::Enrolled { .. } => 0,
             Ending::Migrated { .. } | Ending::Approved { .. } => 0,
-            Ending::Signed { .. } | Ending::Served { .. } | Ending::Drilled(_) => 0,
+            Ending::Signed { .. } | Ending::SignedLevels { .. } => 0,
+            Ending::Served { .. } | Ending::Drilled(_) => 0,
             Ending::Usage => 2,
             Ending::StoreFailed => 3,
             Ending::Unreadable { .. } => 4,
@@ -96,12 +105,14 @@ impl Ending {
     {
         match self {
             Ending::Verified(verdict) => verdict_line(alloc, verdict),
+            Ending::Checked(verdict) => levels_line(alloc, verdict),
             Ending::Rehearsed => format!(in alloc; "rehearsed leaf 0\n"),
             Ending::Dealt { leaves, coalitions } => dealt_line(alloc, *leaves, *coalitions),
             Ending::Enrolled { number } => format!(in alloc; "enrolled {number}\n"),
             Ending::Migrated { slots } => format!(in alloc; "migrated {slots}\n"),
             Ending::Approved { slots } => format!(in alloc; "approved {slots}\n"),
             Ending::Signed { leaf } => format!(in alloc; "signed leaf {leaf}\n"),
+            Ending::SignedLevels { leaf } => format!(in alloc; "signed leaf {leaf} levels 2\n"),
             Ending::Served {
                 connections,
                 frames,
@@ -144,6 +155,44 @@ fn roots_line(alloc: Global, got: &Val, want: &Val) -> Result<String, AllocError
     let got = hex::encode(alloc, got.bytes())?;
     let want = hex::encode(alloc, want.bytes())?;
     format!(in alloc; "not accepted: root {got} key {want}\n")
+}
+
+/// The line of a verdict on an HSS signature.
+fn levels_line(alloc: Global, verdict: &HssVerdict) -> Result<String, AllocError>
+    ensures { IfOk result (λ line. string_bytes line ≡ levels_line verdict.now) }
+{
+    match verdict {
+        HssVerdict::Accepted { levels } => format!(in alloc; "accepted levels {levels}\n"),
+        HssVerdict::Malformed(fault) => hss_fault_line(alloc, fault),
+        HssVerdict::OtherRoot { level, got, want } => level_root_line(alloc, *level, got, want),
+    }
+}
+
+/// The line of bytes that are no HSS signature under a key.
+fn hss_fault_line(alloc: Global, fault: &HssFault) -> Result<String, AllocError>
+    ensures { IfOk result (λ line. string_bytes line ≡ hss_fault_line fault.now) }
+{
+    match fault {
+        HssFault::Short => format!(in alloc; "not accepted: hss short\n"),
+        HssFault::Levels { got } => format!(in alloc; "not accepted: hss levels {got}\n"),
+        HssFault::Sig { level, fault } => {
+            let number = fault.number();
+            format!(in alloc; "not accepted: hss sig {number} level {level}\n")
+        }
+        HssFault::Pub { level, fault } => {
+            let number = fault.number();
+            format!(in alloc; "not accepted: hss key {number} level {level}\n")
+        }
+    }
+}
+
+/// The line of a level whose signature leads to another root than its key's.
+fn level_root_line(alloc: Global, level: u8, got: &Val, want: &Val) -> Result<String, AllocError>
+    ensures { IfOk result (λ line. string_bytes line ≡ levels_line (levels.OtherRoot level got.now want.now)) }
+{
+    let got = hex::encode(alloc, got.bytes())?;
+    let want = hex::encode(alloc, want.bytes())?;
+    format!(in alloc; "not accepted: hss root {level} {got} {want}\n")
 }
 
 /// The line of a file that is not in its grammar.

@@ -21,6 +21,8 @@ pub enum Undealt {
     Entropy { got: usize, want: usize },
     /// Two trustees have the same key.
     Keys { t: u8, u: u8 },
+    /// The commitment file would have so many bytes, which is above its limit.
+    Commitments { bytes: u64 },
 }
 
 impl Undealt {
@@ -38,6 +40,7 @@ impl Undealt {
             Undealt::Width => format!(in alloc; "error 5 width\n"),
             Undealt::Entropy { got, want } => format!(in alloc; "error 5 entropy {got} {want}\n"),
             Undealt::Keys { t, u } => format!(in alloc; "error 5 keys {t} {u}\n"),
+            Undealt::Commitments { bytes } => format!(in alloc; "error 5 commitments {bytes}\n"),
         }
     }
 }

@@ -1,9 +1,10 @@
 //! Why nothing is signed.
 
 ghost use Rattle.std.specs.Prelude.{◌≡◌, IfOk, string_bytes};
-ghost use Rattle.tool_base.specs.Ending.{unsigned_line, unsigned_status};
+ghost use Rattle.tool_base.specs.Ending.{spaced, unsigned_line, unsigned_status};
 ghost use Rattle.tool_base.specs.declared.unsigned.Unsigned.TheVariants as unsigned;
 
+use coalition_map::Members;
 use lms_bytes::Val;
 use std::alloc::{AllocError, Global};
 
@@ -18,6 +19,9 @@ pub enum Unsigned {
     WrongCheck { leaf: u32, member: u8 },
     /// The joined signature leads to the root `got`, and the key has `want`.
     WrongRoot { leaf: u32, got: Val, want: Val },
+    /// The signature is not accepted, or a member found the joined randomizer wrong, and these members have given other
+    /// masks than those that the dealer committed to.
+    Blamed { members: Members },
     /// The coalition of this number has no leaf left.
     NoLeaf { coalition: u32 },
     /// This member refused, by the refusal of this code.
@@ -37,6 +41,7 @@ impl Unsigned {
             Unsigned::Missing { .. } => 6,
             Unsigned::SpentLeaf { .. } => 7,
             Unsigned::WrongCheck { .. } | Unsigned::WrongRoot { .. } => 8,
+            Unsigned::Blamed { .. } => 8,
             Unsigned::NoLeaf { .. } => 9,
             Unsigned::Refused { .. } | Unsigned::Stray { .. } => 11,
             Unsigned::NotACoalition => 18,
@@ -58,6 +63,7 @@ impl Unsigned {
                 format!(in alloc; "error 8 check leaf {leaf} member {member}\n")
             }
             Unsigned::WrongRoot { leaf, got, want } => root_line(alloc, *leaf, got, want),
+            Unsigned::Blamed { members } => blamed_line(alloc, *members),
             Unsigned::NoLeaf { coalition } => {
                 format!(in alloc; "error 9 no leaf coalition {coalition}\n")
             }
@@ -79,4 +85,30 @@ fn root_line(alloc: Global, leaf: u32, got: &Val, want: &Val) -> Result<String, 
     let got = hex::encode(alloc, got.bytes())?;
     let want = hex::encode(alloc, want.bytes())?;
     format!(in alloc; "error 8 root leaf {leaf} {got} {want}\n")
+}
+
+/// The line of members that are blamed.
+fn blamed_line(alloc: Global, members: Members) -> Result<String, AllocError>
+    ensures { IfOk result (λ line. string_bytes line ≡ unsigned_line (unsigned.Blamed members)) }
+{
+    if members.size() == 0 {
+        return format!(in alloc; "error 8 blamed none\n");
+    }
+    let numbers = numbers_of(alloc, members)?;
+    format!(in alloc; "error 8 blamed{numbers}\n")
+}
+
+/// The numbers of members in ascending order, each behind a space.
+fn numbers_of(alloc: Global, members: Members) -> Result<String, AllocError>
+    ensures { IfOk result (λ numbers. string_bytes numbers ≡ spaced members) }
+{
+    let _bits = members.bits();
+    let mut numbers = String::new(alloc);
+    'members: for member in 1..17 {
+        if members.has(member) {
+            let number = format!(in alloc; " {member}")?;
+            numbers.push_str(number.as_str())?;
+        }
+    }
+    Ok(numbers)
 }

@@ -1,6 +1,7 @@
 pub mod Accepting
 pub mod Deal
 pub mod Drill
+pub mod HssCheck
 pub mod Naming
 pub mod Rehearse
 pub mod ToolRun

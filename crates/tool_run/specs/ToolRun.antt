@@ -12,13 +12,14 @@ use Rattle.tool_journals.specs.Approve.{ApproveEnds}
 use Rattle.tool_journals.specs.Enrol.{EnrolEnds}
 use Rattle.tool_journals.specs.Migrate.{MigrateEnds}
 use Rattle.tool_run.specs.Drill.{DrillEnds}
+use Rattle.tool_run.specs.HssCheck.{HssCheckEnds}
 use Rattle.tool_run.specs.Rehearse.{RehearseEnds}
 use Rattle.tool_run.specs.Verify.{VerifyEnds}
 use Rattle.tool_service.specs.Trustee.{TrusteeRun}
 use Rattle.tool_signing.specs.Ports.{over_net}
 use Rattle.tool_signing.specs.Sign.{SigningRun}
 use Rattle.tool_words.specs.Words.{Row, Verify, Rehearse, Deal, Enrol, Migrate, Approve, Trustee, Sign, Aggregate}
-use Rattle.tool_words.specs.Words.{AggregateWords, Drill, SignWords, command_of}
+use Rattle.tool_words.specs.Words.{AggregateWords, Drill, HssCheck, SignWords, command_of}
 use Rattle.tool_base.specs.World.{AllBack, Onward, Outside, OutputRun, StoreRun, World, from_to}
 
 -- a command that works on the store alone: the net is as it was
@@ -46,6 +47,8 @@ CommandRun (Migrate share journal new) = OnStore (λ store. EndsTouching (Migrat
 CommandRun (Approve share book message) = OnStore (λ store. EndsTouching (ApproveEnds store share book message) store)
 CommandRun (Trustee words) = TrusteeRun words
 CommandRun (Sign words) = Signs words
+CommandRun (HssCheck key message signature) =
+    OnStore (λ store. EndsWith (λ end written. HssCheckEnds store key message signature end × (written ≡ [])) store)
 CommandRun (Aggregate words) = Aggregates words
 CommandRun (Drill number sessions events) =
     OnStore (λ store. EndsWith (λ end written. DrillEnds number sessions events end × (written ≡ [])) store)

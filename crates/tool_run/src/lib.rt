@@ -3,6 +3,7 @@
 
 mod deal;
 mod drilling;
+mod hss_check;
 pub mod laws;
 mod rehearse;
 mod tool;

@@ -9,6 +9,7 @@ ghost use Rattle.tool_base.specs.World.{IsBack, IsNetBack, output_run};
 
 use crate::deal::deal_files;
 use crate::drilling::drill_sessions;
+use crate::hss_check::hss_check_files;
 use crate::rehearse::rehearse_files;
 use crate::verify::verify_files;
 use std::alloc::Global;
@@ -111,6 +112,11 @@ fn run_command<R: Threads + Wait + Sync, S: Store, N: Net, T: Clocks>(
         } => approve_message(alloc, store, share, book, message),
         Command::Trustee(words) => serve_trustee(rt, alloc, words, store, net, time),
         Command::Sign(words) => sign(alloc, words, store, net),
+        Command::HssCheck {
+            key,
+            message,
+            signature,
+        } => hss_check_files(alloc, store, key, message, signature),
         Command::Aggregate(words) => aggregate(rt, alloc, words, store, net),
         Command::Drill(words) => drill_sessions(alloc, words),
     }

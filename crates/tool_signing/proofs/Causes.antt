@@ -32,11 +32,13 @@ use Rattle.tool_base.specs.Touched.{DeviceRose}
 use Rattle.slot_file.specs.declared.header.Header.{Header}
 use Rattle.tool_signing.specs.Faults.{end_of_fault}
 use Rattle.tool_signing.specs.Ports.{NetRun, SignedOver, Signing, answer_of}
-use Rattle.tool_signing.specs.Sign.{SignEnds, SigningRun}
+use Rattle.tool_signing.specs.Sessions.{SessionEnds}
+use Rattle.tool_signing.specs.Sessions as sessions
+use Rattle.tool_signing.specs.Sign.{SignEnds, SigningRun, session_words}
 use Rattle.tool_signing.specs.Sign as sign
 use Rattle.tool_signing.specs.Signs.{SignedTable, TableEnds}
 use Rattle.tool_signing.specs.Signs as signs
-use Rattle.tool_signing.specs.Tasks.{FailsTask, LacksTask}
+use Rattle.tool_signing.specs.Tasks.{FailsTask, LacksTask, MessageSource, SessionWords, message_in}
 use Rattle.tool_signing.specs.Tasks as tasks
 use Rattle.tool_words.specs.Words.{SignWords}
 
@@ -233,34 +235,37 @@ module _ (words : SignWords) (store : StoreRun) where
   other-key keys header _ (files.other_reference one never) = (λ is. cc, λ is. cc, λ is. cc)
   other-key keys header _ files.no_memory = (λ is. cc, λ is. cc, λ is. cc)
 
-  lacks-store : (keys : KeyFiles) (header : RefHeader) (end : Ending) → LacksTask words store keys header end → end ≡ ending.StoreFailed → Rose store.before.count store.after.count
+  abbrev source : MessageSource
+  source = message_in store words.message
+
+  abbrev asked : SessionWords
+  asked = session_words words
+
+  lacks-store : (keys : KeyFiles) (header : RefHeader) (end : Ending) → LacksTask asked source keys header end → end ≡ ending.StoreFailed → Rose store.before.count store.after.count
   lacks-store keys header _ tasks.no_memory is = absurd (cc)
   lacks-store keys header _ (tasks.no_message end fails) is = upto-store _ words.message end fails is
   lacks-store keys header _ (tasks.other_key message end read other) is = absurd ((other-key keys header end other).0 is)
   lacks-store keys header _ (tasks.no_coalition message read one never) is = absurd (cc)
 
-  lacks-other : (keys : KeyFiles) (header : RefHeader) (end : Ending) → LacksTask words store keys header end → (end ≡ ending.DeviceFailed → ⊥) × (end ≡ ending.NetFailed → ⊥)
+  lacks-other : (keys : KeyFiles) (header : RefHeader) (end : Ending) → LacksTask asked source keys header end → (end ≡ ending.DeviceFailed → ⊥) × (end ≡ ending.NetFailed → ⊥)
   lacks-other keys header _ tasks.no_memory = (λ is. cc, λ is. cc)
   lacks-other keys header _ (tasks.no_message end fails) = upto-other _ words.message end fails
   lacks-other keys header _ (tasks.other_key message end read other) = let p = other-key keys header end other in (p.1, p.2)
   lacks-other keys header _ (tasks.no_coalition message read one never) = (λ is. cc, λ is. cc)
 
-  task-store : (end : Ending) → FailsTask words store end → end ≡ ending.StoreFailed → Rose store.before.count store.after.count
-  task-store _ (tasks.out_is_not_new end fails) is = new-store words.out end fails is
-  task-store _ (tasks.no_key_files end new fails) is = keys-store end fails is
-  task-store _ (tasks.no_reference keys end new read fails) is = reference-store _ end fails is
+  task-store : (end : Ending) → FailsTask asked store source end → end ≡ ending.StoreFailed → Rose store.before.count store.after.count
+  task-store _ (tasks.no_key_files end fails) is = keys-store end fails is
+  task-store _ (tasks.no_reference keys end read fails) is = reference-store _ end fails is
   task-store _ (tasks.no_task keys header end has lacks) is = lacks-store keys header end lacks is
 
-  task-device : (end : Ending) → FailsTask words store end → end ≡ ending.DeviceFailed → DeviceRose store
-  task-device _ (tasks.out_is_not_new end fails) is = absurd ((new-other words.out end fails).0 is)
-  task-device _ (tasks.no_key_files end new fails) is = absurd ((keys-other end fails).0 is)
-  task-device _ (tasks.no_reference keys end new read fails) is = reference-device _ end fails is
+  task-device : (end : Ending) → FailsTask asked store source end → end ≡ ending.DeviceFailed → DeviceRose store
+  task-device _ (tasks.no_key_files end fails) is = absurd ((keys-other end fails).0 is)
+  task-device _ (tasks.no_reference keys end read fails) is = reference-device _ end fails is
   task-device _ (tasks.no_task keys header end has lacks) is = absurd ((lacks-other keys header end lacks).0 is)
 
-  task-net : (end : Ending) → FailsTask words store end → end ≡ ending.NetFailed → ⊥
-  task-net _ (tasks.out_is_not_new end fails) is = (new-other words.out end fails).1 is
-  task-net _ (tasks.no_key_files end new fails) is = (keys-other end fails).1 is
-  task-net _ (tasks.no_reference keys end new read fails) is = reference-net _ end fails is
+  task-net : (end : Ending) → FailsTask asked store source end → end ≡ ending.NetFailed → ⊥
+  task-net _ (tasks.no_key_files end fails) is = (keys-other end fails).1 is
+  task-net _ (tasks.no_reference keys end read fails) is = reference-net _ end fails is
   task-net _ (tasks.no_task keys header end has lacks) is = (lacks-other keys header end lacks).1 is
 
   unwritten-store : (end : Ending) → IsNotWritten store [] words.out end → end ≡ ending.StoreFailed → Rose store.before.count store.after.count
@@ -274,23 +279,37 @@ module _ (words : SignWords) (store : StoreRun) where
   unwritten-other _ no_memory_to_write = (λ is. cc, λ is. cc)
 
   module _ (net : NetRun) where
+    session-store : (answer : Result Signature Ending) (touched : List (List ℕ)) → SessionEnds asked store source net answer touched → answer ≡ Err ending.StoreFailed
+        → Rose store.before.count store.after.count
+    session-store _ _ (sessions.no_task end fails same) is = let e : end ≡ ending.StoreFailed = cc in task-store end fails e
+    session-store answer touched (sessions.ended s _ _ task ends) is = table-store s words.table store net answer touched ends is
+
+    session-device : (answer : Result Signature Ending) (touched : List (List ℕ)) → SessionEnds asked store source net answer touched → answer ≡ Err ending.DeviceFailed → DeviceRose store
+    session-device _ _ (sessions.no_task end fails same) is = let e : end ≡ ending.DeviceFailed = cc in task-device end fails e
+    session-device answer touched (sessions.ended s _ _ task ends) is = table-device s words.table store net answer touched ends is task.reads.fresh task.reads.rise
+
+    session-net : (answer : Result Signature Ending) (touched : List (List ℕ)) → SessionEnds asked store source net answer touched → answer ≡ Err ending.NetFailed
+        → Rose net.before.port_count net.after.port_count
+    session-net _ _ (sessions.no_task end fails same) is = let e : end ≡ ending.NetFailed = cc in absurd (task-net end fails e)
+    session-net answer touched (sessions.ended s _ _ task ends) is = table-net s words.table store net answer touched ends is
+
     ends-store : (end : Ending) (touched : List (List ℕ)) → SignEnds words store net end touched → end ≡ ending.StoreFailed → Rose store.before.count store.after.count
-    ends-store _ _ (sign.no_task end fails same) is = task-store end fails is
-    ends-store _ _ (sign.not_signed s end touched task ends) is = table-store s words.table store net (Err end) touched ends (ap err_of is)
-    ends-store _ _ (sign.not_written s signature end task table cause) is = unwritten-store end cause is
-    ends-store _ _ (sign.signed s signature task table written) is = absurd (cc)
+    ends-store _ _ (sign.not_new end fails same) is = new-store words.out end fails is
+    ends-store _ _ (sign.not_signed end touched new ends) is = session-store (Err end) touched ends (ap err_of is)
+    ends-store _ _ (sign.not_written signature end touched new ends cause) is = unwritten-store end cause is
+    ends-store _ _ (sign.signed signature touched new ends written) is = absurd (cc)
 
     ends-device : (end : Ending) (touched : List (List ℕ)) → SignEnds words store net end touched → end ≡ ending.DeviceFailed → DeviceRose store
-    ends-device _ _ (sign.no_task end fails same) is = task-device end fails is
-    ends-device _ _ (sign.not_signed s end touched task ends) is = table-device s words.table store net (Err end) touched ends (ap err_of is) task.reads.fresh task.reads.rise
-    ends-device _ _ (sign.not_written s signature end task table cause) is = absurd ((unwritten-other end cause).0 is)
-    ends-device _ _ (sign.signed s signature task table written) is = absurd (cc)
+    ends-device _ _ (sign.not_new end fails same) is = absurd ((new-other words.out end fails).0 is)
+    ends-device _ _ (sign.not_signed end touched new ends) is = session-device (Err end) touched ends (ap err_of is)
+    ends-device _ _ (sign.not_written signature end touched new ends cause) is = absurd ((unwritten-other end cause).0 is)
+    ends-device _ _ (sign.signed signature touched new ends written) is = absurd (cc)
 
     ends-net : (end : Ending) (touched : List (List ℕ)) → SignEnds words store net end touched → end ≡ ending.NetFailed → Rose net.before.port_count net.after.port_count
-    ends-net _ _ (sign.no_task end fails same) is = absurd (task-net end fails is)
-    ends-net _ _ (sign.not_signed s end touched task ends) is = table-net s words.table store net (Err end) touched ends (ap err_of is)
-    ends-net _ _ (sign.not_written s signature end task table cause) is = absurd ((unwritten-other end cause).1 is)
-    ends-net _ _ (sign.signed s signature task table written) is = absurd (cc)
+    ends-net _ _ (sign.not_new end fails same) is = absurd ((new-other words.out end fails).1 is)
+    ends-net _ _ (sign.not_signed end touched new ends) is = session-net (Err end) touched ends (ap err_of is)
+    ends-net _ _ (sign.not_written signature end touched new ends cause) is = absurd ((unwritten-other end cause).1 is)
+    ends-net _ _ (sign.signed signature touched new ends written) is = absurd (cc)
 
     pub store-rose : SigningRun words store net ending.StoreFailed → Rose store.before.count store.after.count
     store-rose run = ends-store ending.StoreFailed run.touched run.ends refl

@@ -19,7 +19,11 @@ use Rattle.tool_signing.specs.Leases as leases
 use Rattle.tool_signing.specs.Ports.{NetRun, Signing}
 use Rattle.tool_signing.specs.Signs.{SignedTable, TableEnds}
 use Rattle.tool_signing.specs.Signs as signs
+use Rattle.tool_signing.specs.Sources.{source_of}
 use Rattle.tool_signing.specs.Tables.{IsTable, table_header}
+use Rattle.tool_signing.specs.Tasks.{message_limit}
+use Rattle.tool_signing.specs.declared.task.Message.{Message}
+use Rattle.tool_signing.specs.declared.task.Message.TheVariants.{InFile, Known}
 
 -- nothing was changed but that a view went out, or came back
 pub record SameButViews (old new : StoreState) : Type 0 where
@@ -38,6 +42,11 @@ out_view first a b name view calm viewed onward = record {
 
 pub back_view : (c d : StoreState) (view : PagesState) → ViewEnded c view d → StoreOnward c d → SameButViews c d
 back_view c d view ended onward = record { names = ended.names; onward = onward }
+
+-- a message that was had while the view was out was had, however the run goes on
+pub source_had : (a b c d : StoreState) → SameButViews a b → (message : Message) (bytes : List ℕ) → (source_of message (from_to b c)).is bytes → (source_of message (from_to a d)).is bytes
+source_had a b c d goes (InFile name) bytes is = (is.0, λ told. rw (← goes.names.file) (is.1 (rw goes.onward.told told)))
+source_had a b c d goes (Known given) bytes is = is
 
 -- from a state with the view in to one with it in again
 module _ (a b c d : StoreState) (goes : SameButViews a b) (same : b.disk_count ≡ a.disk_count) (comes : SameButViews c d) where
@@ -59,6 +68,11 @@ module _ (a b c d : StoreState) (goes : SameButViews a b) (same : b.disk_count �
   fails_in limit name _ (failed r) = failed (read_in limit name Failed r)
   fails_in limit name _ (too_long got r) = too_long got (read_in limit name (TooLong got) r)
   fails_in limit name _ no_memory = no_memory
+
+  -- a message that was not had
+  pub no_source_in : (message : Message) (end : Ending) → (source_of message (from_to b c)).fails end → (source_of message (from_to a d)).fails end
+  no_source_in (InFile name) end fails = fails_in message_limit name.now end fails
+  no_source_in (Known given) end fails = fails
 
   reads_as_in : (name : List ℕ) (Is : List ℕ → Type 0) → ReadsAs (from_to b c) name Is → ReadsAs (from_to a d) name Is
   reads_as_in name Is reads = record {

@@ -14,32 +14,37 @@ use Rattle.stream_io.specs.Store.{PagesState, StoreOnward, StoreState, ViewEnded
 use Rattle.tool_base.proofs.Runs.{calm_none, onward_on}
 use Rattle.tool_base.specs.Ending.{Ending}
 use Rattle.tool_base.specs.Outputs.{IsLeft, IsNew}
-use Rattle.tool_base.specs.Reads.{FailsUpTo}
 use Rattle.tool_base.specs.Touched.{IsUntouched, Keeps}
-use Rattle.tool_base.specs.World.{IsBack, IsCalm, IsNetBack, from_to}
+use Rattle.tool_base.specs.World.{IsBack, IsCalm, IsNetBack, StoreRun, from_to}
 use Rattle.tool_desk.specs.Files.{HaveSizesOf, reference_name}
 use Rattle.tool_desk.specs.Reference.{IsReferenceOf}
 use Rattle.tool_desk.specs.declared.files.KeyFiles.{KeyFiles}
 use Rattle.tool_disks.proofs.Outs.{keeps_calm}
 use Rattle.tool_base.proofs.Nets.{net_none}
 use Rattle.tool_signing.proofs.Exacts.{exact-of}
-use Rattle.tool_signing.proofs.Views.{SameButViews, back_view, ends_in, fails_in, keeps_in, out_view}
+use Rattle.tool_signing.proofs.Views.{SameButViews, back_view, ends_in, keeps_in, no_source_in, out_view, source_had}
 use Rattle.tool_signing.proofs.Writes.{as-signed, is_written, keeps_unwritten, keeps_written, new_is_other, not_written, others_file, others_leave, turned_about, unwritten_file, unwritten_leave}
 use Rattle.tool_signing.specs.Leases.{AllLeave, IsBurntIn, IsLeasedIn, LeaseIsLeft}
 use Rattle.tool_signing.specs.Leases as leases
 use Rattle.tool_signing.specs.Ports.{NetRun, Signing, is_exact, over_net}
-use Rattle.tool_signing.specs.Sign.{SigningRun}
+use Rattle.tool_signing.specs.Sessions.{SessionEnds, SessionRun}
+use Rattle.tool_signing.specs.Sessions as sessions
+use Rattle.tool_signing.specs.Sign.{SigningRun, session_words}
 use Rattle.tool_signing.specs.Sign as sign
 use Rattle.tool_signing.specs.Signs.{SignedTable, TableEnds}
-use Rattle.tool_signing.specs.Tasks.{FailsTask, GoesWith, HasFiles, IsTask, LacksTask, desk_of, message_limit}
+use Rattle.tool_signing.specs.Signs as signs
+use Rattle.tool_signing.specs.Sources.{source_of}
+use Rattle.tool_signing.specs.Tasks.{FailsTask, GoesWith, HasFiles, IsTask, LacksTask, MessageSource, SessionWords, desk_of, message_in}
 use Rattle.tool_signing.specs.Tasks as tasks
 use Rattle.tool_signing.specs.Writes.{WriteEnds, one_output}
 use Rattle.tool_signing.specs.Writes as writes
+use Rattle.tool_signing.specs.declared.task.Message.{Message}
 use Rattle.tool_words.specs.Words.{SignWords}
 
 -- nothing was begun
-pub unbegun : (words : SignWords) (a e : StoreState) (net : NetState) (end : Ending) → Keeps [] a e → FailsTask words (from_to a e) end → SigningRun words (from_to a e) (over_net net net) end
-unbegun words a e net end keeps fails = record { touched = []; ends = sign.no_task end fails refl; keeps = keeps; ports = net_none net }
+pub unbegun : (words : SessionWords) (source : StoreRun → MessageSource) (a e : StoreState) (net : NetState) (end : Ending) → Keeps [] a e → FailsTask words (from_to a e) (source (from_to a e)) end
+    → SessionRun words source a e (over_net net net) (Err end)
+unbegun words source a e net end keeps fails = record { touched = []; ends = sessions.no_task end fails refl; keeps = keeps; ports = net_none net }
 
 pub keeps_on : (touched : List (List ℕ)) (a b c : StoreState) → IsCalm a b → Keeps touched b c → Keeps touched a c
 keeps_on touched a b c calm keeps =
@@ -58,7 +63,7 @@ keeps_on touched a b c calm keeps =
     }
 
 -- the reference that is read through a view
-module _ (words : SignWords) (files : KeyFiles) (header : RefHeader) (sizes : HaveSizesOf files header) where
+module _ (words : SessionWords) (files : KeyFiles) (header : RefHeader) (sizes : HaveSizesOf files header) where
   leaves-are : (file leaves : List ℕ) → HasReferenceLayout header file leaves → drop 32 file ≡ leaves
   leaves-are file leaves layout =
       let size : length (reference_head header) ≡ 32 = omega (arith, header.id_length) in
@@ -78,29 +83,20 @@ module _ (words : SignWords) (files : KeyFiles) (header : RefHeader) (sizes : Ha
         ((layout-of view.reads (reads (view_told told))).leaves_are ∙ sizes.leaves)
 
     -- what is signed is what the words name
-    pub is_task : (p c d e : StoreState) (now : PagesState) (message members : List ℕ) (addresses : List Address) → StoreOnward x b → IsCalm b p → StoreOnward p c → ViewEnded c now d → StoreOnward d e
-        → HasFiles words (from_to a e) files header → GoesWith words (from_to b p) files header message members addresses
-        → IsTask words (from_to a e) (record {
+    pub is_task : (source : MessageSource) (p c d : StoreState) (now : PagesState) (message members : List ℕ) (addresses : List Address) → StoreOnward x b → IsCalm b p → StoreOnward p c → ViewEnded c now d
+        → HasFiles words (from_to a d) files header → GoesWith words source files header message members addresses
+        → IsTask words (from_to a d) source (record {
           desk = desk_of files header addresses;
           reads = record { told = view.told; leaves = drop 32 view.reads; before = view.count; now = now.count };
           exact = is_exact view.told view.steady (drop 32 view.reads) files.key.params header.plan;
           members = members;
           message = message;
         })
-    is_task p c d e now message members addresses out task works ended later has goes = record {
+    is_task source p c d now message members addresses out task works ended has goes = record {
       files = files;
       header = header;
       has = has;
-      goes = record {
-        message_is = (
-          goes.message_is.0,
-          λ told. rw (← calm.same.names.file, ← viewed.names.file) (goes.message_is.1 (rw (out.told, calm.onward.told) told)),
-        );
-        one_key = goes.one_key;
-        members_are = goes.members_are;
-        coalition = goes.coalition;
-        addresses_are = goes.addresses_are;
-      };
+      goes = goes;
       desk = refl;
       reads = record {
         told = view_told;
@@ -117,13 +113,12 @@ module _ (words : SignWords) (files : KeyFiles) (header : RefHeader) (sizes : Ha
             let three = task.onward.disk_count in
             let four = works.disk_count in
             let five = ended.disk_count in
-            let six = later.disk_count in
-            omega (arith, one, two, three, four, five, six);
+            omega (arith, one, two, three, four, five);
       };
     }
 
 -- from the state before the view to that after it
-module _ (words : SignWords) (files : KeyFiles) (header : RefHeader) (a x b p : StoreState) (name : List ℕ) (view : PagesState) (calm : IsCalm a x)
+module _ (files : KeyFiles) (header : RefHeader) (a x b p : StoreState) (name : List ℕ) (view : PagesState) (calm : IsCalm a x)
     (viewed : Viewed x name view b) (out : StoreOnward x b) (task : IsCalm b p) where
   goes-in : SameButViews a p
   goes-in =
@@ -155,28 +150,38 @@ module _ (words : SignWords) (files : KeyFiles) (header : RefHeader) (a x b p : 
         → TableEnds s table (from_to a d) net answer touched
     whole_ends s table net answer touched ends = ends_in a p c d goes-in count-in (back_view c d now ended comes) s table net answer touched ends
 
--- the message was not read, or not all goes together
-module _ (words : SignWords) (files : KeyFiles) (header : RefHeader) (a x b p d : StoreState) (name : List ℕ) (view : PagesState) (calm : IsCalm a x)
-    (viewed : Viewed x name view b) (out : StoreOnward x b) (task : IsCalm b p) (ended : ViewEnded p view d) (comes : StoreOnward p d) where
+-- the message was not had, or not all goes together
+module _ (words : SessionWords) (message : Message) (files : KeyFiles) (header : RefHeader) (a x b p d : StoreState) (name : List ℕ) (view : PagesState) (calm : IsCalm a x)
+    (viewed : Viewed x name view b) (out : StoreOnward x b) (task : IsCalm b p) where
   first : SameButViews a b
   first = out_view a x b name view calm viewed out
 
-  last : SameButViews p d
-  last = back_view p d view ended comes
+  count-first : b.disk_count ≡ a.disk_count
+  count-first = viewed.disk_count ∙ calm.same.loans.disk_count
 
-  fails-first : (end : Ending) → FailsUpTo message_limit (from_to b p) words.message end → FailsUpTo message_limit (from_to a d) words.message end
-  fails-first end fails = fails_in a b p d first (viewed.disk_count ∙ calm.same.loans.disk_count) last message_limit words.message end fails
+  pub goes_in : (bytes members : List ℕ) (addresses : List Address) → GoesWith words (source_of message (from_to b p)) files header bytes members addresses
+      → GoesWith words (source_of message (from_to a d)) files header bytes members addresses
+  goes_in bytes members addresses goes = record {
+    message_is = source_had a b p d first message bytes goes.message_is;
+    one_key = goes.one_key;
+    members_are = goes.members_are;
+    coalition = goes.coalition;
+    addresses_are = goes.addresses_are;
+  }
 
-  lacks_in : (end : Ending) → LacksTask words (from_to b p) files header end → LacksTask words (from_to a d) files header end
-  lacks_in _ tasks.no_memory = tasks.no_memory
-  lacks_in _ (tasks.no_message end fails) = tasks.no_message end (fails-first end fails)
-  lacks_in _ (tasks.other_key message end read other) = tasks.other_key message end (read.0, λ told. rw (← first.names.file) (read.1 (rw first.onward.told told))) other
-  lacks_in _ (tasks.no_coalition message read one never) = tasks.no_coalition message (read.0, λ told. rw (← first.names.file) (read.1 (rw first.onward.told told))) one never
+  module _ (last : SameButViews p d) where
+    pub lacks_in : (end : Ending) → LacksTask words (source_of message (from_to b p)) files header end → LacksTask words (source_of message (from_to a d)) files header end
+    lacks_in _ tasks.no_memory = tasks.no_memory
+    lacks_in _ (tasks.no_message end fails) = tasks.no_message end (no_source_in a b p d first count-first last message end fails)
+    lacks_in _ (tasks.other_key bytes end read other) = tasks.other_key bytes end (source_had a b p d first message bytes read) other
+    lacks_in _ (tasks.no_coalition bytes read one never) = tasks.no_coalition bytes (source_had a b p d first message bytes read) one never
 
-  pub run_lacking : (net : NetState) (end : Ending) → HasFiles words (from_to a d) files header → LacksTask words (from_to b p) files header end → SigningRun words (from_to a d) (over_net net net) end
-  run_lacking net end has lacks =
-      unbegun words a d net end (whole_keeps words files header a x b b name view calm viewed out (calm_none b) p d view ended comes [] (keeps_calm [] b p task))
-      (tasks.no_task files header end has (lacks_in end lacks))
+pub run_lacking : (words : SessionWords) (message : Message) (files : KeyFiles) (header : RefHeader) (a x b p d : StoreState) (name : List ℕ) (view : PagesState) (calm : IsCalm a x)
+    (viewed : Viewed x name view b) (out : StoreOnward x b) (task : IsCalm b p) (ended : ViewEnded p view d) (comes : StoreOnward p d) (net : NetState) (end : Ending)
+    → HasFiles words (from_to a d) files header → LacksTask words (source_of message (from_to b p)) files header end → SessionRun words (source_of message) a d (over_net net net) (Err end)
+run_lacking words message files header a x b p d name view calm viewed out task ended comes net end has lacks =
+    unbegun words (source_of message) a d net end (whole_keeps files header a x b b name view calm viewed out (calm_none b) p d view ended comes [] (keeps_calm [] b p task))
+    (tasks.no_task files header end has (lacks_in words message files header a x b p d name view calm viewed out task (back_view p d view ended comes) end lacks))
 
 -- what was signed with the table, once a signature was written or was not
 module _ (s : Signing) (table : List ℕ) (a d e : StoreState) (same_file : IsTrue a.told → e.file table ≡ d.file table) (same_leaves : IsTrue a.told → (image : List ℕ) → e.leaves table image ↔ d.leaves table image)
@@ -217,58 +222,122 @@ module _ (s : Signing) (table : List ℕ) (a d e : StoreState) (same_file : IsTr
     lease = lease_later outcome signed.lease;
   }
 
+-- a session as it is told once a signature was written behind it, or was not
+module _ (words : SessionWords) (a d e : StoreState) (onward : StoreOnward d e) where
+  files_later : (files : KeyFiles) (header : RefHeader) → HasFiles words (from_to a d) files header → HasFiles words (from_to a e) files header
+  files_later files header has = record {
+    files_are = record {
+      key = has.files_are.key;
+      tree = record { read = has.files_are.tree.read; dealt = has.files_are.tree.dealt };
+    };
+    reference_is = record {
+      reads = record { file = has.reference_is.reads.file; is_read = has.reference_is.reads.is_read; is = has.reference_is.reads.is };
+      dealt = has.reference_is.dealt;
+    };
+  }
+
+  pub task_later : (source later : MessageSource) → ((message : List ℕ) → source.is message → later.is message) → (s : Signing) → IsTask words (from_to a d) source s
+      → IsTask words (from_to a e) later s
+  task_later source later is_later s task = record {
+    files = task.files;
+    header = task.header;
+    has = files_later task.files task.header task.has;
+    goes = record {
+      message_is = is_later s.message task.goes.message_is;
+      one_key = task.goes.one_key;
+      members_are = task.goes.members_are;
+      coalition = task.goes.coalition;
+      addresses_are = task.goes.addresses_are;
+    };
+    desk = task.desk;
+    reads = record {
+      told = task.reads.told;
+      leaves = record { file = task.reads.leaves.file; is_read = task.reads.leaves.is_read; is = task.reads.leaves.is };
+      exact = task.reads.exact;
+      fresh = task.reads.fresh;
+      rise = let rise = task.reads.rise in let later = onward.disk_count in omega (arith, rise, later);
+    };
+  }
+
 -- behind the session
-module _ (words : SignWords) (s : Signing) (a d : StoreState) (net : NetRun) where
+module _ (words : SignWords) (a d : StoreState) (net : NetRun) where
+  abbrev session : SessionWords
+  session = session_words words
+
+  abbrev source : StoreRun → MessageSource
+  source store = message_in store words.message
+
   -- the name of the signature is not that of the table
-  out_differs : IsNew (from_to a d) words.out → (signature : Signature) → SignedTable s words.table (from_to a d) net (Ok signature) → IsTrue a.told → bytes_eq words.out words.table ≡ false
-  out_differs is_new signature signed told = new_is_other a words.table words.out signed.table_is.file (signed.table_is.is_read told) (is_new told)
+  out_differs : IsNew (from_to a d) words.out → (s : Signing) (signature : Signature) → SignedTable s words.table (from_to a d) net (Ok signature) → IsTrue a.told → bytes_eq words.out words.table ≡ false
+  out_differs is_new s signature signed told = new_is_other a words.table words.out signed.table_is.file (signed.table_is.is_read told) (is_new told)
+
+  -- what was signed, and with what table
+  pub record Signed (store : StoreRun) (signature : Signature) (touched : List (List ℕ)) : Type 0 where
+    pub signing : Signing
+    pub task : IsTask session store (source store) signing
+    pub table : SignedTable signing words.table store net (Ok signature)
+    pub touches : touched ≡ words.table ∷ []
+
+  pub signed-by : (answer : Result Signature Ending) (touched : List (List ℕ)) (signature : Signature) → SessionEnds session (from_to a d) (source (from_to a d)) net answer touched → answer ≡ Ok signature
+      → Signed (from_to a d) signature touched
+  signed-by _ _ signature (sessions.no_task end fails same) is = absurd (cc)
+  signed-by answer touched signature (sessions.ended s _ _ task ends) is =
+      let both = as-signed s words.table a d net answer touched signature ends is in
+      record { signing = s; task = task; table = both.0; touches = both.1 }
 
   -- it is new still
-  pub still_new : (touched : List (List ℕ)) (signature : Signature) (answer : Result Signature Ending) → IsNew (from_to a d) words.out → Keeps touched a d → TableEnds s words.table (from_to a d) net answer touched
-      → answer ≡ Ok signature → IsTrue d.told → has_name d words.out ≡ false
+  pub still_new : (touched : List (List ℕ)) (signature : Signature) (answer : Result Signature Ending) → IsNew (from_to a d) words.out → Keeps touched a d
+      → SessionEnds session (from_to a d) (source (from_to a d)) net answer touched → answer ≡ Ok signature → IsTrue d.told → has_name d words.out ≡ false
   still_new touched signature answer is_new keeps ends is told_d =
       let told : IsTrue a.told = rw (← keeps.back.onward.told) told_d in
-      let both = as-signed s words.table a d net answer touched signature ends is in
-      let differs = out_differs is_new signature both.0 told in
-      let untouched = subst (λ (names : List (List ℕ)). IsUntouched names words.out) (sym both.1) (All-cons (λ one. bytes_eq words.out one ≡ false) words.table [] differs (All-nil (λ one. bytes_eq words.out one ≡ false))) in
+      let by = signed-by answer touched signature ends is in
+      let differs = out_differs is_new by.signing signature by.table told in
+      let untouched = subst (λ (names : List (List ℕ)). IsUntouched names words.out) (sym by.touches) (All-cons (λ one. bytes_eq words.out one ≡ false) words.table [] differs (All-nil (λ one. bytes_eq words.out one ≡ false))) in
       rw (keeps.file told words.out untouched, keeps.back.out told words.out) (is_new told)
 
-  pub run_unsigned : (touched : List (List ℕ)) (end : Ending) (answer : Result Signature Ending) → IsTask words (from_to a d) s → Keeps touched a d → IsNetBack net.before net.after
-      → TableEnds s words.table (from_to a d) net answer touched → answer ≡ Err end → SigningRun words (from_to a d) net end
-  run_unsigned touched end answer task keeps ports ends is = record {
+  pub run_unsigned : (touched : List (List ℕ)) (end : Ending) (answer : Result Signature Ending) → IsNew (from_to a d) words.out → Keeps touched a d → IsNetBack net.before net.after
+      → SessionEnds session (from_to a d) (source (from_to a d)) net answer touched → answer ≡ Err end → SigningRun words (from_to a d) net end
+  run_unsigned touched end answer is_new keeps ports ends is = record {
     touched = touched;
-    ends = sign.not_signed s end touched task (subst (λ (x : Result Signature Ending). TableEnds s words.table (from_to a d) net x touched) is ends);
+    ends = sign.not_signed end touched is_new (subst (λ (x : Result Signature Ending). SessionEnds session (from_to a d) (source (from_to a d)) net x touched) is ends);
     keeps = keeps;
     ports = ports;
   }
 
-  module _ (e : StoreState) (touched : List (List ℕ)) (signature : Signature) (keeps : Keeps touched a d) (ports : IsNetBack net.before net.after) (back : IsBack d e)
-      (signed : SignedTable s words.table (from_to a d) net (Ok signature)) (touches : touched ≡ words.table ∷ []) (task : IsTask words (from_to a e) s) where
+  module _ (e : StoreState) (touched : List (List ℕ)) (signature : Signature) (is_new : IsNew (from_to a d) words.out) (keeps : Keeps touched a d) (ports : IsNetBack net.before net.after)
+      (back : IsBack d e) (by : Signed (from_to a d) signature touched) where
     differs : IsTrue a.told → bytes_eq words.table words.out ≡ false
-    differs told = turned_about words.out words.table (out_differs task.has.out_is_new signature signed told)
+    differs told = turned_about words.out words.table (out_differs is_new by.signing signature by.table told)
 
-    table_written : IsLeft (from_to d e) (one_output words.out signature.bytes ∷ []) → SignedTable s words.table (from_to a e) net (Ok signature)
-    table_written left = table_later s words.table a d e
+    table_written : IsLeft (from_to d e) (one_output words.out signature.bytes ∷ []) → SignedTable by.signing words.table (from_to a e) net (Ok signature)
+    table_written left = table_later by.signing words.table a d e
         (λ told. others_file a d e touched keeps words.out signature.bytes back left told words.table (differs told))
         (λ told image. others_leave a d e touched keeps words.out signature.bytes back left told words.table image (differs told))
-        back.onward net (Ok signature) signed
+        back.onward net (Ok signature) by.table
 
-    table_unwritten : IsLeft (from_to d e) [] → SignedTable s words.table (from_to a e) net (Ok signature)
-    table_unwritten left = table_later s words.table a d e
+    table_unwritten : IsLeft (from_to d e) [] → SignedTable by.signing words.table (from_to a e) net (Ok signature)
+    table_unwritten left = table_later by.signing words.table a d e
         (λ told. unwritten_file a d e touched keeps words.out signature.bytes back left told words.table)
         (λ told image. unwritten_leave a d e touched keeps words.out signature.bytes back left told words.table image)
-        back.onward net (Ok signature) signed
+        back.onward net (Ok signature) by.table
+
+    abbrev Ended : List (List ℕ) → Type 0
+    Ended names = SessionEnds session (from_to a e) (source (from_to a e)) net (Ok signature) names
+
+    session_ends : SignedTable by.signing words.table (from_to a e) net (Ok signature) → Ended touched
+    session_ends table = subst Ended (sym by.touches)
+        (sessions.ended by.signing (Ok signature) (words.table ∷ []) (task_later session a d e back.onward (source (from_to a d)) (source (from_to a e)) (λ message is. is) by.signing by.task) (signs.signed (Ok signature) table))
 
     pub run_signed : (end : Ending) → WriteEnds (from_to d e) words.out signature.leaf signature.bytes end → SigningRun words (from_to a e) net end
     run_signed _ (writes.written left) = record {
-      touched = words.out ∷ words.table ∷ [];
-      ends = sign.signed s signature task (table_written left) (is_written a d e touched keeps words.out signature.bytes back left);
-      keeps = subst (λ (names : List (List ℕ)). Keeps (words.out ∷ names) a e) touches (keeps_written a d e touched keeps words.out signature.bytes back left);
+      touched = words.out ∷ touched;
+      ends = sign.signed signature touched is_new (session_ends (table_written left)) (is_written a d e touched keeps words.out signature.bytes back left);
+      keeps = keeps_written a d e touched keeps words.out signature.bytes back left;
       ports = ports;
     }
     run_signed _ (writes.not_written end left cause) = record {
-      touched = words.table ∷ [];
-      ends = sign.not_written s signature end task (table_unwritten left) (not_written a d e touched keeps words.out signature.bytes back end cause);
-      keeps = subst (λ (names : List (List ℕ)). Keeps names a e) touches (keeps_unwritten a d e touched keeps words.out signature.bytes back left);
+      touched = touched;
+      ends = sign.not_written signature end touched is_new (session_ends (table_unwritten left)) (not_written a d e touched keeps words.out signature.bytes back end cause);
+      keeps = keeps_unwritten a d e touched keeps words.out signature.bytes back left;
       ports = ports;
     }

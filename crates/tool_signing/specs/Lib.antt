@@ -5,5 +5,7 @@ pub mod Leases
 pub mod Signs
 pub mod Tasks
 pub mod Writes
+pub mod Sources
+pub mod Sessions
 pub mod Sign
 pub mod Dealt

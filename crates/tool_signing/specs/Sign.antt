@@ -1,29 +1,35 @@
--- How `sign` ends: it tests that OUT is new, reads the files of the dealing and the message, tests that they go
--- together, signs with the leaf table over one port, gives all back, and writes the signature.
+-- How `sign` ends: it tests that OUT is new, runs a session for the message in the file, and writes the signature.
 use Rattle.std.specs.Prelude.{◌≡◌, ℕ, List, [], ◌∷◌, Ok, Err}
 use Rattle.leased_session.specs.Signing.{Signature}
 use Rattle.tool_base.specs.Ending as ending
 use Rattle.tool_base.specs.Ending.{Ending}
-use Rattle.tool_base.specs.Outputs.{IsNotWritten}
+use Rattle.tool_base.specs.Outputs.{IsNew, IsNotNew, IsNotWritten}
 use Rattle.tool_base.specs.Touched.{Keeps}
 use Rattle.tool_base.specs.World.{IsNetBack, StoreRun}
-use Rattle.tool_signing.specs.Ports.{NetRun, Signing}
-use Rattle.tool_signing.specs.Signs.{SignedTable, TableEnds}
-use Rattle.tool_signing.specs.Tasks.{FailsTask, IsTask}
+use Rattle.tool_signing.specs.Ports.{NetRun}
+use Rattle.tool_signing.specs.Sessions.{SessionEnds}
+use Rattle.tool_signing.specs.Tasks.{SessionWords, message_in}
 use Rattle.tool_signing.specs.Writes.{IsWritten}
 use Rattle.tool_words.specs.Words.{SignWords}
 
+-- what the session of the command is run with
+abbrev pub session_words : SignWords → SessionWords
+session_words words = record { prefix = words.prefix; table = words.table; places = words.places }
+
 -- how the command ends, with the names that it touched
 pub data SignEnds (words : SignWords) (store : StoreRun) (net : NetRun) : Ending → List (List ℕ) → Type 0 where
-  no_task : (end : Ending) → FailsTask words store end → net.after ≡ net.before → SignEnds words store net end []
-  not_signed : (signing : Signing) (end : Ending) (touched : List (List ℕ)) → IsTask words store signing
-      → TableEnds signing words.table store net (Err end) touched → SignEnds words store net end touched
-  not_written : (signing : Signing) (signature : Signature) (end : Ending) → IsTask words store signing
-      → SignedTable signing words.table store net (Ok signature) → IsNotWritten store [] words.out end
-      → SignEnds words store net end (words.table ∷ [])
-  signed : (signing : Signing) (signature : Signature) → IsTask words store signing
-      → SignedTable signing words.table store net (Ok signature) → IsWritten store words.out signature.bytes
-      → SignEnds words store net (ending.Signed signature.leaf) (words.out ∷ words.table ∷ [])
+  not_new : (end : Ending) → IsNotNew store words.out end → net.after ≡ net.before
+      → SignEnds words store net end []
+  not_signed : (end : Ending) (touched : List (List ℕ)) → IsNew store words.out
+      → SessionEnds (session_words words) store (message_in store words.message) net (Err end) touched
+      → SignEnds words store net end touched
+  not_written : (signature : Signature) (end : Ending) (touched : List (List ℕ)) → IsNew store words.out
+      → SessionEnds (session_words words) store (message_in store words.message) net (Ok signature) touched
+      → IsNotWritten store [] words.out end → SignEnds words store net end touched
+  signed : (signature : Signature) (touched : List (List ℕ)) → IsNew store words.out
+      → SessionEnds (session_words words) store (message_in store words.message) net (Ok signature) touched
+      → IsWritten store words.out signature.bytes
+      → SignEnds words store net (ending.Signed signature.leaf) (words.out ∷ touched)
 
 -- The command `sign`: an end by its rules. The store keeps all but the names that it touched, and all disks, views and
 -- ports are back.

@@ -5,6 +5,8 @@ mod command;
 mod faults;
 pub mod laws;
 mod session;
+mod task;
 
 pub use command::sign;
 pub use session::table_header;
+pub use task::{Message, SessionWords, sign_message};

@@ -4,7 +4,7 @@ use clap::{Arg, ArgAction, ArgMatches, Command as Parser, Error};
 use std::alloc::{AllocError, Global};
 
 /// The commands, each with the names of the words that have to come after it, in their order.
-const COMMANDS: [&str; 10] = [
+const COMMANDS: [&str; 12] = [
     "verify key message signature",
     "rehearse entropy message key-out signature-out",
     "deal entropy lms ots n k prefix",
@@ -13,6 +13,8 @@ const COMMANDS: [&str; 10] = [
     "approve share book message",
     "trustee share journal place workers connections",
     "sign prefix table message out",
+    "blame prefix table message out",
+    "hss what",
     "aggregate prefix table place workers connections",
     "drill number sessions events",
 ];
@@ -60,8 +62,10 @@ fn command<'a>(alloc: Global, names: &'a str) -> Result<Parser<'a>, AllocError> 
         command = command.arg(word(alloc, name).required(true))?;
     }
     match name {
+        "deal" => command.arg(word(alloc, "commit")),
         "trustee" => command.arg(word(alloc, "book")),
-        "sign" | "aggregate" => command.arg(addresses(alloc)),
+        "sign" | "blame" | "aggregate" => command.arg(several(alloc, "addresses", 12)),
+        "hss" => command.arg(several(alloc, "words", 19)),
         _ => Ok(command),
     }
 }
@@ -78,10 +82,10 @@ fn word<'a>(alloc: Global, name: &'a str) -> Arg<'a> {
     Arg::new(alloc, name).action(ArgAction::Set)
 }
 
-/// The address words, one to twelve of them.
-fn addresses<'a>(alloc: Global) -> Arg<'a> {
-    Arg::new(alloc, "addresses")
+/// Words of this name, from one to so many.
+fn several<'a>(alloc: Global, name: &'a str, most: usize) -> Arg<'a> {
+    Arg::new(alloc, name)
         .required(true)
         .action(ArgAction::Append)
-        .num_args(1..=12)
+        .num_args(1..=most)
 }

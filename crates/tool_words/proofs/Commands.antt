@@ -1,11 +1,14 @@
 -- The names of a command's outputs.
-use Rattle.std.proofs.Common.{◌≡◌, ◌==◌, ◌^◌, ◌-◌, length, ℕ, Bool, true, false, List, [], ◌∷◌, Option, None, Some, if◌then◌else◌, refl, subst}
+use Rattle.std.proofs.Common.{◌≡◌, ◌≢◌, ◌==◌, ◌^◌, ◌-◌, length, ℕ, Bool, true, false, List, [], ◌∷◌, Option, None, Some, if◌then◌else◌, refl, subst}
 use Rattle.std.specs.List.{list_any}
 use Rattle.std.specs.Prelude.{codes}
 use Rattle.std.specs.Option.{option_map}
 use Rattle.std.specs.Str.{bytes_eq}
 use Rattle.std.proofs.lemmas.Slice.Eq.{bytes_eq-Decides}
-use Rattle.tool_words.specs.Words.{Aggregate, AggregateWords, Approve, Deal, DealWords, Drill, Enrol, Migrate, OutputsDiffer, Rehearse, Row, Sign, SignWords, Trustee, TrusteeWords, Verify, aggregate_of, approve_of, command_of, deal_of, drill_of, enrol_of, is_option, migrate_of, number_of, number_within, places_of, rehearse_of, row_of, sign_of, trustee_of, verify_of}
+use Rattle.tool_words.specs.Words.{Aggregate, AggregateWords, Approve, Blame, Deal, DealWords, Drill, Enrol, HssCheck, HssSign, HssSignWords, Migrate}
+use Rattle.tool_words.specs.Words.{OutputsDiffer, Rehearse, Row, Sign, SignWords, Trustee, TrusteeWords, Verify, aggregate_of, approve_of, command_of, deal_of}
+use Rattle.tool_words.specs.Words.{deal_with, drill_of, enrol_of, hss_check_of, hss_of, hss_sign_of, is_option, migrate_of, number_of, number_within, places_of}
+use Rattle.tool_words.specs.Words.{rehearse_of, row_of, sign_words_of, trustee_of, verify_of}
 
 -- of two rows the one that the test takes
 taken : (test : Bool) (a b : Option Row) (row : Row) → ((r : Row) → a ≡ Some r → OutputsDiffer r) → ((r : Row) → b ≡ Some r → OutputsDiffer r)
@@ -23,11 +26,15 @@ verify_differ (a ∷ b ∷ []) row is = absurd (cc)
 verify_differ (a ∷ b ∷ c ∷ []) row is = let same : Verify a b c ≡ row = cc in subst OutputsDiffer same tt
 verify_differ (a ∷ b ∷ c ∷ d ∷ more) row is = absurd (cc)
 
+-- two names that the test finds different
+unequal : (c d : List ℕ) → bytes_eq c d ≡ false → c ≢ d
+unequal c d differ = λ equal. let yes = (bytes_eq-Decides c d).1 equal in absurd (cc)
+
 pair_differs : (a b c d : List ℕ) (test : Bool) (row : Row) → test ≡ bytes_eq c d → (if test then None else Some (Rehearse a b c d)) ≡ Some row → OutputsDiffer row
 pair_differs a b c d true row tests is = absurd (cc)
 pair_differs a b c d false row tests is =
     let same : Rehearse a b c d ≡ row = cc in
-    subst OutputsDiffer same (λ equal. let yes = (bytes_eq-Decides c d).1 equal in absurd (cc))
+    subst OutputsDiffer same (unequal c d (cc))
 
 rehearse_differ : (words : List (List ℕ)) (row : Row) → rehearse_of words ≡ Some row → OutputsDiffer row
 rehearse_differ [] row is = absurd (cc)
@@ -38,7 +45,7 @@ rehearse_differ (a ∷ b ∷ c ∷ d ∷ []) row is = pair_differs a b c d (byte
 rehearse_differ (a ∷ b ∷ c ∷ d ∷ e ∷ more) row is = absurd (cc)
 
 -- with four numbers or fewer
-with_numbers : (entropy prefix : List ℕ) (lms ots n k : Option ℕ) (row : Row)
+with_numbers : (entropy prefix : List ℕ) (lms ots n k : Option ℕ) (commit : Bool) (row : Row)
     → elim lms [
       | None ↦ None
       | Some lms ↦ elim ots [
@@ -47,19 +54,23 @@ with_numbers : (entropy prefix : List ℕ) (lms ots n k : Option ℕ) (row : Row
           | None ↦ None
           | Some n ↦ elim k [
             | None ↦ None
-            | Some k ↦ Some (Deal (record { entropy = entropy; lms = lms; ots = ots; n = n; k = k; prefix = prefix }))
+            | Some k ↦ Some (Deal (record { entropy = entropy; lms = lms; ots = ots; n = n; k = k; prefix = prefix; commit = commit }))
           ]
         ]
       ]
     ] ≡ Some row → OutputsDiffer row
-with_numbers entropy prefix None ots n k row is = absurd (cc)
-with_numbers entropy prefix (Some lms) None n k row is = absurd (cc)
-with_numbers entropy prefix (Some lms) (Some ots) None k row is = absurd (cc)
-with_numbers entropy prefix (Some lms) (Some ots) (Some n) None row is = absurd (cc)
-with_numbers entropy prefix (Some lms) (Some ots) (Some n) (Some k) row is =
-    let words : DealWords = record { entropy = entropy; lms = lms; ots = ots; n = n; k = k; prefix = prefix } in
+with_numbers entropy prefix None ots n k commit row is = absurd (cc)
+with_numbers entropy prefix (Some lms) None n k commit row is = absurd (cc)
+with_numbers entropy prefix (Some lms) (Some ots) None k commit row is = absurd (cc)
+with_numbers entropy prefix (Some lms) (Some ots) (Some n) None commit row is = absurd (cc)
+with_numbers entropy prefix (Some lms) (Some ots) (Some n) (Some k) commit row is =
+    let words : DealWords = record { entropy = entropy; lms = lms; ots = ots; n = n; k = k; prefix = prefix; commit = commit } in
     let same : Deal words ≡ row = cc in
     subst OutputsDiffer same tt
+
+deal_with_differs : (a b c d e f : List ℕ) (commit : Bool) (row : Row) → deal_with a b c d e f commit ≡ Some row → OutputsDiffer row
+deal_with_differs a b c d e f commit row is =
+    taken (length f == 0) None _ row none (with_numbers a f (number_of b) (number_of c) (number_of d) (number_of e) commit) is
 
 deal_differ : (words : List (List ℕ)) (row : Row) → deal_of words ≡ Some row → OutputsDiffer row
 deal_differ [] row is = absurd (cc)
@@ -68,9 +79,10 @@ deal_differ (a ∷ b ∷ []) row is = absurd (cc)
 deal_differ (a ∷ b ∷ c ∷ []) row is = absurd (cc)
 deal_differ (a ∷ b ∷ c ∷ d ∷ []) row is = absurd (cc)
 deal_differ (a ∷ b ∷ c ∷ d ∷ e ∷ []) row is = absurd (cc)
-deal_differ (a ∷ b ∷ c ∷ d ∷ e ∷ f ∷ []) row is =
-    taken (length f == 0) None _ row none (with_numbers a f (number_of b) (number_of c) (number_of d) (number_of e)) is
-deal_differ (a ∷ b ∷ c ∷ d ∷ e ∷ f ∷ g ∷ more) row is = absurd (cc)
+deal_differ (a ∷ b ∷ c ∷ d ∷ e ∷ f ∷ []) row is = deal_with_differs a b c d e f false row is
+deal_differ (a ∷ b ∷ c ∷ d ∷ e ∷ f ∷ g ∷ []) row is =
+    taken (bytes_eq g (codes "commit")) (deal_with a b c d e f true) None row (deal_with_differs a b c d e f true) none is
+deal_differ (a ∷ b ∷ c ∷ d ∷ e ∷ f ∷ g ∷ h ∷ more) row is = absurd (cc)
 
 enrol_differ : (words : List (List ℕ)) (row : Row) → enrol_of words ≡ Some row → OutputsDiffer row
 enrol_differ [] row is = absurd (cc)
@@ -125,23 +137,69 @@ trustee_differ (a ∷ b ∷ c ∷ d ∷ e ∷ []) row is = with_service a b c (n
 trustee_differ (a ∷ b ∷ c ∷ d ∷ e ∷ f ∷ []) row is = with_service a b c (number_within 1 64 d) (number_within 1 (2 ^ 32 - 1) e) (Some f) row is
 trustee_differ (a ∷ b ∷ c ∷ d ∷ e ∷ f ∷ g ∷ more) row is = absurd (cc)
 
--- with places or none
-with_places : (prefix table message out : List ℕ) (places : Option (List (Option (List ℕ)))) (row : Row)
-    → option_map (λ places. Sign (record { prefix = prefix; table = table; message = message; out = out; places = places })) places ≡ Some row
-    → OutputsDiffer row
-with_places prefix table message out None row is = absurd (cc)
-with_places prefix table message out (Some places) row is =
-    let words : SignWords = record { prefix = prefix; table = table; message = message; out = out; places = places } in
-    let same : Sign words ≡ row = cc in
-    subst OutputsDiffer same tt
+-- a command of words, or none
+with_words : (make : SignWords → Row) → ((words : SignWords) → OutputsDiffer (make words)) → (words : Option SignWords) (row : Row)
+    → option_map make words ≡ Some row → OutputsDiffer row
+with_words make differ None row is = absurd (cc)
+with_words make differ (Some words) row is = let same : make words ≡ row = cc in subst OutputsDiffer same (differ words)
 
-sign_differ : (words : List (List ℕ)) (row : Row) → sign_of words ≡ Some row → OutputsDiffer row
-sign_differ [] row is = absurd (cc)
-sign_differ (a ∷ []) row is = absurd (cc)
-sign_differ (a ∷ b ∷ []) row is = absurd (cc)
-sign_differ (a ∷ b ∷ c ∷ []) row is = absurd (cc)
-sign_differ (a ∷ b ∷ c ∷ d ∷ more) row is =
-    taken (length a == 0) None _ row none (with_places a b c d (places_of more)) is
+hss_check_differ : (words : List (List ℕ)) (row : Row) → hss_check_of words ≡ Some row → OutputsDiffer row
+hss_check_differ [] row is = absurd (cc)
+hss_check_differ (a ∷ []) row is = absurd (cc)
+hss_check_differ (a ∷ b ∷ []) row is = absurd (cc)
+hss_check_differ (a ∷ b ∷ c ∷ []) row is = let same : HssCheck a b c ≡ row = cc in subst OutputsDiffer same tt
+hss_check_differ (a ∷ b ∷ c ∷ d ∷ more) row is = absurd (cc)
+
+-- with places or none
+with_outputs : (a b c d e f g : List ℕ) (places : Option (List (Option (List ℕ)))) (row : Row) → f ≢ g
+    → option_map (λ places. HssSign (record {
+      prefix = a;
+      table = b;
+      low_key = c;
+      low_signature = d;
+      message = e;
+      key_out = f;
+      signature_out = g;
+      places = places;
+    })) places ≡ Some row
+    → OutputsDiffer row
+with_outputs a b c d e f g None row differ is = absurd (cc)
+with_outputs a b c d e f g (Some places) row differ is =
+    let words : HssSignWords = record { prefix = a; table = b; low_key = c; low_signature = d; message = e; key_out = f; signature_out = g; places = places } in
+    let same : HssSign words ≡ row = cc in
+    subst OutputsDiffer same differ
+
+outputs_named : (a b c d e f g : List ℕ) (places : Option (List (Option (List ℕ)))) (test : Bool) (row : Row) → test ≡ bytes_eq f g
+    → (if test then None else option_map (λ places. HssSign (record {
+      prefix = a;
+      table = b;
+      low_key = c;
+      low_signature = d;
+      message = e;
+      key_out = f;
+      signature_out = g;
+      places = places;
+    })) places) ≡ Some row
+    → OutputsDiffer row
+outputs_named a b c d e f g places true row tests is = absurd (cc)
+outputs_named a b c d e f g places false row tests is = with_outputs a b c d e f g places row (unequal f g (cc)) is
+
+hss_sign_differ : (words : List (List ℕ)) (row : Row) → hss_sign_of words ≡ Some row → OutputsDiffer row
+hss_sign_differ [] row is = absurd (cc)
+hss_sign_differ (a ∷ []) row is = absurd (cc)
+hss_sign_differ (a ∷ b ∷ []) row is = absurd (cc)
+hss_sign_differ (a ∷ b ∷ c ∷ []) row is = absurd (cc)
+hss_sign_differ (a ∷ b ∷ c ∷ d ∷ []) row is = absurd (cc)
+hss_sign_differ (a ∷ b ∷ c ∷ d ∷ e ∷ []) row is = absurd (cc)
+hss_sign_differ (a ∷ b ∷ c ∷ d ∷ e ∷ f ∷ []) row is = absurd (cc)
+hss_sign_differ (a ∷ b ∷ c ∷ d ∷ e ∷ f ∷ g ∷ more) row is =
+    taken (length a == 0) None _ row none (λ row is. outputs_named a b c d e f g (places_of more) (bytes_eq f g) row refl is) is
+
+hss_differ : (words : List (List ℕ)) (row : Row) → hss_of words ≡ Some row → OutputsDiffer row
+hss_differ [] row is = absurd (cc)
+hss_differ (name ∷ words) row is =
+    taken (bytes_eq name (codes "check")) (hss_check_of words) _ row (hss_check_differ words)
+    (λ row is. taken (bytes_eq name (codes "sign")) (hss_sign_of words) None row (hss_sign_differ words) none is) is
 
 -- with places or none, and two numbers or fewer
 with_members : (prefix table place : List ℕ) (workers connections : Option ℕ) (places : Option (List (Option (List ℕ)))) (row : Row)
@@ -201,9 +259,11 @@ row_differs (name ∷ words) row is =
     (λ row is. taken (bytes_eq name (codes "migrate")) (migrate_of words) _ row (migrate_differ words)
     (λ row is. taken (bytes_eq name (codes "approve")) (approve_of words) _ row (approve_differ words)
     (λ row is. taken (bytes_eq name (codes "trustee")) (trustee_of words) _ row (trustee_differ words)
-    (λ row is. taken (bytes_eq name (codes "sign")) (sign_of words) _ row (sign_differ words)
+    (λ row is. taken (bytes_eq name (codes "sign")) (option_map Sign (sign_words_of words)) _ row (with_words Sign (λ words. tt) (sign_words_of words))
+    (λ row is. taken (bytes_eq name (codes "blame")) (option_map Blame (sign_words_of words)) _ row (with_words Blame (λ words. tt) (sign_words_of words))
+    (λ row is. taken (bytes_eq name (codes "hss")) (hss_of words) _ row (hss_differ words)
     (λ row is. taken (bytes_eq name (codes "aggregate")) (aggregate_of words) _ row (aggregate_differ words)
-    (λ row is. taken (bytes_eq name (codes "drill")) (drill_of words) None row (drill_differ words) none is) is) is) is) is) is) is) is) is) is
+    (λ row is. taken (bytes_eq name (codes "drill")) (drill_of words) None row (drill_differ words) none is) is) is) is) is) is) is) is) is) is) is) is
 
 pub outputs_differ : (words : List (List ℕ)) (row : Row) → command_of words ≡ Some row → OutputsDiffer row
 unfolding command_of

@@ -5,9 +5,11 @@ use Rattle.tool_words.specs.Words.{Row, places_named}
 use Rattle.tool_words.specs.Words as words
 use Rattle.tool_words.specs.declared.command.Command.{Command}
 use Rattle.tool_words.specs.declared.command.Command.TheVariants.{Verify, Rehearse, Deal, Enrol, Migrate, Approve}
-use Rattle.tool_words.specs.declared.command.Command.TheVariants.{Trustee, Sign, Aggregate, Drill}
+use Rattle.tool_words.specs.declared.command.Command.TheVariants.{Trustee, Sign, Blame, HssCheck, HssSign}
+use Rattle.tool_words.specs.declared.command.Command.TheVariants.{Aggregate, Drill}
 use Rattle.tool_words.specs.declared.aggregate_words.AggregateWords.{AggregateWords}
 use Rattle.tool_words.specs.declared.deal_words.DealWords.{DealWords}
+use Rattle.tool_words.specs.declared.hss_sign_words.HssSignWords.{HssSignWords}
 use Rattle.tool_words.specs.declared.sign_words.SignWords.{SignWords}
 use Rattle.tool_words.specs.declared.trustee_words.TrusteeWords.{TrusteeWords}
 
@@ -20,6 +22,7 @@ deal_words deal = record {
   n = deal.n;
   k = deal.k;
   prefix = deal.prefix.now;
+  commit = deal.commit;
 }
 
 -- the words of `trustee`, each as its bytes
@@ -33,13 +36,26 @@ trustee_words trustee = record {
   book = option_map (λ book. book.now) trustee.book;
 }
 
--- the words of `sign`, each as its bytes
+-- the words of `sign` or of `blame`, each as its bytes
 abbrev pub sign_words : SignWords → words.SignWords
 sign_words sign = record {
   prefix = sign.prefix.now;
   table = sign.table.now;
   message = sign.message.now;
   out = sign.out.now;
+  places = places_named (map string_bytes sign.places.words.now);
+}
+
+-- the words of `hss sign`, each as its bytes
+abbrev pub hss_sign_words : HssSignWords → words.HssSignWords
+hss_sign_words sign = record {
+  prefix = sign.prefix.now;
+  table = sign.table.now;
+  low_key = sign.low_key.now;
+  low_signature = sign.low_signature.now;
+  message = sign.message.now;
+  key_out = sign.key_out.now;
+  signature_out = sign.signature_out.now;
   places = places_named (map string_bytes sign.places.words.now);
 }
 
@@ -65,5 +81,8 @@ row (Migrate share journal new) = words.Migrate share.now journal.now new.now
 row (Approve share book message) = words.Approve share.now book.now message.now
 row (Trustee trustee) = words.Trustee (trustee_words trustee)
 row (Sign sign) = words.Sign (sign_words sign)
+row (Blame blame) = words.Blame (sign_words blame)
+row (HssCheck key message signature) = words.HssCheck key.now message.now signature.now
+row (HssSign sign) = words.HssSign (hss_sign_words sign)
 row (Aggregate aggregate) = words.Aggregate (aggregate_words aggregate)
 row (Drill drill) = words.Drill drill.number drill.sessions drill.events

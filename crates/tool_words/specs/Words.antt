@@ -1,5 +1,5 @@
 -- Which words are a command. A word is the list of its bytes.
-use Rattle.std.specs.Prelude.{◌≡◌, ◌≢◌, ⊤, ℕ, Bool, false, ◌==◌, ◌&&◌, ◌^◌, ◌-◌, ◌≤◌, nat_le, nat_lt, List, []}
+use Rattle.std.specs.Prelude.{◌≡◌, ◌≢◌, ⊤, ℕ, Bool, false, true, ◌==◌, ◌&&◌, ◌^◌, ◌-◌, ◌≤◌, nat_le, nat_lt, List, []}
 use Rattle.std.specs.Prelude.{◌∷◌, length, replicate, slice_index_or, slice_set, Option, Some, None, is_some, IsTrue}
 use Rattle.std.specs.Prelude.{if◌then◌else◌, codes}
 use Rattle.std.specs.List.{All, after_first, before_first, list_any}
@@ -7,7 +7,8 @@ use Rattle.std.specs.Option.{ForSome, option_and_then, option_map, unwrap_or}
 use Rattle.std.specs.Str.{all_ascii_digits, bytes_eq}
 use Rattle.std.specs.Str.Parse.{digits_value}
 
--- the words after `deal`: k of n trustees, and what the names of the outputs begin with
+-- the words after `deal`: k of n trustees, what the names of the outputs begin with, and whether there is a commitment
+-- file among them
 pub record DealWords : Type 0 where
   pub entropy : List ℕ
   pub lms : ℕ
@@ -15,6 +16,7 @@ pub record DealWords : Type 0 where
   pub n : ℕ
   pub k : ℕ
   pub prefix : List ℕ
+  pub commit : Bool
 
 -- the words after `trustee`: a book, or none
 pub record TrusteeWords : Type 0 where
@@ -25,12 +27,23 @@ pub record TrusteeWords : Type 0 where
   pub connections : ℕ
   pub book : Option (List ℕ)
 
--- the words after `sign`: the place of trustee t, or none, at t - 1
+-- the words after `sign` and after `blame`: the place of trustee t, or none, at t - 1
 pub record SignWords : Type 0 where
   pub prefix : List ℕ
   pub table : List ℕ
   pub message : List ℕ
   pub out : List ℕ
+  pub places : List (Option (List ℕ))
+
+-- the words after `hss sign`: the place of trustee t, or none, at t - 1
+pub record HssSignWords : Type 0 where
+  pub prefix : List ℕ
+  pub table : List ℕ
+  pub low_key : List ℕ
+  pub low_signature : List ℕ
+  pub message : List ℕ
+  pub key_out : List ℕ
+  pub signature_out : List ℕ
   pub places : List (Option (List ℕ))
 
 -- the words after `aggregate`: the place of trustee t, or none, at t - 1
@@ -52,6 +65,9 @@ pub data Row : Type 0 where
   Approve : (share book message : List ℕ) → Row
   Trustee : (words : TrusteeWords) → Row
   Sign : (words : SignWords) → Row
+  Blame : (words : SignWords) → Row
+  HssCheck : (key message signature : List ℕ) → Row
+  HssSign : (words : HssSignWords) → Row
   Aggregate : (words : AggregateWords) → Row
   Drill : (number sessions events : ℕ) → Row
 
@@ -132,9 +148,9 @@ rehearse_of (entropy ∷ message ∷ key_out ∷ signature_out ∷ []) =
     if bytes_eq key_out signature_out then None else Some (Rehearse entropy message key_out signature_out)
 rehearse_of words = None
 
--- the words after `deal`; the outputs' names begin with some byte
-abbrev pub deal_of : List (List ℕ) → Option Row
-deal_of (entropy ∷ lms ∷ ots ∷ n ∷ k ∷ prefix ∷ []) =
+-- the words after `deal`, with a commitment file or without; the outputs' names begin with some byte
+abbrev pub deal_with : (entropy lms ots n k prefix : List ℕ) → Bool → Option Row
+deal_with entropy lms ots n k prefix commit =
     if length prefix == 0 then None else
     elim (number_of lms) [
       | None ↦ None
@@ -144,11 +160,25 @@ deal_of (entropy ∷ lms ∷ ots ∷ n ∷ k ∷ prefix ∷ []) =
           | None ↦ None
           | Some n ↦ elim (number_of k) [
             | None ↦ None
-            | Some k ↦ Some (Deal (record { entropy = entropy; lms = lms; ots = ots; n = n; k = k; prefix = prefix }))
+            | Some k ↦ Some (Deal (record {
+              entropy = entropy;
+              lms = lms;
+              ots = ots;
+              n = n;
+              k = k;
+              prefix = prefix;
+              commit = commit;
+            }))
           ]
         ]
       ]
     ]
+
+-- the words after `deal`: six, and `commit` or nothing
+abbrev pub deal_of : List (List ℕ) → Option Row
+deal_of (entropy ∷ lms ∷ ots ∷ n ∷ k ∷ prefix ∷ []) = deal_with entropy lms ots n k prefix false
+deal_of (entropy ∷ lms ∷ ots ∷ n ∷ k ∷ prefix ∷ last ∷ []) =
+    if bytes_eq last (codes "commit") then deal_with entropy lms ots n k prefix true else None
 deal_of words = None
 
 -- the words after `enrol`
@@ -190,14 +220,46 @@ trustee_of (share ∷ journal ∷ place ∷ workers ∷ connections ∷ book ∷
     trustee_with share journal place workers connections (Some book)
 trustee_of words = None
 
--- the words after `sign`; the names of the files that it reads begin with some byte
-abbrev pub sign_of : List (List ℕ) → Option Row
-sign_of (prefix ∷ table ∷ message ∷ out ∷ addresses) =
+-- the words after `sign` and after `blame`; the names of the files of the dealing begin with some byte
+abbrev pub sign_words_of : List (List ℕ) → Option SignWords
+sign_words_of (prefix ∷ table ∷ message ∷ out ∷ addresses) =
     if length prefix == 0 then None else
     option_map
-    (λ places. Sign (record { prefix = prefix; table = table; message = message; out = out; places = places }))
+    (λ places. record { prefix = prefix; table = table; message = message; out = out; places = places })
     (places_of addresses)
-sign_of words = None
+sign_words_of words = None
+
+-- the words after `hss check`
+abbrev pub hss_check_of : List (List ℕ) → Option Row
+hss_check_of (key ∷ message ∷ signature ∷ []) = Some (HssCheck key message signature)
+hss_check_of words = None
+
+-- the words after `hss sign`; the names of the files of the dealing begin with some byte, and the outputs have different
+-- names
+abbrev pub hss_sign_of : List (List ℕ) → Option Row
+hss_sign_of (prefix ∷ table ∷ low_key ∷ low_signature ∷ message ∷ key_out ∷ signature_out ∷ addresses) =
+    if length prefix == 0 then None else
+    if bytes_eq key_out signature_out then None else
+    option_map
+    (λ places. HssSign (record {
+      prefix = prefix;
+      table = table;
+      low_key = low_key;
+      low_signature = low_signature;
+      message = message;
+      key_out = key_out;
+      signature_out = signature_out;
+      places = places;
+    }))
+    (places_of addresses)
+hss_sign_of words = None
+
+-- the words after `hss`: what is done, and its words
+abbrev pub hss_of : List (List ℕ) → Option Row
+hss_of [] = None
+hss_of (name ∷ words) =
+    if bytes_eq name (codes "check") then hss_check_of words else
+    if bytes_eq name (codes "sign") then hss_sign_of words else None
 
 -- the words after `aggregate`: the names of the files that it reads begin with some byte, and there are 1 to 64
 -- workers, with 1 to 2^32 - 1 connections each
@@ -245,7 +307,9 @@ row_of (name ∷ words) =
     if bytes_eq name (codes "migrate") then migrate_of words else
     if bytes_eq name (codes "approve") then approve_of words else
     if bytes_eq name (codes "trustee") then trustee_of words else
-    if bytes_eq name (codes "sign") then sign_of words else
+    if bytes_eq name (codes "sign") then option_map Sign (sign_words_of words) else
+    if bytes_eq name (codes "blame") then option_map Blame (sign_words_of words) else
+    if bytes_eq name (codes "hss") then hss_of words else
     if bytes_eq name (codes "aggregate") then aggregate_of words else
     if bytes_eq name (codes "drill") then drill_of words else None
 
@@ -263,5 +327,8 @@ OutputsDiffer (Migrate share journal new) = ⊤
 OutputsDiffer (Approve share book message) = ⊤
 OutputsDiffer (Trustee words) = ⊤
 OutputsDiffer (Sign words) = ⊤
+OutputsDiffer (Blame words) = ⊤
+OutputsDiffer (HssCheck key message signature) = ⊤
+OutputsDiffer (HssSign words) = words.key_out ≢ words.signature_out
 OutputsDiffer (Aggregate words) = ⊤
 OutputsDiffer (Drill number sessions events) = ⊤

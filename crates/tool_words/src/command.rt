@@ -3,6 +3,7 @@
 use crate::aggregate_words::AggregateWords;
 use crate::deal_words::DealWords;
 use crate::drill_words::DrillWords;
+use crate::hss_sign_words::HssSignWords;
 use crate::sign_words::SignWords;
 use crate::trustee_words::TrusteeWords;
 
@@ -60,6 +61,19 @@ pub enum Command<'a> {
     Trustee(TrusteeWords<'a>),
     /// Signs a message.
     Sign(SignWords<'a>),
+    /// Signs a message, and names the members whose replies are not the dealer's where the signature is not accepted.
+    Blame(SignWords<'a>),
+    /// Verifies a signature of a message under a key of one to eight levels.
+    HssCheck {
+        /// The name of the key's file.
+        key: &'a str,
+        /// The name of the message's file.
+        message: &'a str,
+        /// The name of the signature's file.
+        signature: &'a str,
+    },
+    /// Signs a lower key, and makes a key and a signature of two levels.
+    HssSign(HssSignWords<'a>),
     /// Serves an aggregator.
     Aggregate(AggregateWords<'a>),
     /// Runs sessions in memory under a schedule of events.

@@ -15,4 +15,6 @@ pub struct DealWords<'a> {
     pub k: u32,
     /// What the names of the outputs begin with.
     pub prefix: &'a str,
+    /// Whether commitments to the masks are written too.
+    pub commit: bool,
 }

@@ -2,14 +2,16 @@
 
 ghost use Rattle.std.specs.Prelude.{◌≡◌, map, option_map, string_bytes};
 ghost use Rattle.std.specs.List.{list_any};
-ghost use Rattle.tool_words.specs.Words.{aggregate_of, approve_of, command_of, deal_of, drill_of, enrol_of, is_option};
-ghost use Rattle.tool_words.specs.Words.{migrate_of, rehearse_of, row_of, sign_of, trustee_of, trustee_with, verify_of};
-ghost use Rattle.tool_words.specs.Rows.{row};
+ghost use Rattle.tool_words.specs.Words.{aggregate_of, approve_of, command_of, deal_of, deal_with, drill_of, enrol_of};
+ghost use Rattle.tool_words.specs.Words.{hss_check_of, hss_of, hss_sign_of, is_option, migrate_of, rehearse_of, row_of};
+ghost use Rattle.tool_words.specs.Words.{sign_words_of, trustee_of, trustee_with, verify_of};
+ghost use Rattle.tool_words.specs.Rows.{row, sign_words};
 
 use crate::aggregate_words::AggregateWords;
 use crate::command::Command;
 use crate::deal_words::DealWords;
 use crate::drill_words::DrillWords;
+use crate::hss_sign_words::HssSignWords;
 use crate::numbers::{number_of, number_within};
 use crate::places::Places;
 use crate::sign_words::SignWords;
@@ -58,7 +60,9 @@ fn row_of<'a>(words: &'a [String], split: &[&'a str]) -> Option<Command<'a>>
         "migrate" => migrate_of(rest, split),
         "approve" => approve_of(rest, split),
         "trustee" => trustee_of(rest, split),
-        "sign" => sign_of(rest, split),
+        "sign" => Some(Command::Sign(sign_words_of(rest, split)?)),
+        "blame" => Some(Command::Blame(sign_words_of(rest, split)?)),
+        "hss" => hss_of(rest, split),
         "aggregate" => aggregate_of(rest, split),
         "drill" => drill_of(rest),
         _ => None,
@@ -97,23 +101,57 @@ fn rehearse_of<'a>(words: &'a [String], split: &[&'a str]) -> Option<Command<'a>
     })
 }
 
-/// The words after `deal`. What the names of the outputs begin with is not empty.
+/// The words after `deal`: six, and `commit` or nothing. What the names of the outputs begin with is not empty.
 fn deal_of<'a>(words: &'a [String], split: &[&'a str]) -> Option<Command<'a>>
     ensures { option_map row result ≡ deal_of (map string_bytes words.now) }
 {
-    let [entropy, lms, ots, n, k, prefix] = words else {
-        return None;
-    };
-    if prefix.as_str().is_empty() {
+    match words {
+        [entropy, lms, ots, n, k, prefix] => deal_with(
+            word_at(split, 1, entropy.as_str()),
+            lms.as_str(),
+            ots.as_str(),
+            n.as_str(),
+            k.as_str(),
+            word_at(split, 6, prefix.as_str()),
+            false,
+        ),
+        [entropy, lms, ots, n, k, prefix, last] if last.as_str() == "commit" => deal_with(
+            word_at(split, 1, entropy.as_str()),
+            lms.as_str(),
+            ots.as_str(),
+            n.as_str(),
+            k.as_str(),
+            word_at(split, 6, prefix.as_str()),
+            true,
+        ),
+        _ => None,
+    }
+}
+
+/// The words of a dealing with commitments, or without.
+fn deal_with<'a>(
+    entropy: &'a str,
+    lms: &str,
+    ots: &str,
+    n: &str,
+    k: &str,
+    prefix: &'a str,
+    commit: bool,
+) -> Option<Command<'a>>
+    ensures { option_map row result
+        ≡ deal_with entropy.now lms.now ots.now n.now k.now prefix.now commit }
+{
+    if prefix.is_empty() {
         return None;
     }
     Some(Command::Deal(DealWords {
-        entropy: word_at(split, 1, entropy.as_str()),
-        lms: number_of(lms.as_str())?,
-        ots: number_of(ots.as_str())?,
-        n: number_of(n.as_str())?,
-        k: number_of(k.as_str())?,
-        prefix: word_at(split, 6, prefix.as_str()),
+        entropy,
+        lms: number_of(lms)?,
+        ots: number_of(ots)?,
+        n: number_of(n)?,
+        k: number_of(k)?,
+        prefix,
+        commit,
     }))
 }
 
@@ -205,9 +243,9 @@ fn trustee_with<'a>(
     }))
 }
 
-/// The words after `sign`. What the names of the files that it reads begin with is not empty.
-fn sign_of<'a>(words: &'a [String], split: &[&'a str]) -> Option<Command<'a>>
-    ensures { option_map row result ≡ sign_of (map string_bytes words.now) }
+/// The words after `sign` and after `blame`. What the names of the files of the dealing begin with is not empty.
+fn sign_words_of<'a>(words: &'a [String], split: &[&'a str]) -> Option<SignWords<'a>>
+    ensures { option_map sign_words result ≡ sign_words_of (map string_bytes words.now) }
 {
     let [prefix, table, message, out, addresses @ ..] = words else {
         return None;
@@ -216,11 +254,71 @@ fn sign_of<'a>(words: &'a [String], split: &[&'a str]) -> Option<Command<'a>>
         return None;
     }
     let places = Places::of(addresses)?;
-    Some(Command::Sign(SignWords {
+    Some(SignWords {
         prefix: word_at(split, 1, prefix.as_str()),
         table: word_at(split, 2, table.as_str()),
         message: word_at(split, 3, message.as_str()),
         out: word_at(split, 4, out.as_str()),
+        places,
+    })
+}
+
+/// The words after `hss`: what is done, and its words. To the split what is done is a value.
+fn hss_of<'a>(words: &'a [String], split: &[&'a str]) -> Option<Command<'a>>
+    ensures { option_map row result ≡ hss_of (map string_bytes words.now) }
+{
+    let (name, rest) = words.split_first()?;
+    match word_at(split, 1, name.as_str()) {
+        "check" => hss_check_of(rest, split),
+        "sign" => hss_sign_of(rest, split),
+        _ => None,
+    }
+}
+
+/// The words after `hss check`.
+fn hss_check_of<'a>(words: &'a [String], split: &[&'a str]) -> Option<Command<'a>>
+    ensures { option_map row result ≡ hss_check_of (map string_bytes words.now) }
+{
+    let [key, message, signature] = words else {
+        return None;
+    };
+    Some(Command::HssCheck {
+        key: word_at(split, 2, key.as_str()),
+        message: word_at(split, 3, message.as_str()),
+        signature: word_at(split, 4, signature.as_str()),
+    })
+}
+
+/// The words after `hss sign`. What the names of the files of the dealing begin with is not empty, and the outputs have
+/// different names.
+fn hss_sign_of<'a>(words: &'a [String], split: &[&'a str]) -> Option<Command<'a>>
+    ensures { option_map row result ≡ hss_sign_of (map string_bytes words.now) }
+{
+    let [
+        prefix,
+        table,
+        low_key,
+        low_signature,
+        message,
+        key_out,
+        signature_out,
+        addresses @ ..,
+    ] = words
+    else {
+        return None;
+    };
+    if prefix.as_str().is_empty() || key_out.as_str() == signature_out.as_str() {
+        return None;
+    }
+    let places = Places::of(addresses)?;
+    Some(Command::HssSign(HssSignWords {
+        prefix: word_at(split, 2, prefix.as_str()),
+        table: word_at(split, 3, table.as_str()),
+        low_key: word_at(split, 4, low_key.as_str()),
+        low_signature: word_at(split, 5, low_signature.as_str()),
+        message: word_at(split, 6, message.as_str()),
+        key_out: word_at(split, 7, key_out.as_str()),
+        signature_out: word_at(split, 8, signature_out.as_str()),
         places,
     }))
 }

@@ -4,6 +4,7 @@ use Rattle.tool_base.specs.World.{from_to}
 use Rattle.tool_base.proofs.Writing.{ends_untouched}
 use Rattle.tool_base.proofs.Runs.{calm_none}
 use Rattle.tool_run.specs.Drill.{DrillEnds}
+use Rattle.tool_run.specs.HssCheck.{HssCheckEnds}
 use Rattle.tool_run.specs.Verify.{VerifyEnds}
 use Rattle.tool_run.proofs.tool.run_command.Goals as goal
 
@@ -38,6 +39,17 @@ returns-in-Trustee-clause-ended g c = rw c.in-Trustee.is c.serve_trustee.ensures
 
 pub returns-in-Sign-clause-ended : goal.returns-in-Sign-clause-ended
 returns-in-Sign-clause-ended g c = rw c.in-Sign.is c.sign.ensures
+
+pub returns-in-HssCheck-clause-ended : goal.returns-in-HssCheck-clause-ended
+returns-in-HssCheck-clause-ended g c =
+    let run = from_to (g.S.Store.state c.args.store.now) (g.S.Store.state c.hss_check_files.new.store) in
+    let check = c.in-HssCheck in
+    rw c.in-HssCheck.is (record {
+      run = ends_untouched _ _ c.hss_check_files.ensures.calm
+          (λ end written. HssCheckEnds run check.key.now check.message.now check.signature.now end × (written ≡ [])) _
+          (c.hss_check_files.ensures.ended, refl);
+      net = refl;
+    })
 
 pub returns-in-Aggregate-clause-ended : goal.returns-in-Aggregate-clause-ended
 returns-in-Aggregate-clause-ended g c = rw c.in-Aggregate.is c.aggregate.ensures

@@ -1,197 +1,64 @@
-use Rattle.std.proofs.Common.{◌≡◌, [], Ok, Err, Result, drop, ap}
+use Rattle.std.proofs.Common.{[], Ok, Err, Result, refl}
 use Rattle.leased_session.specs.Signing.{Signature}
-use Rattle.stream_io.specs.Store.{pages_state}
-use Rattle.tool_base.proofs.Runs.{calm_none, calm_on, onward_none, onward_on, part_of}
-use Rattle.tool_base.specs.Ending.{Ending}
+use Rattle.tool_base.proofs.Nets.{net_none}
+use Rattle.tool_base.proofs.Runs.{calm_none, onward_none, onward_on, part_of}
 use Rattle.tool_base.specs.Endings.{ending}
-use Rattle.tool_base.specs.World.{from_to}
-use Rattle.tool_desk.specs.Files.{reference_name}
 use Rattle.tool_disks.proofs.Outs.{keeps_calm}
-use Rattle.tool_signing.proofs.Whole.{is_task, keeps_on, run_lacking, run_signed, run_unsigned, still_new, unbegun, whole_ends, whole_keeps}
-use Rattle.tool_signing.proofs.Writes.{as-signed}
-use Rattle.tool_signing.specs.Ports.{NetRun, Signing, is_exact, over_net}
-use Rattle.tool_signing.specs.Signs.{answer_in}
-use Rattle.tool_signing.specs.Tasks.{HasFiles, desk_of, no_key_files, no_reference, out_is_not_new}
+use Rattle.tool_signing.proofs.Whole.{run_signed, run_unsigned, signed-by, still_new}
+use Rattle.tool_signing.specs.Ports.{NetRun, over_net}
+use Rattle.tool_signing.specs.Sign.{not_new}
 use Rattle.tool_words.specs.Rows.{sign_words}
 use Rattle.tool_signing.proofs.command.sign.Goals as goal
 
 pub returns-in-Err : goal.returns-in-Err
 returns-in-Err g c =
     let tested = c.in-Err.ensures in
-    unbegun (sign_words c.args.words.now) _ _ _ _ (keeps_calm [] _ _ tested.calm)
-    (out_is_not_new _ (tested.refused c.args.store.now c.test_new.new.store (part_of _ _ _ _ (calm_none _) (onward_none _))))
+    record {
+      touched = [];
+      ends = not_new _ (tested.refused c.args.store.now c.test_new.new.store (part_of _ _ _ _ (calm_none _) (onward_none _))) refl;
+      keeps = keeps_calm [] _ _ tested.calm;
+      ports = net_none _;
+    }
 
-pub returns-in-Err-read_key_and_tree : goal.returns-in-Err-read_key_and_tree
-returns-in-Err-read_key_and_tree g c =
-    let first = c.args.store.now in
-    let last = c.read_key_and_tree.new.store in
-    let tested = c.in_default.ensures in
-    let read = c.in-Err-read_key_and_tree.ensures in
-    unbegun (sign_words c.args.words.now) _ _ _ _ (keeps_calm [] _ _ (calm_on _ _ _ tested.calm read.calm))
-    (no_key_files _ (tested.new first last (part_of _ _ _ _ (calm_none _) read.calm.onward)) (read.refused first last (part_of _ _ _ _ tested.calm (onward_none _))))
-
-pub returns-in-Err-view_reference : goal.returns-in-Err-view_reference
-returns-in-Err-view_reference g c =
-    let first = c.args.store.now in
-    let last = c.view_reference.new.store in
-    let tested = c.in_default.ensures in
-    let read = c.in-Ok.ensures in
-    let viewed = c.in-Err-view_reference.ensures in
-    let calm = calm_on _ _ _ tested.calm read.calm in
-    unbegun (sign_words c.args.words.now) _ _ _ _ (keeps_on [] _ _ _ calm viewed.keeps)
-    (no_reference c.in-Ok.files _ (tested.new first last (part_of _ _ _ _ (calm_none _) (onward_on _ _ _ read.calm.onward viewed.onward)))
-    (read.files first last (part_of _ _ _ _ tested.calm viewed.onward)) (viewed.refused first last (part_of _ _ _ _ calm (onward_none _))))
-
-pub returns-in-Err-read_task : goal.returns-in-Err-read_task
-returns-in-Err-read_task g c =
+pub returns-in-Err-sign_message : goal.returns-in-Err-sign_message
+returns-in-Err-sign_message g c =
     let state = g.S.Store.state in
-    let views = g.S.View in
-    let pages = pages_state views.Pages.told views.Pages.honest views.Faults.steady views.Faults.count views.Pages.room views.Pages.reads views.Pages.may_leave in
-    let words = sign_words c.args.words.now in
     let first = c.args.store.now in
-    let last = c.end_view.new.self in
+    let last = c.sign_message.new.store in
     let tested = c.in_default.ensures in
-    let read = c.in-Ok.ensures in
-    let viewed = c.in-Ok-view_reference.ensures in
-    let lacks = c.in-Err-read_task.ensures in
-    let calm = calm_on _ _ _ tested.calm read.calm in
-    let later = onward_on _ _ _ lacks.calm.onward c.end_view.ensures.onward in
-    let has : HasFiles words (from_to (state first) (state last)) c.in-Ok.files c.in-Ok-view_reference.viewed.1 = record {
-      out_is_new = tested.new first last (part_of _ _ _ _ (calm_none _) (onward_on _ _ _ read.calm.onward (onward_on _ _ _ viewed.onward later)));
-      files_are = read.files first last (part_of _ _ _ _ tested.calm (onward_on _ _ _ viewed.onward later));
-      reference_is = viewed.reference first last (part_of _ _ _ _ calm later);
-    } in
-    run_lacking words c.in-Ok.files c.in-Ok-view_reference.viewed.1 (state first) (state c.read_key_and_tree.new.store) (state c.view_reference.new.store) (state c.read_task.new.store) (state last)
-    (reference_name words.prefix) (pages c.in-Ok-view_reference.viewed.0) calm viewed.viewed viewed.onward lacks.calm c.end_view.ensures.ended c.end_view.ensures.onward
-    (g.N.Net.state c.args.net.now) (ending c.in-Err-read_task.end) has lacks.refused
+    let run = c.in-Err-sign_message.ensures first tested.calm in
+    let alone = c.in-Err-sign_message.ensures c.test_new.new.store (calm_none _) in
+    let net : NetRun = over_net (g.N.Net.state c.args.net.now) (g.N.Net.state c.sign_message.new.net) in
+    let end = ending c.in-Err-sign_message.end in
+    let is_new = tested.new first last (part_of _ _ _ _ (calm_none _) alone.keeps.back.onward) in
+    run_unsigned (sign_words c.args.words.now) (state first) (state last) net run.touched end (Err end) is_new run.keeps run.ports run.ends refl
 
 pub write_signature-requires-clause-new : goal.write_signature-requires-clause-new
 write_signature-requires-clause-new g c =
     let state = g.S.Store.state in
-    let views = g.S.View in
-    let pages = pages_state views.Pages.told views.Pages.honest views.Faults.steady views.Faults.count views.Pages.room views.Pages.reads views.Pages.may_leave in
-    let words = sign_words c.args.words.now in
     let first = c.args.store.now in
-    let last = c.end_view-2.new.self in
+    let last = c.sign_message.new.store in
     let tested = c.in_default.ensures in
-    let read = c.in-Ok.ensures in
-    let viewed = c.in-Ok-view_reference.ensures in
-    let tasked = c.in-Ok-read_task.ensures in
-    let run = c.sign_task-view.ensures.run in
-    let calm = calm_on _ _ _ tested.calm read.calm in
-    let files = c.in-Ok.files in
-    let header = c.in-Ok-view_reference.viewed.1 in
-    let view = pages c.in-Ok-view_reference.viewed.0 in
-    let now = pages c.sign_task-view.result.0 in
-    let task = c.in-Ok-read_task.task in
-    let signing : Signing = record {
-      desk = desk_of files header task.addresses.items;
-      reads = record { told = view.told; leaves = drop 32 view.reads; before = view.count; now = now.count };
-      exact = is_exact view.told view.steady (drop 32 view.reads) files.key.params header.plan;
-      members = task.members;
-      message = task.message.items;
-    } in
-    let net : NetRun = over_net (g.N.Net.state c.args.net.now) (g.N.Net.state c.sign_task-view.new.net) in
-    let answer : Result Signature Ending = answer_in c.sign_task-view.result.1 in
-    let signature : Signature = record { leaf = c.in-Ok-signed.signed.leaf; bytes = c.in-Ok-signed.signed.bytes.items } in
-    let is : answer ≡ Ok signature = ap answer_in c.in-Ok-signed.is in
-    let keeps = whole_keeps words files header (state first) (state c.read_key_and_tree.new.store) (state c.view_reference.new.store) (state c.read_task.new.store) (reference_name words.prefix) view
-    calm viewed.viewed viewed.onward tasked.calm (state c.sign_task-view.new.store) (state last) now c.end_view-2.ensures.ended c.end_view-2.ensures.onward run.touched run.keeps in
-    let ends = whole_ends words files header (state first) (state c.read_key_and_tree.new.store) (state c.view_reference.new.store) (state c.read_task.new.store) (reference_name words.prefix) view
-    calm viewed.viewed viewed.onward tasked.calm (state c.sign_task-view.new.store) (state last) now c.end_view-2.ensures.ended c.end_view-2.ensures.onward signing words.table net answer run.touched run.ends in
-    let works = onward_on _ _ _ run.keeps.back.onward c.end_view-2.ensures.onward in
-    let new = tested.new first last (part_of _ _ _ _ (calm_none _) (onward_on _ _ _ read.calm.onward (onward_on _ _ _ viewed.onward (onward_on _ _ _ tasked.calm.onward works)))) in
-    λ lives outlives. still_new words signing (state first) (state last) net run.touched signature answer new keeps ends is
+    let run = c.in-Ok.ensures first tested.calm in
+    let alone = c.in-Ok.ensures c.test_new.new.store (calm_none _) in
+    let net : NetRun = over_net (g.N.Net.state c.args.net.now) (g.N.Net.state c.sign_message.new.net) in
+    let signature : Signature = record { leaf = c.in-Ok.signed.leaf; bytes = c.in-Ok.signed.bytes.items } in
+    let is_new = tested.new first last (part_of _ _ _ _ (calm_none _) alone.keeps.back.onward) in
+    λ lives outlives. still_new (sign_words c.args.words.now) (state first) (state last) net run.touched signature (Ok signature) is_new run.keeps run.ends refl
 
-pub returns-in-Ok-signed : goal.returns-in-Ok-signed
-returns-in-Ok-signed g c =
+pub returns-in-Ok : goal.returns-in-Ok
+returns-in-Ok g c =
     let state = g.S.Store.state in
-    let views = g.S.View in
-    let pages = pages_state views.Pages.told views.Pages.honest views.Faults.steady views.Faults.count views.Pages.room views.Pages.reads views.Pages.may_leave in
     let words = sign_words c.args.words.now in
     let first = c.args.store.now in
-    let last = c.end_view-2.new.self in
+    let last = c.sign_message.new.store in
     let tested = c.in_default.ensures in
-    let read = c.in-Ok.ensures in
-    let viewed = c.in-Ok-view_reference.ensures in
-    let tasked = c.in-Ok-read_task.ensures in
-    let run = c.sign_task-view.ensures.run in
-    let calm = calm_on _ _ _ tested.calm read.calm in
-    let files = c.in-Ok.files in
-    let header = c.in-Ok-view_reference.viewed.1 in
-    let view = pages c.in-Ok-view_reference.viewed.0 in
-    let now = pages c.sign_task-view.result.0 in
-    let task = c.in-Ok-read_task.task in
-    let signing : Signing = record {
-      desk = desk_of files header task.addresses.items;
-      reads = record { told = view.told; leaves = drop 32 view.reads; before = view.count; now = now.count };
-      exact = is_exact view.told view.steady (drop 32 view.reads) files.key.params header.plan;
-      members = task.members;
-      message = task.message.items;
-    } in
-    let net : NetRun = over_net (g.N.Net.state c.args.net.now) (g.N.Net.state c.sign_task-view.new.net) in
-    let answer : Result Signature Ending = answer_in c.sign_task-view.result.1 in
-    let signature : Signature = record { leaf = c.in-Ok-signed.signed.leaf; bytes = c.in-Ok-signed.signed.bytes.items } in
-    let is : answer ≡ Ok signature = ap answer_in c.in-Ok-signed.is in
+    let run = c.in-Ok.ensures first tested.calm in
+    let alone = c.in-Ok.ensures c.test_new.new.store (calm_none _) in
     let written = c.write_signature.ensures in
     let very_last = c.write_signature.new.store in
-    let keeps = whole_keeps words files header (state first) (state c.read_key_and_tree.new.store) (state c.view_reference.new.store) (state c.read_task.new.store) (reference_name words.prefix) view
-    calm viewed.viewed viewed.onward tasked.calm (state c.sign_task-view.new.store) (state last) now c.end_view-2.ensures.ended c.end_view-2.ensures.onward run.touched run.keeps in
-    let ends = whole_ends words files header (state first) (state c.read_key_and_tree.new.store) (state c.view_reference.new.store) (state c.read_task.new.store) (reference_name words.prefix) view
-    calm viewed.viewed viewed.onward tasked.calm (state c.sign_task-view.new.store) (state last) now c.end_view-2.ensures.ended c.end_view-2.ensures.onward signing words.table net answer run.touched run.ends in
-    let both = as-signed signing words.table (state first) (state last) net answer run.touched signature ends is in
-    let works = onward_on _ _ _ run.keeps.back.onward (onward_on _ _ _ c.end_view-2.ensures.onward written.back.onward) in
-    let has : HasFiles words (from_to (state first) (state very_last)) files header = record {
-      out_is_new = tested.new first very_last (part_of _ _ _ _ (calm_none _) (onward_on _ _ _ read.calm.onward (onward_on _ _ _ viewed.onward (onward_on _ _ _ tasked.calm.onward works))));
-      files_are = read.files first very_last (part_of _ _ _ _ tested.calm (onward_on _ _ _ viewed.onward (onward_on _ _ _ tasked.calm.onward works)));
-      reference_is = viewed.reference first very_last (part_of _ _ _ _ calm (onward_on _ _ _ tasked.calm.onward works));
-    } in
-    let task_is = is_task words files header tasked.sizes (state first) (state c.read_key_and_tree.new.store) (state c.view_reference.new.store) view calm viewed.viewed viewed.reads
-    (state c.read_task.new.store) (state c.sign_task-view.new.store) (state last) (state very_last) now task.message.items task.members task.addresses.items
-    viewed.onward tasked.calm run.keeps.back.onward c.end_view-2.ensures.ended written.back.onward has tasked.task in
-    run_signed words signing (state first) (state last) net (state very_last) run.touched signature keeps run.ports written.back both.0 both.1 task_is _ written.ends
-
-pub returns : goal.returns
-returns g c =
-    let state = g.S.Store.state in
-    let views = g.S.View in
-    let pages = pages_state views.Pages.told views.Pages.honest views.Faults.steady views.Faults.count views.Pages.room views.Pages.reads views.Pages.may_leave in
-    let words = sign_words c.args.words.now in
-    let first = c.args.store.now in
-    let last = c.end_view-2.new.self in
-    let tested = c.in_default.ensures in
-    let read = c.in-Ok.ensures in
-    let viewed = c.in-Ok-view_reference.ensures in
-    let tasked = c.in-Ok-read_task.ensures in
-    let run = c.sign_task-view.ensures.run in
-    let calm = calm_on _ _ _ tested.calm read.calm in
-    let files = c.in-Ok.files in
-    let header = c.in-Ok-view_reference.viewed.1 in
-    let view = pages c.in-Ok-view_reference.viewed.0 in
-    let now = pages c.sign_task-view.result.0 in
-    let task = c.in-Ok-read_task.task in
-    let signing : Signing = record {
-      desk = desk_of files header task.addresses.items;
-      reads = record { told = view.told; leaves = drop 32 view.reads; before = view.count; now = now.count };
-      exact = is_exact view.told view.steady (drop 32 view.reads) files.key.params header.plan;
-      members = task.members;
-      message = task.message.items;
-    } in
-    let net : NetRun = over_net (g.N.Net.state c.args.net.now) (g.N.Net.state c.sign_task-view.new.net) in
-    let answer : Result Signature Ending = answer_in c.sign_task-view.result.1 in
-    let end = ending c.in-Err-signed.end in
-    let is : answer ≡ Err end = ap answer_in c.in-Err-signed.is in
-    let keeps = whole_keeps words files header (state first) (state c.read_key_and_tree.new.store) (state c.view_reference.new.store) (state c.read_task.new.store) (reference_name words.prefix) view
-    calm viewed.viewed viewed.onward tasked.calm (state c.sign_task-view.new.store) (state last) now c.end_view-2.ensures.ended c.end_view-2.ensures.onward run.touched run.keeps in
-    let ends = whole_ends words files header (state first) (state c.read_key_and_tree.new.store) (state c.view_reference.new.store) (state c.read_task.new.store) (reference_name words.prefix) view
-    calm viewed.viewed viewed.onward tasked.calm (state c.sign_task-view.new.store) (state last) now c.end_view-2.ensures.ended c.end_view-2.ensures.onward signing words.table net answer run.touched run.ends in
-    let works = onward_on _ _ _ run.keeps.back.onward c.end_view-2.ensures.onward in
-    let has : HasFiles words (from_to (state first) (state last)) files header = record {
-      out_is_new = tested.new first last (part_of _ _ _ _ (calm_none _) (onward_on _ _ _ read.calm.onward (onward_on _ _ _ viewed.onward (onward_on _ _ _ tasked.calm.onward works))));
-      files_are = read.files first last (part_of _ _ _ _ tested.calm (onward_on _ _ _ viewed.onward (onward_on _ _ _ tasked.calm.onward works)));
-      reference_is = viewed.reference first last (part_of _ _ _ _ calm (onward_on _ _ _ tasked.calm.onward works));
-    } in
-    let task_is = is_task words files header tasked.sizes (state first) (state c.read_key_and_tree.new.store) (state c.view_reference.new.store) view calm viewed.viewed viewed.reads
-    (state c.read_task.new.store) (state c.sign_task-view.new.store) (state last) (state last) now task.message.items task.members task.addresses.items
-    viewed.onward tasked.calm run.keeps.back.onward c.end_view-2.ensures.ended (onward_none (state last)) has tasked.task in
-    run_unsigned words signing (state first) (state last) net run.touched end answer task_is keeps run.ports ends is
+    let net : NetRun = over_net (g.N.Net.state c.args.net.now) (g.N.Net.state c.sign_message.new.net) in
+    let signature : Signature = record { leaf = c.in-Ok.signed.leaf; bytes = c.in-Ok.signed.bytes.items } in
+    let is_new = tested.new first very_last (part_of _ _ _ _ (calm_none _) (onward_on _ _ _ alone.keeps.back.onward written.back.onward)) in
+    let by = signed-by words (state first) (state last) net (Ok signature) run.touched signature run.ends refl in
+    run_signed words (state first) (state last) net (state very_last) run.touched signature is_new run.keeps run.ports written.back by _ written.ends

@@ -1,0 +1,26 @@
+//! What SHA-256 alone costs.
+
+use sha2::{Digest, Sha256};
+
+/// What is hashed at once: 1024 blocks with its padding.
+const PIECE: [u8; 65527] = [0x55; 65527];
+
+/// Hashes so many blocks, in pieces of 1024, and gives the exclusive or of the last bytes.
+pub(crate) fn hash_blocks(blocks: u64) -> u8 {
+    let mut all = 0;
+    for _ in 0..blocks / 1024 {
+        let digest: [u8; 32] = Sha256::digest(&PIECE);
+        all ^= last_byte(&digest);
+    }
+    all
+}
+
+/// The first byte, 0 where there is none.
+pub(crate) fn first_byte(bytes: &[u8]) -> u8 {
+    bytes.first().copied().unwrap_or(0)
+}
+
+/// The last byte, 0 where there is none.
+pub(crate) fn last_byte(bytes: &[u8]) -> u8 {
+    bytes.last().copied().unwrap_or(0)
+}

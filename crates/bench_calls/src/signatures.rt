@@ -1,0 +1,169 @@
+//! Verifies one signature many times, of one LMS key or of several levels, says how many blocks of SHA-256 that takes in, or hashes so many blocks.
+//! `bench/verify` times both.
+
+use crate::hashing::hash_blocks;
+use crate::refuse;
+use host_io::FileStore;
+use hss_levels::{HssVerdict, hss_verify, read_hss_key};
+use lms_bytes::{Params, PublicKey, SigView, Val, digit, read_public, read_signature};
+use lms_verify::{Verdict, verify};
+use ots_chain::MessageHash;
+use std::alloc::Global;
+use std::io;
+use stream_io::Store;
+
+/// The words behind the first.
+const WORDS: &str = "verify, levels, blocks or hash, a name, and a number";
+
+/// The longest file that is read, in bytes.
+const LIMIT: u64 = 67_108_864;
+
+/// A key, a message and its signature, as bytes.
+#[derive(Drop)]
+struct Signed {
+    key: Vec<u8>,
+    message: Vec<u8>,
+    signature: Vec<u8>,
+}
+
+/// The bytes of a file, if it can be read.
+fn bytes_of(
+    alloc: Global,
+    store: &mut FileStore<HostRuntime>,
+    name: &str,
+    end: &str,
+) -> Option<Vec<u8>> {
+    let name = format!(in alloc; "{name}.{end}").ok()?;
+    store.read_all(alloc, name.as_str(), LIMIT).ok()
+}
+
+/// The files NAME.key, NAME.message and NAME.signature.
+fn read_signed(alloc: Global, store: &mut FileStore<HostRuntime>, name: &str) -> Option<Signed> {
+    Some(Signed {
+        key: bytes_of(alloc, store, name, "key")?,
+        message: bytes_of(alloc, store, name, "message")?,
+        signature: bytes_of(alloc, store, name, "signature")?,
+    })
+}
+
+/// Verifies so often, at least once, and gives what came of the last time.
+fn verify_often(key: &PublicKey, signed: &Signed, times: u32) -> Verdict {
+    let mut verdict = verify(key, &signed.message, &signed.signature);
+    for _ in 1..times {
+        verdict = verify(key, &signed.message, &signed.signature);
+    }
+    verdict
+}
+
+/// How many blocks SHA-256 takes in for so many bytes, with the padding.
+fn blocks_of(length: usize) -> usize {
+    length.saturating_add(9).div_ceil(64)
+}
+
+/// The digest of the message under the randomizer of its signature, if that has the length of one.
+fn digest_of(key: &PublicKey, message: &[u8], view: &SigView) -> Option<Val> {
+    if view.c.len() != key.params.n as usize || (view.c.len() != 24 && view.c.len() != 32) {
+        return None;
+    }
+    let c = Val::of(view.c);
+    Some(MessageHash::of(&key.params, &key.id, view.leaf, &c, message))
+}
+
+/// How many steps of the chains are left from these digits.
+fn steps_left(params: &Params, digest: &Val) -> usize {
+    let last: usize = if params.w == 8 {
+        255
+    } else {
+        (1 << params.w) - 1
+    };
+    let mut steps: usize = 0;
+    for i in 0..params.p {
+        if digest.bytes().len() == params.n as usize {
+            steps = steps.saturating_add(last.saturating_sub(digit(params, digest, i) as usize));
+        }
+    }
+    steps
+}
+
+/// How many blocks a verification takes in: the message and the randomizer behind 22 bytes, a block for each step that
+/// is left of a chain, the ends of the chains, the leaf, and two nodes for each level, each behind 22 bytes.
+fn blocks(key: &PublicKey, signed: &Signed) -> Option<usize> {
+    let params = &key.params;
+    let view = read_signature(params, &signed.signature).ok()?;
+    let digest = digest_of(key, &signed.message, &view)?;
+    let n = params.n as usize;
+    let levels = (params.h as usize).saturating_mul(blocks_of(22 + 2 * n));
+    let ends = blocks_of(view.chains.len().saturating_add(22));
+    let message = blocks_of(signed.message.len().saturating_add(22 + n));
+    Some(
+        steps_left(params, &digest)
+            .saturating_add(message)
+            .saturating_add(ends)
+            .saturating_add(levels)
+            .saturating_add(blocks_of(22 + n)),
+    )
+}
+
+/// Verifies the signature of this name so often, or says how many blocks that takes in, and gives the status.
+fn run_signed(rt: HostRuntime, way: &str, name: &str, times: u32) -> io::Result<u8> {
+    let mut store = FileStore::new(rt);
+    let Some(signed) = read_signed(rt.alloc(), &mut store, name) else {
+        println!(rt; "{name} cannot be read")?;
+        return Ok(3);
+    };
+    let Ok(key) = read_public(&signed.key) else {
+        println!(rt; "{name}.key is no key")?;
+        return Ok(4);
+    };
+    if way == "blocks" {
+        println!(rt; "{} blocks", blocks(&key, &signed).unwrap_or(0))?;
+        return Ok(0);
+    }
+    let Verdict::Accepted { leaf } = verify_often(&key, &signed, times) else {
+        println!(rt; "not accepted")?;
+        return Ok(1);
+    };
+    println!(rt; "accepted leaf {leaf}")?;
+    Ok(0)
+}
+
+/// Verifies the HSS signature of this name so often, at least once, and gives the status.
+fn run_levels(rt: HostRuntime, name: &str, times: u32) -> io::Result<u8> {
+    let mut store = FileStore::new(rt);
+    let Some(signed) = read_signed(rt.alloc(), &mut store, name) else {
+        println!(rt; "{name} cannot be read")?;
+        return Ok(3);
+    };
+    let Ok(key) = read_hss_key(&signed.key) else {
+        println!(rt; "{name}.key is no key")?;
+        return Ok(4);
+    };
+    let mut verdict = hss_verify(&key, &signed.message, &signed.signature);
+    for _ in 1..times {
+        verdict = hss_verify(&key, &signed.message, &signed.signature);
+    }
+    let HssVerdict::Accepted { levels } = verdict else {
+        println!(rt; "not accepted")?;
+        return Ok(1);
+    };
+    println!(rt; "accepted levels {levels}")?;
+    Ok(0)
+}
+
+/// Verifies, counts blocks or hashes, and gives the status.
+pub(crate) fn run(rt: HostRuntime, words: &[String]) -> io::Result<u8> {
+    let [way, name, number] = words else {
+        return refuse(rt, WORDS);
+    };
+    let Ok(number) = number.parse::<u32>() else {
+        return refuse(rt, WORDS);
+    };
+    if way.as_str() == "hash" {
+        println!(rt; "{number} blocks: {}", hash_blocks(u64::from(number)))?;
+        return Ok(0);
+    }
+    if way.as_str() == "levels" {
+        return run_levels(rt, name.as_str(), number);
+    }
+    run_signed(rt, way.as_str(), name.as_str(), number)
+}

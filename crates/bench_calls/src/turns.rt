@@ -1,0 +1,151 @@
+//! Takes turns of one lock in many threads beside each other, and prints how many were taken. `bench/turns` times it.
+
+ghost use Rattle.std.specs.Prelude.{◌≡◌, ◌+◌, ◌-◌, ◌*◌, ◌^◌, ◌<◌, ◌≤◌, min, [], false, All, IfSome};
+ghost use Rattle.turn_lock.specs.Pass.{first_pass};
+ghost use Rattle.bench_calls.specs.Turns.{IsDone};
+
+use crate::refuse;
+use std::alloc::Global;
+use std::sync::Wait;
+use std::thread::Threads;
+use std::{io, thread};
+use turn_lock::{Kept, Pass, TurnLock};
+
+/// The words behind the first.
+const WORDS: &str = "1 to 4096 threads, and turns of each";
+
+/// The most passes of one lock.
+const MOST: u32 = 4096;
+
+/// A number that each turn raises.
+#[derive(Drop)]
+struct Count {
+    turns: u64,
+}
+
+impl Kept for Count {
+    type Entry = ();
+
+    type Name = ();
+
+    ghost entries = { λ _. [] };
+
+    ghost number = { λ c. c.turns };
+
+    ghost name = { λ _. tt };
+}
+
+impl Count {
+    /// Raises the number, where it is not at its end.
+    fn raise(&mut self)
+        ensures { self.new.turns ≡ min (self.old.turns + 1) (2 ^ 64 - 1) }
+    {
+        self.turns = self.turns.saturating_add(1);
+    }
+}
+
+/// Takes so many turns, unless the pass is worn before.
+fn count_each(rt: &impl Wait, lock: &TurnLock<Count>, pass: &mut Pass<Count>, each: u64)
+    requires lock { pass.old.lock ≡ lock.now }
+    requires idle { pass.old.in_turn ≡ false }
+    ensures lock { pass.new.lock ≡ pass.old.lock }
+    ensures idle { pass.new.in_turn ≡ false }
+    ensures joined { pass.new.joined ≡ pass.old.joined }
+    ensures draws { pass.new.draws ≤ pass.old.draws + each }
+    ensures rises { pass.new.rises ≤ pass.old.rises + each }
+    ensures all { pass.new.greatest < 2 ^ 62 → pass.new.floor < 2 ^ 64 - 1 → pass.new.rises ≡ pass.old.rises + each }
+{
+    for _ in 0..each {
+        let Ok(mut count) = lock.take(rt, pass) else {
+            return;
+        };
+        count.raise();
+        lock.give(pass, count);
+    }
+}
+
+/// Takes so many turns by each pass, in threads beside each other.
+fn count_beside<R: Threads + Wait + Sync>(
+    rt: &R,
+    lock: &TurnLock<Count>,
+    passes: &mut [Pass<Count>],
+    each: u64,
+)
+    requires { All (λ p. p ≡ first_pass lock.now) passes.old }
+    ensures { All (IsDone lock.now each) passes.new }
+{
+    let threads = passes.len();
+    if threads > 0 {
+        let count = |_: usize, pass: &mut Pass<Count>|
+            requires { pass.now ≡ first_pass lock.now }
+            ensures { IsDone lock.entry.now each pass.exit.now }
+        { count_each(rt, lock, pass, each) };
+        thread::for_each_mut(rt, passes, threads, &count);
+    }
+}
+
+/// Joins a pass that has taken its turns to another.
+fn meet(lock: &TurnLock<Count>, pass: &mut Pass<Count>, other: Pass<Count>, each: u64)
+    requires pass { IsDone lock.now each pass.old }
+    requires other { IsDone lock.now each other }
+    ensures { IsDone lock.now each pass.new }
+{
+    lock.meet(pass, other);
+}
+
+/// Joins all passes to one, where there is one.
+fn meet_all(lock: &TurnLock<Count>, mut passes: Vec<Pass<Count>>, each: u64) -> Option<Pass<Count>>
+    requires { All (IsDone lock.now each) passes.items }
+    ensures { IfSome result (IsDone lock.now each) }
+{
+    let mut pass = passes.pop()?;
+    while let Some(other) = passes.pop() {
+        meet(lock, &mut pass, other, each);
+    }
+    Some(pass)
+}
+
+/// Takes this many turns in each of so many threads, and gives how many were taken, or nothing where memory ran out.
+fn take_turns<R: Threads + Wait + Sync>(
+    rt: &R,
+    alloc: Global,
+    threads: u32,
+    each: u64,
+) -> Option<u64>
+    requires { (1 ≤ threads) × (threads ≤ 4096) }
+    ensures { threads * each < 2 ^ 62 → IfSome result (λ turns. turns ≡ threads * each) }
+{
+    let Ok((lock, mut passes)) = TurnLock::new(alloc, Count { turns: 0 }, threads, 0) else {
+        return None;
+    };
+    count_beside(rt, &lock, passes.as_mut_slice(), each);
+    let pass = meet_all(&lock, passes, each)?;
+    if TurnLock::joined(&pass) != threads {
+        return None;
+    }
+    let count = lock.close(pass);
+    Some(count.turns)
+}
+
+/// Takes so many turns in each of so many threads, and gives the status.
+pub(crate) fn run<R: Threads + Wait + Sync>(
+    host: &R,
+    rt: HostRuntime,
+    words: &[String],
+) -> io::Result<u8> {
+    let [threads, each] = words else {
+        return refuse(rt, WORDS);
+    };
+    let (Ok(threads), Ok(each)) = (threads.parse::<u32>(), each.parse::<u64>()) else {
+        return refuse(rt, WORDS);
+    };
+    if threads == 0 || threads > MOST {
+        return refuse(rt, WORDS);
+    }
+    let Some(turns) = take_turns(host, rt.alloc(), threads, each) else {
+        println!(rt; "no memory")?;
+        return Ok(14);
+    };
+    println!(rt; "{turns} turns")?;
+    Ok(0)
+}

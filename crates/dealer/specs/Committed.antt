@@ -1,0 +1,24 @@
+-- The commitment file of a dealing, and why there is none.
+use Rattle.std.specs.Prelude.{ℕ, ◌<◌, ◌≤◌, List, ◌++◌}
+use Rattle.coalition_map.specs.Coalitions.{PlanNumbers}
+use Rattle.lms_bytes.specs.declared.params.Params.{Params}
+use Rattle.reference_value.specs.Commitments.{commitments}
+use Rattle.reference_value.specs.Dealing.{Dealing}
+use Rattle.share_files.specs.Commits.{commits_head_of, commits_length}
+use Rattle.dealer.specs.Faults.{HasFault, IsDealable}
+use Rattle.dealer.specs.declared.committed.CommittedFault.{CommittedFault}
+use Rattle.dealer.specs.declared.committed.CommittedFault.TheVariants.{Deal, TooLarge}
+use Rattle.dealer.specs.declared.faults.DealFault.{DealFault}
+use Rattle.dealer.specs.declared.faults.DealFault.TheVariants.{NoMemory}
+
+-- this project's profile: the head, and the commitments to the masks of all leaves
+abbrev pub commits_file : Dealing → List ℕ
+commits_file d = commits_head_of d.params d.plan d.id ++ commitments d
+
+-- why there is no dealing with commitments: there is no dealing, or the file would have more than 67,108,864 bytes
+pub data FailsCommitted (params : Params) (plan : PlanNumbers) (entropy : List ℕ) : CommittedFault → Type 0 where
+  not_dealt : (fault : DealFault) → HasFault params plan entropy fault → FailsCommitted params plan entropy (Deal fault)
+  too_large : IsDealable params plan entropy → 67108864 < commits_length params plan
+      → FailsCommitted params plan entropy (TooLarge (commits_length params plan))
+  no_memory : IsDealable params plan entropy → commits_length params plan ≤ 67108864
+      → FailsCommitted params plan entropy (Deal NoMemory)

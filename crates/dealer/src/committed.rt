@@ -1,0 +1,220 @@
+//! A dealing whose masks are committed to as they are made.
+
+ghost use Rattle.std.specs.Prelude.{◌≡◌, ◌<◌, ◌≤◌, Err, IfErr, IfOk, OnOk, length};
+ghost use Rattle.coalition_map.specs.Coalitions.{IsPlan};
+ghost use Rattle.reference_value.specs.Commitments.{commitments};
+ghost use Rattle.reference_value.specs.Dealing.{reference};
+ghost use Rattle.share_files.specs.Commits.{all_commits_length, commits_head_of, commits_length};
+ghost use Rattle.share_files.specs.Reference.{leaves_length};
+ghost use Rattle.dealer.specs.Committed.{FailsCommitted, commits_file};
+ghost use Rattle.dealer.specs.Dealt.{IsDealt};
+ghost use Rattle.dealer.specs.Entropy.{dealing_of, entropy_length};
+ghost use Rattle.dealer.specs.Faults.{HasFault, IsDealable};
+ghost use Rattle.dealer.specs.Secrets.{dealing_with};
+ghost use Rattle.dealer.specs.declared.committed.CommittedFault.TheVariants.{Deal, TooLarge};
+ghost use Rattle.dealer.specs.declared.faults.DealFault.{DealFault};
+
+use crate::checks::check;
+use crate::dealing::Dealt;
+use crate::entropy::{Secrets, read_entropy};
+use crate::faults::DealFault;
+use crate::leaves::build_tree;
+use crate::shares::build_shares;
+use coalition_map::Plan;
+use lms_bytes::{KeyId, Params, PublicKey};
+use mask_prf::MacKey;
+use memory::NoMemory;
+use reference_value::{build_committed_leaf, leaf_bytes};
+use share_files::{HEAD, RefHeader, leaf_commits_bytes, length_of_commits, write_commits_head};
+use std::alloc::Global;
+use thiserror::Error;
+
+/// The most bytes that a commitment file has which is made.
+const COMMITS_LIMIT: u64 = 67_108_864;
+
+/// Why there is no dealing with commitments.
+#[derive(Clone, Copy, Debug, PartialEq, Eq, Error)]
+pub enum CommittedFault {
+    /// There is no dealing.
+    #[error("no dealing: {0}")]
+    Deal(DealFault),
+    /// The commitment file would have more than 67,108,864 bytes.
+    #[error("a commitment file of {bytes} bytes, where at most 67108864 are made")]
+    TooLarge { bytes: u64 },
+}
+
+/// Deals the key that the entropy stands for, as `deal` does, and commits to the masks of all trustees as they are
+/// made. The commitment file comes beside the dealing. Entropy and length are tested before any memory is taken.
+pub fn deal_committed(
+    alloc: Global,
+    params: &Params,
+    plan: &Plan,
+    entropy: &[u8],
+) -> Result<(Dealt, Vec<u8>), CommittedFault>
+    requires { plan.now.h ≡ params.now.h }
+    ensures dealt { IfOk result (λ both. IsDealt (dealing_of params.now plan.now entropy.now) both.0) }
+    ensures commitments { IfOk result (λ both. both.1.items
+        ≡ commits_file (dealing_of params.now plan.now entropy.now)) }
+    ensures dealable { OnOk result (IsDealable params.now plan.now entropy.now) }
+    ensures small { OnOk result (commits_length params.now plan.now ≤ 67108864) }
+    ensures shares { IfOk result (λ both. 0 < length both.0.shares.items) }
+    ensures refused { (fault : DealFault) → HasFault params.now plan.now entropy.now fault → result ≡ Err (Deal fault) }
+    ensures too_large { IsDealable params.now plan.now entropy.now → 67108864 < commits_length params.now plan.now
+        → result ≡ Err (TooLarge (commits_length params.now plan.now)) }
+    ensures cause { IfErr result (FailsCommitted params.now plan.now entropy.now) }
+{
+    if let Err(fault) = check(params, plan, entropy) {
+        return Err(CommittedFault::Deal(fault));
+    }
+    let bytes = length_of_commits(params, plan.k());
+    if bytes > COMMITS_LIMIT {
+        return Err(CommittedFault::TooLarge { bytes });
+    }
+    match build_committed(alloc, params, plan, entropy) {
+        Ok(both) => Ok(both),
+        Err(NoMemory) => Err(CommittedFault::Deal(DealFault::NoMemory)),
+    }
+}
+
+/// Deals the key that the entropy stands for, which has been tested, and commits to the masks.
+fn build_committed(
+    alloc: Global,
+    params: &Params,
+    plan: &Plan,
+    entropy: &[u8],
+) -> Result<(Dealt, Vec<u8>), NoMemory>
+    requires height { plan.now.h ≡ params.now.h }
+    requires low { params.now.h ≤ 10 }
+    requires size { length entropy.now ≡ entropy_length plan.now.n }
+    ensures dealt { IfOk result (λ both. IsDealt (dealing_of params.now plan.now entropy.now) both.0) }
+    ensures commitments { IfOk result (λ both. both.1.items
+        ≡ commits_file (dealing_of params.now plan.now entropy.now)) }
+    ensures shares { IfOk result (λ both. 0 < length both.0.shares.items) }
+{
+    let secrets = read_entropy(alloc, params, plan, entropy)?;
+    let tree = build_tree(alloc, params, &secrets.id, &secrets.seed)?;
+    let public = PublicKey {
+        params: *params,
+        id: secrets.id,
+        root: tree.root(),
+    };
+    let (reference, commits) = build_leaves(alloc, params, plan, &secrets)?;
+    let shares = build_shares(alloc, params, plan, &secrets)?;
+    let dealt = Dealt {
+        public,
+        tree,
+        reference,
+        shares,
+    };
+    Ok((dealt, commits))
+}
+
+/// The leaves of the masked reference value, with room for the head of their file, and the commitment file.
+fn build_leaves(
+    alloc: Global,
+    params: &Params,
+    plan: &Plan,
+    secrets: &Secrets,
+) -> Result<(Vec<u8>, Vec<u8>), NoMemory>
+    requires height { plan.now.h ≡ params.now.h }
+    requires seed { length secrets.now.seed ≡ params.now.n }
+    requires keys { length secrets.now.keys.items ≡ plan.now.n }
+    ensures leaves { IfOk result (λ both. both.0.items ≡ reference (dealing_with params.now plan.now secrets.now)) }
+    ensures commitments { IfOk result (λ both. both.1.items
+        ≡ commits_file (dealing_with params.now plan.now secrets.now)) }
+{
+    let keys = mac_keys(alloc, &secrets.keys)?;
+    let length = leaf_bytes(params, plan.k()) * params.leaves() as usize;
+    let mut leaves = Vec::with_capacity(alloc, length + HEAD)?;
+    leaves.resize(length, 0)?;
+    let mut file = vec![in alloc; 0; length_of_commits(params, plan.k()) as usize]?;
+    write_committed(params, plan, secrets, &keys, &mut leaves, &mut file);
+    Ok((leaves, file))
+}
+
+/// Writes the leaves of the masked reference value, and the commitment file.
+fn write_committed(
+    params: &Params,
+    plan: &Plan,
+    secrets: &Secrets,
+    keys: &[MacKey],
+    out: &mut [u8],
+    file: &mut [u8],
+)
+    requires height { plan.now.h ≡ params.now.h }
+    requires plan { IsPlan plan.now }
+    requires seed { length secrets.now.seed ≡ params.now.n }
+    requires trustees { length secrets.now.keys.items ≡ plan.now.n }
+    requires keys { keys.now ≡ secrets.now.keys.items }
+    requires leaves { length out.old ≡ leaves_length params.now plan.now }
+    requires file { length file.old ≡ commits_length params.now plan.now }
+    ensures leaves { out.new ≡ reference (dealing_with params.now plan.now secrets.now) }
+    ensures file { file.new ≡ commits_file (dealing_with params.now plan.now secrets.now) }
+{
+    let (head, commits) = file.split_at_mut(HEAD);
+    head.copy_from_slice(&head_of_commits(params, plan, &secrets.id));
+    write_committed_leaves(params, plan, secrets, keys, out, commits);
+}
+
+/// The head of the commitment file of a set, a plan and an identifier.
+fn head_of_commits(params: &Params, plan: &Plan, id: &KeyId) -> [u8; HEAD]
+    requires height { plan.now.h ≡ params.now.h }
+    requires plan { IsPlan plan.now }
+    ensures { result ≡ commits_head_of params.now plan.now id.now }
+{
+    let header = RefHeader {
+        params: *params,
+        plan: *plan,
+        id: *id,
+    };
+    let mut head = [0; HEAD];
+    write_commits_head(&header, &mut head);
+    head
+}
+
+/// Writes the leaves of the masked reference value, and the commitments to the masks.
+#[tactic(auto, unfolding(reference_value::specs::Dealing::reference, reference_value::specs::Commitments::commitments))]
+fn write_committed_leaves(
+    params: &Params,
+    plan: &Plan,
+    secrets: &Secrets,
+    keys: &[MacKey],
+    out: &mut [u8],
+    commits: &mut [u8],
+)
+    requires height { plan.now.h ≡ params.now.h }
+    requires seed { length secrets.now.seed ≡ params.now.n }
+    requires trustees { length secrets.now.keys.items ≡ plan.now.n }
+    requires keys { keys.now ≡ secrets.now.keys.items }
+    requires leaves { length out.old ≡ leaves_length params.now plan.now }
+    requires commits { length commits.old ≡ all_commits_length params.now plan.now }
+    ensures leaves { out.new ≡ reference (dealing_with params.now plan.now secrets.now) }
+    ensures commitments { commits.new ≡ commitments (dealing_with params.now plan.now secrets.now) }
+{
+    let Secrets {
+        id,
+        seed,
+        random_key,
+        ..
+    } = secrets;
+    let size = leaf_bytes(params, plan.k());
+    let row = leaf_commits_bytes(params, plan.k());
+    'leaves: for q in 0..params.leaves() {
+        let place = size * q as usize;
+        let leaf = &mut out[place..place + size];
+        let start = row * q as usize;
+        let part = &mut commits[start..start + row];
+        build_committed_leaf(params, id, plan, q, seed, random_key, keys, leaf, part);
+    }
+}
+
+/// The keys of the trustees, each with its blocks hashed once.
+fn mac_keys(alloc: Global, keys: &[[u8; 32]]) -> Result<Vec<MacKey>, NoMemory>
+    ensures { IfOk result (λ macs. macs.items ≡ keys.now) }
+{
+    let mut macs = Vec::with_capacity(alloc, keys.len())?;
+    'keys: for i in 0..keys.len() {
+        macs.push(MacKey::new(&keys[i]))?;
+    }
+    Ok(macs)
+}

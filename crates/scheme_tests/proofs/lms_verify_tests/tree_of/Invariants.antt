@@ -1,6 +1,0 @@
-use Rattle.std.proofs.Common.{◌≡◌, length}
-use Rattle.std.specs.Prelude.{All}
-use Rattle.scheme_tests.proofs.lms_verify_tests.tree_of.Given as goal
-
-abbrev pub invariant-loop-q : goal.invariant-loop-q
-invariant-loop-q l = All (λ value. length value ≡ l.key.params.n) l.leaf_keys

@@ -1,0 +1,6 @@
+pub mod Heads
+pub mod Bounds
+pub mod Kept
+pub mod Committed
+pub mod Liars
+pub mod Naming

@@ -1,0 +1,33 @@
+-- Commitments on pages, and what reads leave of the pages.
+use Rattle.std.specs.Prelude.{◌≡◌, ℕ, List, IsTrue, drop}
+use Rattle.coalition_map.specs.Coalitions.{PlanNumbers}
+use Rattle.disk_trait.specs.Disks.{SameKind}
+use Rattle.disk_trait.specs.declared.disk.Pages as pages
+use Rattle.disk_trait.specs.declared.faults.Faults as faults
+use Rattle.lms_bytes.specs.declared.params.Params.{Params}
+use Rattle.share_blame.specs.declared.commits.Commits.{Commits}
+
+-- the pages that commitments are read from
+abbrev pub pages_of : {V : Type 0} → Commits V → V
+pages_of commits = commits.pages
+
+-- the parameter set and the plan of commitments
+abbrev pub set_of : {V : Type 0} → Commits V → Params
+set_of commits = commits.places.params
+
+abbrev pub plan_of : {V : Type 0} → Commits V → PlanNumbers
+plan_of commits = commits.places.plan
+
+-- commitments are of this set and plan
+pub record AreOf {V : Type 0} (params : Params) (numbers : PlanNumbers) (commits : Commits V) : Type 0 where
+  pub set : set_of commits ≡ params
+  pub plan : plan_of commits ≡ numbers
+
+-- what the pages give, where they are told, and their kind are as they were
+pub record PagesStay {V : Type 0} (p : pages.Ghosts V) (f : faults.Ghosts V) (old new : V) : Type 0 where
+  pub same : IsTrue (p.told old) → p.reads new ≡ p.reads old
+  pub kind : SameKind p.told p.honest f.steady p.room old new
+
+-- the leaves of the commitment file on pages that are told
+abbrev pub leaves_on : {V : Type 0} → pages.Ghosts V → V → List ℕ
+leaves_on p pages = drop 32 (p.reads pages)

@@ -1,0 +1,4 @@
+pub mod Blamed
+pub mod Commits
+pub mod Liars
+pub mod Loads

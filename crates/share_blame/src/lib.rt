@@ -1,0 +1,12 @@
+//! Commitments to the masks of a dealing, and the members whose replies differ from them.
+#![tactic(auto)]
+
+mod blame;
+mod commits;
+mod faults;
+pub mod laws;
+mod places;
+
+pub use blame::blamed;
+pub use commits::Commits;
+pub use faults::CommitsFault;

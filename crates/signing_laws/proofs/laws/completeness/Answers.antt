@@ -1,5 +1,0 @@
-use Rattle.signing_laws.proofs.Completeness.{complete}
-use Rattle.signing_laws.proofs.laws.completeness.Goals as goal
-
-pub returns : goal.returns
-returns g c = λ words net end d key message leaf. complete words _ net end d key message leaf

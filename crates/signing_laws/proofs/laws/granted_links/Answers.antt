@@ -1,5 +1,0 @@
-use Rattle.signing_laws.proofs.Grants.{trustee-granted}
-use Rattle.signing_laws.proofs.laws.granted_links.Goals as goal
-
-pub returns : goal.returns
-returns c = λ d key message leaf share tag more talk dealing own limit leaf_is of quiet bytes. trustee-granted d key message leaf share tag dealing own limit leaf_is of talk more quiet bytes

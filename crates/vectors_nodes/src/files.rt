@@ -1,0 +1,20 @@
+//! The files of the other implementation's sessions.
+
+use host_io::FileStore;
+use stream_io::Store;
+
+/// No file here is longer.
+const FILE_LIMIT: u64 = 1 << 16;
+
+/// The bytes of a file, nothing where it cannot be read.
+pub(crate) fn file(rt: HostRuntime, name: &str) -> Option<Vec<u8>> {
+    FileStore::new(rt)
+        .read_all(rt.alloc(), name, FILE_LIMIT)
+        .ok()
+}
+
+/// The file of a session with this suffix.
+pub(crate) fn file_of(rt: HostRuntime, session: &str, suffix: &str) -> Option<Vec<u8>> {
+    let name = format!(in rt.alloc(); "{session}.{suffix}").ok()?;
+    file(rt, name.as_str())
+}

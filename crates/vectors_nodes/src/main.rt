@@ -1,0 +1,23 @@
+//! Runs trustees and aggregators over links in memory, on what another implementation asked, replied and signed: each
+//! trustee by itself, an aggregator over replies, links of one trustee of which one waits for the other, and sessions
+//! that wait for each other.
+#![tactic(auto)]
+
+mod aggregator;
+mod beside;
+mod files;
+mod links;
+mod meeting;
+mod replying;
+mod tables;
+mod trustee;
+mod turns;
+
+use std::io;
+
+fn main(rt: HostRuntime) -> io::Result<()> {
+    replying::print_runs(&rt, rt)?;
+    aggregator::print_runs(&rt, rt)?;
+    beside::print_runs(&rt, rt)?;
+    meeting::print_runs(&rt, rt)
+}

@@ -1,0 +1,77 @@
+//! What an aggregator signs with, from a dealing.
+
+ghost use Rattle.std.specs.Prelude.{◌≡◌, IfSome};
+ghost use Rattle.leaf_table.specs.Table.{plan_of};
+
+use crate::tables::table_of;
+use aggregator_node::Address;
+use coalition_map::Plan;
+use dealer::{Dealt, deal};
+use disk_trait::MemDisk;
+use leaf_table::Table;
+use lms_bytes::Params;
+use reference_value::{Cells, Paged};
+use share_files::HEAD;
+use std::alloc::Global;
+
+/// What an aggregator signs with, and the shares of the trustees. The place of a trustee is its number.
+#[derive(Drop)]
+pub(crate) struct Scene {
+    pub(crate) dealt: Dealt,
+    pub(crate) plan: Plan,
+    pub(crate) addresses: Vec<Address>,
+    pub(crate) ghost plan_height: { plan.h ≡ dealt.public.params.h },
+    pub(crate) ghost hash_length: { dealt.tree.n ≡ dealt.public.params.n },
+    pub(crate) ghost tree_height: { dealt.tree.h ≡ dealt.public.params.h },
+}
+
+impl Scene {
+    /// Deals the key of this entropy: of the typecodes 5 and 3, for coalitions of 3 of 5 trustees.
+    pub(crate) fn deal(alloc: Global, entropy: &[u8]) -> Option<Scene> {
+        let params = Params::of_codes(5, 3).ok()?;
+        let plan = Plan::new(5, 3, params.h).ok()?;
+        Some(Scene {
+            dealt: dealing(alloc, &params, &plan, entropy)?,
+            plan,
+            addresses: addresses(alloc)?,
+        })
+    }
+
+    /// Cells of the reference, on a disk of their own. The head is zeros: no cell is read there.
+    pub(crate) fn cells(&self, alloc: Global) -> Option<Paged<MemDisk>>
+        ensures set { IfSome result (λ own.
+            ⟦<Paged<MemDisk> as Cells>⟧.set own ≡ self.now.dealt.public.params) }
+        ensures plan { IfSome result (λ own. ⟦<Paged<MemDisk> as Cells>⟧.plan own ≡ self.now.plan) }
+    {
+        let mut bytes = vec![in alloc; 0; HEAD].ok()?;
+        bytes.extend_from_slice(&self.dealt.reference).ok()?;
+        let disk = MemDisk::of_bytes(alloc, &bytes, bytes.len(), usize::MAX).ok()?;
+        Some(Paged::new(&self.dealt.public.params, &self.plan, disk))
+    }
+
+    /// A fresh table for the leaves of the key.
+    pub(crate) fn table(&self, alloc: Global) -> Option<Table<MemDisk>>
+        ensures { IfSome result (λ table. plan_of table ≡ self.now.plan) }
+    {
+        table_of(alloc, &self.dealt.public, &self.plan)
+    }
+}
+
+/// The dealing of this entropy.
+fn dealing(alloc: Global, params: &Params, plan: &Plan, entropy: &[u8]) -> Option<Dealt>
+    requires { plan.now.h ≡ params.now.h }
+    ensures params { IfSome result (λ dealt. dealt.public.params ≡ params.now) }
+    ensures tree { IfSome result (λ dealt. (dealt.tree.n ≡ params.now.n) × (dealt.tree.h ≡ params.now.h)) }
+{
+    deal(alloc, params, plan, entropy).ok()
+}
+
+/// The addresses of the five trustees.
+fn addresses(alloc: Global) -> Option<Vec<Address>> {
+    let mut addresses = Vec::new(alloc);
+    for member in 1..6 {
+        let place = format!(in alloc; "{member}").ok()?;
+        addresses.push(Address { member, place }).ok()?;
+    }
+    Some(addresses)
+}

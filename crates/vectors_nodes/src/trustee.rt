@@ -1,0 +1,79 @@
+//! Trustees whose journals are empty, in memory.
+
+ghost use Rattle.std.specs.Prelude.{◌≡◌, IfSome, true};
+ghost use Rattle.trustee_core.specs.Trustee.{journal_header, share_of};
+
+use crate::links::link;
+use crate::turns::only_pass;
+use disk_trait::MemDisk;
+use opening_journal::Journal;
+use share_files::Share;
+use slot_file::{Header, prepare};
+use std::alloc::Global;
+use std::sync::Wait;
+use trustee_core::{Clock, Trustee};
+use trustee_node::{Served, serve_connection};
+use turn_lock::TurnLock;
+
+/// The bytes of a journal of 32 leaves.
+const JOURNAL: usize = 5248;
+
+/// A clock that stands still.
+#[derive(Drop)]
+pub(crate) struct Still;
+
+impl Clock for Still {
+    ghost told = { λ _. true };
+
+    ghost answers = { λ _ _. 0 };
+
+    fn now(&mut self) -> u64 {
+        0
+    }
+}
+
+/// The header of a trustee's journal.
+fn header(share: &Share) -> Header
+    ensures { result ≡ journal_header share.now }
+{
+    Header {
+        version: 2,
+        number: share.member,
+        lms: share.params.lms,
+        ots: share.params.ots,
+        id: share.id,
+    }
+}
+
+/// A trustee of the share, whose journal is empty.
+pub(crate) fn trustee(alloc: Global, share: &Share) -> Option<Trustee<MemDisk>>
+    ensures { IfSome result (λ trustee. share_of trustee ≡ share.now) }
+{
+    let mut disk = MemDisk::new(alloc, JOURNAL, usize::MAX).ok()?;
+    let header = header(share);
+    prepare(&mut disk, &header, 32).ok()?;
+    let Ok(journal) = Journal::load(alloc, disk, &header, &share.params) else {
+        return None;
+    };
+    Some(Trustee::new(*share, journal))
+}
+
+/// Serves these asks as a trustee of this share whose journal is empty. It gives what came of it and the bytes that
+/// were written, or nothing where memory ran out.
+pub(crate) fn replies(
+    waits: &impl Wait,
+    alloc: Global,
+    share: &Share,
+    asks: &[u8],
+) -> Option<(Served, Vec<u8>)> {
+    let Ok((lock, passes)) = TurnLock::new(alloc, trustee(alloc, share)?, 1, 0) else {
+        return None;
+    };
+    let mut pass = only_pass(&lock, passes)?;
+    let asks = Vec::from_slice(alloc, asks).ok()?;
+    // Each of the two replies of a session goes out in one write: the third would fail.
+    let mut link = link(alloc, asks, Some(2))?;
+    let served = serve_connection(waits, &lock, &mut pass, share, None, &mut Still, &mut link);
+    let written = Vec::from_slice(alloc, link.conversation().written()).ok()?;
+    Some((served, written))
+}

@@ -1,0 +1,187 @@
+//! The trustees whom `sign` and `aggregate` dial, and the clients of `aggregate`: what they send, and their links.
+
+use crate::scene::file;
+use memory::NoMemory;
+use memory_io::{MemLink, MemSink, MemSource, PortScript};
+use memory_store::MemStore;
+use std::alloc::Global;
+
+/// Bytes that a peer sends.
+#[derive(Clone, Copy)]
+pub(crate) enum Sent {
+    /// A file.
+    File(&'static str),
+    /// The first bytes of a file.
+    Start(&'static str, usize),
+    /// A request for the signature of a file by trustees, of whom trustee t is bit t - 1.
+    Request(u16, &'static str),
+    /// These bytes.
+    Bytes(&'static [u8]),
+}
+
+/// A trustee who can be dialled at a place, and what is sent from there.
+#[derive(Clone, Copy)]
+pub(crate) struct Member {
+    pub(crate) place: &'static str,
+    pub(crate) sent: &'static [Sent],
+}
+
+/// Room for more bytes than any peer here is sent.
+pub(crate) const ROOM: usize = 8192;
+
+/// The most bytes that one write takes.
+const MOST: usize = 4096;
+
+/// How many bytes the reply to an ask of round one has, for hashes of 32 bytes.
+const FIRST_REPLY: usize = 97;
+
+/// The trustees 1, 2 and 3 of a session, who reply as another implementation's did.
+pub(crate) const ONE: Member = Member {
+    place: "one",
+    sent: &[Sent::File("replies1")],
+};
+
+pub(crate) const TWO: Member = Member {
+    place: "two",
+    sent: &[Sent::File("replies2")],
+};
+
+pub(crate) const THREE: Member = Member {
+    place: "three",
+    sent: &[Sent::File("replies3")],
+};
+
+pub(crate) const SESSION: &[Member] = &[ONE, TWO, THREE];
+
+/// The same over hashes of 24 bytes.
+pub(crate) const SESSION_24: &[Member] = &[
+    Member {
+        place: "one",
+        sent: &[Sent::File("replies1.24")],
+    },
+    Member {
+        place: "two",
+        sent: &[Sent::File("replies2.24")],
+    },
+    Member {
+        place: "three",
+        sent: &[Sent::File("replies3.24")],
+    },
+];
+
+/// Trustee 2, whose link ends behind its first reply.
+pub(crate) const LOST: Member = Member {
+    place: "two",
+    sent: &[Sent::Start("replies2", FIRST_REPLY)],
+};
+
+/// Trustee 1, who sends a frame of no kind.
+pub(crate) const GARBLED: Member = Member {
+    place: "one",
+    sent: &[Sent::Bytes(b"TL\x01\x09\0\0\0\0")],
+};
+
+/// A reply that trustee 1 has no part in, and trustee 1, who sends eight of them first, or seven.
+const STRAY: Sent = Sent::Start("replies2", FIRST_REPLY);
+
+pub(crate) const EIGHT: Member = Member {
+    place: "one",
+    sent: &[
+        STRAY,
+        STRAY,
+        STRAY,
+        STRAY,
+        STRAY,
+        STRAY,
+        STRAY,
+        STRAY,
+        Sent::File("replies1"),
+    ],
+};
+
+pub(crate) const SEVEN: Member = Member {
+    place: "one",
+    sent: &[
+        STRAY,
+        STRAY,
+        STRAY,
+        STRAY,
+        STRAY,
+        STRAY,
+        STRAY,
+        Sent::File("replies1"),
+    ],
+};
+
+/// Adds a request by these trustees for the signature of a message.
+pub(crate) fn push_request(
+    bytes: &mut Vec<u8>,
+    members: u16,
+    message: &[u8],
+) -> Result<(), NoMemory> {
+    let length = u32::try_from(message.len()).unwrap_or(0).saturating_add(2);
+    bytes.extend_from_slice(b"TL\x01\x06")?;
+    bytes.extend_from_slice(&length.to_be_bytes())?;
+    bytes.extend_from_slice(&members.to_be_bytes())?;
+    bytes.extend_from_slice(message)?;
+    Ok(())
+}
+
+/// What a peer sends.
+pub(crate) fn bytes_of(
+    alloc: Global,
+    store: &MemStore,
+    sent: &[Sent],
+) -> Result<Vec<u8>, NoMemory> {
+    let mut bytes = Vec::new(alloc);
+    for &part in sent {
+        match part {
+            Sent::File(name) => bytes.extend_from_slice(file(store, name))?,
+            Sent::Start(name, length) => {
+                let first = file(store, name).get(..length).unwrap_or_default();
+                bytes.extend_from_slice(first)?;
+            }
+            Sent::Request(members, name) => push_request(&mut bytes, members, file(store, name))?,
+            Sent::Bytes(these) => bytes.extend_from_slice(these)?,
+        }
+    }
+    Ok(bytes)
+}
+
+/// A link that gives these bytes, and has room for so many. The call of one number fails, if there is one.
+pub(crate) fn link(
+    alloc: Global,
+    bytes: Vec<u8>,
+    room: usize,
+    fails: Option<u64>,
+) -> Result<MemLink, NoMemory> {
+    let source = MemSource::new(bytes, Vec::new(alloc), Vec::new(alloc));
+    let sink = MemSink::new(alloc, room, MOST, Vec::new(alloc))?;
+    let mut failing = Vec::new(alloc);
+    if let Some(call) = fails {
+        failing.push(call)?;
+    }
+    MemLink::new(alloc, source, sink, failing, None)
+}
+
+/// Lets these trustees be dialled from a port, once each. Of the link of one number the call of one number fails.
+pub(crate) fn push_dialled(
+    alloc: Global,
+    store: &MemStore,
+    members: &[Member],
+    fault: Option<(usize, u64)>,
+    script: &mut PortScript,
+) -> Result<(), NoMemory> {
+    for (index, member) in members.iter().enumerate() {
+        let fails = match fault {
+            Some((link, call)) if link == index => Some(call),
+            _ => None,
+        };
+        let sent = bytes_of(alloc, store, member.sent)?;
+        let place = String::from_str(alloc, member.place)?;
+        script
+            .dialled
+            .push((place, link(alloc, sent, ROOM, fails)?))?;
+    }
+    Ok(())
+}

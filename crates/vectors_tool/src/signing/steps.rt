@@ -1,0 +1,251 @@
+//! The runs of `sign` and of the commands that it needs, one after the other over one store.
+
+use crate::peers::{EIGHT, GARBLED, LOST, Member, ONE, SESSION, SESSION_24, SEVEN, THREE, TWO};
+
+/// A command; the trustees who can be dialled; the places of those of whom all that they are asked is known, each with
+/// the name of the file that has it; and a file that the command writes, with the name of one of the same bytes.
+#[derive(Clone, Copy)]
+pub(crate) struct Step {
+    pub(crate) words: &'static str,
+    pub(crate) members: &'static [Member],
+    pub(crate) asks: &'static [(&'static str, &'static str)],
+    pub(crate) out: Option<(&'static str, &'static str)>,
+}
+
+/// A step with nothing beside its command.
+const PLAIN: Step = Step {
+    words: "",
+    members: &[],
+    asks: &[],
+    out: None,
+};
+
+/// What the trustees of a session are asked.
+const ASKS: &[(&str, &str)] = &[("one", "asks1"), ("two", "asks2"), ("three", "asks3")];
+
+/// The same of the trustees 2 and 3.
+const LATER_ASKS: &[(&str, &str)] = &[("two", "asks2"), ("three", "asks3")];
+
+/// The same over hashes of 24 bytes.
+const ASKS_24: &[(&str, &str)] = &[
+    ("one", "asks1.24"),
+    ("two", "asks2.24"),
+    ("three", "asks3.24"),
+];
+
+/// A key of 32-byte hashes: signed, and signed again; then outputs that are there, members that are no coalition, files
+/// that are not there or no table, a message that is too long, and words that are no command.
+pub(crate) const SIGN: &[Step] = &[
+    Step {
+        words: "deal entropy 5 3 5 3 A",
+        ..PLAIN
+    },
+    Step {
+        words: "enrol A.ref table",
+        ..PLAIN
+    },
+    Step {
+        words: "sign A table message out 1=one 2=two 3=three",
+        members: SESSION,
+        asks: ASKS,
+        out: Some(("out", "signature")),
+        ..PLAIN
+    },
+    Step {
+        words: "verify A.pub message out",
+        ..PLAIN
+    },
+    Step {
+        words: "sign A table message again 03=three 1=one 2=two",
+        members: SESSION,
+        asks: ASKS,
+        out: Some(("again", "signature")),
+        ..PLAIN
+    },
+    Step {
+        words: "sign A table message out 1=one 2=two 3=three",
+        ..PLAIN
+    },
+    Step {
+        words: "sign A table message pair 1=one 2=two",
+        ..PLAIN
+    },
+    Step {
+        words: "sign A table message four 1=one 2=two 3=three 4=four",
+        ..PLAIN
+    },
+    Step {
+        words: "sign A none message more 1=one 2=two 3=three",
+        ..PLAIN
+    },
+    Step {
+        words: "sign A A.tree message more 1=one 2=two 3=three",
+        ..PLAIN
+    },
+    Step {
+        words: "sign A table none more 1=one 2=two 3=three",
+        ..PLAIN
+    },
+    Step {
+        words: "sign A table long more 1=one 2=two 3=three",
+        ..PLAIN
+    },
+    Step {
+        words: "sign X table message more 1=one 2=two 3=three",
+        ..PLAIN
+    },
+    Step {
+        words: "sign A table message more 1=one 2=two 1=three",
+        ..PLAIN
+    },
+    Step {
+        words: "sign A table message more 1=one 2=two 13=three",
+        ..PLAIN
+    },
+    Step {
+        words: "sign A table message more 1=one 2=two 3=",
+        ..PLAIN
+    },
+    Step {
+        words: "sign A table message more",
+        ..PLAIN
+    },
+];
+
+/// A key of 24-byte hashes.
+pub(crate) const SIGN_24: &[Step] = &[
+    Step {
+        words: "deal entropy 10 7 5 3 B",
+        ..PLAIN
+    },
+    Step {
+        words: "enrol B.ref table.24",
+        ..PLAIN
+    },
+    Step {
+        words: "sign B table.24 message out.24 1=one 2=two 3=three",
+        members: SESSION_24,
+        asks: ASKS_24,
+        out: Some(("out.24", "signature.24")),
+        ..PLAIN
+    },
+    Step {
+        words: "verify B.pub message out.24",
+        ..PLAIN
+    },
+    Step {
+        words: "sign A table.24 message more 1=one 2=two 3=three",
+        ..PLAIN
+    },
+];
+
+/// Trustees that are lost, that stray, that send garbage, or who are not there; then all is well with the same leaf.
+pub(crate) const LOSE: &[Step] = &[
+    Step {
+        words: "enrol A.ref fresh",
+        ..PLAIN
+    },
+    Step {
+        words: "enrol A.ref lost",
+        ..PLAIN
+    },
+    Step {
+        words: "sign A lost message lost.out 1=one 2=two 3=three",
+        members: &[ONE, LOST, THREE],
+        asks: ASKS,
+        out: Some(("lost.out", "none")),
+        ..PLAIN
+    },
+    Step {
+        words: "sign A lost message lost.out 1=one 2=two 3=three",
+        members: &[EIGHT, TWO, THREE],
+        asks: LATER_ASKS,
+        out: Some(("lost.out", "none")),
+        ..PLAIN
+    },
+    Step {
+        words: "sign A lost message lost.out 1=one 2=two 3=three",
+        members: &[GARBLED],
+        out: Some(("lost.out", "none")),
+        ..PLAIN
+    },
+    Step {
+        words: "sign A lost message lost.out 1=one 2=two 3=three",
+        ..PLAIN
+    },
+    Step {
+        words: "sign A lost message lost.out 1=one 2=two 3=three",
+        members: &[SEVEN, TWO, THREE],
+        asks: ASKS,
+        out: Some(("lost.out", "signature")),
+        ..PLAIN
+    },
+];
+
+/// Files that are not those of one dealing, or not whole.
+pub(crate) const CHANGED: &[Step] = &[
+    Step {
+        words: "sign OtherTree table message more 1=one 2=two 3=three",
+        ..PLAIN
+    },
+    Step {
+        words: "sign OtherReference table message more 1=one 2=two 3=three",
+        ..PLAIN
+    },
+    Step {
+        words: "sign ShortReference table message more 1=one 2=two 3=three",
+        ..PLAIN
+    },
+    Step {
+        words: "sign NoReference table message more 1=one 2=two 3=three",
+        ..PLAIN
+    },
+    Step {
+        words: "sign ShortTree table message more 1=one 2=two 3=three",
+        ..PLAIN
+    },
+    Step {
+        words: "sign ShortKey table message more 1=one 2=two 3=three",
+        ..PLAIN
+    },
+    Step {
+        words: "sign ChangedReference table message more 1=one 2=two 3=three",
+        members: SESSION,
+        asks: ASKS,
+        out: Some(("more", "none")),
+        ..PLAIN
+    },
+];
+
+/// A command whose links fail, each under an output of its own.
+pub(crate) const FAULTY_LINKS: [Step; 3] = [
+    Step {
+        words: "sign A lost message f1 1=one 2=two 3=three",
+        members: SESSION,
+        ..PLAIN
+    },
+    Step {
+        words: "sign A lost message f2 1=one 2=two 3=three",
+        members: SESSION,
+        ..PLAIN
+    },
+    Step {
+        words: "sign A lost message f3 1=one 2=two 3=three",
+        members: SESSION,
+        ..PLAIN
+    },
+];
+
+/// The same of one whose view fails.
+pub(crate) const FAULTY_VIEW: Step = Step {
+    words: "sign A lost message f4 1=one 2=two 3=three",
+    members: SESSION,
+    ..PLAIN
+};
+
+/// The same of one whose store or whose table's disk fails, with a table that leases nothing yet.
+pub(crate) const FAULTY_STORE: Step = Step {
+    words: "sign A fresh message f5 1=one 2=two 3=three",
+    members: SESSION,
+    ..PLAIN
+};
