@@ -1,3 +1,4 @@
+mod Accepting
 pub mod Dealing
 pub mod Names
 pub mod Naming

@@ -1,3 +1,4 @@
+pub mod Accepting
 pub mod Deal
 pub mod Drill
 pub mod HssCheck

@@ -4,6 +4,7 @@
 mod deal;
 mod drilling;
 mod hss_check;
+pub mod laws;
 mod rehearse;
 mod tool;
 mod verify;

@@ -1,5 +1,5 @@
 -- How a service over ports ends.
-use Rattle.std.proofs.Common.{◌≡◌, ◌++◌, append-nil, ◌||◌, ℕ, Bool, true, false, zero, suc, nat_lt, List, [], ◌∷◌, length, map, Option, Some, Result, Ok, Err, All, IsTrue, IfOk, OnErr, refl, sym, ap, ◌∙◌, subst, arith}
+use Rattle.std.proofs.Common.{◌≡◌, ◌++◌, ◌||◌, ℕ, Bool, true, false, zero, suc, nat_lt, List, [], ◌∷◌, length, map, Option, Some, Result, Ok, Err, All, IsTrue, IfOk, OnErr, refl, sym, ap, ◌∙◌, subst, arith}
 use Rattle.std.proofs.lemmas.Bool.{false≢true, ltb-false}
 use Rattle.std.proofs.lemmas.List.{length-map}
 use Rattle.std.proofs.lemmas.List.Elements.{All-cons, All-head, All-nil, All-tail}

@@ -1,8 +1,8 @@
 -- Where no call fails, each ask that the entries grant is granted.
-use Rattle.std.proofs.Common.{◌≡◌, ◌≢◌, ◌⊎◌, ◌+◌, ◌≤◌, ◌<◌, ◌^◌, ℕ, List, [], ◌∷◌, ◌++◌, Option, None, Some, Result, Ok, Err, All, IfSome, IsTrue, inl, inr, refl, sym, ap, ◌∙◌, subst, arith}
+use Rattle.std.proofs.Common.{◌≡◌, ◌≢◌, ◌⊎◌, ℕ, List, [], ◌∷◌, ◌++◌, Option, None, Some, Result, Err, All, IfSome, inl, inr, refl, sym, ap, ◌∙◌, subst, arith}
 use Rattle.std.proofs.lemmas.List.Elements.{All-append, All-cons, All-nil}
 use Rattle.std.proofs.lemmas.List.Sums.{sum_by-cons}
-use Rattle.approval_book.specs.Decisions.{BookAnswer, BookDecides, Decided, Denied, decided, denied}
+use Rattle.approval_book.specs.Decisions.{BookAnswer, BookDecides, Decided, decided, denied}
 use Rattle.lms_bytes.specs.MessageId.{message_id_bytes}
 use Rattle.lms_bytes.specs.declared.ask.Ask.{Ask}
 use Rattle.lms_bytes.specs.declared.ask.Second.{Second}

@@ -1,5 +1,5 @@
 -- What a trustee did over the ports of a net.
-use Rattle.std.specs.Prelude.{◌≡◌, ◌⊎◌, ◌++◌, ℕ, List, [], All, length, Option, Some, IsTrue, false}
+use Rattle.std.specs.Prelude.{◌≡◌, ◌⊎◌, ◌++◌, ℕ, List, All, length, Option, Some, IsTrue, false}
 use Rattle.std.specs.Prelude.{Result, Ok, Err}
 use Rattle.memory.specs.declared.NoMemory.{NoMemory}
 use Rattle.disk_trait.specs.Faults.{Rose}

@@ -1,4 +1,4 @@
-use Rattle.std.proofs.Common.{◌≡◌, ◌∙◌, IsTrue, inl, inr, ap, sym, subst}
+use Rattle.std.proofs.Common.{◌∙◌, IsTrue, inl, inr, ap}
 use Rattle.tool_service.proofs.Steady.{ports-granted}
 use Rattle.trustee_core.specs.declared.kept.TrusteeName.{TrusteeName}
 use Rattle.tool_service.proofs.laws.steady_trustee.Goals as goal

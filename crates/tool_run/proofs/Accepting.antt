@@ -1,0 +1,81 @@
+-- A signature that is accepted is verified so.
+use Rattle.std.proofs.Common.{◌≡◌, ◌≤◌, ℕ, List, Some, length, option_map, sym, ap, ◌∙◌, subst, arith}
+use Rattle.lms_bytes.proofs.Layouts.{layout_passes, one_layout}
+use Rattle.lms_bytes.specs.PublicKey.{public_bytes}
+use Rattle.lms_bytes.specs.Signature.{HasLayout}
+use Rattle.lms_bytes.specs.declared.params.Params.{Params}
+use Rattle.lms_bytes.specs.declared.public_key.PublicKey.{PublicKey}
+use Rattle.lms_verify.specs.Accepts.{AcceptsAt, LeadsTo, root_of_parts}
+use Rattle.lms_verify.specs.Verdict.{IsVerdict}
+use Rattle.lms_verify.specs.declared.verification.Verdict.{Verdict}
+use Rattle.lms_verify.specs.declared.verification.Verdict.TheVariants.{Accepted, Malformed, OtherRoot}
+use Rattle.merkle_path.specs.Nodes.{candidate_root}
+use Rattle.ots_chain.specs.LeafKey.{candidate_leaf_key}
+use Rattle.ots_chain.specs.MessageHash.{message_digest}
+use Rattle.laws_signing.proofs.Parses.{SameKey, key-passes, one-key}
+use Rattle.stream_io.specs.Store.{StoreState}
+use Rattle.tool_base.specs.Ending as ending
+use Rattle.tool_base.specs.Ending.{Ending}
+use Rattle.tool_base.specs.World.{Bytes, Failed, IsRead, TooLong, file_limit, from_to}
+use Rattle.tool_run.specs.Accepting.{IsAcceptable}
+use Rattle.tool_run.specs.Verify.{VerifyEnds, key_failed, key_refused, key_too_long, message_failed, message_too_long, signature_failed, signature_too_long, verified}
+
+-- under a key with the same parts the same is accepted
+same-accepts : (a b : PublicKey) (text bytes : List ℕ) (leaf : ℕ) → SameKey a b → AcceptsAt a text bytes leaf → AcceptsAt b text bytes leaf
+same-accepts a b text bytes leaf same leads =
+    let f : Params → List ℕ → List ℕ =
+    λ params id. candidate_root params id leaf (candidate_leaf_key params id leaf (message_digest params id leaf leads.c text) leads.y) leads.path in
+    let moved : f a.params a.id ≡ f b.params b.id = ap (λ (p : Params). f p a.id) same.params ∙ ap (λ (i : List ℕ). f b.params i) same.id in
+    record {
+      c = leads.c;
+      y = leads.y;
+      path = leads.path;
+      layout = subst (λ (p : Params). HasLayout p bytes leaf leads.c leads.y leads.path) same.params leads.layout;
+      root_is = sym moved ∙ leads.root_is ∙ same.root_is;
+    }
+
+one-root : (key : PublicKey) (text bytes : List ℕ) (p q : ℕ) (got want : List ℕ) → LeadsTo key text bytes p got → LeadsTo key text bytes q want → got ≡ want
+one-root key text bytes p q got want a b =
+    let parts = one_layout key.params bytes p q a.c a.y a.path b.c b.y b.path a.layout b.layout in
+    let f = root_of_parts key text in
+    sym a.root_is ∙ ap (λ (n : ℕ). f n a.c a.y a.path) parts.leaf ∙ ap (λ (c : List ℕ). f q c a.y a.path) parts.c_same
+    ∙ ap (λ (y : List ℕ). f q b.c y a.path) parts.y_same ∙ ap (λ (l : List ℕ). f q b.c b.y l) parts.path_same ∙ b.root_is
+
+is-accepted : (key : PublicKey) (text bytes : List ℕ) (leaf : ℕ) (says : Verdict) → AcceptsAt key text bytes leaf → IsVerdict key text bytes says → says ≡ Accepted leaf
+is-accepted key text bytes leaf (Accepted q) accepts is =
+    let parts = one_layout key.params bytes q leaf is.c is.y is.path accepts.c accepts.y accepts.path is.layout accepts.layout in
+    ap Accepted parts.leaf
+is-accepted key text bytes leaf (Malformed fault) accepts is =
+    absurd (let none = layout_passes key.params bytes leaf accepts.c accepts.y accepts.path accepts.layout in cc)
+is-accepted key text bytes leaf (OtherRoot got want) accepts is =
+    absurd (is.1 (one-root key text bytes is.0.0 leaf got key.root is.0.1 accepts))
+
+module _ (a e : StoreState) (key message signature : List ℕ) (leaf : ℕ) (has : IsAcceptable a key message signature leaf) where
+  not-failed : (name file : List ℕ) → a.file name ≡ Some file → IsRead (from_to a e) name Failed → ⊥
+  not-failed name file is read = let none = read.1 has.told has.steady in cc
+
+  not-long : (name file : List ℕ) (got : ℕ) → a.file name ≡ Some file → length file ≤ file_limit → IsRead (from_to a e) name (TooLong got) → ⊥
+  not-long name file got is fits read =
+      let both : Some (length file) ≡ Some got = ap (option_map length) (sym is) ∙ read.1 has.told in
+      let size : length file ≡ got = cc in
+      let past = read.0 in
+      omega (arith, size, fits, past)
+
+  same-file : (name file got : List ℕ) → a.file name ≡ Some file → IsRead (from_to a e) name (Bytes got) → got ≡ file
+  same-file name file got is read = let both : Some got ≡ Some file = sym (read.1 has.told) ∙ is in cc
+
+  pub said : (end : Ending) → VerifyEnds (from_to a e) key message signature end → end ≡ ending.Verified (Accepted leaf)
+  said _ (key_failed r) = absurd (not-failed key (public_bytes has.public) has.key_is r)
+  said _ (key_too_long got r) = absurd (not-long key (public_bytes has.public) got has.key_is has.key_fits r)
+  said _ (key_refused bytes fault r is) =
+      absurd (let none = key-passes has.public bytes (same-file key (public_bytes has.public) bytes has.key_is r) in cc)
+  said _ (message_failed public k r) = absurd (not-failed message has.text has.message_is r)
+  said _ (message_too_long public got k r) = absurd (not-long message has.text got has.message_is has.message_fits r)
+  said _ (signature_failed public text k m r) = absurd (not-failed signature has.bytes has.signature_is r)
+  said _ (signature_too_long public text got k m r) = absurd (not-long signature has.bytes got has.signature_is has.signature_fits r)
+  said _ (verified public text bytes says k m s is) =
+      let same = one-key has.public public (sym (same-file key (public_bytes has.public) (public_bytes public) has.key_is k)) in
+      let accepts = same-accepts has.public public has.text has.bytes leaf same has.accepted in
+      let as_text = subst (λ (t : List ℕ). IsVerdict public t bytes says) (same-file message has.text text has.message_is m) is in
+      let as_bytes = subst (λ (b : List ℕ). IsVerdict public has.text b says) (same-file signature has.bytes bytes has.signature_is s) as_text in
+      ap ending.Verified (is-accepted public has.text has.bytes leaf says accepts as_bytes)
