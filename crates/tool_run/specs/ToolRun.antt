@@ -19,7 +19,7 @@ use Rattle.tool_service.specs.Trustee.{TrusteeRun}
 use Rattle.tool_signing.specs.Ports.{over_net}
 use Rattle.tool_signing.specs.Sign.{SigningRun}
 use Rattle.tool_words.specs.Words.{Row, Verify, Rehearse, Deal, Enrol, Migrate, Approve, Trustee, Sign, Aggregate}
-use Rattle.tool_words.specs.Words.{AggregateWords, Drill, HssCheck, SignWords, command_of}
+use Rattle.tool_words.specs.Words.{AggregateWords, Blame, Drill, HssCheck, HssSign, SignWords, command_of}
 use Rattle.tool_base.specs.World.{AllBack, Onward, Outside, OutputRun, StoreRun, World, from_to}
 
 -- a command that works on the store alone: the net is as it was
@@ -35,6 +35,10 @@ Signs words before after = SigningRun words (from_to before.store after.store) (
 abbrev pub Aggregates : AggregateWords → Outside → Outside → Ending → Type 0
 Aggregates words before after = AggregateRun words (from_to before.store after.store) (over_net before.net after.net)
 
+-- words that are no command: a faulty command line, which changes nothing
+abbrev pub IsUsage : Outside → Outside → Ending → Type 0
+IsUsage = OnStore (λ store. EndsWith (λ end written. (end ≡ Usage) × (written ≡ [])) store)
+
 -- what a command does and how it ends, by the rules of that command
 abbrev pub CommandRun : Row → Outside → Outside → Ending → Type 0
 CommandRun (Verify key message signature) = OnStore (λ store. EndsWith (λ end written.
@@ -47,15 +51,17 @@ CommandRun (Migrate share journal new) = OnStore (λ store. EndsTouching (Migrat
 CommandRun (Approve share book message) = OnStore (λ store. EndsTouching (ApproveEnds store share book message) store)
 CommandRun (Trustee words) = TrusteeRun words
 CommandRun (Sign words) = Signs words
+CommandRun (Blame words) = IsUsage
 CommandRun (HssCheck key message signature) =
     OnStore (λ store. EndsWith (λ end written. HssCheckEnds store key message signature end × (written ≡ [])) store)
+CommandRun (HssSign words) = IsUsage
 CommandRun (Aggregate words) = Aggregates words
 CommandRun (Drill number sessions events) =
     OnStore (λ store. EndsWith (λ end written. DrillEnds number sessions events end × (written ≡ [])) store)
 
 -- what words do: other words than a command's are a faulty command line, and change nothing
 abbrev pub WordsRun : Option Row → Outside → Outside → Ending → Type 0
-WordsRun None = OnStore (λ store. EndsWith (λ end written. (end ≡ Usage) × (written ≡ [])) store)
+WordsRun None = IsUsage
 WordsRun (Some row) = CommandRun row
 
 -- the line was printed whole
