@@ -1,23 +1,23 @@
 //! The command `deal`.
 
-ghost use Rattle.std.specs.Prelude.{◌≡◌, ◌⊎◌, ◌≤◌, ◌++◌, List, ℕ, length, map, min, string_bytes, IfOk, IfErr, OnOk};
+ghost use Rattle.std.specs.Prelude.{◌≡◌, ◌<◌, ◌≤◌, ◌++◌, List, ℕ, length, map, min, option_map, string_bytes};
+ghost use Rattle.std.specs.Prelude.{IfOk, IfErr, OnOk};
 ghost use Rattle.coalition_map.specs.Coalitions.{IsPlan};
+ghost use Rattle.dealer.specs.Dealt.{IsDealt};
 ghost use Rattle.dealer.specs.Files.{AreFiles};
 ghost use Rattle.dealer.specs.Entropy.{dealing_of};
-ghost use Rattle.dealer.specs.Faults.{HasFault, IsDealable};
-ghost use Rattle.dealer.specs.declared.faults.DealFault.{DealFault};
 ghost use Rattle.tool_base.specs.Ending as spec;
 ghost use Rattle.tool_run.specs.Naming.{named_files, named_shares};
-ghost use Rattle.tool_run.specs.Deal.{DealEnds, IsDealtTo, IsNotDealt, IsSet, plan_of};
+ghost use Rattle.tool_run.specs.Deal.{DealEnds, IsDealableBy, IsDealtTo, IsNotDealt, IsSet, plan_of};
+ghost use Rattle.tool_run.specs.Deal.{asked_commits, commits_outputs};
 ghost use Rattle.tool_base.specs.Endings.{ending};
 ghost use Rattle.tool_base.specs.OutputOf.{output_of};
 ghost use Rattle.tool_base.specs.Outputs.{EndsWith};
 ghost use Rattle.tool_words.specs.Rows.{deal_words};
-ghost use Rattle.tool_base.specs.Undealt.{end_of_fault};
 ghost use Rattle.tool_base.specs.World.{IsBack, from_to};
 
 use coalition_map::{Plan, PlanFault};
-use dealer::{DealingFiles, deal};
+use dealer::{CommittedFault, DealingFiles, Dealt, deal, deal_committed};
 use lms_bytes::Params;
 use memory::NoMemory;
 use std::alloc::{AllocError, Global};
@@ -66,8 +66,8 @@ fn dealt_outputs(
 {
     let params = set_of(words)?;
     let plan = plan_of(words, &params)?;
-    let files = dealt_files(alloc, &params, &plan, entropy)?;
-    let outputs = name_files(alloc, words.prefix, files)?;
+    let (files, commits) = dealt_files(alloc, words, &params, &plan, entropy)?;
+    let outputs = name_files(alloc, words.prefix, files, commits)?;
     let done = Ending::Dealt {
         leaves: params.leaves(),
         coalitions: plan.count(),
@@ -75,37 +75,77 @@ fn dealt_outputs(
     Ok((outputs, done))
 }
 
-/// The files of the dealing of this set, plan and entropy.
+/// The files of the dealing of this set, plan and entropy, and its commitment file where the words ask for it.
 fn dealt_files(
     alloc: Global,
+    words: &DealWords,
     params: &Params,
     plan: &Plan,
     entropy: &[u8],
-) -> Result<DealingFiles, Ending>
-    requires height { plan.now.h ≡ params.now.h }
-    requires plan { IsPlan plan.now }
-    ensures files { IfOk result (AreFiles (dealing_of params.now plan.now entropy.now)) }
-    ensures dealable { OnOk result (IsDealable params.now plan.now entropy.now) }
-    ensures refused { IfErr result (λ end. (ending end ≡ spec.NoMemory) ⊎ (fault : DealFault)
-        × HasFault params.now plan.now entropy.now fault × (ending end ≡ end_of_fault fault)) }
+) -> Result<(DealingFiles, Option<Vec<u8>>), Ending>
+    requires set { IsSet (deal_words words.now) params.now }
+    requires plan { plan.now ≡ plan_of (deal_words words.now) params.now }
+    requires sound { IsPlan plan.now }
+    ensures files { IfOk result (λ both. AreFiles (dealing_of params.now plan.now entropy.now) both.0) }
+    ensures commits { IfOk result (λ both. option_map (λ file. file.items) both.1
+        ≡ asked_commits words.now.commit (dealing_of params.now plan.now entropy.now)) }
+    ensures dealt { OnOk result (IsDealableBy (deal_words words.now) params.now plan.now entropy.now) }
+    ensures refused { IfErr result (λ end. IsNotDealt (deal_words words.now) entropy.now (ending end)) }
 {
-    let dealt = match deal(alloc, params, plan, entropy) {
-        Ok(dealt) => dealt,
-        Err(fault) => return Err(end_of_fault(fault)),
-    };
+    let (dealt, commits) = deal_as_asked(alloc, words, params, plan, entropy)?;
     match dealt.into_files(alloc) {
-        Ok(files) => Ok(files),
+        Ok(files) => Ok((files, commits)),
         Err(NoMemory) => Err(Ending::NoMemory),
     }
 }
 
+/// The dealing of this set, plan and entropy, and its commitment file where the words ask for it.
+fn deal_as_asked(
+    alloc: Global,
+    words: &DealWords,
+    params: &Params,
+    plan: &Plan,
+    entropy: &[u8],
+) -> Result<(Dealt, Option<Vec<u8>>), Ending>
+    requires set { IsSet (deal_words words.now) params.now }
+    requires plan { plan.now ≡ plan_of (deal_words words.now) params.now }
+    requires sound { IsPlan plan.now }
+    ensures dealing { IfOk result (λ both. IsDealt (dealing_of params.now plan.now entropy.now) both.0) }
+    ensures commits { IfOk result (λ both. option_map (λ file. file.items) both.1
+        ≡ asked_commits words.now.commit (dealing_of params.now plan.now entropy.now)) }
+    ensures dealt { OnOk result (IsDealableBy (deal_words words.now) params.now plan.now entropy.now) }
+    ensures shares { IfOk result (λ both. 0 < length both.0.shares.items) }
+    ensures refused { IfErr result (λ end. IsNotDealt (deal_words words.now) entropy.now (ending end)) }
+{
+    if words.commit {
+        match deal_committed(alloc, params, plan, entropy) {
+            Ok((dealt, commits)) => Ok((dealt, Some(commits))),
+            Err(CommittedFault::Deal(fault)) => Err(end_of_fault(fault)),
+            Err(CommittedFault::TooLarge { bytes }) => {
+                Err(Ending::NotDealt(Undealt::Commitments { bytes }))
+            }
+        }
+    } else {
+        match deal(alloc, params, plan, entropy) {
+            Ok(dealt) => Ok((dealt, None)),
+            Err(fault) => Err(end_of_fault(fault)),
+        }
+    }
+}
+
 /// The files with their names.
-fn name_files(alloc: Global, prefix: &str, files: DealingFiles) -> Result<Vec<Output>, Ending>
+fn name_files(
+    alloc: Global,
+    prefix: &str,
+    files: DealingFiles,
+    commits: Option<Vec<u8>>,
+) -> Result<Vec<Output>, Ending>
     requires { length files.shares.items ≤ 12 }
-    ensures named { IfOk result (λ outputs. map output_of outputs.items ≡ named_files prefix.now files) }
+    ensures named { IfOk result (λ outputs. map output_of outputs.items
+        ≡ named_files prefix.now files (option_map (λ file. file.items) commits)) }
     ensures refused { IfErr result (λ end. ending end ≡ spec.NoMemory) }
 {
-    match named_outputs(alloc, prefix, files) {
+    match named_outputs(alloc, prefix, files, commits) {
         Ok(outputs) => Ok(outputs),
         Err(AllocError) => Err(Ending::NoMemory),
     }
@@ -116,9 +156,11 @@ fn named_outputs(
     alloc: Global,
     prefix: &str,
     files: DealingFiles,
+    commits: Option<Vec<u8>>,
 ) -> Result<Vec<Output>, AllocError>
     requires { length files.shares.items ≤ 12 }
-    ensures { IfOk result (λ outputs. map output_of outputs.items ≡ named_files prefix.now files) }
+    ensures { IfOk result (λ outputs. map output_of outputs.items
+        ≡ named_files prefix.now files (option_map (λ file. file.items) commits)) }
 {
     let mut outputs = Vec::new(alloc);
     outputs.push(named(
@@ -137,6 +179,7 @@ fn named_outputs(
         Readers::Anyone,
     ))?;
     push_shares(alloc, prefix, files.shares, &mut outputs)?;
+    push_commits(alloc, prefix, commits, &mut outputs)?;
     Ok(outputs)
 }
 
@@ -159,6 +202,22 @@ fn push_shares(
             Readers::OwnerAlone,
         ))?;
         t += 1;
+    }
+    Ok(())
+}
+
+/// Adds the commitment file with its name, where there is one.
+fn push_commits(
+    alloc: Global,
+    prefix: &str,
+    commits: Option<Vec<u8>>,
+    outputs: &mut Vec<Output>,
+) -> Result<(), AllocError>
+    ensures { OnOk result (map output_of outputs.new.items
+        ≡ map output_of outputs.old.items ++ commits_outputs prefix.now (option_map (λ file. file.items) commits)) }
+{
+    if let Some(file) = commits {
+        outputs.push(named(format!(in alloc; "{prefix}.commit")?, file, Readers::Anyone))?;
     }
     Ok(())
 }

@@ -1,12 +1,12 @@
 use Rattle.std.proofs.lemmas.Result.{err_from_is_err_and}
 use Rattle.tool_run.specs.Deal.{no_memory}
-use Rattle.tool_run.proofs.Dealing.{dealt_to, few_shares, files_refused}
+use Rattle.tool_run.proofs.Dealing.{dealt_to, few_shares}
 use Rattle.tool_run.proofs.deal.dealt_outputs.Goals as goal
 
 pub returns-in_err-files-clause-refused : goal.returns-in_err-files-clause-refused
 returns-in_err-files-clause-refused c =
     let p = err_from_is_err_and c.from_residual-in_err-files.result c.from_residual-in_err-files.ensures.1 in
-    rw (p.1, p.2) (files_refused _ _ _ _ _ c.in_ok-params.ensures.set c.in_ok-plan.ensures.plan c.in_ok-plan.ensures.sound c.in_err-files.ensures.refused)
+    rw (p.1, p.2) c.in_err-files.ensures.refused
 
 pub name_files-requires : goal.name_files-requires
 name_files-requires c = few_shares _ _ c.in_ok-plan.ensures.sound c.in_ok-files.ensures.files
@@ -18,5 +18,5 @@ returns-in_err-outputs-clause-refused c =
 
 pub returns-clause-dealt : goal.returns-clause-dealt
 returns-clause-dealt c =
-    dealt_to _ _ _ _ _ _ _ _ c.in_ok-params.ensures.set c.in_ok-plan.ensures.plan c.in_ok-plan.ensures.sound c.in_ok-files.ensures.dealable
-    c.in_ok-files.ensures.files c.in_ok-outputs.ensures.named c.leaves.ensures c.count.ensures.value
+    dealt_to _ _ _ _ _ _ _ _ _ c.in_ok-params.ensures.set c.in_ok-plan.ensures.plan c.in_ok-plan.ensures.sound c.in_ok-files.ensures.dealt
+    c.in_ok-files.ensures.files c.in_ok-files.ensures.commits c.in_ok-outputs.ensures.named c.leaves.ensures c.count.ensures.value

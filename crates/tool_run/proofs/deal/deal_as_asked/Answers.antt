@@ -1,0 +1,14 @@
+use Rattle.tool_run.proofs.Dealing.{committed_refused, refused}
+use Rattle.tool_run.proofs.deal.deal_as_asked.Goals as goal
+
+pub returns-in-Err-Deal-clause-refused : goal.returns-in-Err-Deal-clause-refused
+returns-in-Err-Deal-clause-refused c =
+    rw c.end_of_fault.ensures (committed_refused _ _ _ _ _ c.if-words.true c.requires.set c.requires.plan c.requires.sound c.in-Err-Deal.ensures.cause)
+
+pub returns-in-Err-TooLarge-clause-refused : goal.returns-in-Err-TooLarge-clause-refused
+returns-in-Err-TooLarge-clause-refused c =
+    committed_refused _ _ _ _ _ c.if-words.true c.requires.set c.requires.plan c.requires.sound c.in-Err-TooLarge.ensures.cause
+
+pub returns-in-Err-clause-refused : goal.returns-in-Err-clause-refused
+returns-in-Err-clause-refused c =
+    rw c.end_of_fault-in-Err.ensures (refused _ _ _ _ _ c.requires.set c.requires.plan c.requires.sound c.in-Err.ensures.cause)
