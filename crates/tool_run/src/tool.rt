@@ -112,7 +112,8 @@ fn run_command<R: Threads + Wait + Sync, S: Store, N: Net, T: Clocks>(
         } => approve_message(alloc, store, share, book, message),
         Command::Trustee(words) => serve_trustee(rt, alloc, words, store, net, time),
         Command::Sign(words) => sign(alloc, words, store, net),
-        Command::Blame(_) | Command::HssSign(_) => Ending::Usage,
+        Command::Blame(_) => Ending::Usage,
+        Command::HssSign(_) => Ending::Usage,
         Command::HssCheck {
             key,
             message,
