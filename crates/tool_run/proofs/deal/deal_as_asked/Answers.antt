@@ -3,11 +3,13 @@ use Rattle.tool_run.proofs.deal.deal_as_asked.Goals as goal
 
 pub returns-in-Err-Deal-clause-refused : goal.returns-in-Err-Deal-clause-refused
 returns-in-Err-Deal-clause-refused c =
-    rw c.end_of_fault.ensures (committed_refused _ _ _ _ _ c.if-words.true c.requires.set c.requires.plan c.requires.sound c.in-Err-Deal.ensures.cause)
+    rw c.end_of_fault.ensures (committed_refused _ _ _ _ _ c.if-words.true c.requires.set c.requires.plan c.requires.sound
+    (rw c.in-Err-Deal.field-0-is at c.in-Err-Deal.ensures.cause))
 
 pub returns-in-Err-TooLarge-clause-refused : goal.returns-in-Err-TooLarge-clause-refused
 returns-in-Err-TooLarge-clause-refused c =
-    committed_refused _ _ _ _ _ c.if-words.true c.requires.set c.requires.plan c.requires.sound c.in-Err-TooLarge.ensures.cause
+    committed_refused _ _ _ _ _ c.if-words.true c.requires.set c.requires.plan c.requires.sound
+    (rw c.in-Err-TooLarge.field-0-is at c.in-Err-TooLarge.ensures.cause)
 
 pub returns-in-Err-clause-refused : goal.returns-in-Err-clause-refused
 returns-in-Err-clause-refused c =
