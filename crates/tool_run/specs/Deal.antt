@@ -39,7 +39,7 @@ plan_of words params = record { n = words.n; k = words.k; h = params.h }
 abbrev pub asked_commits : Bool → Dealing → Option (List ℕ)
 asked_commits commit d = if commit then Some (commits_file d) else None
 
--- it as an output
+-- the output with it, where there is one
 abbrev pub commits_outputs : List ℕ → Option (List ℕ) → List Output
 commits_outputs prefix None = []
 commits_outputs prefix (Some file) = record { name = prefix ++ codes ".commit"; bytes = file } ∷ []
