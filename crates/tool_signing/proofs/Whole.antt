@@ -1,5 +1,5 @@
 -- The whole command, from what its steps say.
-use Rattle.std.proofs.Common.{◌≡◌, ◌↔◌, ◌++◌, ◌+◌, ℕ, false, List, [], ◌∷◌, length, drop, Result, Ok, Err, IsTrue, inl, inr, refl, sym, ap, ◌∙◌, subst, arith}
+use Rattle.std.proofs.Common.{◌≡◌, ◌↔◌, ◌++◌, ◌+◌, ℕ, false, List, [], ◌∷◌, length, drop, Result, Ok, Err, IfOk, IsTrue, inl, inr, refl, sym, ap, ◌∙◌, subst, arith}
 use Rattle.std.proofs.Math.Seq.{drop-append_seam}
 use Rattle.std.proofs.lemmas.List.Elements.{All-cons, All-nil}
 use Rattle.std.specs.Str.{bytes_eq}
@@ -13,6 +13,8 @@ use Rattle.stream_io.specs.Net.{NetState}
 use Rattle.stream_io.specs.Store.{PagesState, StoreOnward, StoreState, ViewEnded, Viewed, has_name}
 use Rattle.tool_base.proofs.Runs.{calm_none, onward_on}
 use Rattle.tool_base.specs.Ending.{Ending}
+use Rattle.tool_base.specs.Endings as endings
+use Rattle.tool_base.specs.declared.ending.Ending as declared
 use Rattle.tool_base.specs.Outputs.{IsLeft, IsNew}
 use Rattle.tool_base.specs.Touched.{IsUntouched, Keeps}
 use Rattle.tool_base.specs.World.{IsBack, IsCalm, IsNetBack, StoreRun, from_to}
@@ -27,7 +29,7 @@ use Rattle.tool_signing.proofs.Writes.{as-signed, is_written, keeps_unwritten, k
 use Rattle.tool_signing.specs.Leases.{AllLeave, IsBurntIn, IsLeasedIn, LeaseIsLeft}
 use Rattle.tool_signing.specs.Leases as leases
 use Rattle.tool_signing.specs.Ports.{NetRun, Signing, is_exact, over_net}
-use Rattle.tool_signing.specs.Sessions.{SessionEnds, SessionRun}
+use Rattle.tool_signing.specs.Sessions.{IsSignedBy, SessionEnds, SessionRun, answer_by, signature_by}
 use Rattle.tool_signing.specs.Sessions as sessions
 use Rattle.tool_signing.specs.Sign.{SigningRun, session_words}
 use Rattle.tool_signing.specs.Sign as sign
@@ -39,12 +41,26 @@ use Rattle.tool_signing.specs.Tasks as tasks
 use Rattle.tool_signing.specs.Writes.{WriteEnds, one_output}
 use Rattle.tool_signing.specs.Writes as writes
 use Rattle.tool_signing.specs.declared.task.Message.{Message}
+use Rattle.tool_signing.specs.declared.task.SignedBy.{SignedBy}
 use Rattle.tool_words.specs.Words.{SignWords}
 
 -- nothing was begun
-pub unbegun : (words : SessionWords) (source : StoreRun → MessageSource) (a e : StoreState) (net : NetState) (end : Ending) → Keeps [] a e → FailsTask words (from_to a e) (source (from_to a e)) end
+pub unbegun : (words : SessionWords) (source : StoreRun → MessageSource) (a e : StoreState) (net : NetState) (end : declared.Ending) → Keeps [] a e → FailsTask words (from_to a e) (source (from_to a e)) (endings.ending end)
     → SessionRun words source a e (over_net net net) (Err end)
-unbegun words source a e net end keeps fails = record { touched = []; ends = sessions.no_task end fails refl; keeps = keeps; ports = net_none net }
+unbegun words source a e net end keeps fails = record {
+  touched = [];
+  ends = sessions.no_task (endings.ending end) fails refl;
+  signed = tt;
+  keeps = keeps;
+  ports = net_none net;
+}
+
+-- what a session signed, with the key of its desk
+pub signed_with_key : (words : SessionWords) (store : StoreRun) (source : MessageSource) (net : NetRun) (signing : Signing) (result : Result SignedBy declared.Ending) (touched : List (List ℕ))
+    → IsTask words store source signing → TableEnds signing words.table store net (answer_by result) touched → IfOk result (λ by. by.key ≡ signing.desk.key)
+    → IfOk result (λ by. IsSignedBy words store source net by.key (signature_by by) touched)
+signed_with_key words store source net signing (Ok by) touched task ends key = record { signing = signing; task = task; ends = ends; key_is = sym key }
+signed_with_key words store source net signing (Err end) touched task ends key = tt
 
 pub keeps_on : (touched : List (List ℕ)) (a b c : StoreState) → IsCalm a b → Keeps touched b c → Keeps touched a c
 keeps_on touched a b c calm keeps =
@@ -177,11 +193,11 @@ module _ (words : SessionWords) (message : Message) (files : KeyFiles) (header :
     lacks_in _ (tasks.no_coalition bytes read one never) = tasks.no_coalition bytes (source_had a b p d first message bytes read) one never
 
 pub run_lacking : (words : SessionWords) (message : Message) (files : KeyFiles) (header : RefHeader) (a x b p d : StoreState) (name : List ℕ) (view : PagesState) (calm : IsCalm a x)
-    (viewed : Viewed x name view b) (out : StoreOnward x b) (task : IsCalm b p) (ended : ViewEnded p view d) (comes : StoreOnward p d) (net : NetState) (end : Ending)
-    → HasFiles words (from_to a d) files header → LacksTask words (source_of message (from_to b p)) files header end → SessionRun words (source_of message) a d (over_net net net) (Err end)
+    (viewed : Viewed x name view b) (out : StoreOnward x b) (task : IsCalm b p) (ended : ViewEnded p view d) (comes : StoreOnward p d) (net : NetState) (end : declared.Ending)
+    → HasFiles words (from_to a d) files header → LacksTask words (source_of message (from_to b p)) files header (endings.ending end) → SessionRun words (source_of message) a d (over_net net net) (Err end)
 run_lacking words message files header a x b p d name view calm viewed out task ended comes net end has lacks =
     unbegun words (source_of message) a d net end (whole_keeps files header a x b b name view calm viewed out (calm_none b) p d view ended comes [] (keeps_calm [] b p task))
-    (tasks.no_task files header end has (lacks_in words message files header a x b p d name view calm viewed out task (back_view p d view ended comes) end lacks))
+    (tasks.no_task files header (endings.ending end) has (lacks_in words message files header a x b p d name view calm viewed out task (back_view p d view ended comes) (endings.ending end) lacks))
 
 -- what was signed with the table, once a signature was written or was not
 module _ (s : Signing) (table : List ℕ) (a d e : StoreState) (same_file : IsTrue a.told → e.file table ≡ d.file table) (same_leaves : IsTrue a.told → (image : List ℕ) → e.leaves table image ↔ d.leaves table image)

@@ -35,7 +35,7 @@ pub fn sign<S: Store, N: Net>(
         places: words.places,
     };
     match sign_message(alloc, &session, Message::InFile(words.message), store, net) {
-        Ok(signed) => write_signature(alloc, words.out, signed, store),
+        Ok(by) => write_signature(alloc, words.out, by.signed, store),
         Err(end) => end,
     }
 }

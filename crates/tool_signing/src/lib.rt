@@ -9,4 +9,4 @@ mod task;
 
 pub use command::sign;
 pub use session::table_header;
-pub use task::{Message, SessionWords, sign_message};
+pub use task::{Message, SessionWords, SignedBy, sign_message};

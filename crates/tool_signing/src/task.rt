@@ -1,12 +1,12 @@
 //! Sessions with the files of a dealing.
 
-ghost use Rattle.std.specs.Prelude.{drop, IfErr, IfOk, OnOk};
+ghost use Rattle.std.specs.Prelude.{◌≡◌, drop, IfErr, IfOk, OnOk};
 ghost use Rattle.tool_base.specs.Endings.{ending};
 ghost use Rattle.tool_base.specs.World.{IsCalm, from_to};
 ghost use Rattle.tool_desk.specs.Files.{HaveSizesOf};
 ghost use Rattle.tool_signing.specs.Ports.{is_exact, over_net};
-ghost use Rattle.tool_signing.specs.Sessions.{SessionRun};
-ghost use Rattle.tool_signing.specs.Signs.{TableRun, answer_in};
+ghost use Rattle.tool_signing.specs.Sessions.{SessionRun, answer_by};
+ghost use Rattle.tool_signing.specs.Signs.{TableRun};
 ghost use Rattle.tool_signing.specs.Sources.{session_words, source_of};
 ghost use Rattle.tool_signing.specs.Tasks.{GoesWith, LacksTask, desk_of};
 
@@ -15,7 +15,7 @@ use aggregator_node::{Address, Desk};
 use coalition_map::Members;
 use disk_trait::Pages;
 use leased_session::Signed;
-use lms_bytes::LIMIT;
+use lms_bytes::{LIMIT, PublicKey};
 use memory::NoMemory;
 use reference_value::Paged;
 use share_files::RefHeader;
@@ -51,6 +51,15 @@ pub enum Message<'a> {
     Known(Vec<u8>),
 }
 
+/// A signature that a session gave.
+#[derive(Drop)]
+pub struct SignedBy {
+    /// The key that it was made with, which is that of the dealing.
+    pub key: PublicKey,
+    /// The leaf and the signature.
+    pub signed: Signed,
+}
+
 /// What is signed with the files of a dealing: the message, and the members that are asked, each at its address.
 #[derive(Drop)]
 struct Task {
@@ -67,10 +76,10 @@ pub fn sign_message<S: Store, N: Net>(
     message: Message,
     store: &mut S,
     net: &mut N,
-) -> Result<Signed, Ending>
+) -> Result<SignedBy, Ending>
     ensures { (first : S) → IsCalm (S.state first) (S.state store.old)
         → SessionRun (session_words words.now) (source_of message.entry) (S.state first) (S.state store.new)
-        (over_net (N.state net.old) (N.state net.new)) (answer_in result) }
+        (over_net (N.state net.old) (N.state net.new)) result }
 {
     let files = match read_key_and_tree(alloc, store, words.prefix) {
         Ok(files) => files,
@@ -150,7 +159,7 @@ fn sign_task<V: Pages, S: Store, N: Net>(
     task: &Task,
     store: &mut S,
     net: &mut N,
-) -> (V, Result<Signed, Ending>)
+) -> (V, Result<SignedBy, Ending>)
     requires { HaveSizesOf files.now header.now }
     ensures run { TableRun
         (record {
@@ -166,7 +175,8 @@ fn sign_task<V: Pages, S: Store, N: Net>(
           message = task.now.message.items;
         })
         table.now (from_to (S.state store.old) (S.state store.new)) (over_net (N.state net.old) (N.state net.new))
-        (answer_in result.1) }
+        (answer_by result.1) }
+    ensures key { IfOk result.1 (λ by. by.key ≡ files.now.key) }
 {
     let desk = Desk {
         key: &files.key,
@@ -180,5 +190,12 @@ fn sign_task<V: Pages, S: Store, N: Net>(
     let signed = sign_with_table(
         alloc, &desk, &mut cells, table, members, message, store, net,
     );
+    let signed = match signed {
+        Ok(signed) => Ok(SignedBy {
+            key: files.key,
+            signed,
+        }),
+        Err(end) => Err(end),
+    };
     (cells.end(), signed)
 }

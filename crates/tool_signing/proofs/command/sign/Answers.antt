@@ -42,7 +42,7 @@ write_signature-requires-clause-new g c =
     let run = c.in-Ok.ensures first tested.calm in
     let alone = c.in-Ok.ensures c.test_new.new.store (calm_none _) in
     let net : NetRun = over_net (g.N.Net.state c.args.net.now) (g.N.Net.state c.sign_message.new.net) in
-    let signature : Signature = record { leaf = c.in-Ok.signed.leaf; bytes = c.in-Ok.signed.bytes.items } in
+    let signature : Signature = record { leaf = c.in-Ok.by.signed.leaf; bytes = c.in-Ok.by.signed.bytes.items } in
     let is_new = tested.new first last (part_of _ _ _ _ (calm_none _) alone.keeps.back.onward) in
     λ lives outlives. still_new (sign_words c.args.words.now) (state first) (state last) net run.touched signature (Ok signature) is_new run.keeps run.ends refl
 
@@ -58,7 +58,7 @@ returns-in-Ok g c =
     let written = c.write_signature.ensures in
     let very_last = c.write_signature.new.store in
     let net : NetRun = over_net (g.N.Net.state c.args.net.now) (g.N.Net.state c.sign_message.new.net) in
-    let signature : Signature = record { leaf = c.in-Ok.signed.leaf; bytes = c.in-Ok.signed.bytes.items } in
+    let signature : Signature = record { leaf = c.in-Ok.by.signed.leaf; bytes = c.in-Ok.by.signed.bytes.items } in
     let is_new = tested.new first very_last (part_of _ _ _ _ (calm_none _) (onward_on _ _ _ alone.keeps.back.onward written.back.onward)) in
     let by = signed-by words (state first) (state last) net (Ok signature) run.touched signature run.ends refl in
     run_signed words (state first) (state last) net (state very_last) run.touched signature is_new run.keeps run.ports written.back by _ written.ends

@@ -3,15 +3,13 @@ use Rattle.leased_session.specs.Signing.{Signature}
 use Rattle.stream_io.specs.Store.{pages_state}
 use Rattle.tool_base.proofs.Runs.{calm_none, calm_on, onward_none, onward_on, part_of}
 use Rattle.tool_base.specs.Ending.{Ending}
-use Rattle.tool_base.specs.Endings.{ending}
 use Rattle.tool_base.specs.World.{from_to}
 use Rattle.tool_desk.specs.Files.{reference_name}
 use Rattle.tool_disks.proofs.Outs.{keeps_calm}
-use Rattle.tool_signing.proofs.Whole.{goes_in, is_task, keeps_on, run_lacking, unbegun, whole_ends, whole_keeps}
+use Rattle.tool_signing.proofs.Whole.{goes_in, is_task, keeps_on, run_lacking, signed_with_key, unbegun, whole_ends, whole_keeps}
 use Rattle.tool_signing.proofs.Views.{back_view}
 use Rattle.tool_signing.specs.Ports.{NetRun, Signing, is_exact, over_net}
-use Rattle.tool_signing.specs.Sessions.{ended}
-use Rattle.tool_signing.specs.Signs.{answer_in}
+use Rattle.tool_signing.specs.Sessions.{answer_by, ended}
 use Rattle.tool_signing.specs.Sources.{session_words, source_of}
 use Rattle.tool_signing.specs.Tasks.{HasFiles, desk_of, no_key_files, no_reference}
 use Rattle.tool_signing.proofs.task.sign_message.Goals as goal
@@ -50,7 +48,7 @@ returns-in-Err-read_task g c = λ first before.
     } in
     run_lacking words c.args.message c.in-Ok.files c.in-Ok-view_reference.viewed.1 (state first) (state c.read_key_and_tree.new.store) (state c.view_reference.new.store) (state c.read_task.new.store) (state last)
     (reference_name words.prefix) (pages c.in-Ok-view_reference.viewed.0) calm viewed.viewed viewed.onward lacks.calm c.end_view.ensures.ended c.end_view.ensures.onward
-    (g.N.Net.state c.args.net.now) (ending c.in-Err-read_task.end) has lacks.refused
+    (g.N.Net.state c.args.net.now) c.in-Err-read_task.end has lacks.refused
 
 pub returns : goal.returns
 returns g c = λ first before.
@@ -78,7 +76,7 @@ returns g c = λ first before.
       message = task.message.items;
     } in
     let net : NetRun = over_net (g.N.Net.state c.args.net.now) (g.N.Net.state c.sign_task-view.new.net) in
-    let answer : Result Signature Ending = answer_in c.sign_task-view.result.1 in
+    let answer : Result Signature Ending = answer_by c.sign_task-view.result.1 in
     let keeps = whole_keeps files header (state first) (state c.read_key_and_tree.new.store) (state c.view_reference.new.store) (state c.read_task.new.store) (reference_name words.prefix) view
     calm viewed.viewed viewed.onward tasked.calm (state c.sign_task-view.new.store) (state last) now c.end_view-2.ensures.ended c.end_view-2.ensures.onward run.touched run.keeps in
     let ends = whole_ends files header (state first) (state c.read_key_and_tree.new.store) (state c.view_reference.new.store) (state c.read_task.new.store) (reference_name words.prefix) view
@@ -96,6 +94,7 @@ returns g c = λ first before.
     record {
       touched = run.touched;
       ends = ended signing answer run.touched task_is ends;
+      signed = signed_with_key words (from_to (state first) (state last)) (source (from_to (state first) (state last))) net signing c.sign_task-view.result.1 run.touched task_is ends c.sign_task-view.ensures.key;
       keeps = keeps;
       ports = run.ports;
     }

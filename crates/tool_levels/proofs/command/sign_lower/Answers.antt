@@ -1,0 +1,16 @@
+use Rattle.std.proofs.Common.{[]}
+use Rattle.lms_bytes.specs.PublicKey.{public_bytes}
+use Rattle.tool_base.specs.Grammars.{not_read}
+use Rattle.tool_base.specs.Reads.{no_memory}
+use Rattle.tool_desk.specs.Files.{no_key}
+use Rattle.tool_disks.proofs.Outs.{keeps_calm}
+use Rattle.tool_levels.specs.HssSign.{session_words}
+use Rattle.tool_signing.proofs.Whole.{unbegun}
+use Rattle.tool_signing.specs.Tasks.{message_of, no_key_files}
+use Rattle.tool_words.specs.Rows.{hss_sign_words}
+use Rattle.tool_levels.proofs.command.sign_lower.Goals as goal
+
+pub returns-in-Err : goal.returns-in-Err
+returns-in-Err g c = λ first calm.
+    unbegun (session_words (hss_sign_words c.args.words.now)) (λ store. message_of (public_bytes c.args.lower.now)) _ _ _ _ (keeps_calm [] _ _ calm)
+    (no_key_files _ (no_key _ (not_read _ no_memory)))
