@@ -1,4 +1,4 @@
-use Rattle.std.proofs.Common.{◌≡◌, Some, map, string_bytes, None, refl}
+use Rattle.std.proofs.Common.{◌≡◌, Some, map, string_bytes, refl}
 use Rattle.tool_words.specs.Rows.{row}
 use Rattle.tool_words.specs.Words.{command_of}
 use Rattle.tool_words.proofs.Commands.{outputs_differ}
