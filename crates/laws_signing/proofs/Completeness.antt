@@ -1,5 +1,5 @@
 -- Where all is well, `sign` ends with the undivided key's signature, or for want of memory.
-use Rattle.std.proofs.Common.{◌≡◌, ◌⊎◌, ℕ, List, Result, Ok, Err, refl, sym, ap, subst, ◌∙◌, inl, inr}
+use Rattle.std.proofs.Common.{◌≡◌, ◌⊎◌, ℕ, List, [], Result, Ok, Err, refl, sym, ap, subst, ◌∙◌, inl, inr}
 use Rattle.leased_session.specs.Signing.{Signature}
 use Rattle.lms_verify.specs.UndividedKey.{UndividedKey, rfc_signature}
 use Rattle.reference_value.specs.Dealing.{Dealing, leaf_randomizer}
@@ -32,7 +32,7 @@ module _ (words : SignWords) (store : StoreRun) (net : NetRun) (d : Dealing) (ke
   made_of made = Ok made
 
   -- a session that gave no signature lacked memory
-  session-unsigned : (answer : Result Signature Ending) (touched : List (List ℕ)) (end : Ending)
+  pub session-unsigned : (answer : Result Signature Ending) (touched : List (List ℕ)) (end : Ending)
       → SessionEnds (session_words words) store (message_in store words.message) net answer touched → answer ≡ unsigned end → end ≡ ending.NoMemory
   session-unsigned _ _ end (no_task e fails same) is =
       let one : e ≡ end = cc in
@@ -40,7 +40,7 @@ module _ (words : SignWords) (store : StoreRun) (net : NetRun) (d : Dealing) (ke
   session-unsigned answer touched end (ended signing _ _ task ends) is = table-ends words store net d key message leaf well signing task answer touched end ends is
 
   -- one that gave a signature gave the undivided key's
-  session-signed : (answer : Result Signature Ending) (touched : List (List ℕ)) (made : Signature)
+  pub session-signed : (answer : Result Signature Ending) (touched : List (List ℕ)) (made : Signature)
       → SessionEnds (session_words words) store (message_in store words.message) net answer touched → answer ≡ made_of made → made ≡ record { leaf = leaf; bytes = signature }
   session-signed _ _ made (no_task e fails same) is = absurd (cc)
   session-signed answer touched made (ended signing _ _ task ends) is = table-made words store net d key message leaf well signing task answer touched made ends is
@@ -48,7 +48,7 @@ module _ (words : SignWords) (store : StoreRun) (net : NetRun) (d : Dealing) (ke
   ends-complete : (end : Ending) (touched : List (List ℕ)) → SignEnds words store net end touched → Complete end
   ends-complete _ touched (not_new end fails same) = inl (new-well store well.fails.store_told well.fails.store_holds words.out well.files.out_is_new end fails)
   ends-complete _ touched (not_signed end names new ends) = inl (session-unsigned (Err end) names end ends refl)
-  ends-complete _ touched (not_written made end names new ends not) = inl (written-well store well.fails.store_told well.fails.store_holds words.out end not)
+  ends-complete _ touched (not_written made end names new ends not) = inl (written-well store well.fails.store_told well.fails.store_holds [] words.out end not)
   ends-complete _ touched (signed made names new ends written) =
       let same = session-signed (Ok made) names made ends refl in
       inr (ap (λ (s : Signature). ending.Signed s.leaf) same, subst (λ (s : Signature). IsWritten store words.out s.bytes) same written)

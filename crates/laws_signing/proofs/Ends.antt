@@ -84,7 +84,7 @@ module _ (words : SignWords) (store : StoreRun) (net : NetRun) (d : Dealing) (ke
   are : AreDealt d key well.dealing words store net message well.fails well.files task.files task.header
   are = are-dealt d key well.dealing words store net message well.fails well.files task.files task.header task.has
 
-  key-is : signing.desk.key ≡ public
+  pub key-is : signing.desk.key ≡ public
   key-is = ap (λ (k : DeskState). k.key) task.desk ∙ are.key_is
 
   plan-is : signing.desk.plan ≡ d.plan

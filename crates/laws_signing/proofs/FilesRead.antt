@@ -5,7 +5,7 @@ use Rattle.share_files.specs.Reference.{reference_fault}
 use Rattle.tool_base.specs.Ending as ending
 use Rattle.tool_base.specs.Ending.{Ending}
 use Rattle.tool_base.specs.Grammars.{FailsGrammar, not_in_grammar, not_read}
-use Rattle.tool_base.specs.Outputs.{CallFailed, IsNotNew, IsNotWritten, is_there, no_memory_to_name, no_memory_to_write, test_failed, was_there, write_failed}
+use Rattle.tool_base.specs.Outputs.{CallFailed, Output, IsNotNew, IsNotWritten, is_there, no_memory_to_name, no_memory_to_write, test_failed, was_there, write_failed}
 use Rattle.tool_base.specs.Reads.{FailsUpTo, failed, no_memory, too_long}
 use Rattle.tool_base.specs.World.{Failed, IsReadUpTo, StoreRun, file_limit}
 use Rattle.tool_disks.specs.Disks.{DeviceFails}
@@ -77,7 +77,7 @@ module _ (store : StoreRun) (told : IsTrue store.before.told) (holds : StoreHold
       absurd (cc)
   new-well name is end no_memory_to_name = refl
 
-  pub written-well : (name : List ℕ) (end : Ending) → IsNotWritten store [] name end → end ≡ ending.NoMemory
-  written-well name end (write_failed fails) = absurd (call-not fails)
-  written-well name end (was_there untold) = absurd (untold told)
-  written-well name end no_memory_to_write = refl
+  pub written-well : (written : List Output) (name : List ℕ) (end : Ending) → IsNotWritten store written name end → end ≡ ending.NoMemory
+  written-well written name end (write_failed fails) = absurd (call-not fails)
+  written-well written name end (was_there untold) = absurd (untold told)
+  written-well written name end no_memory_to_write = refl

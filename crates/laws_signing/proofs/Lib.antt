@@ -5,6 +5,7 @@ pub mod FilesRead
 pub mod Grants
 pub mod Hearing
 pub mod Leaves
+pub mod Levels
 pub mod Parses
 pub mod RoundOne
 pub mod RoundTwo
@@ -12,3 +13,4 @@ pub mod Seats
 pub mod Sessions
 pub mod Sets
 pub mod Tasks
+pub mod Verdicts

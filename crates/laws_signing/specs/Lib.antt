@@ -1,2 +1,3 @@
 pub mod Answering
 pub mod AllIsWell
+pub mod LevelsAreWell

@@ -1,5 +1,5 @@
--- How a session ends that is run with the files of a dealing: it reads them and the message, tests that they go together,
--- and signs with the leaf table over one port.
+-- How a session ends that is run with the files of a dealing: it reads them and the message, tests that they go
+-- together, and signs with the leaf table over one port.
 use Rattle.std.specs.Prelude.{◌≡◌, ℕ, List, [], Result, Ok, Err, IfOk}
 use Rattle.leased_session.specs.Signing.{Signature}
 use Rattle.lms_bytes.specs.declared.public_key.PublicKey.{PublicKey}
@@ -24,8 +24,8 @@ pub data SessionEnds (words : SessionWords) (store : StoreRun) (source : Message
       → SessionEnds words store source net answer touched
 
 -- a session gave this signature, and this is the key of the desk that it was made with
-pub record IsSignedBy (words : SessionWords) (store : StoreRun) (source : MessageSource) (net : NetRun) (key : PublicKey)
-    (signature : Signature) (touched : List (List ℕ)) : Type 0 where
+pub record IsSignedBy (words : SessionWords) (store : StoreRun) (source : MessageSource) (net : NetRun)
+    (key : PublicKey) (signature : Signature) (touched : List (List ℕ)) : Type 0 where
   pub signing : Signing
   pub task : IsTask words store source signing
   pub ends : TableEnds signing words.table store net (Ok signature) touched
@@ -40,10 +40,10 @@ abbrev pub answer_by : Result SignedBy declared.Ending → Result Signature Endi
 answer_by (Ok by) = Ok (signature_by by)
 answer_by (Err end) = Err (endings.ending end)
 
--- internal: A session as a part of a run in which nothing was changed before it. The store keeps all but the names that it
--- touched, and all disks, views and ports are back.
-pub record SessionRun (words : SessionWords) (source : StoreRun → MessageSource) (first last : StoreState) (net : NetRun)
-    (result : Result SignedBy declared.Ending) : Type 0 where
+-- internal: A session as a part of a run in which nothing was changed before it. The store keeps all but the names
+-- that it touched, and all disks, views and ports are back.
+pub record SessionRun (words : SessionWords) (source : StoreRun → MessageSource) (first last : StoreState)
+    (net : NetRun) (result : Result SignedBy declared.Ending) : Type 0 where
   pub touched : List (List ℕ)
   pub ends : SessionEnds words (from_to first last) (source (from_to first last)) net (answer_by result) touched
   pub signed : IfOk result (λ by.

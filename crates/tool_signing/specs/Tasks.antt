@@ -20,8 +20,8 @@ use Rattle.tool_signing.specs.Ports.{Signing}
 abbrev pub message_limit : ℕ
 message_limit = 16777216
 
--- what a session is run with: the files of the dealing whose names begin with this prefix, the leaf table of this name, and
--- the place of trustee t, or none, at t - 1
+-- what a session is run with: the files of the dealing whose names begin with this prefix, the leaf table of this
+-- name, and the place of trustee t, or none, at t - 1
 pub record SessionWords : Type 0 where
   pub prefix : List ℕ
   pub table : List ℕ
