@@ -44,7 +44,6 @@ fn clap_splits_the_words_of_each_command(rt: HostRuntime) {
         "trustee s j p 064 4294967295 b",
         "sign p t m o 07=h:7",
         "sign p t m o 2=b 1=a 3=c 4=d 5=e 6=f 7=h:7 8=h 9=i 10=j 11=k 12=l",
-        "blame p t m o 2=b 1=a",
         "hss check k m s",
         "hss sign p t lk ls m k s 2=b 1=a 3=c 4=d 5=e 6=f 7=h:7 8=h 9=i 10=j 11=k 12=l",
         "aggregate p t q 64 4294967295 1=a",

@@ -1,11 +1,10 @@
 -- A signature that is accepted is verified so.
 use Rattle.std.proofs.Common.{◌≡◌, ◌≤◌, ℕ, List, Some, length, option_map, sym, ap, ◌∙◌, subst, arith}
-use Rattle.lms_bytes.proofs.Layouts.{layout_passes, one_layout}
 use Rattle.lms_bytes.specs.PublicKey.{public_bytes}
 use Rattle.lms_bytes.specs.Signature.{HasLayout}
 use Rattle.lms_bytes.specs.declared.params.Params.{Params}
 use Rattle.lms_bytes.specs.declared.public_key.PublicKey.{PublicKey}
-use Rattle.lms_verify.specs.Accepts.{AcceptsAt, LeadsTo, root_of_parts}
+use Rattle.lms_verify.specs.Accepts.{AcceptsAt}
 use Rattle.lms_verify.specs.Verdict.{IsVerdict}
 use Rattle.lms_verify.specs.declared.verification.Verdict.{Verdict}
 use Rattle.lms_verify.specs.declared.verification.Verdict.TheVariants.{Accepted, Malformed, OtherRoot}
@@ -13,6 +12,7 @@ use Rattle.merkle_path.specs.Nodes.{candidate_root}
 use Rattle.ots_chain.specs.LeafKey.{candidate_leaf_key}
 use Rattle.ots_chain.specs.MessageHash.{message_digest}
 use Rattle.laws_signing.proofs.Parses.{SameKey, key-passes, one-key}
+use Rattle.laws_signing.proofs.Verdicts.{is-accepted}
 use Rattle.stream_io.specs.Store.{StoreState}
 use Rattle.tool_base.specs.Ending as ending
 use Rattle.tool_base.specs.Ending.{Ending}
@@ -33,22 +33,6 @@ same-accepts a b text bytes leaf same leads =
       layout = subst (λ (p : Params). HasLayout p bytes leaf leads.c leads.y leads.path) same.params leads.layout;
       root_is = sym moved ∙ leads.root_is ∙ same.root_is;
     }
-
-one-root : (key : PublicKey) (text bytes : List ℕ) (p q : ℕ) (got want : List ℕ) → LeadsTo key text bytes p got → LeadsTo key text bytes q want → got ≡ want
-one-root key text bytes p q got want a b =
-    let parts = one_layout key.params bytes p q a.c a.y a.path b.c b.y b.path a.layout b.layout in
-    let f = root_of_parts key text in
-    sym a.root_is ∙ ap (λ (n : ℕ). f n a.c a.y a.path) parts.leaf ∙ ap (λ (c : List ℕ). f q c a.y a.path) parts.c_same
-    ∙ ap (λ (y : List ℕ). f q b.c y a.path) parts.y_same ∙ ap (λ (l : List ℕ). f q b.c b.y l) parts.path_same ∙ b.root_is
-
-is-accepted : (key : PublicKey) (text bytes : List ℕ) (leaf : ℕ) (says : Verdict) → AcceptsAt key text bytes leaf → IsVerdict key text bytes says → says ≡ Accepted leaf
-is-accepted key text bytes leaf (Accepted q) accepts is =
-    let parts = one_layout key.params bytes q leaf is.c is.y is.path accepts.c accepts.y accepts.path is.layout accepts.layout in
-    ap Accepted parts.leaf
-is-accepted key text bytes leaf (Malformed fault) accepts is =
-    absurd (let none = layout_passes key.params bytes leaf accepts.c accepts.y accepts.path accepts.layout in cc)
-is-accepted key text bytes leaf (OtherRoot got want) accepts is =
-    absurd (is.1 (one-root key text bytes is.0.0 leaf got key.root is.0.1 accepts))
 
 module _ (a e : StoreState) (key message signature : List ℕ) (leaf : ℕ) (has : IsAcceptable a key message signature leaf) where
   not-failed : (name file : List ℕ) → a.file name ≡ Some file → IsRead (from_to a e) name Failed → ⊥

@@ -11,6 +11,7 @@ use Rattle.tool_clients.specs.Aggregate.{AggregateRun}
 use Rattle.tool_journals.specs.Approve.{ApproveEnds}
 use Rattle.tool_journals.specs.Enrol.{EnrolEnds}
 use Rattle.tool_journals.specs.Migrate.{MigrateEnds}
+use Rattle.tool_levels.specs.HssSign.{HssSigningRun}
 use Rattle.tool_run.specs.Drill.{DrillEnds}
 use Rattle.tool_run.specs.HssCheck.{HssCheckEnds}
 use Rattle.tool_run.specs.Rehearse.{RehearseEnds}
@@ -19,7 +20,7 @@ use Rattle.tool_service.specs.Trustee.{TrusteeRun}
 use Rattle.tool_signing.specs.Ports.{over_net}
 use Rattle.tool_signing.specs.Sign.{SigningRun}
 use Rattle.tool_words.specs.Words.{Row, Verify, Rehearse, Deal, Enrol, Migrate, Approve, Trustee, Sign, Aggregate}
-use Rattle.tool_words.specs.Words.{AggregateWords, Blame, Drill, HssCheck, HssSign, SignWords, command_of}
+use Rattle.tool_words.specs.Words.{AggregateWords, Drill, HssCheck, HssSign, HssSignWords, SignWords, command_of}
 use Rattle.tool_base.specs.World.{AllBack, Onward, Outside, OutputRun, StoreRun, World, from_to}
 
 -- a command that works on the store alone: the net is as it was
@@ -34,6 +35,11 @@ Signs words before after = SigningRun words (from_to before.store after.store) (
 -- the command that signs for clients: likewise
 abbrev pub Aggregates : AggregateWords → Outside → Outside → Ending → Type 0
 Aggregates words before after = AggregateRun words (from_to before.store after.store) (over_net before.net after.net)
+
+-- the command that signs a lower key: likewise
+abbrev pub SignsLevels : HssSignWords → Outside → Outside → Ending → Type 0
+SignsLevels words before after =
+    HssSigningRun words (from_to before.store after.store) (over_net before.net after.net)
 
 -- words that are no command: a faulty command line, which changes nothing
 abbrev pub IsUsage : Outside → Outside → Ending → Type 0
@@ -51,10 +57,9 @@ CommandRun (Migrate share journal new) = OnStore (λ store. EndsTouching (Migrat
 CommandRun (Approve share book message) = OnStore (λ store. EndsTouching (ApproveEnds store share book message) store)
 CommandRun (Trustee words) = TrusteeRun words
 CommandRun (Sign words) = Signs words
-CommandRun (Blame words) = IsUsage
 CommandRun (HssCheck key message signature) =
     OnStore (λ store. EndsWith (λ end written. HssCheckEnds store key message signature end × (written ≡ [])) store)
-CommandRun (HssSign words) = IsUsage
+CommandRun (HssSign words) = SignsLevels words
 CommandRun (Aggregate words) = Aggregates words
 CommandRun (Drill number sessions events) =
     OnStore (λ store. EndsWith (λ end written. DrillEnds number sessions events end × (written ≡ [])) store)

@@ -19,6 +19,7 @@ use stream_io::{Failed, Net, Sink, Store, write_whole};
 use tool_base::{Clocks, Ending};
 use tool_clients::aggregate;
 use tool_journals::{approve_message, enrol_file, migrate_journal};
+use tool_levels::hss_sign;
 use tool_service::serve_trustee;
 use tool_signing::sign;
 use tool_words::{Command, command_of};
@@ -112,8 +113,7 @@ fn run_command<R: Threads + Wait + Sync, S: Store, N: Net, T: Clocks>(
         } => approve_message(alloc, store, share, book, message),
         Command::Trustee(words) => serve_trustee(rt, alloc, words, store, net, time),
         Command::Sign(words) => sign(alloc, words, store, net),
-        Command::Blame(_) => Ending::Usage,
-        Command::HssSign(_) => Ending::Usage,
+        Command::HssSign(words) => hss_sign(alloc, words, store, net),
         Command::HssCheck {
             key,
             message,

@@ -6,7 +6,6 @@ use Rattle.tool_base.proofs.Runs.{calm_none}
 use Rattle.tool_run.specs.Drill.{DrillEnds}
 use Rattle.tool_run.specs.HssCheck.{HssCheckEnds}
 use Rattle.tool_run.specs.Verify.{VerifyEnds}
-use Rattle.tool_run.proofs.Running.{usage_run}
 use Rattle.tool_run.proofs.tool.run_command.Goals as goal
 
 pub returns-in-Verify-clause-ended : goal.returns-in-Verify-clause-ended
@@ -41,6 +40,9 @@ returns-in-Trustee-clause-ended g c = rw c.in-Trustee.is c.serve_trustee.ensures
 pub returns-in-Sign-clause-ended : goal.returns-in-Sign-clause-ended
 returns-in-Sign-clause-ended g c = rw c.in-Sign.is c.sign.ensures
 
+pub returns-in-HssSign-clause-ended : goal.returns-in-HssSign-clause-ended
+returns-in-HssSign-clause-ended g c = rw c.in-HssSign.is c.hss_sign.ensures
+
 pub returns-in-HssCheck-clause-ended : goal.returns-in-HssCheck-clause-ended
 returns-in-HssCheck-clause-ended g c =
     let run = from_to (g.S.Store.state c.args.store.now) (g.S.Store.state c.hss_check_files.new.store) in
@@ -62,9 +64,3 @@ returns-in-Drill-clause-ended g c =
           (c.drill_sessions.ensures, refl);
       net = refl;
     })
-
-pub returns-in-Blame-clause-ended : goal.returns-in-Blame-clause-ended
-returns-in-Blame-clause-ended g c = rw c.in-Blame.is (usage_run _ _ _)
-
-pub returns-in-HssSign-clause-ended : goal.returns-in-HssSign-clause-ended
-returns-in-HssSign-clause-ended g c = rw c.in-HssSign.is (usage_run _ _ _)
