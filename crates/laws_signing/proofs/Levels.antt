@@ -98,9 +98,10 @@ module _ (words : HssSignWords) (store : StoreRun) (net : NetRun) (d : Dealing) 
     -- what the session signed, and for which key
     by-key : (top : PublicKey) (made : Signature) (touched : List (List ℕ)) → SignsLower words store net read top made touched → (made ≡ record { leaf = leaf; bytes = signature }) × (top ≡ public_key_of key)
     by-key top made touched by =
-        let task = task-in by.signing by.task in
-        (session-signed (signing_lower words) store net d key message leaf well.upper (Ok made) touched made (sessions.ended by.signing (Ok made) touched task by.ends) refl,
-        sym by.key_is ∙ key-is (signing_lower words) store net d key message leaf well.upper by.signing task)
+        let task = task-in by.signing by.task in (
+          session-signed (signing_lower words) store net d key message leaf well.upper (Ok made) touched made (sessions.ended by.signing (Ok made) touched task by.ends) refl,
+          sym by.key_is ∙ key-is (signing_lower words) store net d key message leaf well.upper by.signing task,
+        )
 
   first-new : (before : List (List ℕ)) (name : List ℕ) (after : List (List ℕ)) → words.key_out ∷ words.signature_out ∷ [] ≡ before ++ (name ∷ after) → has_name store.before name ≡ false
   first-new [] name after is = let same : words.key_out ≡ name = cc in subst (λ (n : List ℕ). has_name store.before n ≡ false) same well.upper.files.out_is_new

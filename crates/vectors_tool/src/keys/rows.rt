@@ -24,8 +24,7 @@ pub(crate) const VECTORS: Rows = &[
 ];
 
 /// Words that are no command: no word, a word too few or too many, an option, no name of a command, outputs of one
-/// name, numbers that are none or too great or too long, an empty prefix, and words after `hss`, `blame` and
-/// `commit`.
+/// name, numbers that are none or too great or too long, an empty prefix, and words after `hss` and `commit`.
 pub(crate) const FAULTY: Rows = &[
     ("", ""),
     ("verify 10-8.key 10-8.message", ""),
@@ -46,7 +45,6 @@ pub(crate) const FAULTY: Rows = &[
     ("hss sign a t l s m k s", ""),
     ("hss sign a t l s m o o 1=x", ""),
     ("hss sign  t l s m k s 1=x", ""),
-    ("blame a t m o", ""),
     ("deal e 5 3 3 2 a commit b", ""),
 ];
 
