@@ -1,5 +1,5 @@
-//! Verifies one signature many times, of one LMS key or of several levels, says how many blocks of SHA-256 that takes in, or hashes so many blocks.
-//! `bench/verify` times both.
+//! Verifies one signature many times, of one LMS key or of several levels, says how many blocks of SHA-256 that takes
+//! in, or hashes so many blocks. `bench/verify` times both.
 
 use crate::hashing::hash_blocks;
 use crate::refuse;

@@ -1,5 +1,5 @@
 -- Events that are played, and what the schedule says of them.
-use Rattle.std.proofs.Common.{◌≡◌, ◌<◌, ◌+◌, ◌*◌, ◌%◌, ℕ, List, length, get_or, refl, sym, ap, subst, arith, add-one}
+use Rattle.std.proofs.Common.{◌≡◌, ◌<◌, ◌≤◌, ◌+◌, ◌*◌, ◌%◌, ℕ, List, length, get_or, refl, sym, ap, subst, arith, add-one}
 use Rattle.drill_events.specs.Draws.{event_at}
 use Rattle.drill_events.specs.declared.draws.Schedule.{Schedule}
 use Rattle.drill_events.specs.declared.event.Event.{Event}
@@ -7,7 +7,7 @@ use Rattle.drill_events.specs.declared.event.Event.TheVariants.{Cut, Dropped, Re
 use Rattle.drill_trustees.specs.Trustees.{leaf_at}
 use Rattle.reference_value.specs.Dealing.{Dealing}
 use Rattle.drill.specs.Courses.{Drops, Follows, HasPlayed, IsGood, Plays, StaysGood, Stepped, asks_in, replies_in, uses_of}
-use Rattle.drill.specs.Schedules.{Progress, after_event, extra_asks, extra_in, no_progress, progress_of}
+use Rattle.drill.specs.Schedules.{Progress, after_event, cut_asks, cut_in, extra_asks, extra_in, no_progress, progress_of}
 use Rattle.drill.specs.Seats.{AreWaiting}
 use Rattle.drill.specs.declared.desk.Desk.{Desk}
 use Rattle.drill.specs.declared.seat.Seat.{Seat as Place}
@@ -21,40 +21,52 @@ module _ (desk : Desk) (d : Dealing) (i : ℕ) (old : Drill) (good : IsGood desk
   next-of : (p : Progress) → Follows p old.seats.items → Known p i (asks_in (get_or old.seats.items i Refused))
   next-of p f = known desk d i (uses_of old.table) (leaf_at old.trustees) old.seats.items p inside good.seats f
 
-  pub step-plays : (new : Drill) (asks : Asks) → Stepped desk d i old new asks → Plays desk d Step i old new asks
-  step-plays new asks s = record { stays = s.stays; follows = s.follows; put = λ p f. let taken = s.taken in let none : extra_in Step p i ≡ 0 = refl in omega arith }
+  pub step-plays : (new : Drill) (asks : Asks) → asks.cut ≡ 0 → Stepped desk d i old new asks → Plays desk d Step i old new asks
+  step-plays new asks uncut s = record {
+    stays = s.stays;
+    follows = s.follows;
+    put = λ p f. let taken = s.taken in let none : extra_in Step p i ≡ 0 = refl in omega arith;
+    cut = λ p f. omega (arith, uncut);
+  }
 
   still : (event : Event) (new : Drill) (asks : Asks) → ((p : Progress) → Follows p old.seats.items → extra_in event p i ≡ asks_in (get_or old.seats.items i Refused))
-      → ((p : Progress) → after_event event p i ≡ p) → Drops desk d i old new asks → Plays desk d event i old new asks
-  still event new asks extra same s = record {
+      → ((p : Progress) → Follows p old.seats.items → asks.cut ≤ cut_in event p i) → ((p : Progress) → after_event event p i ≡ p) → Drops desk d i old new asks → Plays desk d event i old new asks
+  still event new asks extra cut same s = record {
     stays = s.stays;
     follows = λ p f. subst (λ (q : Progress). Follows q new.seats.items) (sym (same p)) (subst (λ (l : List Place). Follows p l) (sym s.seats) f);
     put = λ p f. let a = s.put in let b = extra p f in let e = ap replies_in s.seats in omega arith;
+    cut = cut;
   }
 
-  pub dropped-plays : (new : Drill) (asks : Asks) → Drops desk d i old new asks → Plays desk d Dropped i old new asks
-  dropped-plays new asks = still Dropped new asks (λ p f. (next-of p f).count) (λ p. refl)
+  pub dropped-plays : (new : Drill) (asks : Asks) → asks.cut ≡ 0 → Drops desk d i old new asks → Plays desk d Dropped i old new asks
+  dropped-plays new asks uncut = still Dropped new asks (λ p f. (next-of p f).count) (λ p f. omega (arith, uncut)) (λ p. refl)
 
   pub cut-plays : (new : Drill) (asks : Asks) → Drops desk d i old new asks → Plays desk d Cut i old new asks
-  cut-plays new asks = still Cut new asks (λ p f. (next-of p f).count) (λ p. refl)
+  cut-plays new asks s = still Cut new asks (λ p f. (next-of p f).count) (λ p f. at-most p f s) (λ p. refl) s
+    where
+      -- an ask that stops a disk is one that was put
+      at-most : (p : Progress) → Follows p old.seats.items → Drops desk d i old new asks → asks.cut ≤ extra_in Cut p i
+      at-most p f s = let put = s.put in let parts = s.stays.parts in let count = (next-of p f).count in omega (arith, put, parts, count)
 
-  pub restart-plays : (new : Drill) (asks : Asks) → StaysGood desk d new asks → new.seats.items ≡ old.seats.items → asks.put ≡ 0 → Plays desk d Restart i old new asks
-  restart-plays new asks stays same none = record {
+  pub restart-plays : (new : Drill) (asks : Asks) → StaysGood desk d new asks → new.seats.items ≡ old.seats.items → asks.put ≡ 0 → asks.cut ≡ 0 → Plays desk d Restart i old new asks
+  restart-plays new asks stays same none uncut = record {
     stays = stays;
     follows = λ p f. subst (λ (l : List Place). Follows p l) (sym same) f;
     put = λ p f. let e = ap replies_in same in let no : extra_in Restart p i ≡ 0 = refl in omega arith;
+    cut = λ p f. omega (arith, uncut);
   }
 
-  pub none-twice : (asks : Asks) → StaysGood desk d old asks → asks.put ≡ 0 → asks_in (get_or old.seats.items i Refused) ≡ 0 → Plays desk d Twice i old old asks
-  none-twice asks stays none over = record {
+  pub none-twice : (asks : Asks) → StaysGood desk d old asks → asks.put ≡ 0 → asks_in (get_or old.seats.items i Refused) ≡ 0 → asks.cut ≡ 0 → Plays desk d Twice i old old asks
+  none-twice asks stays none over uncut = record {
     stays = stays;
     follows = λ p f. twice-none p i old.seats.items ((next-of p f).none over) f;
     put = λ p f. let e : extra_in Twice p i ≡ asks_in (get_or old.seats.items i Refused) = (next-of p f).count in omega arith;
+    cut = λ p f. omega (arith, uncut);
   }
 
   pub some-twice : (now new : Drill) (first second both : Asks) → asks_in (get_or old.seats.items i Refused) ≡ 1 → Drops desk d i old now first → Stepped desk d i now new second
-      → StaysGood desk d new both → both.put ≡ first.put + second.put → Plays desk d Twice i old new both
-  some-twice now new first second both one a b stays sum = record {
+      → StaysGood desk d new both → both.put ≡ first.put + second.put → both.cut ≡ 0 → Plays desk d Twice i old new both
+  some-twice now new first second both one a b stays sum uncut = record {
     stays = stays;
     follows = λ p f. twice-some p i new.seats.items ((next-of p f).some one) (b.follows p (subst (λ (l : List Place). Follows p l) (sym a.seats) f));
     put = λ p f.
@@ -63,6 +75,7 @@ module _ (desk : Desk) (d : Dealing) (i : ℕ) (old : Drill) (good : IsGood desk
         let x = a.put in
         let y = b.taken in
         omega arith;
+    cut = λ p f. omega (arith, uncut);
   }
 
 -- ---- one more event
@@ -86,6 +99,12 @@ unfolding extra_asks
 extra-more number sessions k schedule is =
     rw (add-one k) (ap (λ (s : Schedule). extra_asks number sessions k + extra_in s.event (progress_of number sessions k) (s.session % sessions)) (sym is))
 
+cuts-more : (number sessions k : ℕ) (schedule : Schedule) → schedule ≡ event_at number (176 + 3 * k)
+    → cut_asks number sessions (k + 1) ≡ cut_asks number sessions k + cut_in schedule.event (progress_of number sessions k) (schedule.session % sessions)
+unfolding cut_asks
+cuts-more number sessions k schedule is =
+    rw (add-one k) (ap (λ (s : Schedule). cut_asks number sessions k + cut_in s.event (progress_of number sessions k) (s.session % sessions)) (sym is))
+
 pub plays-on : (desk : Desk) (d : Dealing) (number sessions k : ℕ) (old new : Drill) (tally after : Tally) (asks : Asks) (schedule : Schedule) → schedule ≡ event_at number (176 + 3 * k)
     → HasPlayed desk d number sessions k old tally → Plays desk d schedule.event (schedule.session % sessions) old new asks
     → after.asks ≡ tally.asks + asks.put → after.granted ≡ tally.granted + asks.granted → after.cuts ≡ tally.cuts + asks.cut → HasPlayed desk d number sessions (k + 1) new after
@@ -100,6 +119,11 @@ plays-on desk d number sessions k old new tally after asks schedule is was plays
     record {
       well = record { good = plays.stays.good; parts = omega arith; taken = omega arith };
       follows = subst (λ (q : Progress). Follows q new.seats.items) (sym (progress-more number sessions k schedule is)) (plays.follows p was.follows);
+      cuts =
+          let stopped = cuts-more number sessions k schedule is in
+          let one = plays.cut p was.follows in
+          let so_far = was.cuts in
+          omega (arith, stopped, one, so_far, cuts);
     }
 
 pub none-played : (desk : Desk) (d : Dealing) (number sessions : ℕ) (drill : Drill) (tally : Tally) → IsGood desk d drill → AreWaiting drill.seats.items
@@ -110,4 +134,5 @@ none-played desk d number sessions drill tally good waiting none granted cuts =
     record {
       well = record { good = good; parts = omega arith; taken = omega arith };
       follows = subst (λ (p : Progress). Follows p drill.seats.items) (sym (progress-none number sessions)) (waiting-follow drill.seats.items waiting);
+      cuts = omega (arith, cuts);
     }

@@ -32,7 +32,8 @@ use Rattle.drill.specs.Disks.{opened_for}
 use Rattle.drill.specs.Counts.{free_of, held_by, holds, sum_below}
 use Rattle.drill.specs.Ids.{DifferentIds, id_of}
 use Rattle.drill.specs.Openings.{AreOwn}
-use Rattle.drill.specs.Schedules.{Progress, after_event, after_step, extra_asks, extra_in, leaves_of, progress_of}
+use Rattle.drill.specs.Schedules.{Progress, after_event, after_step, cut_asks, cut_in, extra_asks, extra_in, leaves_of}
+use Rattle.drill.specs.Schedules.{progress_of}
 use Rattle.drill.specs.Seats.{IsOf}
 use Rattle.drill.specs.declared.asks.NextAsk.{NextAsk}
 use Rattle.drill.specs.declared.desk.Desk.{Desk}
@@ -329,12 +330,13 @@ pub record Drops (desk : Desk) (d : Dealing) (i : ℕ) (old new : Drill) (asks :
   pub put : asks.put ≡ asks_in (slice_index_or old.seats.items i Refused)
 
 -- An event of session i in a drill in which all is well: the asks are those whose replies were taken, and those whose
--- answers were dropped.
+-- answers were dropped. A disk stops only where the event is of that kind and the session has a next ask.
 pub record Plays (desk : Desk) (d : Dealing) (event : Event) (i : ℕ) (old new : Drill) (asks : Asks) : Type 0 where
   pub stays : StaysGood desk d new asks
   pub follows : (p : Progress) → Follows p old.seats.items → Follows (after_event event p i) new.seats.items
   pub put : (p : Progress) → Follows p old.seats.items
       → asks.put + replies_in old.seats.items ≡ replies_in new.seats.items + extra_in event p i
+  pub cut : (p : Progress) → Follows p old.seats.items → asks.cut ≤ cut_in event p i
 
 -- the next ask of session i, where it stands at this place
 abbrev pub IsNextOf : Desk → ℕ → NextAsk → Place → Type 0
@@ -357,11 +359,12 @@ pub record IsWell (desk : Desk) (d : Dealing) (extra : ℕ) (drill : Drill) (tal
   pub parts : tally.granted + tally.cuts ≡ tally.asks
   pub taken : tally.asks ≡ replies_in drill.seats.items + extra
 
--- so many events were played, and all is well
+-- so many events were played, and all is well: a disk has stopped only where it may
 pub record HasPlayed (desk : Desk) (d : Dealing) (number sessions events : ℕ) (drill : Drill) (tally : Tally)
     : Type 0 where
   pub well : IsWell desk d (extra_asks number sessions events) drill tally
   pub follows : Follows (progress_of number sessions events) drill.seats.items
+  pub cuts : tally.cuts ≤ cut_asks number sessions events
 
 -- session i has ended, and the others stand where they stood
 pub record IsFinished (desk : Desk) (d : Dealing) (extra i : ℕ) (old new : Drill) (tally : Tally) : Type 0 where

@@ -2,6 +2,7 @@
 use Rattle.std.specs.Prelude.{ℕ, zero, suc, ◌+◌, ◌-◌, ◌*◌, ◌/◌, ◌%◌, ◌==◌, ◌&&◌, nat_lt, min, Bool, true, false}
 use Rattle.std.specs.Prelude.{if◌then◌else◌}
 use Rattle.drill_events.specs.Draws.{event_at}
+use Rattle.drill_events.specs.Events.{is_cut}
 use Rattle.drill_events.specs.declared.event.Event.{Event}
 use Rattle.drill_events.specs.declared.event.Event.TheVariants.{Step, Twice, Dropped, Cut, Restart}
 
@@ -65,6 +66,10 @@ drops_answer Restart = false
 abbrev pub extra_in : Event → Progress → ℕ → ℕ
 extra_in event p i = if drops_answer event && has_ask p i then 1 else 0
 
+-- an event in which a disk may stop: the session has a next ask
+abbrev pub cut_in : Event → Progress → ℕ → ℕ
+cut_in event p i = if is_cut event && has_ask p i then 1 else 0
+
 -- how far so many sessions have come after so many events: their draws follow the 176 of the entropy
 unfoldable pub progress_of : ℕ → ℕ → ℕ → Progress
 progress_of number sessions zero = no_progress
@@ -78,3 +83,10 @@ extra_asks number sessions zero = 0
 extra_asks number sessions (suc k) =
     let drawn = event_at number (176 + 3 * k) in
     extra_asks number sessions k + extra_in drawn.event (progress_of number sessions k) (drawn.session % sessions)
+
+-- in how many of so many events a disk may stop
+unfoldable pub cut_asks : ℕ → ℕ → ℕ → ℕ
+cut_asks number sessions zero = 0
+cut_asks number sessions (suc k) =
+    let drawn = event_at number (176 + 3 * k) in
+    cut_asks number sessions k + cut_in drawn.event (progress_of number sessions k) (drawn.session % sessions)

@@ -1,7 +1,7 @@
 -- What comes of a drill.
 use Rattle.std.specs.Prelude.{◌≡◌, ◌<◌, ◌≤◌, ◌+◌, ◌*◌, ◌==◌, ℕ, if◌then◌else◌}
 use Rattle.drill.specs.Ids.{DifferentIds}
-use Rattle.drill.specs.Schedules.{extra_asks, signed_of}
+use Rattle.drill.specs.Schedules.{cut_asks, extra_asks, signed_of}
 use Rattle.drill_events.specs.Draws.{events_of}
 use Rattle.drill_events.specs.Events.{is_cut, is_restart}
 use Rattle.drill_summary.specs.declared.summary.Summary.{Summary}
@@ -12,7 +12,8 @@ events_in sessions events = if sessions == 0 then 0 else events
 
 -- Every session has signed or was refused: of each coalition all have signed, or as many as it has leaves, so that some
 -- have where there are sessions. Four asks were put for each that has signed, and one more wherever an answer was
--- dropped; each was granted or stopped a disk. No trustee was seen to open a leaf under two digests, nor any leaf where
+-- dropped; each was granted or stopped a disk, and a disk stopped only in events of that kind whose session has a next
+-- ask. No trustee was seen to open a leaf under two digests, nor any leaf where
 -- no session has signed.
 pub record IsComplete (number sessions events : ℕ) (summary : Summary) : Type 0 where
   pub ends : summary.signed + summary.refused ≡ sessions
@@ -20,6 +21,7 @@ pub record IsComplete (number sessions events : ℕ) (summary : Summary) : Type 
   pub some : 0 < sessions → 0 < summary.signed
   pub asks : summary.asks ≡ 4 * summary.signed + extra_asks number sessions (events_in sessions events)
   pub parts : summary.granted + summary.cuts ≡ summary.asks
+  pub cuts_in : summary.cuts ≤ cut_asks number sessions (events_in sessions events)
   pub most : summary.most ≡ (if summary.signed == 0 then 0 else 1)
 
 -- The summary counts the sessions that were asked for, and none is signed and refused. Each ask was granted, stopped a

@@ -27,6 +27,7 @@ untold_store count disk_count = record {
   leaves = λ _ _. ⊥;
   disks = λ _. record { told = false; honest = false; steady = false };
   out = λ _. None;
+  readers = λ _. None;
 }
 
 -- a port that listens at this place, or only dials, with its count of faults and that of accepting

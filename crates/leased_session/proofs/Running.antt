@@ -1,12 +1,13 @@
 -- A session of a leaf that was leased.
-use Rattle.std.proofs.Common.{◌≡◌, ℕ, List, IfOk, Result, Ok, Err, subst, ap, ◌∙◌}
+use Rattle.std.proofs.Common.{◌≡◌, ℕ, List, IfOk, Some, Result, Ok, Err, refl, subst, ap, ◌∙◌}
 use Rattle.std.specs.declared.alloc.Global.{Global}
 use Rattle.std.specs.declared.vec.Vec.{Vec}
 use Rattle.aggregator_node.specs.Runs.{CellsRead, HasRun, SameSession, SignRun, bytes_in, judged_in_one, judged_in_two, lost_in_one, lost_in_two, no_memory, signed}
 use Rattle.aggregator_node.specs.declared.desk.Address.{Address}
 use Rattle.aggregator_node.specs.declared.fault.SignFault.{SignFault}
 use Rattle.leased_session.proofs.Ending.{started-end}
-use Rattle.leased_session.specs.Signing.{DeskState, RunsOn, ran}
+use Rattle.leased_session.specs.Ended.{RunsTo}
+use Rattle.leased_session.specs.Signing.{DeskState, ran}
 use Rattle.lms_bytes.specs.MessageId.{message_id}
 use Rattle.lms_bytes.specs.declared.message.MessageId.{MessageId}
 use Rattle.lms_bytes.specs.declared.public_key.PublicKey.{PublicKey}
@@ -17,11 +18,14 @@ use Rattle.stream_io.specs.Net.{PortState}
 use Rattle.stream_io.specs.Talk.{Talk}
 
 module _ {desk : DeskState} {reads : CellsRead} {leaf : ℕ} {message : List ℕ} {id : MessageId} {port after : PortState} {s last : State} {result : Result (List ℕ) SignFault} where
-  pub ran-as : s ≡ started desk.key desk.plan leaf id → id ≡ message_id message → HasRun desk.addresses desk.tree reads message port after s last result
-      → RunsOn desk reads leaf message port after result
-  ran-as is named run =
+  pub ran-to : s ≡ started desk.key desk.plan leaf id → id ≡ message_id message → HasRun desk.addresses desk.tree reads message port after s last result
+      → RunsTo desk reads leaf message port after result (Some last)
+  ran-to is named run =
       let begun = subst (λ (x : State). HasRun desk.addresses desk.tree reads message port after x last result) (is ∙ ap (λ (m : MessageId). started desk.key desk.plan leaf m) named) run in
-      ran after last result begun (started-end desk.key desk.plan leaf (message_id message) desk.addresses desk.tree reads message port after last result begun)
+      record {
+        runs = ran after last result begun (started-end desk.key desk.plan leaf (message_id message) desk.addresses desk.tree reads message port after last result begun);
+        session_is = refl;
+      }
 
 abbrev Accepted : State → List ℕ → Result (List ℕ) SignFault → Type 0
 Accepted s message result = IfOk result (λ bytes. AcceptsAt s.key message bytes s.leaf)

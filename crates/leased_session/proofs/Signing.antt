@@ -1,8 +1,6 @@
 -- A message that is signed with a leaf of a table.
-use Rattle.std.proofs.Common.{◌≡◌, ◌≤◌, ◌<◌, ◌^◌, ℕ, List, length, IfOk, Option, Result, Ok, Err, subst, sym, ap, ◌∙◌}
-use Rattle.std.specs.declared.alloc.Global.{Global}
-use Rattle.std.specs.declared.vec.Vec.{Vec}
-use Rattle.aggregator_node.specs.Runs.{CellsRead, bytes_in}
+use Rattle.std.proofs.Common.{◌≡◌, ◌≤◌, ◌<◌, ◌^◌, ℕ, List, length, IfOk, Option, None, Result, Ok, Err, subst, sym, ◌∙◌}
+use Rattle.aggregator_node.specs.Runs.{CellsRead}
 use Rattle.aggregator_node.specs.declared.fault.SignFault.{SignFault}
 use Rattle.disk_trait.specs.declared.disk.Pages as pages
 use Rattle.disk_trait.specs.declared.faults.Faults as faults
@@ -12,11 +10,12 @@ use Rattle.leaf_table.specs.Leasing.{Leases}
 use Rattle.leaf_table.specs.Table.{Enters, Stays, plan_of, state_of}
 use Rattle.leaf_table.specs.declared.faults.TableFault.{TableFault}
 use Rattle.leaf_table.specs.declared.table.Table.{Table}
-use Rattle.leased_session.specs.Signing.{DeskState, RunsOn, Signature, SignsLeased, Spends, leased, signature_in, signed_with, spent_by}
+use Rattle.leased_session.specs.Ended.{LeasedTo, RunsTo, last_of}
+use Rattle.leased_session.specs.Signing.{DeskState, Signature, SignsLeased, Spends, leased, signed_with, spent_by}
 use Rattle.leased_session.specs.Tables.{AsksLeaf, Entered, TableSeen, name_of, table_seen}
-use Rattle.leased_session.specs.declared.sign.Signed.{Signed}
 use Rattle.lms_bytes.specs.MessageId.{message_id, message_id_bytes}
 use Rattle.lms_bytes.specs.declared.message.MessageId.{MessageId}
+use Rattle.session_core.specs.State.{State}
 use Rattle.stream_io.specs.Net.{PortState}
 
 module _ {D : Type 0} {p : pages.Ghosts D} {f : faults.Ghosts D} {old new : Table D p f} where
@@ -36,19 +35,15 @@ module _ {D : Type 0} {p : pages.Ghosts D} {f : faults.Ghosts D} {old new : Tabl
     entered = entered-as enters;
   })
 
-module _ {desk : DeskState} {reads : CellsRead} {members message : List ℕ} {before mid after : TableSeen} {port now : PortState} {leaf : ℕ} {id : MessageId} {result : Result (List ℕ) SignFault} where
-  pub leased-as : {end : Result Signature SignFault} {spent : Option ℕ} → end ≡ signed_with leaf result → length message ≤ 16777216 → id ≡ message_id message → AsksLeaf before members (message_id message) (Ok leaf) mid
-      → RunsOn desk reads leaf message port now result → spent ≡ spent_by result → Spends mid leaf id spent after → SignsLeased desk reads members message before port after now end
-  leased-as is short named asks runs of spends = subst (λ (e : Result Signature SignFault). SignsLeased desk reads members message before port after now e) (sym is)
-      (leased leaf mid after now result short asks runs (subst (λ (m : MessageId). Spends mid leaf m (spent_by result) after) named (subst (λ (o : Option ℕ). Spends mid leaf id o after) of spends)))
+module _ {desk : DeskState} {reads : CellsRead} {members message : List ℕ} {before mid after : TableSeen} {port now : PortState} {leaf : ℕ} {id : MessageId} {result : Result (List ℕ) SignFault} {session : Option State} where
+  pub leased-to : {end : Result Signature SignFault} {spent : Option ℕ} → end ≡ signed_with leaf result → length message ≤ 16777216 → id ≡ message_id message → AsksLeaf before members (message_id message) (Ok leaf) mid
+      → RunsTo desk reads leaf message port now result session → spent ≡ spent_by result → Spends mid leaf id spent after → LeasedTo desk reads members message before port after now end session
+  leased-to is short named asks runs of spends = subst (λ (e : Result Signature SignFault). LeasedTo desk reads members message before port after now e session) (sym is) (record {
+    signs = leased leaf mid after now result short asks runs.runs (subst (λ (m : MessageId). Spends mid leaf m (spent_by result) after) named (subst (λ (o : Option ℕ). Spends mid leaf id o after) of spends));
+    session_is = runs.session_is;
+  })
 
-abbrev not_signed : SignFault → Result Signature SignFault
-not_signed fault = Err fault
-
-pub signed-ok : (leaf : ℕ) (outcome : Result (Vec ℕ Global) SignFault) (bytes : Vec ℕ Global) (answer : Result Signature SignFault) → outcome ≡ Ok bytes → answer ≡ Ok (record { leaf = leaf; bytes = bytes.items })
-    → answer ≡ signed_with leaf (bytes_in outcome)
-signed-ok leaf outcome bytes answer is given = given ∙ sym (ap (λ (o : Result (Vec ℕ Global) SignFault). signed_with leaf (bytes_in o)) is)
-
-pub signed-err : (leaf : ℕ) (outcome : Result (Vec ℕ Global) SignFault) (fault other : SignFault) (answer : Result Signed SignFault) → outcome ≡ Err fault → answer ≡ Err other → other ≡ fault
-    → signature_in answer ≡ signed_with leaf (bytes_in outcome)
-signed-err leaf outcome fault other answer is given same = ap signature_in given ∙ (ap not_signed same ∙ sym (ap (λ (o : Result (Vec ℕ Global) SignFault). signed_with leaf (bytes_in o)) is))
+module _ {desk : DeskState} {reads : CellsRead} {members message : List ℕ} {before after : TableSeen} {port now : PortState} {end : Result Signature SignFault} {fault : SignFault} {session : Option State} where
+  pub not-begun : end ≡ Err fault → session ≡ None → (signs : SignsLeased desk reads members message before port after now (Err fault)) → last_of signs ≡ None
+      → LeasedTo desk reads members message before port after now end session
+  not-begun is none signs last = subst (λ (e : Result Signature SignFault). LeasedTo desk reads members message before port after now e session) (sym is) (record { signs = signs; session_is = none ∙ sym last })

@@ -1,3 +1,4 @@
 pub mod Causes
+pub mod Ended
 pub mod Signing
 pub mod Tables

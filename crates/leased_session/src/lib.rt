@@ -3,4 +3,4 @@
 
 mod sign;
 
-pub use sign::{Signed, run_on, sign_leased, spent_by};
+pub use sign::{Ended, Signed, run_leased, run_on, sign_leased, spent_by};

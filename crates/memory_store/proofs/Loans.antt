@@ -8,11 +8,13 @@ use Rattle.std.specs.declared.string.String.{String}
 use Rattle.std.specs.declared.vec.Vec.{Vec}
 use Rattle.disk_trait.specs.MemDisk.{MemState, MayLeave, is_steady}
 use Rattle.stream_io.specs.Store.{Made, PagesState, Returned, Taken, Written, added, has_name}
-use Rattle.memory_store.specs.MemStore.{Begun, are_steady, disk_in, disk_of, entry_of, file_disk, first_of, has_that_name, kind, kind_of, leaves_in, new_disk, out_in, slot_of, state_of, steady_in}
+use Rattle.stream_io.specs.declared.store.Readers.{Readers}
+use Rattle.stream_io.specs.declared.store.Readers.TheVariants.{OwnerAlone}
+use Rattle.memory_store.specs.MemStore.{Begun, are_steady, disk_in, disk_of, entry_of, file_disk, first_of, has_that_name, kind, kind_of, leaves_in, new_disk, out_in, readers_of, slot_of, state_of, steady_in}
 use Rattle.memory_store.specs.declared.entries.Entry.{Entry}
 use Rattle.memory_store.specs.declared.entries.Slot.{Slot}
 use Rattle.memory_store.specs.declared.entries.Slot.TheVariants.{Here, Out}
-use Rattle.memory_store.proofs.Added.{found_among}
+use Rattle.memory_store.proofs.Added.{found_among, read_among}
 use Rattle.memory_store.proofs.Stable.{only_stable}
 
 -- a disk that is found here is in the store
@@ -142,9 +144,13 @@ module _ (old new : List Entry) (name : List ℕ) (stops : Option ℕ) (steady s
   was_absent : has_name (state_of old stops steady count disk_count views) name ≡ false
   was_absent = rw gone refl
 
-  pub written : (bytes : List ℕ) → ((other : List ℕ) → slot_of new other ≡ added (slot_of old) name (Here (new_disk bytes (length bytes) stops)) other)
-      → Written (state_of old stops steady count disk_count views) name bytes (state_of new stops steady' count' disk_count views)
-  written bytes slots =
+  read_by : (who : Readers) → ((other : List ℕ) → readers_of new other ≡ added (readers_of old) name who other) → readers_of new name ≡ Some who
+  read_by who readers = readers name ∙ ap (λ test. cond test (Some who) (readers_of old name)) ((bytes_eq-Decides name name).1 refl)
+
+  pub written : (bytes : List ℕ) (who : Readers) → ((other : List ℕ) → slot_of new other ≡ added (slot_of old) name (Here (new_disk bytes (length bytes) stops)) other)
+      → ((other : List ℕ) → readers_of new other ≡ added (readers_of old) name who other)
+      → Written (state_of old stops steady count disk_count views) name bytes who (state_of new stops steady' count' disk_count views)
+  written bytes who slots readers =
       let slot = Here (new_disk bytes (length bytes) stops) in
       let here : slot_of new name ≡ Some slot = own old new name slot slots in
       record {
@@ -152,20 +158,23 @@ module _ (old new : List Entry) (name : List ℕ) (stops : Option ℕ) (steady s
         file = λ told. through old new name slot slots (λ it. option_map (λ d. d.bytes) (option_and_then disk_in it));
         out = same_for_all old new name slot slots (option_and_then out_in) (sym (ap (option_and_then out_in) gone));
         stable = λ told image leaves. only_stable bytes image (subst (λ it. leaves_in (option_and_then disk_in it) image) here leaves);
+        readers = λ told. read_by who readers;
         others = λ told other image. others old new name slot slots other image;
         loans = record { disk_count = refl; views = refl };
       }
 
   pub made : (size : ℕ) → ((other : List ℕ) → slot_of new other ≡ added (slot_of old) name (Out (is_steady (new_disk [] size stops))) other)
+      → ((other : List ℕ) → readers_of new other ≡ added (readers_of old) name OwnerAlone other)
       → (steady ≡ true → is_none stops ≡ true)
       → Made (state_of old stops steady count disk_count views) name size (stored (new_disk [] size stops) 0) (state_of new stops steady' count' disk_count views)
-  made size slots all = record {
+  made size slots readers all = record {
     absent = λ told. was_absent;
     given = record { fresh = refl; told = λ told. refl; steady = λ is. new_steady [] size stops ∙ all is };
     kind = λ told. ap (kind_of stops) gone ∙ ap kind (sym (new_steady [] size stops));
     reads = λ told. refl;
     room = λ told. omega arith;
     stable = λ told honest. only_stable [];
+    readers = λ told. read_by OwnerAlone readers;
     file = λ told. same_for_all old new name (Out (is_steady (new_disk [] size stops))) slots (λ it. option_map (λ d. d.bytes) (option_and_then disk_in it)) (sym (ap (λ it. option_map (λ d. d.bytes) (option_and_then disk_in it)) gone));
     out = λ told. through old new name (Out (is_steady (new_disk [] size stops))) slots (option_and_then out_in);
     others = λ told other image. others old new name (Out (is_steady (new_disk [] size stops))) slots other image;
@@ -193,6 +202,7 @@ begun disks steady =
       leaves = λ name image. (subst (λ it. leaves_in it image) (found name), subst (λ it. leaves_in it image) (sym (found name)));
       disks = λ name. ap (kind_of None) (found_among disks name);
       out = λ name. ap (option_and_then out_in) (found_among disks name) ∙ none_out (first_of disks name);
+      readers = read_among disks;
     }
 
 all_steady : (files : List (String Global × Vec ℕ Global)) → list_all (λ disk. is_steady disk.1) (map file_disk files) ≡ true
@@ -217,6 +227,22 @@ module _ (old new : List Entry) (name : List ℕ) (stops : Option ℕ) (slot : S
   -- the disk of a new name is what it was to be
   pub as_said : ((other : List ℕ) → slot_of new other ≡ added (slot_of old) name slot other) → (other : List ℕ) → kind_of stops (slot_of new other) ≡ kind_of stops (slot_of old other)
   as_said slots = same_for_all old new name slot slots (kind_of stops) (ap kind is_new ∙ sym (ap (kind_of stops) gone))
+
+unread : (entry : Option Entry) → option_map (λ it. it.slot) entry ≡ None → option_map (λ it. it.readers) entry ≡ None
+unread None none = refl
+unread (Some entry) none = let no : Some entry.slot ≡ None = none in cc
+
+-- who may read a file stays where a name is new
+pub read_still : (old new : List Entry) (name : List ℕ) (who : Readers) → slot_of old name ≡ None
+    → ((other : List ℕ) → readers_of new other ≡ added (readers_of old) name who other)
+    → (other : List ℕ) (was : Readers) → readers_of old other ≡ Some was → readers_of new other ≡ Some was
+read_still old new name who gone readers other was is = readers other ∙ here (bytes_eq other name) refl
+  where
+    here : (test : Bool) → bytes_eq other name ≡ test → cond test (Some who) (readers_of old other) ≡ Some was
+    here true e =
+        let none : readers_of old other ≡ None = rw ((bytes_eq-Decides other name).0 e) (unread (find (has_that_name name) old) gone) in
+        cc
+    here false e = is
 
 -- a store that is steady makes steady disks
 pub makes_steady : (calls made all : Bool) → (calls && made && all) ≡ true → made ≡ true

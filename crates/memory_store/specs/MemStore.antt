@@ -8,6 +8,8 @@ use Rattle.std.specs.declared.string.String.{String}
 use Rattle.std.specs.declared.vec.Vec.{Vec}
 use Rattle.disk_trait.specs.MemDisk.{MemState, MayLeave, is_steady, stable_disk}
 use Rattle.stream_io.specs.Store.{Handed, StoreState}
+use Rattle.stream_io.specs.declared.store.Readers.{Readers}
+use Rattle.stream_io.specs.declared.store.Readers.TheVariants.{Anyone}
 use Rattle.memory_io.specs.Calls.{is_empty}
 use Rattle.memory_store.specs.declared.entries.Entry.{Entry}
 use Rattle.memory_store.specs.declared.entries.Slot.{Slot}
@@ -39,6 +41,10 @@ has_that_name name entry = bytes_eq (string_bytes entry.name) name
 abbrev pub slot_of : List Entry → List ℕ → Option Slot
 slot_of entries name = option_map (λ entry. entry.slot) (find (has_that_name name) entries)
 
+-- who may read the file of a name
+abbrev pub readers_of : List Entry → List ℕ → Option Readers
+readers_of entries name = option_map (λ entry. entry.readers) (find (has_that_name name) entries)
+
 abbrev pub disk_of : List Entry → List ℕ → Option MemState
 disk_of entries name = option_and_then disk_in (slot_of entries name)
 
@@ -54,9 +60,9 @@ abbrev pub is_steady_store : List ℕ → Option ℕ → Option ℕ → List Ent
 is_steady_store failing view_fails new_stops entries =
     is_empty failing && is_none view_fails && is_none new_stops && are_steady entries
 
--- a disk that is here, under its name
+-- a disk that is here, under its name, for anyone to read
 abbrev pub entry_of : String Global × MemState → Entry
-entry_of disk = record { name = disk.0; slot = Here disk.1 }
+entry_of disk = record { name = disk.0; slot = Here disk.1; readers = Anyone }
 
 -- what a crash may leave of a disk, where it is in the store
 abbrev pub leaves_in : Option MemState → List ℕ → Type 0
@@ -80,6 +86,7 @@ state_of entries new_stops steady count disk_count views = record {
   leaves = λ name. leaves_in (disk_of entries name);
   disks = λ name. kind_of new_stops (slot_of entries name);
   out = λ name. option_and_then out_in (slot_of entries name);
+  readers = readers_of entries;
 }
 
 -- a disk of these bytes: all are stable, there is no room for more, and no call is to fail
@@ -98,7 +105,7 @@ file_disk file = (file.0, full_disk file.1.items)
 abbrev pub first_of : List (String Global × MemState) → List ℕ → Option MemState
 first_of disks name = option_map (λ disk. disk.1) (find (λ disk. bytes_eq (string_bytes disk.0) name) disks)
 
--- a store that was just made of these disks, each with its name: the first under a name counts
+-- a store that was just made of these disks, each with its name, for anyone to read: the first under a name counts
 pub record Begun (made_of : List (String Global × MemState)) (store : StoreState) : Type 0 where
   pub told : IsTrue store.told
   pub count : store.count ≡ 0
@@ -108,3 +115,4 @@ pub record Begun (made_of : List (String Global × MemState)) (store : StoreStat
   pub leaves : (name image : List ℕ) → store.leaves name image ↔ leaves_in (first_of made_of name) image
   pub disks : (name : List ℕ) → store.disks name ≡ kind_of None (option_map Here (first_of made_of name))
   pub out : (name : List ℕ) → store.out name ≡ None
+  pub readers : (name : List ℕ) → store.readers name ≡ option_map (λ _. Anyone) (first_of made_of name)

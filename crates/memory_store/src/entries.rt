@@ -6,13 +6,13 @@ ghost use Rattle.std.specs.Prelude.{is_some, map, option_copied, position};
 ghost use Rattle.stream_io.specs.Store.{added};
 ghost use Rattle.disk_trait.specs.MemDisk.{is_steady};
 ghost use Rattle.memory_store.specs.MemStore.{are_steady, disk_in, disk_of, entry_of, file_of, has_that_name, slot_of};
-ghost use Rattle.memory_store.specs.MemStore.{steady_in};
+ghost use Rattle.memory_store.specs.MemStore.{readers_of, steady_in};
 
 use disk_trait::MemDisk;
 use memory::NoMemory;
 use std::alloc::Global;
 use std::mem;
-use stream_io::NewFault;
+use stream_io::{NewFault, Readers};
 
 /// Where the disk of a name is.
 #[derive(Drop)]
@@ -31,6 +31,7 @@ pub(crate) enum Slot {
 pub(crate) struct Entry {
     pub(crate) name: String,
     pub(crate) slot: Slot,
+    pub(crate) readers: Readers,
 }
 
 /// The names of a store. Of two entries with one name the first counts.
@@ -66,14 +67,17 @@ impl Slot {
 }
 
 impl Entries {
-    /// Those of these disks, each with its name, all of them here.
+    /// Those of these disks, each with its name, all of them here, for anyone to read.
     pub(crate) fn new(alloc: Global, disks: Vec<(String, MemDisk)>) -> Result<Entries, NoMemory>
         ensures { IfOk result (λ entries. entries.list.items ≡ map entry_of disks.items) }
     {
         let mut list = Vec::with_capacity(alloc, disks.len())?;
         for (name, disk) in disks {
-            let slot = Slot::Here(disk);
-            list.push(Entry { name, slot })?;
+            list.push(Entry {
+                name,
+                slot: Slot::Here(disk),
+                readers: Readers::Anyone,
+            })?;
         }
         Ok(Entries { list })
     }
@@ -106,12 +110,22 @@ impl Entries {
         }
     }
 
+    /// Who may read the file of that name, if it is there.
+    pub(crate) fn readers(&self, name: &str) -> Option<Readers>
+        ensures { result ≡ readers_of self.now.list.items name.now }
+    {
+        let place = self.place_of(name)?;
+        Some(self.list[place].readers)
+    }
+
     /// Moves the disk of that name out, if it is here.
     pub(crate) fn lend(&mut self, name: &str) -> Option<MemDisk>
         ensures lent { result ≡ disk_of self.old.list.items name.now }
         ensures slots { IfSome result (λ disk. (other : List ℕ) → slot_of self.new.list.items other
             ≡ added (slot_of self.old.list.items) name.now (Slot.Out (is_steady disk)) other) }
         ensures refused { IfNone result (self.new.list.items ≡ self.old.list.items) }
+        ensures readers { (other : List ℕ) →
+            readers_of self.new.list.items other ≡ readers_of self.old.list.items other }
         ensures steady { are_steady self.new.list.items ≡ are_steady self.old.list.items }
     {
         let place = self.place_of(name)?;
@@ -123,6 +137,8 @@ impl Entries {
         requires { slot_of self.old.list.items name.now ≡ Some (Slot.Out (is_steady disk)) }
         ensures slots { (other : List ℕ) → slot_of self.new.list.items other
             ≡ added (slot_of self.old.list.items) name.now (Slot.Here disk) other }
+        ensures readers { (other : List ℕ) →
+            readers_of self.new.list.items other ≡ readers_of self.old.list.items other }
         ensures steady { are_steady self.new.list.items ≡ are_steady self.old.list.items }
     {
         let place = self.place_of(name).unwrap();
@@ -130,17 +146,29 @@ impl Entries {
     }
 
     /// Puts a name that is not there behind the others.
-    pub(crate) fn add(&mut self, alloc: Global, name: &str, slot: Slot) -> Result<(), NewFault>
+    pub(crate) fn add(
+        &mut self,
+        alloc: Global,
+        name: &str,
+        slot: Slot,
+        readers: Readers,
+    ) -> Result<(), NewFault>
         requires { slot_of self.old.list.items name.now ≡ None }
         ensures slots { OnOk result ((other : List ℕ) → slot_of self.new.list.items other
             ≡ added (slot_of self.old.list.items) name.now slot other) }
+        ensures readers { OnOk result ((other : List ℕ) → readers_of self.new.list.items other
+            ≡ added (readers_of self.old.list.items) name.now readers other) }
         ensures steady { OnOk result
             (are_steady self.new.list.items ≡ (are_steady self.old.list.items && steady_in slot)) }
         ensures refused { OnErr result (self.new.list.items ≡ self.old.list.items) }
         ensures memory { IfErr result (λ fault. fault ≡ NewFault.NoMemory) }
     {
         let name = String::from_str(alloc, name)?;
-        self.list.push(Entry { name, slot })?;
+        self.list.push(Entry {
+            name,
+            slot,
+            readers,
+        })?;
         Ok(())
     }
 }

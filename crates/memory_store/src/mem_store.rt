@@ -33,8 +33,8 @@ pub struct MemStore {
 }
 
 impl MemStore {
-    /// A store of these disks, each with its name; of two with one name the first counts. The calls whose numbers are
-    /// listed fail; the first call has the number 0.
+    /// A store of these disks, each with its name and for anyone to read; of two with one name the first counts. The
+    /// calls whose numbers are listed fail; the first call has the number 0.
     pub fn new(
         alloc: Global,
         disks: Vec<(String, MemDisk)>,
@@ -75,6 +75,8 @@ impl MemStore {
         ensures told { IsTrue (⟦<MemStore as Store>⟧.state self.new).told }
         ensures disks { (name : List ℕ) →
             (⟦<MemStore as Store>⟧.state self.new).disks name ≡ (⟦<MemStore as Store>⟧.state self.old).disks name }
+        ensures readers { (name : List ℕ) →
+            (⟦<MemStore as Store>⟧.state self.new).readers name ≡ (⟦<MemStore as Store>⟧.state self.old).readers name }
     {
         self.view_fails = Some(call);
     }
@@ -89,6 +91,8 @@ impl MemStore {
         ensures disks { (name : List ℕ) → (⟦<MemStore as Store>⟧.state self.new).disks name
             ≡ (if has_name (⟦<MemStore as Store>⟧.state self.old) name
             then (⟦<MemStore as Store>⟧.state self.old).disks name else kind false) }
+        ensures readers { (name : List ℕ) →
+            (⟦<MemStore as Store>⟧.state self.new).readers name ≡ (⟦<MemStore as Store>⟧.state self.old).readers name }
     {
         self.new_stops = Some(call);
     }
@@ -98,6 +102,13 @@ impl MemStore {
         ensures { option_copied result ≡ (⟦<MemStore as Store>⟧.state self.now).file name.now }
     {
         self.entries.bytes(name)
+    }
+
+    /// Who may read the file of a name.
+    pub fn readers(&self, name: &str) -> Option<Readers>
+        ensures { result ≡ (⟦<MemStore as Store>⟧.state self.now).readers name.now }
+    {
+        self.entries.readers(name)
     }
 }
 
@@ -196,7 +207,7 @@ impl Store for MemStore {
         alloc: Global,
         name: &str,
         bytes: &[u8],
-        _readers: Readers,
+        readers: Readers,
     ) -> Result<(), NewFault> {
         self.calls.make()?;
         if self.entries.has(name) {
@@ -205,7 +216,7 @@ impl Store for MemStore {
         let Ok(disk) = new_disk(alloc, bytes, bytes.len(), self.new_stops) else {
             return Err(NewFault::NoMemory);
         };
-        self.entries.add(alloc, name, Slot::Here(disk))?;
+        self.entries.add(alloc, name, Slot::Here(disk), readers)?;
         Ok(())
     }
 
@@ -218,7 +229,8 @@ impl Store for MemStore {
             return Err(NewFault::NoMemory);
         };
         let steady = disk.is_steady();
-        self.entries.add(alloc, name, Slot::Out { steady })?;
+        let slot = Slot::Out { steady };
+        self.entries.add(alloc, name, slot, Readers::OwnerAlone)?;
         Ok(StoredDisk::new(disk))
     }
 

@@ -4,6 +4,8 @@ use Rattle.std.specs.Prelude.{IsTrue, is_some, min, if◌then◌else◌}
 use Rattle.std.specs.Str.{bytes_eq}
 use Rattle.disk_trait.specs.Faults.{Rose}
 use Rattle.disk_trait.specs.Images.{Only}
+use Rattle.stream_io.specs.declared.store.Readers.{Readers}
+use Rattle.stream_io.specs.declared.store.Readers.TheVariants.{OwnerAlone}
 
 -- what a disk said of itself when it was handed out
 pub record Handed : Type 0 where
@@ -55,6 +57,8 @@ pub record StoreState : Type 1 where
   pub disks : List ℕ → Handed
   -- the disks that are out, as they were handed out
   pub out : List ℕ → Option Handed
+  -- who may read the file of a name: none where it is not in the store
+  pub readers : List ℕ → Option Readers
 
 -- the name is in the store, or its disk is out
 abbrev pub has_name : StoreState → List ℕ → Bool
@@ -74,11 +78,13 @@ pub record RisesWhere (failed : Type 0) (before now : ℕ) : Type 0 where
   pub rose : failed → Rose before now
   pub same : (failed → ⊥) → now ≡ before
 
--- what no call changes, and counts that no call lowers
+-- What no call changes, and counts that no call lowers. Who may read a file stays as it was made.
 pub record StoreOnward (old new : StoreState) : Type 0 where
   pub told : new.told ≡ old.told
   pub steady : new.steady ≡ old.steady
   pub disks : (name : List ℕ) → new.disks name ≡ old.disks name
+  pub readers : IsTrue old.told → (name : List ℕ) (who : Readers) → old.readers name ≡ Some who
+      → new.readers name ≡ Some who
   pub count : old.count ≤ new.count
   pub disk_count : old.disk_count ≤ new.disk_count
 
@@ -103,12 +109,13 @@ abbrev pub OthersLeave : List ℕ → StoreState → StoreState → Type 0
 OthersLeave name old new = (other image : List ℕ) → bytes_eq other name ≡ false
     → new.leaves other image ↔ old.leaves other image
 
--- a file of these bytes was written under a name that was not there, and is all stable
-pub record Written (old : StoreState) (name bytes : List ℕ) (new : StoreState) : Type 0 where
+-- a file of these bytes was written under a name that was not there, for these readers, and is all stable
+pub record Written (old : StoreState) (name bytes : List ℕ) (who : Readers) (new : StoreState) : Type 0 where
   pub absent : IsTrue old.told → has_name old name ≡ false
   pub file : IsTrue old.told → (other : List ℕ) → new.file other ≡ added old.file name bytes other
   pub out : (other : List ℕ) → new.out other ≡ old.out other
   pub stable : IsTrue old.told → Only bytes (new.leaves name)
+  pub readers : IsTrue old.told → new.readers name ≡ Some who
   pub others : IsTrue old.told → OthersLeave name old new
   pub loans : SameLoans old new
 
@@ -118,7 +125,8 @@ pub record HandsOut (store : StoreState) (pages : PagesState) : Type 0 where
   pub told : IsTrue store.told → IsTrue pages.told
   pub steady : IsTrue store.steady → IsTrue pages.steady
 
--- an empty disk with room for so many bytes was made under a name that was not there, and is out
+-- an empty disk with room for so many bytes was made under a name that was not there, and is out; its owner alone may
+-- read it
 pub record Made (old : StoreState) (name : List ℕ) (size : ℕ) (disk : PagesState) (new : StoreState) : Type 0 where
   pub absent : IsTrue old.told → has_name old name ≡ false
   pub given : HandsOut old disk
@@ -126,6 +134,7 @@ pub record Made (old : StoreState) (name : List ℕ) (size : ℕ) (disk : PagesS
   pub reads : IsTrue old.told → disk.reads ≡ []
   pub room : IsTrue old.told → size ≤ disk.room
   pub stable : IsTrue old.told → IsTrue disk.honest → Only [] disk.may_leave
+  pub readers : IsTrue old.told → new.readers name ≡ Some OwnerAlone
   pub file : IsTrue old.told → (other : List ℕ) → new.file other ≡ old.file other
   pub out : IsTrue old.told → (other : List ℕ) → new.out other ≡ added old.out name (handed disk) other
   pub others : IsTrue old.told → OthersLeave name old new

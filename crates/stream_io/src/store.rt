@@ -133,7 +133,7 @@ pub trait Store: Faults {
         ensures cause { RisesWhere (result ≡ Err CallFault.Failed) (state self.old).count (state self.new).count }
         ensures onward { StoreOnward (state self.old) (state self.new) };
 
-    /// Writes a file under a name that is not in the store.
+    /// Writes a file under a name that is not in the store, for these readers.
     fn write_new(
         &mut self,
         alloc: Global,
@@ -141,7 +141,7 @@ pub trait Store: Faults {
         bytes: &[u8],
         readers: Readers,
     ) -> Result<(), NewFault>
-        ensures written { OnOk result (Written (state self.old) name.now bytes.now (state self.new)) }
+        ensures written { OnOk result (Written (state self.old) name.now bytes.now readers (state self.new)) }
         ensures exists { IsTrue (state self.old).told
             → result ≡ Err NewFault.Exists → IsTrue (has_name (state self.old) name.now) }
         ensures answers { IsTrue (state self.old).steady → result ≢ Err NewFault.Failed }

@@ -8,7 +8,7 @@ use disk_trait::{Faults, MemDisk};
 use memory::NoMemory;
 use memory_store::MemStore;
 use std::alloc::{AllocError, Global};
-use stream_io::{CallFault, Store};
+use stream_io::{CallFault, Readers, Store};
 
 /// A store of a file `a` of the bytes `first`, a file `b` of none, and a second file `a`.
 fn files(alloc: Global, failing: Vec<u64>) -> Result<MemStore, NoMemory> {
@@ -68,6 +68,28 @@ fn a_store_in_memory_takes_a_new_file_once(rt: HostRuntime) -> Result<(), NoMemo
         alloc,
         "failed new b none; no has b; faults 4",
     );
+    Ok(())
+}
+
+#[test]
+fn a_store_in_memory_tells_who_may_read_a_file(rt: HostRuntime) -> Result<(), NoMemory> {
+    let alloc = rt.alloc();
+    let mut store = files(alloc, Vec::new(alloc))?;
+    stores(
+        &rt,
+        &mut store,
+        alloc,
+        "ok new c open; ok secret d shut; ok make e shut; ok write a 0 fir",
+    );
+    for (name, readers) in [
+        ("a", Some(Readers::Anyone)),
+        ("c", Some(Readers::Anyone)),
+        ("d", Some(Readers::OwnerAlone)),
+        ("e", Some(Readers::OwnerAlone)),
+        ("f", None),
+    ] {
+        assert!(rt; store.readers(name) == readers, "{name}");
+    }
     Ok(())
 }
 

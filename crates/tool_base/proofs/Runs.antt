@@ -1,19 +1,21 @@
 -- What a part of a run says of the whole.
 use Rattle.std.proofs.Common.{ℕ, List, refl, ◌∙◌, arith}
 use Rattle.stream_io.specs.Store.{SameStore, StoreOnward, StoreState, Written}
+use Rattle.stream_io.specs.declared.store.Readers.{Readers}
 use Rattle.tool_base.specs.Ending.{Ending}
 use Rattle.tool_base.specs.Reads.{FailsUpTo, failed, too_long, no_memory}
 use Rattle.tool_base.specs.World.{IsBack, IsCalm, IsPart, from_to, Reading, Failed, TooLong, Bytes, IsReadUpTo}
 
 -- ---- states, one after another
 pub onward_none : (a : StoreState) → StoreOnward a a
-onward_none a = record { told = refl; steady = refl; disks = λ name. refl; count = omega arith; disk_count = omega arith }
+onward_none a = record { told = refl; steady = refl; disks = λ name. refl; readers = λ told name who is. is; count = omega arith; disk_count = omega arith }
 
 pub onward_on : (a b c : StoreState) → StoreOnward a b → StoreOnward b c → StoreOnward a c
 onward_on a b c one two = record {
   told = two.told ∙ one.told;
   steady = two.steady ∙ one.steady;
   disks = λ name. two.disks name ∙ one.disks name;
+  readers = λ told name who is. two.readers (rw one.told told) name who (one.readers told name who is);
   count = let x = one.count in let y = two.count in omega arith;
   disk_count = let x = one.disk_count in let y = two.disk_count in omega arith;
 }
@@ -50,8 +52,8 @@ back_calm a b calm = record {
   views = λ told. calm.same.loans.views;
 }
 
-pub back_written : (first now after : StoreState) (name bytes : List ℕ) → IsBack first now → Written now name bytes after → StoreOnward now after → IsBack first after
-back_written first now after name bytes back step onward = record {
+pub back_written : (first now after : StoreState) (name bytes : List ℕ) (who : Readers) → IsBack first now → Written now name bytes who after → StoreOnward now after → IsBack first after
+back_written first now after name bytes who back step onward = record {
   onward = onward_on first now after back.onward onward;
   out = λ told other. step.out other ∙ back.out told other;
   views = λ told. step.loans.views ∙ back.views told;

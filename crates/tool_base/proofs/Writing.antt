@@ -10,7 +10,7 @@ use Rattle.disk_trait.specs.Images.{Only}
 use Rattle.stream_io.specs.Store.{OthersLeave, SameStore, StoreOnward, StoreState, Written, added, has_name}
 use Rattle.tool_base.specs.Ending as spec
 use Rattle.tool_base.specs.Ending.{Ending}
-use Rattle.tool_base.specs.Outputs.{AreStable, CallFailed, EndsWith, IsOther, FirstNotNew, IsLeft, IsNew, IsNotNew, test_failed, is_there, no_memory_to_name, IsNotWritten, write_failed, was_there, no_memory_to_write, Output, StopsAfter, all_added}
+use Rattle.tool_base.specs.Outputs.{AreReadBy, AreStable, CallFailed, EndsWith, IsOther, FirstNotNew, IsLeft, IsNew, IsNotNew, test_failed, is_there, no_memory_to_name, IsNotWritten, write_failed, was_there, no_memory_to_write, Output, StopsAfter, all_added}
 use Rattle.tool_base.specs.World.{IsCalm, IsPart, StoreRun, from_to}
 use Rattle.tool_base.proofs.Runs.{onward_none, part_of}
 
@@ -104,6 +104,15 @@ unfolding all_added
 added_none file name = refl
 
 -- ---- what is left
+-- the file of an output is read by those whom it is for
+abbrev IsReadBy : StoreState → Output → Type 0
+IsReadBy store output = store.readers output.name ≡ Some output.readers
+
+-- files are read later by those who read them before
+read_on : (now after : StoreState) → StoreOnward now after → IsTrue now.told → (outputs : List Output) → AreReadBy now outputs → AreReadBy after outputs
+read_on now after onward told outputs all =
+    All-weaker (IsReadBy now) (IsReadBy after) (λ output is. onward.readers told output.name output.readers is) outputs all
+
 all_first : {X : Type 0} (P : X → Type 0) (xs ys : List X) → All P (xs ++ ys) → All P xs
 all_first P [] ys all = All-nil P
 all_first P (x ∷ xs) ys all = All-cons P x xs (All-head P x (xs ++ ys) all) (all_first P xs ys (All-tail P x (xs ++ ys) all))
@@ -117,6 +126,7 @@ pub none_left : (first last : StoreState) → IsCalm first last → IsLeft (from
 none_left first last calm = record {
   file = λ told name. rw calm.same.names.file (added_none first.file name);
   stable = λ told. All-nil (λ output. Only output.bytes (last.leaves output.name));
+  readers = λ told. All-nil (IsReadBy last);
   others = λ told name image other. calm.same.names.leaves name image;
 }
 
@@ -126,6 +136,7 @@ pub left_part : (first before last : StoreState) → IsCalm first before → (wr
 left_part first before last calm written left = record {
   file = λ told name. rw (← calm.same.names.file) (left.file (rw calm.onward.told told) name);
   stable = λ told. left.stable (rw calm.onward.told told);
+  readers = λ told. left.readers (rw calm.onward.told told);
   others = λ told name image other.
       let x = calm.same.names.leaves name image in
       let y = left.others (rw calm.onward.told told) name image other in
@@ -133,12 +144,13 @@ left_part first before last calm written left = record {
 }
 
 -- a call that changed nothing behind what was written
-pub left_same : (first now after : StoreState) → SameStore now after → StoreOnward now after → (written : List Output) → IsLeft (from_to first now) written
+pub left_same : (first now after : StoreState) → now.told ≡ first.told → SameStore now after → StoreOnward now after → (written : List Output) → IsLeft (from_to first now) written
     → IsLeft (from_to first after) written
-left_same first now after same onward written left = record {
+left_same first now after kind same onward written left = record {
   file = λ told name. rw same.names.file (left.file told name);
   stable = λ told. All-weaker (λ output. Only output.bytes (now.leaves output.name)) (λ output. Only output.bytes (after.leaves output.name))
       (λ output only. λ image leaves. only image ((same.names.leaves output.name image).0 leaves)) written (left.stable told);
+  readers = λ told. read_on now after onward (rw kind told) written (left.readers told);
   others = λ told name image other.
       let x = left.others told name image other in
       let y = same.names.leaves name image in
@@ -168,9 +180,9 @@ stable_still now after name others (output ∷ outputs) differ stable =
 -- one file more was written
 pub left_more : {X : Type 0} (first now after : StoreState) (f : X → Output) (xs : List X) (i : ℕ) (x : X) → i < length xs → x ≡ get_or xs i x
     → now.told ≡ first.told → All (λ other. other ≢ (f x).name) (map (λ output. output.name) (map f (take i xs)))
-    → IsLeft (from_to first now) (map f (take i xs)) → Written now (f x).name (f x).bytes after
+    → IsLeft (from_to first now) (map f (take i xs)) → Written now (f x).name (f x).bytes (f x).readers after → StoreOnward now after
     → IsLeft (from_to first after) (map f (take (i + 1) xs))
-left_more first now after f xs i x h e same differ left step =
+left_more first now after f xs i x h e same differ left step onward =
     let next : take (i + 1) xs ≡ take i xs ++ (x ∷ []) = take_more xs i x h ∙ ap (λ y. take i xs ++ (y ∷ [])) (sym e) in
     let all : map f (take (i + 1) xs) ≡ map f (take i xs) ++ (f x ∷ []) = ap (map f) next ∙ map-append f (take i xs) (x ∷ []) in
     record {
@@ -178,6 +190,9 @@ left_more first now after f xs i x h e same differ left step =
       stable = λ told. rw all (All-append (λ output. Only output.bytes (after.leaves output.name)) (map f (take i xs)) (f x ∷ [])
           (stable_still now after (f x).name (step.others (rw same told)) (map f (take i xs)) differ (left.stable told))
           (All-cons (λ output. Only output.bytes (after.leaves output.name)) (f x) [] (step.stable (rw same told)) (All-nil (λ output. Only output.bytes (after.leaves output.name)))));
+      readers = λ told. rw all (All-append (IsReadBy after) (map f (take i xs)) (f x ∷ [])
+          (read_on now after onward (rw same told) (map f (take i xs)) (left.readers told))
+          (All-cons (IsReadBy after) (f x) [] (step.readers (rw same told)) (All-nil (IsReadBy after))));
       others = λ told name image other.
           let parts : IsOther (map f (take i xs) ++ (f x ∷ [])) name = rw all at other in
           let before = left.others told name image (all_first (λ output. bytes_eq name output.name ≡ false) (map f (take i xs)) (f x ∷ []) parts) in

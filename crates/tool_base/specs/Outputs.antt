@@ -1,17 +1,19 @@
 -- The files that a command writes, each under a new name.
-use Rattle.std.specs.Prelude.{◌≡◌, ◌≢◌, ◌↔◌, ⊤, ℕ, false, List, [], ◌∷◌, ◌++◌, Option, IsTrue, All}
+use Rattle.std.specs.Prelude.{◌≡◌, ◌≢◌, ◌↔◌, ⊤, ℕ, false, List, [], ◌∷◌, ◌++◌, Option, Some, IsTrue, All}
 use Rattle.std.specs.Str.{bytes_eq}
 use Rattle.disk_trait.specs.Faults.{Rose}
 use Rattle.disk_trait.specs.Images.{Only}
 use Rattle.stream_io.specs.Store.{StoreState, added, has_name}
+use Rattle.stream_io.specs.declared.store.Readers.{Readers}
 use Rattle.tool_base.specs.Ending as ending
 use Rattle.tool_base.specs.Ending.{Ending}
 use Rattle.tool_base.specs.World.{StoreRun}
 
--- a file to be written
+-- a file to be written, and who may read it then
 pub record Output : Type 0 where
   pub name : List ℕ
   pub bytes : List ℕ
+  pub readers : Readers
 
 -- what each name is read with once these files are written, in this order
 unfoldable pub all_added : (List ℕ → Option (List ℕ)) → List Output → List ℕ → Option (List ℕ)
@@ -26,12 +28,17 @@ IsOther outputs name = All (λ output. bytes_eq name output.name ≡ false) outp
 abbrev pub AreStable : StoreState → List Output → Type 0
 AreStable store outputs = All (λ output. Only output.bytes (store.leaves output.name)) outputs
 
--- The store has what it had and these files, which are all stable. A crash may leave of every other name what it might
--- have left before.
+-- these files are read by those whom they are for
+abbrev pub AreReadBy : StoreState → List Output → Type 0
+AreReadBy store outputs = All (λ output. store.readers output.name ≡ Some output.readers) outputs
+
+-- The store has what it had and these files, which are all stable and read by those whom they are for. A crash may
+-- leave of every other name what it might have left before.
 pub record IsLeft (store : StoreRun) (written : List Output) : Type 0 where
   pub file : IsTrue store.before.told → (name : List ℕ)
       → store.after.file name ≡ all_added store.before.file written name
   pub stable : IsTrue store.before.told → AreStable store.after written
+  pub readers : IsTrue store.before.told → AreReadBy store.after written
   pub others : IsTrue store.before.told → (name image : List ℕ) → IsOther written name
       → store.after.leaves name image ↔ store.before.leaves name image
 

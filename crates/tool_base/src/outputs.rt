@@ -76,7 +76,7 @@ pub fn test_all_new<S: Store>(
 /// Writes a file under a new name.
 fn write_output<S: Store>(alloc: Global, store: &mut S, output: &Output) -> Result<(), Ending>
     ensures written { OnOk result (Written (S.state store.old) (string_bytes output.now.name) output.now.bytes.items
-        (S.state store.new)) }
+        output.now.readers (S.state store.new)) }
     ensures refused { IfErr result (λ end.
         IsNotNew (from_to (S.state store.old) (S.state store.new)) (string_bytes output.now.name) (ending end)) }
     ensures unchanged { OnErr result (SameStore (S.state store.old) (S.state store.new)) }

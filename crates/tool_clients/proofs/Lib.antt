@@ -2,3 +2,4 @@ mod Places
 mod Nets
 mod Tables
 mod Whole
+pub mod Steady

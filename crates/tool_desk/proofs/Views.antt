@@ -24,7 +24,7 @@ reads_part first before after last p name Is reads = record {
   is = λ told. reads.is (rw p.earlier.onward.told told);
 }
 
-device_part : (first before after last : StoreState) → IsPart first before after last → DeviceFails (from_to before after) → DeviceFails (from_to first last)
+pub device_part : (first before after last : StoreState) → IsPart first before after last → DeviceFails (from_to before after) → DeviceFails (from_to first last)
 device_part first before after last p fails = record {
   rose = let rose = fails.rose in let begins = p.earlier.same.loans.disk_count in let ends = p.later.disk_count in omega (arith, rose, begins, ends);
   unsteady = λ told steady. fails.unsteady (rw p.earlier.onward.told told) (rw p.earlier.onward.steady steady);
@@ -58,7 +58,7 @@ module _ (a b : StoreState) (name : List ℕ) (view now : PagesState) (viewed : 
           (λ z. x.0 (y.0 z), λ z. y.1 (x.1 z));
     }
 
-    device_fails : Rose view.count now.count → (IsTrue view.told → IsTrue view.steady → ⊥) → DeviceFails (from_to a c)
+    pub device_fails : Rose view.count now.count → (IsTrue view.told → IsTrue view.steady → ⊥) → DeviceFails (from_to a c)
     device_fails rose never = record {
       rose = let whole = step.disk_count in let same = viewed.disk_count in let fresh = viewed.given.fresh in omega (arith, whole, same, fresh, rose);
       unsteady = λ told steady. never (viewed.given.told told) (viewed.given.steady steady);

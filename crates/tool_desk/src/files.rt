@@ -83,7 +83,7 @@ pub fn other_key(alloc: Global, prefix: &str, suffix: &str, id: KeyId) -> Ending
 }
 
 /// The name of the file of a dealing with this suffix.
-pub(crate) fn file_name(alloc: Global, prefix: &str, suffix: &str) -> Result<String, Ending>
+pub fn file_name(alloc: Global, prefix: &str, suffix: &str) -> Result<String, Ending>
     ensures name { IfOk result (λ name. string_bytes name ≡ prefix.now ++ suffix.now) }
     ensures refused { IfErr result (λ end. ending end ≡ spec.NoMemory) }
 {

@@ -7,7 +7,7 @@ mod reading;
 mod reference;
 mod tree;
 
-pub use files::{KeyFiles, other_key, read_key_and_tree, test_same_key};
+pub use files::{KeyFiles, file_name, other_key, read_key_and_tree, test_same_key};
 pub use members::{addresses_of, members_of, test_members};
 pub use reading::{read_key_file, read_tree_file};
 pub use reference::view_reference;

@@ -2,7 +2,7 @@
 use Rattle.std.proofs.Common.{◌≡◌, ℕ, List, [], ◌∷◌, IsTrue, Result, Ok, Err, IfOk, IfErr, refl, subst}
 use Rattle.share_files.specs.declared.share.Share.{Share}
 use Rattle.slot_file.specs.declared.header.Header.{Header}
-use Rattle.stream_io.specs.Store.{Handed, PagesState, StoreState}
+use Rattle.stream_io.specs.Store.{Handed, PagesState, StoreOnward, StoreState}
 use Rattle.tool_base.specs.Ending.{Ending}
 use Rattle.tool_base.specs.Grammars.{IsShareRead}
 use Rattle.tool_base.specs.World.{IsCalm, from_to}
@@ -14,7 +14,7 @@ use Rattle.tool_journals.specs.Blanks.{IsBlankDisk}
 use Rattle.tool_disks.specs.Disks.{IsOut}
 use Rattle.tool_disks.proofs.Outs.{IsBackAs}
 use Rattle.tool_journals.proofs.Adding.{add_within}
-use Rattle.tool_journals.proofs.Blanks.{new_calm}
+use Rattle.tool_journals.proofs.Blanks.{new_calm, owners_on}
 use Rattle.tool_disks.proofs.Outs.{out_calm}
 
 pub if_ok_map : {T E : Type 0} (r : Result T E) (one two : T → Type 0) → ((x : T) → one x → two x) → IfOk r one → IfOk r two
@@ -32,6 +32,7 @@ blank_calm first a b name header count disk calm blank = record {
   absent = new_calm first a b name calm blank.absent b;
   file = λ told. blank.file (rw calm.onward.told told);
   stable = λ told. blank.stable (rw calm.onward.told told);
+  owners = λ told. blank.owners (rw calm.onward.told told);
 }
 
 pub book_out : (a b : StoreState) (book : List ℕ) (header : Header) (disk : PagesState) → IsBookDisk a book header disk b → IsOut a book disk b
@@ -50,10 +51,10 @@ pages_run old now = record {
 }
 
 pub book_ends : (failed : Type 0) (first a b last : StoreState) (share book message : List ℕ) (found : Share) (id : List ℕ) (old now : PagesState) (end : Ending)
-    → IsCalm first a → IsBookDisk a book (book_header found) old b → IsBackAs first book now last → (failed → DeviceFails (from_to first last))
+    → IsCalm first a → IsBookDisk a book (book_header found) old b → IsBackAs first book now last → StoreOnward b last → (failed → DeviceFails (from_to first last))
     → IsShareRead (from_to first last) share found → IsMessageRead (from_to first last) message id
     → AddEnds failed (pages_run old now) (book_header found) id end → ApproveEnds (from_to first last) share book message end (book ∷ [])
-book_ends failed first a b last share book message found id old now end calm (was_there out is images) back fails read text added =
+book_ends failed first a b last share book message found id old now end calm (was_there out is images) back comes fails read text added =
     let went = out_calm first a b book old calm out in
     in_book found id old.reads now.reads end read text (λ told. rw (← calm.same.names.file) (is (rw calm.onward.told told))) back.file
     (add_within (pages_run old now) (file_run (from_to first last) book old.reads now.reads (first.leaves book)) (record {
@@ -64,9 +65,10 @@ book_ends failed first a b last share book message found id old now end calm (wa
       left = λ told honest image left. (calm.same.names.leaves book image).0 ((images (rw calm.onward.told told) image).0 left);
       leaves = λ told image. (back.leaves told image).0;
     }) failed (DeviceFails (from_to first last)) fails (book_header found) id end added)
-book_ends failed first a b last share book message found id old now end calm (is_new blank) back fails read text added =
+book_ends failed first a b last share book message found id old now end calm (is_new blank) back comes fails read text added =
     let went = out_calm first a b book old calm blank.is_out in
-    in_new_book found id old.reads now.reads end read text (new_calm first a b book calm blank.absent last) (λ told. blank.file (rw calm.onward.told told)) back.file
+    in_new_book found id old.reads now.reads end read text (new_calm first a b book calm blank.absent last) (λ told. blank.file (rw calm.onward.told told))
+    (owners_on first a b last book calm.onward blank.is_out.onward comes blank.owners) back.file
     (add_within (pages_run old now) (file_run (from_to first last) book old.reads now.reads (λ image. image ≡ old.reads)) (record {
       told = went.told;
       honest = λ told honest. subst (λ (h : Handed). IsTrue h.honest) (went.kind told) honest;

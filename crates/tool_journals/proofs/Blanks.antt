@@ -7,13 +7,14 @@ use Rattle.slot_file.specs.declared.prepared.PrepareFault.{PrepareFault}
 use Rattle.slot_file.specs.declared.prepared.PrepareFault.TheVariants.{Device, NotEmpty}
 use Rattle.stream_io.specs.Store.{Made, PagesState, StoreOnward, StoreState, has_name}
 use Rattle.stream_io.specs.declared.store.NewFault.{NewFault}
+use Rattle.stream_io.specs.declared.store.Readers.TheVariants.{OwnerAlone}
 use Rattle.stream_io.specs.declared.store.NewFault.TheVariants.{Exists, Failed, NoMemory}
 use Rattle.tool_base.specs.Ending.{Ending}
 use Rattle.tool_base.specs.Outputs.{IsNew, IsNotNew, CallFailed, test_failed, no_memory_to_name}
 use Rattle.tool_base.specs.World.{IsCalm, StoreRun, from_to}
 use Rattle.tool_base.proofs.Writing.{there_or_no_memory}
 use Rattle.tool_disks.specs.Disks.{DeviceFails}
-use Rattle.tool_journals.specs.Blanks.{IsBlankDisk, IsMade, IsNeverHalf, IsNotMade, device, not_empty}
+use Rattle.tool_journals.specs.Blanks.{IsBlankDisk, IsMade, IsNeverHalf, IsNotMade, IsOwners, device, not_empty}
 use Rattle.tool_disks.specs.Disks.{IsOut}
 use Rattle.tool_disks.proofs.Outs.{IsBackAs}
 use Rattle.tool_journals.specs.Faults.{IsEndOfNew, end_of_prepare}
@@ -48,11 +49,19 @@ made_out a b name size disk made onward = record {
 pub new_calm : (first a b : StoreState) (name : List ℕ) → IsCalm first a → IsNew (from_to a b) name → (c : StoreState) → IsNew (from_to first c) name
 new_calm first a b name calm new c = λ told. rw (← calm.same.names.file, ← calm.same.names.out) (new (rw calm.onward.told told))
 
+-- who may read a file that was made in a run stays so
+pub owners_on : (first a b c : StoreState) (name : List ℕ) → StoreOnward first a → StoreOnward a b → StoreOnward b c → IsOwners (from_to a b) name → IsOwners (from_to first c) name
+owners_on first a b c name goes made comes owners told =
+    let told_a : IsTrue a.told = rw goes.told told in
+    let told_b : IsTrue b.told = rw made.told told_a in
+    comes.readers told_b name OwnerAlone (owners told_a)
+
 pub made_of : (first a b c : StoreState) (name : List ℕ) (header : Header) (count : ℕ) (disk : PagesState) → IsCalm first a
-    → IsBlankDisk a name header count disk b → IsBackAs first name disk c → IsMade (from_to first c) name header count
-made_of first a b c name header count disk calm blank back = record {
+    → IsBlankDisk a name header count disk b → IsBackAs first name disk c → StoreOnward b c → IsMade (from_to first c) name header count
+made_of first a b c name header count disk calm blank back onward = record {
   new = new_calm first a b name calm blank.absent c;
   file = λ told. back.file told ∙ ap Some (blank.file (rw calm.onward.told told)).0;
   blank = λ told. let is = blank.file (rw calm.onward.told told) in subst (λ f. IsBlank header count f) is.0 is.1;
   stable = search rules;
+  owners = owners_on first a b c name calm.onward blank.is_out.onward onward blank.owners;
 }

@@ -10,10 +10,12 @@ use Rattle.slot_file.specs.declared.header.LoadFault.{LoadFault}
 use Rattle.slot_file.specs.declared.header.LoadFault.TheVariants.{Length, NotReady, Version, Foreign, Device}
 use Rattle.stream_io.specs.declared.store.NewFault.{NewFault}
 use Rattle.stream_io.specs.declared.store.NewFault.TheVariants.{Exists, Failed, NoMemory}
+use Rattle.stream_io.specs.declared.store.Readers.{Readers}
+use Rattle.stream_io.specs.declared.store.Readers.TheVariants.{OwnerAlone}
 use Rattle.tool_base.specs.Ending.{Ending}
 use Rattle.tool_base.specs.Outputs.{CallFailed, IsNotWritten, no_memory_to_write, was_there, write_failed}
 use Rattle.tool_base.specs.World.{StoreRun}
-use Rattle.tool_journals.specs.Blanks.{IsNeverHalf}
+use Rattle.tool_journals.specs.Blanks.{IsNeverHalf, IsOwners}
 use Rattle.tool_journals.specs.Faults.{IsEndOfNew, end_of_copy, end_of_load}
 use Rattle.tool_journals.specs.Migrate.{CopyEnds, IsCopied, IsShut, damaged, device, migrated, not_empty, not_made, not_opened, not_read, old_header, slot_count}
 use Rattle.trustee_core.specs.Trustee.{journal_header}
@@ -75,25 +77,31 @@ pub record Later (one two : StoreRun) (name : List ℕ) : Type 0 where
   pub told : IsTrue two.before.told → IsTrue one.before.told
   pub call : CallFailed one → CallFailed two
   pub kind : two.before.disks name ≡ one.before.disks name
+  pub readers : IsTrue two.before.told → (who : Readers) → one.after.readers name ≡ Some who → two.after.readers name ≡ Some who
   pub file : IsTrue two.before.told → two.after.file name ≡ one.after.file name
   pub leaves : IsTrue two.before.told → (image : List ℕ) → two.after.leaves name image → one.after.leaves name image
 
 pub later_none : (run : StoreRun) (name : List ℕ) → Later run run name
-later_none run name = record { told = λ is. is; call = λ is. is; kind = refl; file = λ told. refl; leaves = λ told image left. left }
+later_none run name = record { told = λ is. is; call = λ is. is; kind = refl; readers = λ told who is. is; file = λ told. refl; leaves = λ told image left. left }
 
 module _ (one two : StoreRun) (name : List ℕ) (later : Later one two name) where
   honest_later : IsTrue (two.before.disks name).honest → IsTrue (one.before.disks name).honest
   honest_later is = rw (← later.kind) is
 
+  owners_later : IsOwners one name → IsOwners two name
+  owners_later owners = λ told. later.readers told OwnerAlone (owners (later.told told))
+
   pub shut_later : IsShut one name → IsShut two name
   shut_later shut = record {
     file = λ told. let was = shut.file (later.told told) in (was.0, later.file told ∙ was.1, was.2);
     images = λ told honest image left. shut.images (later.told told) (honest_later honest) image (later.leaves told image left);
+    owners = owners_later shut.owners;
   }
 
   pub half_later : (whole also : List ℕ → Type 0) → (IsTrue two.before.told → (image : List ℕ) → whole image → also image) → IsNeverHalf whole one name → IsNeverHalf also two name
   half_later whole also same half = record {
     stays = λ told. rw (later.file told) (half.stays (later.told told));
+    owners = owners_later half.owners;
     images = λ told honest image left. elim (half.images (later.told told) (honest_later honest) image (later.leaves told image left))
         [ inl shut ↦ inl shut | inr is ↦ inr (same told image is) ];
   }
@@ -109,6 +117,7 @@ module _ (one two : StoreRun) (name : List ℕ) (later : Later one two name) whe
 
     copied_later : IsCopied one share name file → IsCopied two share name other
     copied_later copied = record {
+      owners = owners_later copied.owners;
       copy = λ told. let was = copied.copy (later.told told) in (
         was.0,
         later.file told ∙ was.1,

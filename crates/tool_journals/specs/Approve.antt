@@ -14,7 +14,7 @@ use Rattle.tool_base.specs.Reads.{FailsToRead}
 use Rattle.tool_base.specs.World.{StoreRun, Bytes, IsRead}
 use Rattle.tool_journals.specs.Adding.{AddEnds, FileRun}
 use Rattle.tool_disks.specs.Disks.{DeviceFails}
-use Rattle.tool_journals.specs.Blanks.{IsBlankDisk, IsNotMade}
+use Rattle.tool_journals.specs.Blanks.{IsBlankDisk, IsNotMade, IsOwners}
 use Rattle.tool_disks.specs.Headers.{book_header}
 use Rattle.tool_disks.specs.Disks.{IsOut}
 use Rattle.tool_journals.specs.Taking.{IsNotTaken}
@@ -69,7 +69,7 @@ pub data ApproveEnds (store : StoreRun) (share book message : List ℕ) : Ending
       end → ApproveEnds store share book message end (book ∷ [])
   in_new_book : (found : Share) (id bytes after : List ℕ) (end : Ending) → IsShareRead store share found
       → IsMessageRead store message id → IsNew store book
-      → (IsTrue store.before.told → file.IsNew (book_header found) 1024 bytes)
+      → (IsTrue store.before.told → file.IsNew (book_header found) 1024 bytes) → IsOwners store book
       → (IsTrue store.before.told → store.after.file book ≡ Some after)
       → AddEnds (DeviceFails store) (file_run store book bytes after (λ image. image ≡ bytes)) (book_header found) id
       end → ApproveEnds store share book message end (book ∷ [])

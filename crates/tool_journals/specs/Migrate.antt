@@ -14,7 +14,7 @@ use Rattle.tool_base.specs.Grammars.{FailsGrammar, IsShareRead, share_fault_numb
 use Rattle.tool_base.specs.Outputs.{IsNew, IsNotNew, IsNotWritten}
 use Rattle.tool_base.specs.World.{StoreRun}
 use Rattle.tool_disks.specs.Disks.{DeviceFails}
-use Rattle.tool_journals.specs.Blanks.{IsHonest, IsNeverHalf}
+use Rattle.tool_journals.specs.Blanks.{IsHonest, IsNeverHalf, IsOwners}
 use Rattle.tool_disks.specs.Loads.{load_fault_number}
 use Rattle.tool_journals.specs.Taking.{IsNotTaken}
 use Rattle.trustee_core.specs.Trustee.{journal_header}
@@ -40,17 +40,20 @@ pub record StandsStill (store : StoreRun) (name file : List ℕ) : Type 0 where
   pub images : IsTrue store.before.told → IsHonest store name
       → (image : List ℕ) → store.after.leaves name image → store.before.leaves name image
 
--- the name stands for a file that does not open, and a crash leaves no other
+-- the name stands for a file that does not open, and a crash leaves no other; its owner alone may read it
 pub record IsShut (store : StoreRun) (name : List ℕ) : Type 0 where
   pub file : IsTrue store.before.told → (bytes : List ℕ) × (store.after.file name ≡ Some bytes) × IsUnready bytes
   pub images : IsTrue store.before.told → IsHonest store name
       → (image : List ℕ) → store.after.leaves name image → IsUnready image
+  pub owners : IsOwners store name
 
--- the name stands for a file with the slots of this one, which opens by the share's header and is stable
+-- the name stands for a file with the slots of this one, which opens by the share's header and is stable; its owner
+-- alone may read it
 pub record IsCopied (store : StoreRun) (share : Share) (name file : List ℕ) : Type 0 where
   pub copy : IsTrue store.before.told → (bytes : List ℕ) × (store.after.file name ≡ Some bytes)
       × IsCopy (journal_header share) (slot_count share) 1 file bytes
       × (IsHonest store name → Only bytes (store.after.leaves name))
+  pub owners : IsOwners store name
 
 -- What became of copying this file under a new name, where a failed call of a disk has this cause, with the names that
 -- were touched. It is opened as a journal of version 1.

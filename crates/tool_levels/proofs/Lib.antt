@@ -1,2 +1,4 @@
+pub mod Causes
+pub mod Steady
 mod Written
 mod Whole

@@ -9,13 +9,14 @@ use Rattle.lms_bytes.specs.PublicKey.{public_bytes}
 use Rattle.lms_bytes.specs.declared.public_key.PublicKey.{PublicKey}
 use Rattle.stream_io.specs.Net.{NetState}
 use Rattle.stream_io.specs.Store.{StoreState}
+use Rattle.stream_io.specs.declared.store.Readers.TheVariants.{Anyone}
 use Rattle.tool_base.proofs.Nets.{net_none}
 use Rattle.tool_base.specs.Ending.{Ending}
 use Rattle.tool_base.specs.Outputs.{AreDifferent, IsLeft, IsNew, Output}
 use Rattle.tool_base.specs.Touched.{Keeps}
 use Rattle.tool_base.specs.World.{IsBack, IsCalm, IsNetBack, from_to}
 use Rattle.tool_disks.proofs.Outs.{keeps_calm}
-use Rattle.tool_levels.proofs.Written.{are_written, first_ones, keeps_written, new_since, others_leave, others_read, read_before, stops_later}
+use Rattle.tool_levels.proofs.Written.{IsForAnyone, are_written, first_ones, keeps_written, new_since, others_leave, others_read, read_before, stops_later}
 use Rattle.tool_levels.specs.HssSign.{HssSignEnds, HssSigningRun, LevelsEnd, SignsLower, names_of, session_words, two_levels}
 use Rattle.tool_levels.specs.HssSign as hss
 use Rattle.tool_levels.specs.Lower.{IsReady, Lower, output_names}
@@ -55,6 +56,12 @@ module _ (words : HssSignWords) (a d : StoreState) (net : NetRun) (lower : Lower
     abbrev outputs : List Output
     outputs = two_levels words top signature.bytes lower
 
+    abbrev key_output : Output
+    key_output = record { name = words.key_out; bytes = two_level_key top; readers = Anyone }
+
+    abbrev signature_output : Output
+    signature_output = record { name = words.signature_out; bytes = two_level_signature signature.bytes lower.key lower.signature; readers = Anyone }
+
     abbrev IsNewOutput : Output → Type 0
     IsNewOutput output = IsNew (from_to a e) output.name
 
@@ -63,8 +70,10 @@ module _ (words : HssSignWords) (a d : StoreState) (net : NetRun) (lower : Lower
         let key : IsNew (from_to a e) words.key_out = All-head (IsNew (from_to a e)) words.key_out (words.signature_out ∷ []) ready.new in
         let rest = All-tail (IsNew (from_to a e)) words.key_out (words.signature_out ∷ []) ready.new in
         let sig : IsNew (from_to a e) words.signature_out = All-head (IsNew (from_to a e)) words.signature_out [] rest in
-        All-cons IsNewOutput (record { name = words.key_out; bytes = two_level_key top }) (record { name = words.signature_out; bytes = two_level_signature signature.bytes lower.key lower.signature } ∷ []) key
-        (All-cons IsNewOutput (record { name = words.signature_out; bytes = two_level_signature signature.bytes lower.key lower.signature }) [] sig (All-nil IsNewOutput))
+        All-cons IsNewOutput key_output (signature_output ∷ []) key (All-cons IsNewOutput signature_output [] sig (All-nil IsNewOutput))
+
+    all_anyone : All IsForAnyone outputs
+    all_anyone = All-cons IsForAnyone key_output (signature_output ∷ []) refl (All-cons IsForAnyone signature_output [] refl (All-nil IsForAnyone))
 
     module _ (written : List Output) (left : IsLeft (from_to d e) written) (new : All IsNewOutput written) where
       -- the session as it is told once these files were written
@@ -87,7 +96,7 @@ module _ (words : HssSignWords) (a d : StoreState) (net : NetRun) (lower : Lower
     run_signed _ differ (hss.written left) = record {
       touched = output_names words ++ touched;
       ends = hss.signed lower top signature touched ready (signs_later outputs left all_new)
-          (are_written a d e touched keeps outputs back left (two_differ words.key_out words.signature_out differ))
+          (are_written a d e touched keeps outputs back left (two_differ words.key_out words.signature_out differ) all_anyone)
           (two-levels top signature.bytes lower.key lower.signature lower.message (top_accepts by) ready.accepted);
       keeps = keeps_written a d e touched keeps outputs back left;
       ports = ports;
@@ -103,7 +112,8 @@ module _ (words : HssSignWords) (a d : StoreState) (net : NetRun) (lower : Lower
       ends = hss.stopped lower top signature touched some end ready
           (signs_later some left (first_ones IsNewOutput some (stops.output ∷ stops.rest) (subst (All IsNewOutput) stops.is all_new)))
           (stops_later a d e touched keeps some back left outputs end stops)
-          (are_written a d e touched keeps some back left (differ_first _ _ some stops.output stops.rest stops.is));
+          (are_written a d e touched keeps some back left (differ_first _ _ some stops.output stops.rest stops.is)
+          (first_ones IsForAnyone some (stops.output ∷ stops.rest) (subst (All IsForAnyone) stops.is all_anyone)));
       keeps = keeps_written a d e touched keeps some back left;
       ports = ports;
     }

@@ -1,10 +1,11 @@
 -- The files that are written behind a session.
-use Rattle.std.proofs.Common.{◌≡◌, ◌≢◌, ◌↔◌, ◌⊎◌, ◌++◌, ℕ, Bool, true, false, List, [], ◌∷◌, All, Option, Some, IsTrue, inl, inr, refl, sym, ◌∙◌, subst, arith}
+use Rattle.std.proofs.Common.{◌≡◌, ◌≢◌, ◌↔◌, ◌⊎◌, ◌++◌, ℕ, Bool, true, false, List, [], ◌∷◌, All, Option, Some, IsTrue, inl, inr, refl, sym, ap, ◌∙◌, subst, arith}
 use Rattle.std.proofs.lemmas.List.Elements.{All-cons, All-head, All-nil, All-tail, All-weaker}
 use Rattle.std.proofs.lemmas.Slice.Eq.{bytes_eq-Decides}
 use Rattle.std.specs.Str.{bytes_eq}
 use Rattle.disk_trait.specs.Images.{Only}
 use Rattle.stream_io.specs.Store.{StoreState, added, has_name}
+use Rattle.stream_io.specs.declared.store.Readers.TheVariants.{Anyone}
 use Rattle.tool_base.proofs.Runs.{onward_on}
 use Rattle.tool_base.specs.Ending.{Ending}
 use Rattle.tool_base.specs.Outputs.{AreDifferent, IsLeft, IsNew, IsNotWritten, IsOther, Output, StopsAfter, all_added, no_memory_to_write, was_there, write_failed}
@@ -68,6 +69,10 @@ added_each file (output ∷ outputs) differ =
     All-cons (λ (one : Output). all_added (added file output.name output.bytes) outputs one.name ≡ Some one.bytes) output outputs own
     (added_each (added file output.name output.bytes) outputs differ.1)
 
+-- anyone may read the output
+abbrev pub IsForAnyone : Output → Type 0
+IsForAnyone output = output.readers ≡ Anyone
+
 -- from the state before the session to that behind it, and on to the state once these files were written
 module _ (a d e : StoreState) (touched : List (List ℕ)) (keeps : Keeps touched a d) (written : List Output) (back : IsBack d e) (left : IsLeft (from_to d e) written) where
   told_d : IsTrue a.told → IsTrue d.told
@@ -105,21 +110,29 @@ module _ (a d e : StoreState) (touched : List (List ℕ)) (keeps : Keeps touched
   abbrev Stands : Output → Type 0
   Stands output = Only output.bytes (e.leaves output.name)
 
-  each_written : (outputs : List Output) → (IsTrue a.told → All Reads outputs) → (IsTrue a.told → All Stands outputs) → AreWritten (from_to a e) outputs
-  each_written [] reads stands = All-nil (λ (output : Output). IsWritten (from_to a e) output.name output.bytes)
-  each_written (output ∷ outputs) reads stands =
+  abbrev ReadBy : Output → Type 0
+  ReadBy output = e.readers output.name ≡ Some output.readers
+
+  each_written : (outputs : List Output) → (IsTrue a.told → All Reads outputs) → (IsTrue a.told → All Stands outputs) → (IsTrue a.told → All ReadBy outputs)
+      → All IsForAnyone outputs → AreWritten (from_to a e) outputs
+  each_written [] reads stands readers anyone = All-nil (λ (output : Output). IsWritten (from_to a e) output.name output.bytes)
+  each_written (output ∷ outputs) reads stands readers anyone =
       All-cons (λ (one : Output). IsWritten (from_to a e) one.name one.bytes) output outputs
       (record {
         file = λ told. All-head Reads output outputs (reads told);
         stable = λ told. All-head Stands output outputs (stands told);
+        readers = λ told. All-head ReadBy output outputs (readers told) ∙ ap Some (All-head IsForAnyone output outputs anyone);
       })
-      (each_written outputs (λ told. All-tail Reads output outputs (reads told)) (λ told. All-tail Stands output outputs (stands told)))
+      (each_written outputs (λ told. All-tail Reads output outputs (reads told)) (λ told. All-tail Stands output outputs (stands told))
+      (λ told. All-tail ReadBy output outputs (readers told)) (All-tail IsForAnyone output outputs anyone))
 
-  pub are_written : AreDifferent (names_of written) → AreWritten (from_to a e) written
-  are_written differ = each_written written
+  pub are_written : AreDifferent (names_of written) → All IsForAnyone written → AreWritten (from_to a e) written
+  are_written differ anyone = each_written written
       (λ told. All-weaker (λ (output : Output). all_added d.file written output.name ≡ Some output.bytes) Reads
       (λ output is. left.file (told_d told) output.name ∙ is) written (added_each d.file written differ))
       (λ told. left.stable (told_d told))
+      (λ told. left.readers (told_d told))
+      anyone
 
   -- the end where the writing stopped
   pub stops_later : (outputs : List Output) (end : Ending) → StopsAfter (from_to d e) outputs written end → StopsAfter (from_to a e) outputs written end

@@ -8,6 +8,7 @@ use Rattle.lms_bytes.specs.PublicKey.{public_bytes}
 use Rattle.lms_bytes.specs.declared.public_key.PublicKey.{PublicKey}
 use Rattle.lms_verify.specs.Verdict.{IsVerdict}
 use Rattle.lms_verify.specs.declared.verification.Verdict.{Verdict}
+use Rattle.stream_io.specs.declared.store.Readers.TheVariants.{Anyone}
 use Rattle.tool_base.specs.Ending as ending
 use Rattle.tool_base.specs.Ending.{Ending, status_of}
 use Rattle.tool_base.specs.Outputs.{FirstNotNew, IsLeft, IsNew, Output, StopsAfter}
@@ -24,16 +25,20 @@ use Rattle.tool_words.specs.Words.{HssSignWords}
 abbrev pub session_words : HssSignWords → SessionWords
 session_words words = record { prefix = words.prefix; table = words.table; places = words.places }
 
--- key and signature of two levels, under the names of the words
+-- key and signature of two levels, under the names of the words, for anyone to read
 abbrev pub two_levels : HssSignWords → PublicKey → List ℕ → Lower → List Output
 two_levels words top top_signature lower =
-    record { name = words.key_out; bytes = two_level_key top }
-    ∷ record { name = words.signature_out; bytes = two_level_signature top_signature lower.key lower.signature } ∷ []
+    record { name = words.key_out; bytes = two_level_key top; readers = Anyone }
+    ∷ record {
+      name = words.signature_out;
+      bytes = two_level_signature top_signature lower.key lower.signature;
+      readers = Anyone;
+    } ∷ []
 
 abbrev pub names_of : List Output → List (List ℕ)
 names_of outputs = map (λ output. output.name) outputs
 
--- these files stand in the store, all stable
+-- these files stand in the store, all stable, for anyone to read
 abbrev pub AreWritten : StoreRun → List Output → Type 0
 AreWritten store outputs = All (λ output. IsWritten store output.name output.bytes) outputs
 

@@ -1,2 +1,3 @@
 pub mod Lower
 pub mod HssSign
+pub mod Lost

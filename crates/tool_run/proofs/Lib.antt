@@ -5,4 +5,5 @@ pub mod Naming
 pub mod Plans
 pub mod Rehearsing
 pub mod Running
+pub mod Steady
 pub mod Verifying

@@ -5,11 +5,12 @@ use Rattle.std.specs.Fmt.{decimal}
 use Rattle.std.specs.List.{range_with_len}
 use Rattle.std.proofs.lemmas.List.{append_assoc, append-nil, length-map, map-append}
 use Rattle.tool_run.specs.Naming.{named_shares}
+use Rattle.stream_io.specs.declared.store.Readers.TheVariants.{OwnerAlone}
 use Rattle.tool_base.specs.Outputs.{Output}
 
 -- the share of trustee t
 abbrev pub named_share : List ℕ → ℕ → List ℕ → Output
-named_share prefix t share = record { name = prefix ++ (codes ".share" ++ decimal t); bytes = share }
+named_share prefix t share = record { name = prefix ++ (codes ".share" ++ decimal t); bytes = share; readers = OwnerAlone }
 
 pub named_none : (prefix : List ℕ) (front : List Output) → front ≡ front ++ named_shares prefix 1 []
 unfolding named_shares

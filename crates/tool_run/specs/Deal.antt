@@ -16,6 +16,7 @@ use Rattle.lms_bytes.specs.declared.faults.KeyFault.{KeyFault}
 use Rattle.lms_bytes.specs.declared.params.Params.{Params}
 use Rattle.reference_value.specs.Dealing.{Dealing}
 use Rattle.share_files.specs.Commits.{commits_length}
+use Rattle.stream_io.specs.declared.store.Readers.TheVariants.{Anyone, OwnerAlone}
 use Rattle.tool_base.specs.Ending as ending
 use Rattle.tool_base.specs.Ending.{Ending}
 use Rattle.tool_base.specs.Outputs.{FirstNotNew, IsNew, Output, StopsAfter}
@@ -39,21 +40,26 @@ plan_of words params = record { n = words.n; k = words.k; h = params.h }
 abbrev pub asked_commits : Bool → Dealing → Option (List ℕ)
 asked_commits commit d = if commit then Some (commits_file d) else None
 
--- the output with it, where there is one
+-- the output with it, where there is one: anyone may read it
 abbrev pub commits_outputs : List ℕ → Option (List ℕ) → List Output
 commits_outputs prefix None = []
-commits_outputs prefix (Some file) = record { name = prefix ++ codes ".commit"; bytes = file } ∷ []
+commits_outputs prefix (Some file) = record { name = prefix ++ codes ".commit"; bytes = file; readers = Anyone } ∷ []
 
--- the files of a dealing, in the order in which they are written; `.share1` and on for the trustees, and last the
--- commitment file where the words ask for it
+-- the share of trustee t, which its owner alone may read
 abbrev pub share_output : List ℕ → Dealing → ℕ → Output
-share_output prefix d t = record { name = prefix ++ (codes ".share" ++ decimal t); bytes = share_file d t }
+share_output prefix d t = record {
+  name = prefix ++ (codes ".share" ++ decimal t);
+  bytes = share_file d t;
+  readers = OwnerAlone;
+}
 
+-- The files of a dealing, in the order in which they are written: `.share1` and on for the trustees, and last the
+-- commitment file where the words ask for it. Anyone may read those that are no shares.
 abbrev pub outputs_of : DealWords → Dealing → List Output
 outputs_of words d =
-    record { name = key_name words.prefix; bytes = public_file d }
-    ∷ record { name = tree_name words.prefix; bytes = tree_file d }
-    ∷ record { name = reference_name words.prefix; bytes = reference_file d }
+    record { name = key_name words.prefix; bytes = public_file d; readers = Anyone }
+    ∷ record { name = tree_name words.prefix; bytes = tree_file d; readers = Anyone }
+    ∷ record { name = reference_name words.prefix; bytes = reference_file d; readers = Anyone }
     ∷ (map (share_output words.prefix d) (range_with_len 1 d.plan.n)
     ++ commits_outputs words.prefix (asked_commits words.commit d))
 

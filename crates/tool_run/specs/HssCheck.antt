@@ -1,5 +1,5 @@
--- How `hss check` ends: it reads the key, the message and the signature, in this order, and the key is tested before the
--- message is read.
+-- How `hss check` ends: it reads the key, the message and the signature, in this order, and the key is tested before
+-- the message is read.
 use Rattle.std.specs.Prelude.{ℕ, List, Option, option_map}
 use Rattle.hss_levels.specs.FaultNumbers.{hss_key_fault_number}
 use Rattle.hss_levels.specs.HssKey.{hss_key_bytes, hss_key_fault}

@@ -5,4 +5,5 @@ pub mod HssCheck
 pub mod Naming
 pub mod Rehearse
 pub mod ToolRun
+pub mod Steady
 pub mod Verify

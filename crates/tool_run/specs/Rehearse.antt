@@ -5,6 +5,7 @@ use Rattle.dealer.specs.declared.faults.DealFault.{DealFault}
 use Rattle.lms_bytes.specs.PublicKey.{public_bytes}
 use Rattle.lms_bytes.specs.declared.public_key.PublicKey.{PublicKey}
 use Rattle.rehearsal.specs.Rehearsal.{CanRehearse, IsRehearsed, RehearsalFault}
+use Rattle.stream_io.specs.declared.store.Readers.TheVariants.{Anyone}
 use Rattle.tool_base.specs.Ending as ending
 use Rattle.tool_base.specs.Ending.{Ending}
 use Rattle.tool_base.specs.Outputs.{FirstNotNew, IsNew, Output, StopsAfter}
@@ -12,14 +13,15 @@ use Rattle.tool_base.specs.Undealt.{end_of_fault}
 use Rattle.tool_base.specs.Reads.{FailsToRead}
 use Rattle.tool_base.specs.World.{StoreRun, Bytes, IsRead}
 
--- the rehearsal gives these outputs: the public key, and then the signature
+-- the rehearsal gives these outputs for anyone to read: the public key, and then the signature
 pub record IsRehearsedTo (entropy message key_out signature_out : List ℕ) (outputs : List Output) : Type 0 where
   pub public : PublicKey
   pub signature : List ℕ
   pub can : CanRehearse entropy
   pub rehearsed : IsRehearsed entropy message public signature
   pub outputs_are : outputs
-      ≡ record { name = key_out; bytes = public_bytes public } ∷ record { name = signature_out; bytes = signature } ∷ []
+      ≡ record { name = key_out; bytes = public_bytes public; readers = Anyone }
+      ∷ record { name = signature_out; bytes = signature; readers = Anyone } ∷ []
 
 -- the end where there is no rehearsal with this entropy
 pub data IsNotRehearsed (entropy : List ℕ) : Ending → Type 0 where

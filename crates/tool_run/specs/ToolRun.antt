@@ -7,6 +7,7 @@ use Rattle.tool_base.specs.Ending.{Ending, Usage, NoMemory, status_of, line_of}
 use Rattle.tool_run.specs.Deal.{DealEnds}
 use Rattle.tool_base.specs.Outputs.{EndsWith}
 use Rattle.tool_base.specs.Touched.{EndsTouching}
+use Rattle.tool_blame.specs.Blame.{BlameRun}
 use Rattle.tool_clients.specs.Aggregate.{AggregateRun}
 use Rattle.tool_journals.specs.Approve.{ApproveEnds}
 use Rattle.tool_journals.specs.Enrol.{EnrolEnds}
@@ -20,7 +21,7 @@ use Rattle.tool_service.specs.Trustee.{TrusteeRun}
 use Rattle.tool_signing.specs.Ports.{over_net}
 use Rattle.tool_signing.specs.Sign.{SigningRun}
 use Rattle.tool_words.specs.Words.{Row, Verify, Rehearse, Deal, Enrol, Migrate, Approve, Trustee, Sign, Aggregate}
-use Rattle.tool_words.specs.Words.{AggregateWords, Drill, HssCheck, HssSign, HssSignWords, SignWords, command_of}
+use Rattle.tool_words.specs.Words.{AggregateWords, Blame, Drill, HssCheck, HssSign, HssSignWords, SignWords, command_of}
 use Rattle.tool_base.specs.World.{AllBack, Onward, Outside, OutputRun, StoreRun, World, from_to}
 
 -- a command that works on the store alone: the net is as it was
@@ -31,6 +32,10 @@ pub record OnStore (Run : StoreRun → Ending → Type 0) (before after : Outsid
 -- the command that signs: it works on the store, over the net
 abbrev pub Signs : SignWords → Outside → Outside → Ending → Type 0
 Signs words before after = SigningRun words (from_to before.store after.store) (over_net before.net after.net)
+
+-- the command that signs or names members: likewise
+abbrev pub Blames : SignWords → Outside → Outside → Ending → Type 0
+Blames words before after = BlameRun words (from_to before.store after.store) (over_net before.net after.net)
 
 -- the command that signs for clients: likewise
 abbrev pub Aggregates : AggregateWords → Outside → Outside → Ending → Type 0
@@ -57,6 +62,7 @@ CommandRun (Migrate share journal new) = OnStore (λ store. EndsTouching (Migrat
 CommandRun (Approve share book message) = OnStore (λ store. EndsTouching (ApproveEnds store share book message) store)
 CommandRun (Trustee words) = TrusteeRun words
 CommandRun (Sign words) = Signs words
+CommandRun (Blame words) = Blames words
 CommandRun (HssCheck key message signature) =
     OnStore (λ store. EndsWith (λ end written. HssCheckEnds store key message signature end × (written ≡ [])) store)
 CommandRun (HssSign words) = SignsLevels words

@@ -224,7 +224,7 @@ fn push_commits(
 
 /// A file under a name.
 fn named(name: String, bytes: Vec<u8>, readers: Readers) -> Output
-    ensures { output_of result ≡ record { name = string_bytes name; bytes = bytes.items } }
+    ensures { output_of result ≡ record { name = string_bytes name; bytes = bytes.items; readers = readers } }
 {
     Output {
         name,

@@ -2,6 +2,7 @@
 
 ghost use Rattle.std.specs.Prelude.{◌≡◌, ◌≢◌, [], ◌∷◌, map, IfOk, IfErr, OnOk};
 ghost use Rattle.lms_bytes.specs.PublicKey.{public_bytes};
+ghost use Rattle.stream_io.specs.declared.store.Readers.TheVariants.{Anyone};
 ghost use Rattle.tool_base.specs.Ending as spec;
 ghost use Rattle.tool_base.specs.Endings.{ending};
 ghost use Rattle.tool_base.specs.OutputOf.{output_of};
@@ -92,8 +93,8 @@ fn named_outputs(
     signature_out: &str,
 ) -> Result<[Output; 2], NoMemory>
     ensures { IfOk result (λ outputs. map output_of outputs ≡
-        record { name = key_out.now; bytes = public_bytes rehearsed.public }
-        ∷ record { name = signature_out.now; bytes = rehearsed.signature.items } ∷ []) }
+        record { name = key_out.now; bytes = public_bytes rehearsed.public; readers = Anyone }
+        ∷ record { name = signature_out.now; bytes = rehearsed.signature.items; readers = Anyone } ∷ []) }
 {
     let key = Output {
         name: String::from_str(alloc, key_out)?,

@@ -17,6 +17,7 @@ use std::sync::Wait;
 use std::thread::Threads;
 use stream_io::{Failed, Net, Sink, Store, write_whole};
 use tool_base::{Clocks, Ending};
+use tool_blame::blame;
 use tool_clients::aggregate;
 use tool_journals::{approve_message, enrol_file, migrate_journal};
 use tool_levels::hss_sign;
@@ -113,6 +114,7 @@ fn run_command<R: Threads + Wait + Sync, S: Store, N: Net, T: Clocks>(
         } => approve_message(alloc, store, share, book, message),
         Command::Trustee(words) => serve_trustee(rt, alloc, words, store, net, time),
         Command::Sign(words) => sign(alloc, words, store, net),
+        Command::Blame(words) => blame(alloc, words, store, net),
         Command::HssSign(words) => hss_sign(alloc, words, store, net),
         Command::HssCheck {
             key,

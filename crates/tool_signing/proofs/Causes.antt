@@ -17,7 +17,7 @@ use Rattle.stream_io.specs.Net.{PortState}
 use Rattle.tool_base.specs.Ending as ending
 use Rattle.tool_base.specs.Ending.{Ending}
 use Rattle.tool_base.specs.Grammars.{FailsGrammar, not_in_grammar, not_read}
-use Rattle.tool_base.specs.Outputs.{IsNotNew, IsNotWritten, is_there, no_memory_to_name, no_memory_to_write, test_failed, was_there, write_failed}
+use Rattle.tool_base.specs.Outputs.{IsNotNew, IsNotWritten, Output, is_there, no_memory_to_name, no_memory_to_write, test_failed, was_there, write_failed}
 use Rattle.tool_base.specs.Reads.{FailsUpTo}
 use Rattle.tool_base.specs.Reads as reads
 use Rattle.tool_base.specs.World.{StoreRun}
@@ -38,7 +38,7 @@ use Rattle.tool_signing.specs.Sign.{SignEnds, SigningRun, session_words}
 use Rattle.tool_signing.specs.Sign as sign
 use Rattle.tool_signing.specs.Signs.{SignedTable, TableEnds}
 use Rattle.tool_signing.specs.Signs as signs
-use Rattle.tool_signing.specs.Tasks.{FailsTask, LacksTask, MessageSource, SessionWords, message_in}
+use Rattle.tool_signing.specs.Tasks.{FailsTask, LacksTask, MessageSource, SessionWords, message_in, message_limit}
 use Rattle.tool_signing.specs.Tasks as tasks
 use Rattle.tool_words.specs.Words.{SignWords}
 
@@ -48,7 +48,7 @@ err_of end = Err end
 abbrev failed_with : SignFault → Result (List ℕ) SignFault
 failed_with one = Err one
 
-abbrev no_leaf : TableFault → Result ℕ TableFault
+abbrev pub no_leaf : TableFault → Result ℕ TableFault
 no_leaf one = Err one
 
 -- what no fault of a session is told by
@@ -89,21 +89,21 @@ never-net (fault.Session session.NoMemory) is = absurd (cc)
 never-net fault.NoMemory is = absurd (cc)
 
 -- a session run with a leaf has no fault of the table
-run-table : (desk : DeskState) (reads : CellsRead) (leaf : ℕ) (message : List ℕ) (port now : PortState) (result : Result (List ℕ) SignFault) (f : TableFault)
+pub run-table : (desk : DeskState) (reads : CellsRead) (leaf : ℕ) (message : List ℕ) (port now : PortState) (result : Result (List ℕ) SignFault) (f : TableFault)
     → RunsOn desk reads leaf message port now result → result ≡ Err (fault.Table f) → ⊥
 run-table desk reads leaf message port _ _ f (not_started same) is = absurd (cc)
 run-table desk reads leaf message port _ _ f (ran after last result run ends) is = subst (λ (r : Result (List ℕ) SignFault). IfErr r (IsEnd leaf)) is ends
 
-with-table : (leaf : ℕ) (result : Result (List ℕ) SignFault) (f : TableFault) → signed_with leaf result ≡ Err (fault.Table f) → result ≡ Err (fault.Table f)
-with-table leaf (Ok bytes) f is = absurd (cc)
-with-table leaf (Err why) f is = let same : why ≡ fault.Table f = cc in ap failed_with same
+pub with-fault : (leaf : ℕ) (result : Result (List ℕ) SignFault) (f : SignFault) → signed_with leaf result ≡ Err f → result ≡ Err f
+with-fault leaf (Ok bytes) f is = absurd (cc)
+with-fault leaf (Err why) f is = let same : why ≡ f = cc in ap failed_with same
 
 device-count : (s : Signing) (old new : TableSeen) (port done : PortState) (outcome : Result Signature SignFault) → outcome ≡ Err (fault.Table table.Device)
     → SignsLeased s.desk s.reads s.members s.message old port new done outcome → Rose old.faults new.faults
 device-count s old new port done _ is (signing.too_long long unread) = absurd (cc)
 device-count s old new port done _ is (signing.not_leased after f short unread asks) = let same : f ≡ table.Device = cc in asks.entered.cause.failed (ap no_leaf same)
 device-count s old new port done _ is (signing.leased leaf mid after now result short asks runs spends) =
-    absurd (run-table s.desk s.reads leaf s.message port now result table.Device runs (with-table leaf result table.Device is))
+    absurd (run-table s.desk s.reads leaf s.message port now result table.Device runs (with-fault leaf result (fault.Table table.Device) is))
 
 module _ (s : Signing) (name : List ℕ) (store : StoreRun) (net : NetRun) where
   outcome-err : (outcome : Result Signature SignFault) (end : Ending) → answer_of outcome ≡ Err end → (f : SignFault) × (outcome ≡ Err f) × (end_of_fault f ≡ end)
@@ -128,14 +128,14 @@ module _ (s : Signing) (name : List ℕ) (store : StoreRun) (net : NetRun) where
   not-loaded-device header count _ (loads.device fails) is = fails.rose
   not-loaded-device header count _ loads.no_memory is = absurd (cc)
 
-  table-store : (answer : Result Signature Ending) (touched : List (List ℕ)) → TableEnds s name store net answer touched → answer ≡ Err ending.StoreFailed → Rose store.before.count store.after.count
+  pub table-store : (answer : Result Signature Ending) (touched : List (List ℕ)) → TableEnds s name store net answer touched → answer ≡ Err ending.StoreFailed → Rose store.before.count store.after.count
   table-store _ _ (signs.no_table idle read) is = read.0
   table-store _ _ (signs.no_memory touched idle stays) is = absurd (cc)
   table-store _ _ (signs.not_loaded end idle fails stays) is = let same : end ≡ ending.StoreFailed = cc in absurd (not-loaded-store _ _ end fails same)
   table-store _ _ (signs.no_port entries idle reads rose never stays) is = absurd (cc)
   table-store _ _ (signs.signed outcome signed) is = let p = outcome-err outcome ending.StoreFailed is in absurd (never-store p.0 p.2)
 
-  table-net : (answer : Result Signature Ending) (touched : List (List ℕ)) → TableEnds s name store net answer touched → answer ≡ Err ending.NetFailed → Rose net.before.port_count net.after.port_count
+  pub table-net : (answer : Result Signature Ending) (touched : List (List ℕ)) → TableEnds s name store net answer touched → answer ≡ Err ending.NetFailed → Rose net.before.port_count net.after.port_count
   table-net _ _ (signs.no_table idle read) is = absurd (cc)
   table-net _ _ (signs.no_memory touched idle stays) is = absurd (cc)
   table-net _ _ (signs.not_loaded end idle fails stays) is = let same : end ≡ ending.NetFailed = cc in absurd (not-loaded-net _ _ end fails same)
@@ -166,7 +166,7 @@ module _ (s : Signing) (name : List ℕ) (store : StoreRun) (net : NetRun) where
   fault-device (fault.Session session.NoMemory) outcome of is signed fresh rise = absurd (cc)
   fault-device fault.NoMemory outcome of is signed fresh rise = absurd (cc)
 
-  table-device : (answer : Result Signature Ending) (touched : List (List ℕ)) → TableEnds s name store net answer touched → answer ≡ Err ending.DeviceFailed
+  pub table-device : (answer : Result Signature Ending) (touched : List (List ℕ)) → TableEnds s name store net answer touched → answer ≡ Err ending.DeviceFailed
       → s.reads.before ≡ 0 → min (store.before.disk_count + s.reads.now) (2 ^ 64 - 1) ≤ store.after.disk_count → DeviceRose store
   table-device _ _ (signs.no_table idle read) is fresh rise = absurd (cc)
   table-device _ _ (signs.no_memory touched idle stays) is fresh rise = absurd (cc)
@@ -174,151 +174,157 @@ module _ (s : Signing) (name : List ℕ) (store : StoreRun) (net : NetRun) where
   table-device _ _ (signs.no_port entries idle reads rose never stays) is fresh rise = absurd (cc)
   table-device _ _ (signs.signed outcome signed) is fresh rise = let p = outcome-err outcome ending.DeviceFailed is in fault-device p.0 outcome p.1 p.2 signed fresh rise
 
-module _ (words : SignWords) (store : StoreRun) where
-  upto-store : (limit : ℕ) (name : List ℕ) (end : Ending) → FailsUpTo limit store name end → end ≡ ending.StoreFailed → Rose store.before.count store.after.count
+-- what is read, tested and written
+module _ (store : StoreRun) where
+  pub upto-store : (limit : ℕ) (name : List ℕ) (end : Ending) → FailsUpTo limit store name end → end ≡ ending.StoreFailed → Rose store.before.count store.after.count
   upto-store limit name _ (reads.failed read) is = read.0
   upto-store limit name _ (reads.too_long got read) is = absurd (cc)
   upto-store limit name _ reads.no_memory is = absurd (cc)
 
-  upto-other : (limit : ℕ) (name : List ℕ) (end : Ending) → FailsUpTo limit store name end → (end ≡ ending.DeviceFailed → ⊥) × (end ≡ ending.NetFailed → ⊥)
+  pub upto-other : (limit : ℕ) (name : List ℕ) (end : Ending) → FailsUpTo limit store name end → (end ≡ ending.DeviceFailed → ⊥) × (end ≡ ending.NetFailed → ⊥)
   upto-other limit name _ (reads.failed read) = (λ is. cc, λ is. cc)
   upto-other limit name _ (reads.too_long got read) = (λ is. cc, λ is. cc)
   upto-other limit name _ reads.no_memory = (λ is. cc, λ is. cc)
 
-  grammar-store : (f : List ℕ → Option ℕ) (name : List ℕ) (end : Ending) → FailsGrammar f store name end → end ≡ ending.StoreFailed → Rose store.before.count store.after.count
+  pub grammar-store : (f : List ℕ → Option ℕ) (name : List ℕ) (end : Ending) → FailsGrammar f store name end → end ≡ ending.StoreFailed → Rose store.before.count store.after.count
   grammar-store f name _ (not_read end fails) is = upto-store _ name end fails is
   grammar-store f name _ (not_in_grammar bytes why read found) is = absurd (cc)
 
-  grammar-other : (f : List ℕ → Option ℕ) (name : List ℕ) (end : Ending) → FailsGrammar f store name end → (end ≡ ending.DeviceFailed → ⊥) × (end ≡ ending.NetFailed → ⊥)
+  pub grammar-other : (f : List ℕ → Option ℕ) (name : List ℕ) (end : Ending) → FailsGrammar f store name end → (end ≡ ending.DeviceFailed → ⊥) × (end ≡ ending.NetFailed → ⊥)
   grammar-other f name _ (not_read end fails) = upto-other _ name end fails
   grammar-other f name _ (not_in_grammar bytes why read found) = (λ is. cc, λ is. cc)
 
-  keys-store : (end : Ending) → FailsKeyFiles store words.prefix end → end ≡ ending.StoreFailed → Rose store.before.count store.after.count
-  keys-store _ (files.no_key end fails) is = grammar-store _ _ end fails is
-  keys-store _ (files.no_tree key end read fails) is = grammar-store _ _ end fails is
+  pub keys-store : (prefix : List ℕ) (end : Ending) → FailsKeyFiles store prefix end → end ≡ ending.StoreFailed → Rose store.before.count store.after.count
+  keys-store prefix _ (files.no_key end fails) is = grammar-store _ _ end fails is
+  keys-store prefix _ (files.no_tree key end read fails) is = grammar-store _ _ end fails is
 
-  keys-other : (end : Ending) → FailsKeyFiles store words.prefix end → (end ≡ ending.DeviceFailed → ⊥) × (end ≡ ending.NetFailed → ⊥)
-  keys-other _ (files.no_key end fails) = grammar-other _ _ end fails
-  keys-other _ (files.no_tree key end read fails) = grammar-other _ _ end fails
+  pub keys-other : (prefix : List ℕ) (end : Ending) → FailsKeyFiles store prefix end → (end ≡ ending.DeviceFailed → ⊥) × (end ≡ ending.NetFailed → ⊥)
+  keys-other prefix _ (files.no_key end fails) = grammar-other _ _ end fails
+  keys-other prefix _ (files.no_tree key end read fails) = grammar-other _ _ end fails
 
-  new-store : (name : List ℕ) (end : Ending) → IsNotNew store name end → end ≡ ending.StoreFailed → Rose store.before.count store.after.count
+  pub new-store : (name : List ℕ) (end : Ending) → IsNotNew store name end → end ≡ ending.StoreFailed → Rose store.before.count store.after.count
   new-store name _ (test_failed failed) is = failed.rose
   new-store name _ (is_there has) is = absurd (cc)
   new-store name _ no_memory_to_name is = absurd (cc)
 
-  new-other : (name : List ℕ) (end : Ending) → IsNotNew store name end → (end ≡ ending.DeviceFailed → ⊥) × (end ≡ ending.NetFailed → ⊥)
+  pub new-other : (name : List ℕ) (end : Ending) → IsNotNew store name end → (end ≡ ending.DeviceFailed → ⊥) × (end ≡ ending.NetFailed → ⊥)
   new-other name _ (test_failed failed) = (λ is. cc, λ is. cc)
   new-other name _ (is_there has) = (λ is. cc, λ is. cc)
   new-other name _ no_memory_to_name = (λ is. cc, λ is. cc)
 
-  reference-store : (name : List ℕ) (end : Ending) → FailsReference store name end → end ≡ ending.StoreFailed → Rose store.before.count store.after.count
+  pub reference-store : (name : List ℕ) (end : Ending) → FailsReference store name end → end ≡ ending.StoreFailed → Rose store.before.count store.after.count
   reference-store name _ (references.no_view read) is = read.0
   reference-store name _ (references.not_in_grammar f read) is = absurd (cc)
   reference-store name _ (references.device fails) is = absurd (cc)
   reference-store name _ references.no_memory is = absurd (cc)
 
-  reference-device : (name : List ℕ) (end : Ending) → FailsReference store name end → end ≡ ending.DeviceFailed → DeviceRose store
+  pub reference-device : (name : List ℕ) (end : Ending) → FailsReference store name end → end ≡ ending.DeviceFailed → DeviceRose store
   reference-device name _ (references.no_view read) is = absurd (cc)
   reference-device name _ (references.not_in_grammar f read) is = absurd (cc)
   reference-device name _ (references.device fails) is = fails.rose
   reference-device name _ references.no_memory is = absurd (cc)
 
-  reference-net : (name : List ℕ) (end : Ending) → FailsReference store name end → end ≡ ending.NetFailed → ⊥
+  pub reference-net : (name : List ℕ) (end : Ending) → FailsReference store name end → end ≡ ending.NetFailed → ⊥
   reference-net name _ (references.no_view read) is = absurd (cc)
   reference-net name _ (references.not_in_grammar f read) is = absurd (cc)
   reference-net name _ (references.device fails) is = absurd (cc)
   reference-net name _ references.no_memory is = absurd (cc)
 
-  other-key : (keys : KeyFiles) (header : RefHeader) (end : Ending) → IsOfOtherKey words.prefix keys header end
+  pub unwritten-store : (written : List Output) (name : List ℕ) (end : Ending) → IsNotWritten store written name end → end ≡ ending.StoreFailed → Rose store.before.count store.after.count
+  unwritten-store written name _ (write_failed failed) is = failed.rose
+  unwritten-store written name _ (was_there never) is = absurd (cc)
+  unwritten-store written name _ no_memory_to_write is = absurd (cc)
+
+  pub unwritten-other : (written : List Output) (name : List ℕ) (end : Ending) → IsNotWritten store written name end → (end ≡ ending.DeviceFailed → ⊥) × (end ≡ ending.NetFailed → ⊥)
+  unwritten-other written name _ (write_failed failed) = (λ is. cc, λ is. cc)
+  unwritten-other written name _ (was_there never) = (λ is. cc, λ is. cc)
+  unwritten-other written name _ no_memory_to_write = (λ is. cc, λ is. cc)
+
+-- sessions, wherever their message comes from
+module _ (asked : SessionWords) (store : StoreRun) (source : MessageSource)
+    (source-store : (end : Ending) → source.fails end → end ≡ ending.StoreFailed → Rose store.before.count store.after.count)
+    (source-other : (end : Ending) → source.fails end → (end ≡ ending.DeviceFailed → ⊥) × (end ≡ ending.NetFailed → ⊥)) where
+  other-key : (keys : KeyFiles) (header : RefHeader) (end : Ending) → IsOfOtherKey asked.prefix keys header end
       → (end ≡ ending.StoreFailed → ⊥) × (end ≡ ending.DeviceFailed → ⊥) × (end ≡ ending.NetFailed → ⊥)
   other-key keys header _ (files.other_tree never) = (λ is. cc, λ is. cc, λ is. cc)
   other-key keys header _ (files.other_reference one never) = (λ is. cc, λ is. cc, λ is. cc)
   other-key keys header _ files.no_memory = (λ is. cc, λ is. cc, λ is. cc)
 
+  pub lacks-store : (keys : KeyFiles) (header : RefHeader) (end : Ending) → LacksTask asked source keys header end → end ≡ ending.StoreFailed → Rose store.before.count store.after.count
+  lacks-store keys header _ tasks.no_memory is = absurd (cc)
+  lacks-store keys header _ (tasks.no_message end fails) is = source-store end fails is
+  lacks-store keys header _ (tasks.other_key message end read other) is = absurd ((other-key keys header end other).0 is)
+  lacks-store keys header _ (tasks.no_coalition message read one never) is = absurd (cc)
+
+  pub lacks-other : (keys : KeyFiles) (header : RefHeader) (end : Ending) → LacksTask asked source keys header end → (end ≡ ending.DeviceFailed → ⊥) × (end ≡ ending.NetFailed → ⊥)
+  lacks-other keys header _ tasks.no_memory = (λ is. cc, λ is. cc)
+  lacks-other keys header _ (tasks.no_message end fails) = source-other end fails
+  lacks-other keys header _ (tasks.other_key message end read other) = let p = other-key keys header end other in (p.1, p.2)
+  lacks-other keys header _ (tasks.no_coalition message read one never) = (λ is. cc, λ is. cc)
+
+  task-store : (end : Ending) → FailsTask asked store source end → end ≡ ending.StoreFailed → Rose store.before.count store.after.count
+  task-store _ (tasks.no_key_files end fails) is = keys-store store asked.prefix end fails is
+  task-store _ (tasks.no_reference keys end read fails) is = reference-store store _ end fails is
+  task-store _ (tasks.no_task keys header end has lacks) is = lacks-store keys header end lacks is
+
+  task-device : (end : Ending) → FailsTask asked store source end → end ≡ ending.DeviceFailed → DeviceRose store
+  task-device _ (tasks.no_key_files end fails) is = absurd ((keys-other store asked.prefix end fails).0 is)
+  task-device _ (tasks.no_reference keys end read fails) is = reference-device store _ end fails is
+  task-device _ (tasks.no_task keys header end has lacks) is = absurd ((lacks-other keys header end lacks).0 is)
+
+  task-net : (end : Ending) → FailsTask asked store source end → end ≡ ending.NetFailed → ⊥
+  task-net _ (tasks.no_key_files end fails) is = (keys-other store asked.prefix end fails).1 is
+  task-net _ (tasks.no_reference keys end read fails) is = reference-net store _ end fails is
+  task-net _ (tasks.no_task keys header end has lacks) is = (lacks-other keys header end lacks).1 is
+
+  module _ (net : NetRun) where
+    pub session-store : (answer : Result Signature Ending) (touched : List (List ℕ)) → SessionEnds asked store source net answer touched → answer ≡ Err ending.StoreFailed
+        → Rose store.before.count store.after.count
+    session-store _ _ (sessions.no_task end fails same) is = let e : end ≡ ending.StoreFailed = cc in task-store end fails e
+    session-store answer touched (sessions.ended s _ _ task ends) is = table-store s asked.table store net answer touched ends is
+
+    pub session-device : (answer : Result Signature Ending) (touched : List (List ℕ)) → SessionEnds asked store source net answer touched → answer ≡ Err ending.DeviceFailed → DeviceRose store
+    session-device _ _ (sessions.no_task end fails same) is = let e : end ≡ ending.DeviceFailed = cc in task-device end fails e
+    session-device answer touched (sessions.ended s _ _ task ends) is = table-device s asked.table store net answer touched ends is task.reads.fresh task.reads.rise
+
+    pub session-net : (answer : Result Signature Ending) (touched : List (List ℕ)) → SessionEnds asked store source net answer touched → answer ≡ Err ending.NetFailed
+        → Rose net.before.port_count net.after.port_count
+    session-net _ _ (sessions.no_task end fails same) is = let e : end ≡ ending.NetFailed = cc in absurd (task-net end fails e)
+    session-net answer touched (sessions.ended s _ _ task ends) is = table-net s asked.table store net answer touched ends is
+
+module _ (words : SignWords) (store : StoreRun) (net : NetRun) where
   abbrev source : MessageSource
   source = message_in store words.message
 
   abbrev asked : SessionWords
   asked = session_words words
 
-  lacks-store : (keys : KeyFiles) (header : RefHeader) (end : Ending) → LacksTask asked source keys header end → end ≡ ending.StoreFailed → Rose store.before.count store.after.count
-  lacks-store keys header _ tasks.no_memory is = absurd (cc)
-  lacks-store keys header _ (tasks.no_message end fails) is = upto-store _ words.message end fails is
-  lacks-store keys header _ (tasks.other_key message end read other) is = absurd ((other-key keys header end other).0 is)
-  lacks-store keys header _ (tasks.no_coalition message read one never) is = absurd (cc)
+  ends-store : (end : Ending) (touched : List (List ℕ)) → SignEnds words store net end touched → end ≡ ending.StoreFailed → Rose store.before.count store.after.count
+  ends-store _ _ (sign.not_new end fails same) is = new-store store words.out end fails is
+  ends-store _ _ (sign.not_signed end touched new ends) is = session-store asked store source (upto-store store message_limit words.message) (upto-other store message_limit words.message) net (Err end) touched ends (ap err_of is)
+  ends-store _ _ (sign.not_written signature end touched new ends cause) is = unwritten-store store [] words.out end cause is
+  ends-store _ _ (sign.signed signature touched new ends written) is = absurd (cc)
 
-  lacks-other : (keys : KeyFiles) (header : RefHeader) (end : Ending) → LacksTask asked source keys header end → (end ≡ ending.DeviceFailed → ⊥) × (end ≡ ending.NetFailed → ⊥)
-  lacks-other keys header _ tasks.no_memory = (λ is. cc, λ is. cc)
-  lacks-other keys header _ (tasks.no_message end fails) = upto-other _ words.message end fails
-  lacks-other keys header _ (tasks.other_key message end read other) = let p = other-key keys header end other in (p.1, p.2)
-  lacks-other keys header _ (tasks.no_coalition message read one never) = (λ is. cc, λ is. cc)
+  ends-device : (end : Ending) (touched : List (List ℕ)) → SignEnds words store net end touched → end ≡ ending.DeviceFailed → DeviceRose store
+  ends-device _ _ (sign.not_new end fails same) is = absurd ((new-other store words.out end fails).0 is)
+  ends-device _ _ (sign.not_signed end touched new ends) is = session-device asked store source (upto-store store message_limit words.message) (upto-other store message_limit words.message) net (Err end) touched ends (ap err_of is)
+  ends-device _ _ (sign.not_written signature end touched new ends cause) is = absurd ((unwritten-other store [] words.out end cause).0 is)
+  ends-device _ _ (sign.signed signature touched new ends written) is = absurd (cc)
 
-  task-store : (end : Ending) → FailsTask asked store source end → end ≡ ending.StoreFailed → Rose store.before.count store.after.count
-  task-store _ (tasks.no_key_files end fails) is = keys-store end fails is
-  task-store _ (tasks.no_reference keys end read fails) is = reference-store _ end fails is
-  task-store _ (tasks.no_task keys header end has lacks) is = lacks-store keys header end lacks is
+  ends-net : (end : Ending) (touched : List (List ℕ)) → SignEnds words store net end touched → end ≡ ending.NetFailed → Rose net.before.port_count net.after.port_count
+  ends-net _ _ (sign.not_new end fails same) is = absurd ((new-other store words.out end fails).1 is)
+  ends-net _ _ (sign.not_signed end touched new ends) is = session-net asked store source (upto-store store message_limit words.message) (upto-other store message_limit words.message) net (Err end) touched ends (ap err_of is)
+  ends-net _ _ (sign.not_written signature end touched new ends cause) is = absurd ((unwritten-other store [] words.out end cause).1 is)
+  ends-net _ _ (sign.signed signature touched new ends written) is = absurd (cc)
 
-  task-device : (end : Ending) → FailsTask asked store source end → end ≡ ending.DeviceFailed → DeviceRose store
-  task-device _ (tasks.no_key_files end fails) is = absurd ((keys-other end fails).0 is)
-  task-device _ (tasks.no_reference keys end read fails) is = reference-device _ end fails is
-  task-device _ (tasks.no_task keys header end has lacks) is = absurd ((lacks-other keys header end lacks).0 is)
+  pub store-rose : SigningRun words store net ending.StoreFailed → Rose store.before.count store.after.count
+  store-rose run = ends-store ending.StoreFailed run.touched run.ends refl
 
-  task-net : (end : Ending) → FailsTask asked store source end → end ≡ ending.NetFailed → ⊥
-  task-net _ (tasks.no_key_files end fails) is = (keys-other end fails).1 is
-  task-net _ (tasks.no_reference keys end read fails) is = reference-net _ end fails is
-  task-net _ (tasks.no_task keys header end has lacks) is = (lacks-other keys header end lacks).1 is
+  pub device-rose : SigningRun words store net ending.DeviceFailed → DeviceRose store
+  device-rose run = ends-device ending.DeviceFailed run.touched run.ends refl
 
-  unwritten-store : (end : Ending) → IsNotWritten store [] words.out end → end ≡ ending.StoreFailed → Rose store.before.count store.after.count
-  unwritten-store _ (write_failed failed) is = failed.rose
-  unwritten-store _ (was_there never) is = absurd (cc)
-  unwritten-store _ no_memory_to_write is = absurd (cc)
-
-  unwritten-other : (end : Ending) → IsNotWritten store [] words.out end → (end ≡ ending.DeviceFailed → ⊥) × (end ≡ ending.NetFailed → ⊥)
-  unwritten-other _ (write_failed failed) = (λ is. cc, λ is. cc)
-  unwritten-other _ (was_there never) = (λ is. cc, λ is. cc)
-  unwritten-other _ no_memory_to_write = (λ is. cc, λ is. cc)
-
-  module _ (net : NetRun) where
-    session-store : (answer : Result Signature Ending) (touched : List (List ℕ)) → SessionEnds asked store source net answer touched → answer ≡ Err ending.StoreFailed
-        → Rose store.before.count store.after.count
-    session-store _ _ (sessions.no_task end fails same) is = let e : end ≡ ending.StoreFailed = cc in task-store end fails e
-    session-store answer touched (sessions.ended s _ _ task ends) is = table-store s words.table store net answer touched ends is
-
-    session-device : (answer : Result Signature Ending) (touched : List (List ℕ)) → SessionEnds asked store source net answer touched → answer ≡ Err ending.DeviceFailed → DeviceRose store
-    session-device _ _ (sessions.no_task end fails same) is = let e : end ≡ ending.DeviceFailed = cc in task-device end fails e
-    session-device answer touched (sessions.ended s _ _ task ends) is = table-device s words.table store net answer touched ends is task.reads.fresh task.reads.rise
-
-    session-net : (answer : Result Signature Ending) (touched : List (List ℕ)) → SessionEnds asked store source net answer touched → answer ≡ Err ending.NetFailed
-        → Rose net.before.port_count net.after.port_count
-    session-net _ _ (sessions.no_task end fails same) is = let e : end ≡ ending.NetFailed = cc in absurd (task-net end fails e)
-    session-net answer touched (sessions.ended s _ _ task ends) is = table-net s words.table store net answer touched ends is
-
-    ends-store : (end : Ending) (touched : List (List ℕ)) → SignEnds words store net end touched → end ≡ ending.StoreFailed → Rose store.before.count store.after.count
-    ends-store _ _ (sign.not_new end fails same) is = new-store words.out end fails is
-    ends-store _ _ (sign.not_signed end touched new ends) is = session-store (Err end) touched ends (ap err_of is)
-    ends-store _ _ (sign.not_written signature end touched new ends cause) is = unwritten-store end cause is
-    ends-store _ _ (sign.signed signature touched new ends written) is = absurd (cc)
-
-    ends-device : (end : Ending) (touched : List (List ℕ)) → SignEnds words store net end touched → end ≡ ending.DeviceFailed → DeviceRose store
-    ends-device _ _ (sign.not_new end fails same) is = absurd ((new-other words.out end fails).0 is)
-    ends-device _ _ (sign.not_signed end touched new ends) is = session-device (Err end) touched ends (ap err_of is)
-    ends-device _ _ (sign.not_written signature end touched new ends cause) is = absurd ((unwritten-other end cause).0 is)
-    ends-device _ _ (sign.signed signature touched new ends written) is = absurd (cc)
-
-    ends-net : (end : Ending) (touched : List (List ℕ)) → SignEnds words store net end touched → end ≡ ending.NetFailed → Rose net.before.port_count net.after.port_count
-    ends-net _ _ (sign.not_new end fails same) is = absurd ((new-other words.out end fails).1 is)
-    ends-net _ _ (sign.not_signed end touched new ends) is = session-net (Err end) touched ends (ap err_of is)
-    ends-net _ _ (sign.not_written signature end touched new ends cause) is = absurd ((unwritten-other end cause).1 is)
-    ends-net _ _ (sign.signed signature touched new ends written) is = absurd (cc)
-
-    pub store-rose : SigningRun words store net ending.StoreFailed → Rose store.before.count store.after.count
-    store-rose run = ends-store ending.StoreFailed run.touched run.ends refl
-
-    pub device-rose : SigningRun words store net ending.DeviceFailed → DeviceRose store
-    device-rose run = ends-device ending.DeviceFailed run.touched run.ends refl
-
-    pub net-rose : SigningRun words store net ending.NetFailed → Rose net.before.port_count net.after.port_count
-    net-rose run = ends-net ending.NetFailed run.touched run.ends refl
+  pub net-rose : SigningRun words store net ending.NetFailed → Rose net.before.port_count net.after.port_count
+  net-rose run = ends-net ending.NetFailed run.touched run.ends refl
 
 -- a port that was new counts what failed over its links, and the net counts such a port
 pub links-rose : (signing : Signing) (old new : TableSeen) (net : NetRun) (outcome : Result Signature SignFault) → SignedOver signing old new net outcome

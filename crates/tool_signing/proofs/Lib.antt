@@ -2,9 +2,11 @@ pub mod Causes
 pub mod Dealt
 pub mod Exacts
 pub mod Leases
+pub mod Losses
 pub mod Overs
 pub mod Ports
 pub mod Signs
+pub mod Steady
 pub mod Tables
 pub mod Views
 pub mod Whole

@@ -1,21 +1,20 @@
 -- A session over the one port of a net.
-use Rattle.std.proofs.Common.{◌≡◌, ◌≢◌, ◌++◌, ℕ, List, [], ◌∷◌, All, IfOk, Result, Ok, Err, None, get_or, length, map, refl, sym, ap, ◌∙◌, set, subst, arith}
+use Rattle.std.proofs.Common.{◌≡◌, ◌≢◌, ◌++◌, ℕ, List, [], ◌∷◌, All, IfOk, IsTrue, Option, None, Result, Err, get_or, length, map, refl, sym, ap, ◌∙◌, set, subst, arith}
 use Rattle.std.proofs.lemmas.List.Elements.{All-cons, All-head, All-nil}
 use Rattle.aggregator_node.specs.declared.fault.SignFault.{SignFault}
 use Rattle.disk_trait.specs.Faults.{Rose}
 use Rattle.leased_session.specs.Causes.{PortCauses}
-use Rattle.leased_session.specs.Signing.{Signature, SignsLeased, signature_in}
+use Rattle.leased_session.specs.Ended.{LeasedTo}
+use Rattle.leased_session.specs.Signing.{Signature}
 use Rattle.leased_session.specs.Tables.{TableSeen}
-use Rattle.leased_session.specs.declared.sign.Signed.{Signed}
 use Rattle.lms_verify.specs.Accepts.{AcceptsAt}
+use Rattle.session_core.specs.State.{State}
 use Rattle.stream_io.specs.Net.{Gathers, IsNewPort, MakesPorts, NetState, PortState, SomeFailed, SomeUnaccepted}
 use Rattle.stream_io.specs.Store.{RisesWhere}
+use Rattle.tool_base.specs.Ending as ending
 use Rattle.tool_base.specs.Ending.{Ending}
-use Rattle.tool_signing.specs.Faults.{end_of_fault}
-use Rattle.tool_signing.specs.Ports.{IsUnread, NetEnds, Signing, SignedOver, answer_of, over_net, signed}
-
-abbrev failed_with : Ending → Result Signature Ending
-failed_with end = Err end
+use Rattle.tool_signing.specs.Ended.{NetTo, last_over}
+use Rattle.tool_signing.specs.Ports.{IsIdle, IsUnread, NetRun, Signing, SignedOver, answer_of, no_memory, no_port, over_net, signed}
 
 module _ {P : Type 0} (f : P → PortState) where
   none-one : length (map f []) ≡ 1 → ⊥
@@ -39,15 +38,6 @@ module _ {P : Type 0} (f : P → PortState) where
 
   pub same_many : (ports : List P) (port : P) → length (map f ports) ≡ 1 → length (map f (set ports 0 port)) ≡ length (map f ports)
   same_many ports port many = ap length (one_after ports port many) ∙ sym many
-
--- the answer of the call, by what came of signing
-pub signed_as : (result : Result Signed SignFault) (one : Signed) (answer : Result Signature Ending) → result ≡ Ok one
-    → answer ≡ Ok (record { leaf = one.leaf; bytes = one.bytes.items }) → answer ≡ answer_of (signature_in result)
-signed_as result one answer is given = rw is given
-
-pub failed_as : (result : Result Signed SignFault) (fault : SignFault) (end : Ending) → result ≡ Err fault → end ≡ end_of_fault fault
-    → failed_with end ≡ answer_of (signature_in result)
-failed_as result fault end is ended = rw is (ap failed_with ended)
 
 -- what counts of one port make of those of a net
 module _ (done : PortState) where
@@ -84,28 +74,45 @@ module _ (done : PortState) where
   }
 
 module _ (signing : Signing) (old new : TableSeen) (a b c : NetState) (port done : PortState) where
+  -- what was signed over the port, and how the session stands at its end
+  pub record SignedTo (outcome : Result Signature SignFault) (session : Option State) : Type 0 where
+    pub over : SignedOver signing old new (over_net a c) outcome
+    pub session_is : session ≡ last_over over
+
   -- what was signed over the port, which was made and came back
-  pub over_one : (made returned : List PortState) (outcome : Result Signature SignFault) → made ≡ port ∷ [] → returned ≡ done ∷ [] → MakesPorts a None 1 made b → Gathers b returned c
+  pub over_one : (made returned : List PortState) (outcome : Result Signature SignFault) (session : Option State) → made ≡ port ∷ [] → returned ≡ done ∷ [] → MakesPorts a None 1 made b → Gathers b returned c
       → b.told ≡ a.told → b.count ≡ a.count → b.port_count ≡ a.port_count
-      → SignsLeased signing.desk signing.reads signing.members signing.message old port new done outcome
+      → LeasedTo signing.desk signing.reads signing.members signing.message old port new done outcome session
       → IfOk outcome (λ signature. AcceptsAt signing.desk.key signing.message signature.bytes signature.leaf) → PortCauses port done outcome → IsUnread signing outcome
-      → SignedOver signing old new (over_net a c) outcome
-  over_one made returned outcome is back makes gathers told count port_count signs accepted causes unread =
+      → SignedTo outcome session
+  over_one made returned outcome session is back makes gathers told count port_count leased accepted causes unread =
       let gathered : Gathers b (done ∷ []) c = subst (λ ports. Gathers b ports c) back gathers in
       record {
-        port = port;
-        done = done;
-        made = All-head (IsNewPort a None) port [] (subst (All (IsNewPort a None)) is makes.new_ports);
-        signs = signs;
-        accepted = accepted;
-        dialled = causes;
-        unread = unread;
-        kept = λ is_told. gathered.kept (rw told is_told) ∙ ap (λ kept. kept ++ (done ∷ [])) makes.kept;
-        count = rises_counted done a.count b.count c.count count gathered.count;
-        port_count = rises_unaccepted done a.port_count b.port_count c.port_count port_count gathered.port_count;
+        over = record {
+          port = port;
+          done = done;
+          made = All-head (IsNewPort a None) port [] (subst (All (IsNewPort a None)) is makes.new_ports);
+          signs = leased.signs;
+          accepted = accepted;
+          dialled = causes;
+          unread = unread;
+          kept = λ is_told. gathered.kept (rw told is_told) ∙ ap (λ kept. kept ++ (done ∷ [])) makes.kept;
+          count = rises_counted done a.count b.count c.count count gathered.count;
+          port_count = rises_unaccepted done a.port_count b.port_count c.port_count port_count gathered.port_count;
+        };
+        session_is = leased.session_is;
       }
 
   -- the same, by the answer of the call
-  pub ends_over : (same : Type 0) (result : Result Signed SignFault) (answer : Result Signature Ending) → answer ≡ answer_of (signature_in result) → SignedOver signing old new (over_net a c) (signature_in result)
-      → NetEnds signing same old new (over_net a c) answer
-  ends_over same result answer is over = rw is (signed (signature_in result) over)
+  pub ends_over : (same : Type 0) (outcome : Result Signature SignFault) (session : Option State) (answer : Result Signature Ending) → answer ≡ answer_of outcome → SignedTo outcome session
+      → NetTo signing same old new (over_net a c) answer session
+  ends_over same outcome session answer is to = rw is (record { ends = signed outcome to.over; session_is = to.session_is })
+
+-- nothing was begun over the net
+module _ (signing : Signing) (same : Type 0) (old new : TableSeen) (net : NetRun) (answer : Result Signature Ending) (session : Option State) where
+  pub had_none : answer ≡ Err ending.NoMemory → session ≡ None → same → IsIdle signing net → NetTo signing same old new net answer session
+  had_none is none stays idle = rw is (record { ends = no_memory stays idle; session_is = none })
+
+  pub had_no_port : answer ≡ Err ending.NetFailed → session ≡ None → same → IsIdle signing net → Rose net.before.port_count net.after.port_count
+      → (IsTrue net.before.told → IsTrue net.before.steady → ⊥) → NetTo signing same old new net answer session
+  had_no_port is none stays idle rose never = rw is (record { ends = no_port stays idle rose never; session_is = none })

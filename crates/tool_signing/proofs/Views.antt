@@ -1,19 +1,21 @@
 -- What is said while a view is out, of the whole run.
-use Rattle.std.proofs.Common.{◌≡◌, ◌+◌, ◌-◌, ◌^◌, ℕ, List, Result, IsTrue, inl, inr, sym, ◌∙◌, arith}
+use Rattle.std.proofs.Common.{◌≡◌, ◌+◌, ◌-◌, ◌^◌, ℕ, List, Option, Result, IsTrue, inl, inr, refl, sym, ◌∙◌, arith}
 use Rattle.std.proofs.lemmas.List.Elements.{All-weaker}
 use Rattle.aggregator_node.specs.declared.fault.SignFault.{SignFault}
 use Rattle.leased_session.specs.Signing.{Signature}
 use Rattle.lms_bytes.specs.MessageId.{message_id}
+use Rattle.session_core.specs.State.{State}
 use Rattle.slot_file.specs.declared.header.Header.{Header}
 use Rattle.stream_io.specs.Store.{PagesState, SameNames, StoreOnward, StoreState, ViewEnded, Viewed}
 use Rattle.tool_base.proofs.Runs.{onward_on}
 use Rattle.tool_base.specs.Ending.{Ending}
 use Rattle.tool_base.specs.Reads.{FailsUpTo, failed, no_memory, too_long}
 use Rattle.tool_base.specs.Touched.{Keeps}
-use Rattle.tool_base.specs.World.{Bytes, Failed, IsCalm, IsReadUpTo, Reading, TooLong, file_limit, from_to}
+use Rattle.tool_base.specs.World.{Bytes, Failed, IsCalm, IsReadUpTo, Reading, StoreRun, TooLong, file_limit, from_to}
 use Rattle.tool_disks.specs.Disks.{DeviceFails, Stays}
 use Rattle.tool_disks.specs.Loads.{FailsToLoad, ReadsAs, IsOtherFile, IsDamagedFile, damaged, device, other_file}
 use Rattle.tool_disks.specs.Loads as loads
+use Rattle.tool_signing.specs.Ended.{last_in}
 use Rattle.tool_signing.specs.Leases.{AllLeave, IsBurntIn, IsLeasedIn, LeaseIsLeft}
 use Rattle.tool_signing.specs.Leases as leases
 use Rattle.tool_signing.specs.Ports.{NetRun, Signing}
@@ -48,6 +50,11 @@ pub source_had : (a b c d : StoreState) → SameButViews a b → (message : Mess
 source_had a b c d goes (InFile name) bytes is = (is.0, λ told. rw (← goes.names.file) (is.1 (rw goes.onward.told told)))
 source_had a b c d goes (Known given) bytes is = is
 
+-- how signing with a table ends, told of a wider run, with the same session at its end
+pub record EndsWider (s : Signing) (name : List ℕ) (store : StoreRun) (net : NetRun) (answer : Result Signature Ending) (touched : List (List ℕ)) (last : Option State) : Type 0 where
+  pub ends : TableEnds s name store net answer touched
+  pub last_is : last_in ends ≡ last
+
 -- from a state with the view in to one with it in again
 module _ (a b c d : StoreState) (goes : SameButViews a b) (same : b.disk_count ≡ a.disk_count) (comes : SameButViews c d) where
   told_b : IsTrue a.told → IsTrue b.told
@@ -74,7 +81,7 @@ module _ (a b c d : StoreState) (goes : SameButViews a b) (same : b.disk_count �
   no_source_in (InFile name) end fails = fails_in message_limit name.now end fails
   no_source_in (Known given) end fails = fails
 
-  reads_as_in : (name : List ℕ) (Is : List ℕ → Type 0) → ReadsAs (from_to b c) name Is → ReadsAs (from_to a d) name Is
+  pub reads_as_in : (name : List ℕ) (Is : List ℕ → Type 0) → ReadsAs (from_to b c) name Is → ReadsAs (from_to a d) name Is
   reads_as_in name Is reads = record {
     file = reads.file;
     is_read = λ told. rw (← goes.names.file) (reads.is_read (told_b told));
@@ -91,7 +98,7 @@ module _ (a b c d : StoreState) (goes : SameButViews a b) (same : b.disk_count �
         (goes.names.leaves name image).0 (stays.leaves (told_b told) (honest_b name honest) image ((comes.names.leaves name image).0 left));
   }
 
-  device_in : DeviceFails (from_to b c) → DeviceFails (from_to a d)
+  pub device_in : DeviceFails (from_to b c) → DeviceFails (from_to a d)
   device_in fails = record {
     rose = let rose = fails.rose in let later = comes.onward.disk_count in omega (arith, rose, same, later);
     unsteady = λ told steady. fails.unsteady (told_b told) (steady_b steady);
@@ -119,7 +126,7 @@ module _ (a b c d : StoreState) (goes : SameButViews a b) (same : b.disk_count �
       ])
 
   module _ (s : Signing) (name : List ℕ) (net : NetRun) where
-    table_in : (outcome : Result Signature SignFault) → SignedTable s name (from_to b c) net outcome → SignedTable s name (from_to a d) net outcome
+    abbrev table_in : (outcome : Result Signature SignFault) → SignedTable s name (from_to b c) net outcome → SignedTable s name (from_to a d) net outcome
     table_in outcome signed = record {
       old = signed.old;
       new = signed.new;
@@ -148,13 +155,14 @@ module _ (a b c d : StoreState) (goes : SameButViews a b) (same : b.disk_count �
       lease = lease_in s name outcome signed.lease;
     }
 
-    pub ends_in : (answer : Result Signature Ending) (touched : List (List ℕ)) → TableEnds s name (from_to b c) net answer touched → TableEnds s name (from_to a d) net answer touched
-    ends_in _ _ (signs.no_table idle read) = signs.no_table idle (read_in file_limit name Failed read)
-    ends_in _ _ (signs.no_memory touched idle stays) = signs.no_memory touched idle (All-weaker (Stays (from_to b c)) (Stays (from_to a d)) stays_in touched stays)
-    ends_in _ _ (signs.not_loaded end idle fails stays) = signs.not_loaded end idle (not_loaded_in (table_header s.desk.key) (2 ^ s.desk.plan.h) name end fails) (stays_in name stays)
+    pub ends_in : (answer : Result Signature Ending) (touched : List (List ℕ)) (ends : TableEnds s name (from_to b c) net answer touched) → EndsWider s name (from_to a d) net answer touched (last_in ends)
+    ends_in _ _ (signs.no_table idle read) = record { ends = signs.no_table idle (read_in file_limit name Failed read); last_is = refl }
+    ends_in _ _ (signs.no_memory touched idle stays) = record { ends = signs.no_memory touched idle (All-weaker (Stays (from_to b c)) (Stays (from_to a d)) stays_in touched stays); last_is = refl }
+    ends_in _ _ (signs.not_loaded end idle fails stays) =
+        record { ends = signs.not_loaded end idle (not_loaded_in (table_header s.desk.key) (2 ^ s.desk.plan.h) name end fails) (stays_in name stays); last_is = refl }
     ends_in _ _ (signs.no_port entries idle reads rose never stays) =
-        signs.no_port entries idle (reads_as_in name (IsTable (table_header s.desk.key) s.desk.plan entries) reads) rose never (stays_in name stays)
-    ends_in _ _ (signs.signed outcome table) = signs.signed outcome (table_in outcome table)
+        record { ends = signs.no_port entries idle (reads_as_in name (IsTable (table_header s.desk.key) s.desk.plan entries) reads) rose never (stays_in name stays); last_is = refl }
+    ends_in _ _ (signs.signed outcome table) = record { ends = signs.signed outcome (table_in outcome table); last_is = refl }
 
   pub keeps_in : (touched : List (List ℕ)) → Keeps touched b c → (IsTrue a.told → b.views ≡ a.views + 1) → (IsTrue c.told → d.views ≡ c.views - 1) → Keeps touched a d
   keeps_in touched keeps out back = record {

@@ -24,8 +24,9 @@ use Rattle.tool_desk.specs.declared.files.KeyFiles.{KeyFiles}
 use Rattle.tool_disks.proofs.Outs.{keeps_calm}
 use Rattle.tool_base.proofs.Nets.{net_none}
 use Rattle.tool_signing.proofs.Exacts.{exact-of}
-use Rattle.tool_signing.proofs.Views.{SameButViews, back_view, ends_in, keeps_in, no_source_in, out_view, source_had}
+use Rattle.tool_signing.proofs.Views.{EndsWider, SameButViews, back_view, ends_in, keeps_in, no_source_in, out_view, source_had}
 use Rattle.tool_signing.proofs.Writes.{as-signed, is_written, keeps_unwritten, keeps_written, new_is_other, not_written, others_file, others_leave, turned_about, unwritten_file, unwritten_leave}
+use Rattle.tool_signing.specs.Ended.{last_in}
 use Rattle.tool_signing.specs.Leases.{AllLeave, IsBurntIn, IsLeasedIn, LeaseIsLeft}
 use Rattle.tool_signing.specs.Leases as leases
 use Rattle.tool_signing.specs.Ports.{NetRun, Signing, is_exact, over_net}
@@ -85,21 +86,21 @@ module _ (words : SessionWords) (files : KeyFiles) (header : RefHeader) (sizes :
       let size : length (reference_head header) ≡ 32 = omega (arith, header.id_length) in
       ap (λ (bytes : List ℕ). drop 32 bytes) layout.parts ∙ subst (λ (n : ℕ). drop n (reference_head header ++ leaves) ≡ leaves) size (drop-append_seam (reference_head header) leaves)
 
-  layout-of : (file : List ℕ) → IsReferenceOf header file → HasReferenceLayout header file (drop 32 file)
+  pub layout-of : (file : List ℕ) → IsReferenceOf header file → HasReferenceLayout header file (drop 32 file)
   layout-of file is = subst (HasReferenceLayout header file) (sym (leaves-are file is.leaves is.layout)) is.layout
 
   module _ (a x b : StoreState) (view : PagesState) (calm : IsCalm a x) (viewed : Viewed x (reference_name words.prefix) view b)
       (reads : IsTrue view.told → IsReferenceOf header view.reads) where
-    view_told : IsTrue a.told → IsTrue view.told
+    pub view_told : IsTrue a.told → IsTrue view.told
     view_told told = viewed.given.told (rw calm.onward.told told)
 
-    view_exact : IsTrue a.told → IsTrue a.steady → IsTrue (is_exact view.told view.steady (drop 32 view.reads) files.key.params header.plan)
+    pub view_exact : IsTrue a.told → IsTrue a.steady → IsTrue (is_exact view.told view.steady (drop 32 view.reads) files.key.params header.plan)
     view_exact told steady =
         exact-of view.told view.steady (drop 32 view.reads) files.key.params header.plan (view_told told) (viewed.given.steady (rw calm.onward.steady steady))
         ((layout-of view.reads (reads (view_told told))).leaves_are ∙ sizes.leaves)
 
     -- what is signed is what the words name
-    pub is_task : (source : MessageSource) (p c d : StoreState) (now : PagesState) (message members : List ℕ) (addresses : List Address) → StoreOnward x b → IsCalm b p → StoreOnward p c → ViewEnded c now d
+    abbrev pub is_task : (source : MessageSource) (p c d : StoreState) (now : PagesState) (message members : List ℕ) (addresses : List Address) → StoreOnward x b → IsCalm b p → StoreOnward p c → ViewEnded c now d
         → HasFiles words (from_to a d) files header → GoesWith words source files header message members addresses
         → IsTask words (from_to a d) source (record {
           desk = desk_of files header addresses;
@@ -162,8 +163,8 @@ module _ (files : KeyFiles) (header : RefHeader) (a x b p : StoreState) (name : 
     pub whole_keeps : (touched : List (List ℕ)) → Keeps touched p c → Keeps touched a d
     whole_keeps touched keeps = keeps_in a p c d goes-in count-in (back_view c d now ended comes) touched keeps views-in ended.views
 
-    pub whole_ends : (s : Signing) (table : List ℕ) (net : NetRun) (answer : Result Signature Ending) (touched : List (List ℕ)) → TableEnds s table (from_to p c) net answer touched
-        → TableEnds s table (from_to a d) net answer touched
+    pub whole_ends : (s : Signing) (table : List ℕ) (net : NetRun) (answer : Result Signature Ending) (touched : List (List ℕ)) (ends : TableEnds s table (from_to p c) net answer touched)
+        → EndsWider s table (from_to a d) net answer touched (last_in ends)
     whole_ends s table net answer touched ends = ends_in a p c d goes-in count-in (back_view c d now ended comes) s table net answer touched ends
 
 -- the message was not had, or not all goes together
@@ -240,7 +241,7 @@ module _ (s : Signing) (table : List ℕ) (a d e : StoreState) (same_file : IsTr
 
 -- a session as it is told once a signature was written behind it, or was not
 module _ (words : SessionWords) (a d e : StoreState) (onward : StoreOnward d e) where
-  files_later : (files : KeyFiles) (header : RefHeader) → HasFiles words (from_to a d) files header → HasFiles words (from_to a e) files header
+  pub files_later : (files : KeyFiles) (header : RefHeader) → HasFiles words (from_to a d) files header → HasFiles words (from_to a e) files header
   files_later files header has = record {
     files_are = record {
       key = has.files_are.key;
@@ -252,7 +253,7 @@ module _ (words : SessionWords) (a d e : StoreState) (onward : StoreOnward d e) 
     };
   }
 
-  pub task_later : (source later : MessageSource) → ((message : List ℕ) → source.is message → later.is message) → (s : Signing) → IsTask words (from_to a d) source s
+  abbrev pub task_later : (source later : MessageSource) → ((message : List ℕ) → source.is message → later.is message) → (s : Signing) → IsTask words (from_to a d) source s
       → IsTask words (from_to a e) later s
   task_later source later is_later s task = record {
     files = task.files;
@@ -325,13 +326,13 @@ module _ (words : SignWords) (a d : StoreState) (net : NetRun) where
     differs : IsTrue a.told → bytes_eq words.table words.out ≡ false
     differs told = turned_about words.out words.table (out_differs is_new by.signing signature by.table told)
 
-    table_written : IsLeft (from_to d e) (one_output words.out signature.bytes ∷ []) → SignedTable by.signing words.table (from_to a e) net (Ok signature)
+    pub table_written : IsLeft (from_to d e) (one_output words.out signature.bytes ∷ []) → SignedTable by.signing words.table (from_to a e) net (Ok signature)
     table_written left = table_later by.signing words.table a d e
         (λ told. others_file a d e touched keeps words.out signature.bytes back left told words.table (differs told))
         (λ told image. others_leave a d e touched keeps words.out signature.bytes back left told words.table image (differs told))
         back.onward net (Ok signature) by.table
 
-    table_unwritten : IsLeft (from_to d e) [] → SignedTable by.signing words.table (from_to a e) net (Ok signature)
+    pub table_unwritten : IsLeft (from_to d e) [] → SignedTable by.signing words.table (from_to a e) net (Ok signature)
     table_unwritten left = table_later by.signing words.table a d e
         (λ told. unwritten_file a d e touched keeps words.out signature.bytes back left told words.table)
         (λ told image. unwritten_leave a d e touched keeps words.out signature.bytes back left told words.table image)

@@ -98,6 +98,7 @@ module _ (a d e : StoreState) (touched : List (List ℕ)) (keeps : Keeps touched
     is_written = record {
       file = λ told. left.file (told_d told) out ∙ added_all d.file out bytes out ∙ rw (same_true out) refl;
       stable = λ told. All-head (λ (output : Output). Only output.bytes (e.leaves output.name)) (one_output out bytes) [] (left.stable (told_d told));
+      readers = λ told. All-head (λ (output : Output). e.readers output.name ≡ Some output.readers) (one_output out bytes) [] (left.readers (told_d told));
     }
 
     pub keeps_written : Keeps (out ∷ touched) a e

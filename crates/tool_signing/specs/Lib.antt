@@ -3,9 +3,11 @@ pub mod Tables
 pub mod Ports
 pub mod Leases
 pub mod Signs
+pub mod Ended
 pub mod Tasks
 pub mod Writes
 pub mod Sources
 pub mod Sessions
 pub mod Sign
 pub mod Dealt
+pub mod Lost

@@ -41,7 +41,7 @@ pub fn sign<S: Store, N: Net>(
 }
 
 /// Writes a signature under a name that was found new.
-fn write_signature<S: Store>(alloc: Global, name: &str, signed: Signed, store: &mut S) -> Ending
+pub fn write_signature<S: Store>(alloc: Global, name: &str, signed: Signed, store: &mut S) -> Ending
     requires new { IsNew (from_to (S.state store.old) (S.state store.old)) name.now }
     ensures ends { WriteEnds (from_to (S.state store.old) (S.state store.new)) name.now signed.leaf signed.bytes.items
         (ending result) }

@@ -17,16 +17,21 @@ ghost use Rattle.stream_io.specs.Net.{PortState};
 ghost use Rattle.tool_base.specs.Ending as ending;
 ghost use Rattle.tool_base.specs.Touched.{DeviceRose};
 ghost use Rattle.tool_base.specs.World.{from_to};
+ghost use Rattle.tool_base.specs.declared.unsigned.Unsigned.TheVariants.{Missing};
 ghost use Rattle.tool_signing.specs.Dealt.{IsDealt};
 ghost use Rattle.tool_signing.specs.Ports.{NetRun, SignedOver, Signing};
-ghost use Rattle.tool_signing.specs.Sign.{SigningRun};
+ghost use Rattle.tool_signing.specs.Lost.{LosesMember};
+ghost use Rattle.tool_signing.specs.Sign.{SigningRun, session_words};
+ghost use Rattle.tool_signing.specs.Tasks.{message_in};
 ghost use Rattle.tool_words.specs.Words.{SignWords};
 
 use stream_io::Store;
 
 /// The causes of four ends of `sign`: the store fails only where its count of faults rose, a device only where that of
-/// its disks and views rose, and the net only where its count of failed ports rose. A member is lost since it could not
-/// be dialled, written to or read only where the net's count of faults rose.
+/// its disks and views rose, and the net only where its count of failed ports rose. A member is lost only where the
+/// net's count of faults rose, or since its link ended before a reply, what it sent is no frame of a reply, or no
+/// address names it (`lost`): of a session, that it could not be dialled, written to or read is the cause only where
+/// that count rose (`links`).
 pub fn causes<S: Store>(before: &S, after: &S)
     ensures store { (words : SignWords) (net : NetRun)
         → SigningRun words (from_to (S.state before.now) (S.state after.now)) net ending.StoreFailed
@@ -37,6 +42,11 @@ pub fn causes<S: Store>(before: &S, after: &S)
     ensures net { (words : SignWords) (net : NetRun)
         → SigningRun words (from_to (S.state before.now) (S.state after.now)) net ending.NetFailed
         → Rose net.before.port_count net.after.port_count }
+    ensures lost { (words : SignWords) (net : NetRun) (member round : ℕ)
+        → let run = from_to (S.state before.now) (S.state after.now) in
+        SigningRun words run net (ending.NotSigned (Missing member round))
+        → Rose net.before.count net.after.count
+        ⊎ LosesMember (session_words words) run (message_in run words.message) net member round }
     ensures links { (signing : Signing) (old new : TableSeen) (net : NetRun) (outcome : Result Signature SignFault)
         → SignedOver signing old new net outcome
         → LostBy DialFailed outcome ⊎ LostBy WriteFailed outcome ⊎ LostBy ReadFailed outcome

@@ -7,6 +7,6 @@ pub mod laws;
 mod session;
 mod task;
 
-pub use command::sign;
+pub use command::{sign, write_signature};
 pub use session::table_header;
-pub use task::{Message, SessionWords, SignedBy, sign_message};
+pub use task::{Message, SessionWords, SignedBy, Task, read_task, sign_message, sign_task};

@@ -1,22 +1,23 @@
 //! Signing with a leaf of a table that a store has, over a port of a net.
 
-ghost use Rattle.std.specs.Prelude.{◌≡◌};
+ghost use Rattle.std.specs.Prelude.{◌≡◌, Err, None};
 ghost use Rattle.aggregator_node.specs.Runs.{reads_of};
 ghost use Rattle.leaf_table.specs.Table.{Stays, plan_of};
-ghost use Rattle.leased_session.specs.Signing.{desk_state};
+ghost use Rattle.leased_session.specs.Signing.{desk_state, signature_in};
 ghost use Rattle.leased_session.specs.Tables.{table_seen};
 ghost use Rattle.reference_value.specs.Stay.{CellsStay};
 ghost use Rattle.tool_base.specs.World.{IsNetBack, from_to};
-ghost use Rattle.tool_signing.specs.Ports.{NetEnds, is_exact, over_net};
-ghost use Rattle.tool_signing.specs.Signs.{TableRun, answer_in};
+ghost use Rattle.tool_signing.specs.Ended.{NetTo, TableTo};
+ghost use Rattle.tool_signing.specs.Ports.{answer_of, is_exact, over_net};
+ghost use Rattle.tool_signing.specs.Signs.{answer_in};
 ghost use Rattle.tool_signing.specs.Tables.{table_header};
 
 use crate::faults::end_of_fault;
-use aggregator_node::Desk;
+use aggregator_node::{Desk, SignFault};
 use coalition_map::Members;
 use disk_trait::Disk;
 use leaf_table::Table;
-use leased_session::{Signed, sign_leased};
+use leased_session::{Ended, Signed, run_leased};
 use lms_bytes::PublicKey;
 use reference_value::Cells;
 use slot_file::Header;
@@ -38,7 +39,8 @@ pub fn table_header(key: &PublicKey) -> Header
     }
 }
 
-/// Takes the leaf table of this name, signs with a leaf of it over a port that only dials, and gives both back.
+/// Takes the leaf table of this name, signs with a leaf of it over a port that only dials, and gives both back. The
+/// session is given as it stands at its end, where one was begun.
 pub(crate) fn sign_with_table<R: Cells, S: Store, N: Net>(
     alloc: Global,
     desk: &Desk,
@@ -48,12 +50,12 @@ pub(crate) fn sign_with_table<R: Cells, S: Store, N: Net>(
     message: &[u8],
     store: &mut S,
     net: &mut N,
-) -> Result<Signed, Ending>
+) -> Ended<Result<Signed, Ending>>
     requires height { desk.now.plan.now.h ≡ desk.now.key.now.params.h }
     requires cells { (R.set cells.old ≡ desk.now.key.now.params) × (R.plan cells.old ≡ desk.now.plan.now) }
     requires tree { (desk.now.tree.now.n ≡ desk.now.key.now.params.n)
         × (desk.now.tree.now.h ≡ desk.now.key.now.params.h) }
-    ensures run { TableRun
+    ensures run { TableTo
         (record {
           desk = desk_state desk.now;
           reads = reads_of R.Cells.own R.Faults cells.old cells.new;
@@ -63,25 +65,25 @@ pub(crate) fn sign_with_table<R: Cells, S: Store, N: Net>(
           message = message.now;
         })
         table.now (from_to (S.state store.old) (S.state store.new)) (over_net (N.state net.old) (N.state net.new))
-        (answer_in result) }
+        (answer_in result.outcome) result.session }
     ensures cells { CellsStay R.Cells.own R.Faults cells.old cells.new }
 {
     let disk = match store.take_disk(table) {
         Ok(disk) => disk,
-        Err(CallFault::Failed) => return Err(Ending::StoreFailed),
-        Err(CallFault::NoMemory) => return Err(Ending::NoMemory),
+        Err(CallFault::Failed) => return not_begun(Ending::StoreFailed),
+        Err(CallFault::NoMemory) => return not_begun(Ending::NoMemory),
     };
     let header = table_header(desk.key);
     let mut leaves = match Table::load(alloc, disk, &header, desk.plan) {
         Ok(leaves) => leaves,
         Err((disk, fault)) => {
             store.return_disk(table, disk);
-            return Err(end_of_slots(fault));
+            return not_begun(end_of_slots(fault));
         }
     };
-    let signed = sign_over_net(alloc, desk, cells, &mut leaves, members, message, net);
+    let ended = sign_over_net(alloc, desk, cells, &mut leaves, members, message, net);
     store.return_disk(table, leaves.end());
-    signed
+    ended
 }
 
 /// Makes a port that only dials, signs with a leaf of the table over it, and gives it back.
@@ -93,13 +95,13 @@ fn sign_over_net<R: Cells, D: Disk, N: Net>(
     members: Members,
     message: &[u8],
     net: &mut N,
-) -> Result<Signed, Ending>
+) -> Ended<Result<Signed, Ending>>
     requires plan { plan_of table.old ≡ desk.now.plan.now }
     requires height { desk.now.plan.now.h ≡ desk.now.key.now.params.h }
     requires cells { (R.set cells.old ≡ desk.now.key.now.params) × (R.plan cells.old ≡ desk.now.plan.now) }
     requires tree { (desk.now.tree.now.n ≡ desk.now.key.now.params.n)
         × (desk.now.tree.now.h ≡ desk.now.key.now.params.h) }
-    ensures ends { NetEnds
+    ensures ends { NetTo
         (record {
           desk = desk_state desk.now;
           reads = reads_of R.Cells.own R.Faults cells.old cells.new;
@@ -109,19 +111,47 @@ fn sign_over_net<R: Cells, D: Disk, N: Net>(
           message = message.now;
         })
         (table.new ≡ table.old) (table_seen table.old) (table_seen table.new)
-        (over_net (N.state net.old) (N.state net.new)) (answer_in result) }
+        (over_net (N.state net.old) (N.state net.new)) (answer_in result.outcome) result.session }
     ensures table { Stays table.old table.new }
     ensures net { IsNetBack (N.state net.old) (N.state net.new) }
     ensures cells { CellsStay R.Cells.own R.Faults cells.old cells.new }
 {
     let mut ports = match net.ports(alloc, None, 1) {
         Ok(ports) => ports,
-        Err(CallFault::Failed) => return Err(Ending::NetFailed),
-        Err(CallFault::NoMemory) => return Err(Ending::NoMemory),
+        Err(CallFault::Failed) => return not_begun(Ending::NetFailed),
+        Err(CallFault::NoMemory) => return not_begun(Ending::NoMemory),
     };
-    let signed = sign_leased(alloc, desk, cells, table, &mut ports[0], members, message);
+    let Ended { outcome, session } = run_leased(
+        alloc,
+        desk,
+        cells,
+        table,
+        &mut ports[0],
+        members,
+        message,
+    );
     net.gather(ports);
-    match signed {
+    Ended {
+        outcome: answer_of(outcome),
+        session,
+    }
+}
+
+/// The end where no session was begun.
+fn not_begun(end: Ending) -> Ended<Result<Signed, Ending>>
+    ensures { (result.outcome ≡ Err end) × (result.session ≡ None) }
+{
+    Ended {
+        outcome: Err(end),
+        session: None,
+    }
+}
+
+/// A signature, or the end that the fault is told by.
+fn answer_of(outcome: Result<Signed, SignFault>) -> Result<Signed, Ending>
+    ensures { answer_in result ≡ answer_of (signature_in outcome) }
+{
+    match outcome {
         Ok(signed) => Ok(signed),
         Err(fault) => Err(end_of_fault(fault)),
     }

@@ -4,9 +4,10 @@ ghost use Rattle.std.specs.Prelude.{◌≡◌, drop, IfErr, IfOk, OnOk};
 ghost use Rattle.tool_base.specs.Endings.{ending};
 ghost use Rattle.tool_base.specs.World.{IsCalm, from_to};
 ghost use Rattle.tool_desk.specs.Files.{HaveSizesOf};
+ghost use Rattle.tool_signing.specs.Ended.{TableTo};
 ghost use Rattle.tool_signing.specs.Ports.{is_exact, over_net};
 ghost use Rattle.tool_signing.specs.Sessions.{SessionRun, answer_by};
-ghost use Rattle.tool_signing.specs.Signs.{TableRun};
+ghost use Rattle.tool_signing.specs.Signs.{answer_in};
 ghost use Rattle.tool_signing.specs.Sources.{session_words, source_of};
 ghost use Rattle.tool_signing.specs.Tasks.{GoesWith, LacksTask, desk_of};
 
@@ -14,7 +15,7 @@ use crate::session::sign_with_table;
 use aggregator_node::{Address, Desk};
 use coalition_map::Members;
 use disk_trait::Pages;
-use leased_session::Signed;
+use leased_session::{Ended, Signed};
 use lms_bytes::{LIMIT, PublicKey};
 use memory::NoMemory;
 use reference_value::Paged;
@@ -60,12 +61,15 @@ pub struct SignedBy {
     pub signed: Signed,
 }
 
-/// What is signed with the files of a dealing: the message, and the members that are asked, each at its address.
+/// What is signed with the files of a dealing.
 #[derive(Drop)]
-struct Task {
-    message: Vec<u8>,
-    members: Members,
-    addresses: Vec<Address>,
+pub struct Task {
+    /// The message.
+    pub message: Vec<u8>,
+    /// The members that are asked, which are a coalition of the dealing.
+    pub members: Members,
+    /// Where they are dialled, in ascending order.
+    pub addresses: Vec<Address>,
 }
 
 /// Reads the files of a dealing and the message, tests that they go together, and runs one session with a leaf of the
@@ -97,13 +101,14 @@ pub fn sign_message<S: Store, N: Net>(
         }
     };
     let table = words.table;
-    let (view, signed) = sign_task(alloc, table, &files, &header, view, &task, store, net);
+    let (view, ended) = sign_task(alloc, table, &files, &header, view, &task, store, net);
     store.end_view(view);
-    signed
+    let Ended { outcome, .. } = ended;
+    outcome
 }
 
 /// Reads the message, and tests that the files of the dealing are of one key and that the members are a coalition.
-fn read_task<S: Store>(
+pub fn read_task<S: Store>(
     alloc: Global,
     words: &SessionWords,
     message: Message,
@@ -149,8 +154,9 @@ fn read_message<S: Store>(alloc: Global, message: Message, store: &mut S) -> Res
     }
 }
 
-/// Signs with a leaf of the table of this name. The session reads the reference from this view, which is given back.
-fn sign_task<V: Pages, S: Store, N: Net>(
+/// Signs with a leaf of the table of this name. The session reads the reference from this view, which is given back,
+/// and is given as it stands at its end, where one was begun.
+pub fn sign_task<V: Pages, S: Store, N: Net>(
     alloc: Global,
     table: &str,
     files: &KeyFiles,
@@ -159,9 +165,9 @@ fn sign_task<V: Pages, S: Store, N: Net>(
     task: &Task,
     store: &mut S,
     net: &mut N,
-) -> (V, Result<SignedBy, Ending>)
+) -> (V, Ended<Result<SignedBy, Ending>>)
     requires { HaveSizesOf files.now header.now }
-    ensures run { TableRun
+    ensures run { TableTo
         (record {
           desk = desk_of files.now header.now task.now.addresses.items;
           reads = record {
@@ -175,8 +181,8 @@ fn sign_task<V: Pages, S: Store, N: Net>(
           message = task.now.message.items;
         })
         table.now (from_to (S.state store.old) (S.state store.new)) (over_net (N.state net.old) (N.state net.new))
-        (answer_by result.1) }
-    ensures key { IfOk result.1 (λ by. by.key ≡ files.now.key) }
+        (answer_by result.1.outcome) result.1.session }
+    ensures key { IfOk result.1.outcome (λ by. by.key ≡ files.now.key) }
 {
     let desk = Desk {
         key: &files.key,
@@ -187,15 +193,21 @@ fn sign_task<V: Pages, S: Store, N: Net>(
     let mut cells = Paged::new(&files.key.params, &header.plan, view);
     let members = task.members;
     let message = &task.message;
-    let signed = sign_with_table(
+    let ended = sign_with_table(
         alloc, &desk, &mut cells, table, members, message, store, net,
     );
-    let signed = match signed {
-        Ok(signed) => Ok(SignedBy {
-            key: files.key,
-            signed,
-        }),
+    let Ended { outcome, session } = ended;
+    let outcome = signed_by(files.key, outcome);
+    (cells.end(), Ended { outcome, session })
+}
+
+/// A signature with the key that it was made with, or the end.
+fn signed_by(key: PublicKey, outcome: Result<Signed, Ending>) -> Result<SignedBy, Ending>
+    ensures answer { answer_by result ≡ answer_in outcome }
+    ensures key { IfOk result (λ by. by.key ≡ key) }
+{
+    match outcome {
+        Ok(signed) => Ok(SignedBy { key, signed }),
         Err(end) => Err(end),
-    };
-    (cells.end(), signed)
+    }
 }

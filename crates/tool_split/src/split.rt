@@ -4,7 +4,7 @@ use clap::{Arg, ArgAction, ArgMatches, Command as Parser, Error};
 use std::alloc::{AllocError, Global};
 
 /// The commands, each with the names of the words that have to come after it, in their order.
-const COMMANDS: [&str; 11] = [
+const COMMANDS: [&str; 12] = [
     "verify key message signature",
     "rehearse entropy message key-out signature-out",
     "deal entropy lms ots n k prefix",
@@ -13,6 +13,7 @@ const COMMANDS: [&str; 11] = [
     "approve share book message",
     "trustee share journal place workers connections",
     "sign prefix table message out",
+    "blame prefix table message out",
     "hss what",
     "aggregate prefix table place workers connections",
     "drill number sessions events",
@@ -63,7 +64,7 @@ fn command<'a>(alloc: Global, names: &'a str) -> Result<Parser<'a>, AllocError> 
     match name {
         "deal" => command.arg(word(alloc, "commit")),
         "trustee" => command.arg(word(alloc, "book")),
-        "sign" | "aggregate" => command.arg(several(alloc, "addresses", 12)),
+        "sign" | "blame" | "aggregate" => command.arg(several(alloc, "addresses", 12)),
         "hss" => command.arg(several(alloc, "words", 19)),
         _ => Ok(command),
     }

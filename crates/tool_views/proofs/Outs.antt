@@ -1,7 +1,8 @@
 -- Views that go out one after the other, and come back.
 use Rattle.std.proofs.Common.{◌≡◌, ◌+◌, ◌-◌, ℕ, false, List, [], ◌∷◌, length, map, All, IsTrue, refl, sym, ap, ◌∙◌, ◌++◌, subst, arith, append_assoc, append-nil, length-append}
-use Rattle.std.proofs.lemmas.List.{length-map}
+use Rattle.std.proofs.lemmas.List.{length-map, map-append}
 use Rattle.std.proofs.lemmas.List.Elements.{All-cons, All-nil, All-push, All-weaker}
+use Rattle.std.proofs.lemmas.List.Sums.{sum_by-cons}
 use Rattle.std.specs.Str.{bytes_eq}
 use Rattle.reference_value.specs.Paged.{pages_of}
 use Rattle.reference_value.specs.declared.paged.Paged.{Paged}
@@ -96,6 +97,30 @@ all_back a c d count counts out back many = record {
   };
   file = λ told name other. ap (λ f. f name) back.names.file ∙ out.file told name;
   leaves = λ told name image other. (let x = out.leaves told name image in let y = back.names.leaves name image in (λ z. x.0 (y.0 z), λ z. y.1 (x.1 z)));
+}
+
+-- one view more came back
+pub back_more : (a b c : StoreState) (counts : List ℕ) (view : PagesState) → ViewsBack a counts b → ViewEnded b view c → StoreOnward b c → ViewsBack a (view.count ∷ counts) c
+back_more a b c counts view back ended onward = record {
+  names = record {
+    file = ended.names.file ∙ back.names.file;
+    leaves = λ name image. (let x = back.names.leaves name image in let y = ended.names.leaves name image in (λ z. x.0 (y.0 z), λ z. y.1 (x.1 z)));
+    out = ended.names.out ∙ back.names.out;
+  };
+  rise = (let all = sum_by-cons (λ count. count) view.count counts in let before = back.rise in let now = ended.disk_count in omega (arith, all, before, now));
+  views = λ told. (let x = back.views told in let y = ended.views (rw back.onward.told told) in omega (arith, x, y));
+  onward = onward_on a b c back.onward onward;
+}
+
+pub counts_more : {X : Type 0} (count : X → ℕ) (xs : List X) (x : X) (back : List ℕ) → map count (xs ++ x ∷ []) ++ back ≡ map count xs ++ (count x ∷ back)
+counts_more count xs x back = rw (map-append, append_assoc) refl
+
+-- views that are all back at once
+pub kept_none : (a b : StoreState) → ViewsOut a 0 b → Keeps [] a b
+kept_none a b out = record {
+  back = record { onward = out.onward; out = out.out; views = λ told. (let x = out.views told in omega (arith, x)) };
+  file = λ told name other. out.file told name;
+  leaves = λ told name image other. out.leaves told name image;
 }
 
 -- one state after another

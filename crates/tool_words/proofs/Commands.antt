@@ -5,7 +5,7 @@ use Rattle.std.specs.Prelude.{codes}
 use Rattle.std.specs.Option.{option_map}
 use Rattle.std.specs.Str.{bytes_eq}
 use Rattle.std.proofs.lemmas.Slice.Eq.{bytes_eq-Decides}
-use Rattle.tool_words.specs.Words.{Aggregate, AggregateWords, Approve, Deal, DealWords, Drill, Enrol, HssCheck, HssSign, HssSignWords, Migrate}
+use Rattle.tool_words.specs.Words.{Aggregate, AggregateWords, Approve, Blame, Deal, DealWords, Drill, Enrol, HssCheck, HssSign, HssSignWords, Migrate}
 use Rattle.tool_words.specs.Words.{OutputsDiffer, Rehearse, Row, Sign, SignWords, Trustee, TrusteeWords, Verify, aggregate_of, approve_of, command_of, deal_of}
 use Rattle.tool_words.specs.Words.{deal_with, drill_of, enrol_of, hss_check_of, hss_of, hss_sign_of, is_option, migrate_of, number_of, number_within, places_of}
 use Rattle.tool_words.specs.Words.{rehearse_of, row_of, sign_words_of, trustee_of, verify_of}
@@ -260,9 +260,10 @@ row_differs (name ∷ words) row is =
     (λ row is. taken (bytes_eq name (codes "approve")) (approve_of words) _ row (approve_differ words)
     (λ row is. taken (bytes_eq name (codes "trustee")) (trustee_of words) _ row (trustee_differ words)
     (λ row is. taken (bytes_eq name (codes "sign")) (option_map Sign (sign_words_of words)) _ row (with_words Sign (λ words. tt) (sign_words_of words))
+    (λ row is. taken (bytes_eq name (codes "blame")) (option_map Blame (sign_words_of words)) _ row (with_words Blame (λ words. tt) (sign_words_of words))
     (λ row is. taken (bytes_eq name (codes "hss")) (hss_of words) _ row (hss_differ words)
     (λ row is. taken (bytes_eq name (codes "aggregate")) (aggregate_of words) _ row (aggregate_differ words)
-    (λ row is. taken (bytes_eq name (codes "drill")) (drill_of words) None row (drill_differ words) none is) is) is) is) is) is) is) is) is) is) is
+    (λ row is. taken (bytes_eq name (codes "drill")) (drill_of words) None row (drill_differ words) none is) is) is) is) is) is) is) is) is) is) is) is
 
 pub outputs_differ : (words : List (List ℕ)) (row : Row) → command_of words ≡ Some row → OutputsDiffer row
 unfolding command_of

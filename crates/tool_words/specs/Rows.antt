@@ -5,7 +5,7 @@ use Rattle.tool_words.specs.Words.{Row, places_named}
 use Rattle.tool_words.specs.Words as words
 use Rattle.tool_words.specs.declared.command.Command.{Command}
 use Rattle.tool_words.specs.declared.command.Command.TheVariants.{Verify, Rehearse, Deal, Enrol, Migrate, Approve}
-use Rattle.tool_words.specs.declared.command.Command.TheVariants.{Trustee, Sign, HssCheck, HssSign}
+use Rattle.tool_words.specs.declared.command.Command.TheVariants.{Trustee, Sign, Blame, HssCheck, HssSign}
 use Rattle.tool_words.specs.declared.command.Command.TheVariants.{Aggregate, Drill}
 use Rattle.tool_words.specs.declared.aggregate_words.AggregateWords.{AggregateWords}
 use Rattle.tool_words.specs.declared.deal_words.DealWords.{DealWords}
@@ -36,7 +36,7 @@ trustee_words trustee = record {
   book = option_map (λ book. book.now) trustee.book;
 }
 
--- the words of `sign`, each as its bytes
+-- the words of `sign` or of `blame`, each as its bytes
 abbrev pub sign_words : SignWords → words.SignWords
 sign_words sign = record {
   prefix = sign.prefix.now;
@@ -81,6 +81,7 @@ row (Migrate share journal new) = words.Migrate share.now journal.now new.now
 row (Approve share book message) = words.Approve share.now book.now message.now
 row (Trustee trustee) = words.Trustee (trustee_words trustee)
 row (Sign sign) = words.Sign (sign_words sign)
+row (Blame blame) = words.Blame (sign_words blame)
 row (HssCheck key message signature) = words.HssCheck key.now message.now signature.now
 row (HssSign sign) = words.HssSign (hss_sign_words sign)
 row (Aggregate aggregate) = words.Aggregate (aggregate_words aggregate)

@@ -27,7 +27,7 @@ pub record TrusteeWords : Type 0 where
   pub connections : ℕ
   pub book : Option (List ℕ)
 
--- the words after `sign`: the place of trustee t, or none, at t - 1
+-- the words after `sign` and after `blame`: the place of trustee t, or none, at t - 1
 pub record SignWords : Type 0 where
   pub prefix : List ℕ
   pub table : List ℕ
@@ -65,6 +65,7 @@ pub data Row : Type 0 where
   Approve : (share book message : List ℕ) → Row
   Trustee : (words : TrusteeWords) → Row
   Sign : (words : SignWords) → Row
+  Blame : (words : SignWords) → Row
   HssCheck : (key message signature : List ℕ) → Row
   HssSign : (words : HssSignWords) → Row
   Aggregate : (words : AggregateWords) → Row
@@ -219,7 +220,7 @@ trustee_of (share ∷ journal ∷ place ∷ workers ∷ connections ∷ book ∷
     trustee_with share journal place workers connections (Some book)
 trustee_of words = None
 
--- the words after `sign`; the names of the files of the dealing begin with some byte
+-- the words after `sign` and after `blame`; the names of the files of the dealing begin with some byte
 abbrev pub sign_words_of : List (List ℕ) → Option SignWords
 sign_words_of (prefix ∷ table ∷ message ∷ out ∷ addresses) =
     if length prefix == 0 then None else
@@ -233,8 +234,8 @@ abbrev pub hss_check_of : List (List ℕ) → Option Row
 hss_check_of (key ∷ message ∷ signature ∷ []) = Some (HssCheck key message signature)
 hss_check_of words = None
 
--- the words after `hss sign`; the names of the files of the dealing begin with some byte, and the outputs have different
--- names
+-- the words after `hss sign`; the names of the files of the dealing begin with some byte, and the outputs have
+-- different names
 abbrev pub hss_sign_of : List (List ℕ) → Option Row
 hss_sign_of (prefix ∷ table ∷ low_key ∷ low_signature ∷ message ∷ key_out ∷ signature_out ∷ addresses) =
     if length prefix == 0 then None else
@@ -307,6 +308,7 @@ row_of (name ∷ words) =
     if bytes_eq name (codes "approve") then approve_of words else
     if bytes_eq name (codes "trustee") then trustee_of words else
     if bytes_eq name (codes "sign") then option_map Sign (sign_words_of words) else
+    if bytes_eq name (codes "blame") then option_map Blame (sign_words_of words) else
     if bytes_eq name (codes "hss") then hss_of words else
     if bytes_eq name (codes "aggregate") then aggregate_of words else
     if bytes_eq name (codes "drill") then drill_of words else None
@@ -325,6 +327,7 @@ OutputsDiffer (Migrate share journal new) = ⊤
 OutputsDiffer (Approve share book message) = ⊤
 OutputsDiffer (Trustee words) = ⊤
 OutputsDiffer (Sign words) = ⊤
+OutputsDiffer (Blame words) = ⊤
 OutputsDiffer (HssCheck key message signature) = ⊤
 OutputsDiffer (HssSign words) = words.key_out ≢ words.signature_out
 OutputsDiffer (Aggregate words) = ⊤

@@ -61,6 +61,8 @@ pub enum Command<'a> {
     Trustee(TrusteeWords<'a>),
     /// Signs a message.
     Sign(SignWords<'a>),
+    /// Signs a message, and names the members whose replies are not the dealer's where the signature is not accepted.
+    Blame(SignWords<'a>),
     /// Verifies a signature of a message under a key of one to eight levels.
     HssCheck {
         /// The name of the key's file.

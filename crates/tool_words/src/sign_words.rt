@@ -1,8 +1,8 @@
-//! The words after `sign`.
+//! The words after `sign` and after `blame`.
 
 use crate::places::Places;
 
-/// The words after `sign`.
+/// The words after `sign` and after `blame`.
 #[derive(Clone, Copy)]
 pub struct SignWords<'a> {
     /// What the names of the key's, the tree's and the reference file begin with.

@@ -61,6 +61,7 @@ fn row_of<'a>(words: &'a [String], split: &[&'a str]) -> Option<Command<'a>>
         "approve" => approve_of(rest, split),
         "trustee" => trustee_of(rest, split),
         "sign" => Some(Command::Sign(sign_words_of(rest, split)?)),
+        "blame" => Some(Command::Blame(sign_words_of(rest, split)?)),
         "hss" => hss_of(rest, split),
         "aggregate" => aggregate_of(rest, split),
         "drill" => drill_of(rest),
@@ -242,7 +243,7 @@ fn trustee_with<'a>(
     }))
 }
 
-/// The words after `sign`. What the names of the files of the dealing begin with is not empty.
+/// The words after `sign` and after `blame`. What the names of the files of the dealing begin with is not empty.
 fn sign_words_of<'a>(words: &'a [String], split: &[&'a str]) -> Option<SignWords<'a>>
     ensures { option_map sign_words result ≡ sign_words_of (map string_bytes words.now) }
 {

@@ -1,7 +1,7 @@
 //! Runs the tool as a user does, over files and over files and links in memory: `verify`, `rehearse` and `deal`; the
-//! commands of a trustee; `sign`; `aggregate`; and `hss check`. What it is given and what must come of it is from another
-//! implementation. It prints what each command prints, the status behind it, and how the files and the bytes on links
-//! are like those that are wanted.
+//! commands of a trustee; `sign`; `aggregate`; and `hss check`. What it is given and what must come of it is from
+//! another implementation. It prints what each command prints, the status behind it, and how the files and the bytes on
+//! links are like those that are wanted.
 #![tactic(auto)]
 
 mod clients;

@@ -13,6 +13,8 @@ pub(crate) enum Sent {
     File(&'static str),
     /// The first bytes of a file.
     Start(&'static str, usize),
+    /// A file of which the byte at one place is changed.
+    Changed(&'static str, usize),
     /// A request for the signature of a file by trustees, of whom trustee t is bit t - 1.
     Request(u16, &'static str),
     /// These bytes.
@@ -85,6 +87,34 @@ pub(crate) const SESSION_LOW: &[Member] = &[
     },
 ];
 
+/// Where the randomizer mask stands in a trustee's replies, and where its mask of chain 0.
+const RANDOMIZER_MASK: usize = FIRST_REPLY - 32;
+
+const CHAIN_MASK: usize = FIRST_REPLY + 8 + 89;
+
+/// Trustees 2 and 3, who change a byte of their mask, one of chain 0 and one of chain 1: equal changes of one chain would
+/// cancel each other, and the signature would be accepted.
+pub(crate) const LIAR: Member = Member {
+    place: "two",
+    sent: &[Sent::Changed("replies2", CHAIN_MASK)],
+};
+
+pub(crate) const OTHER_LIAR: Member = Member {
+    place: "three",
+    sent: &[Sent::Changed("replies3", CHAIN_MASK + 32)],
+};
+
+/// Trustee 2, who changes a byte of its randomizer mask, and trustee 1, who then finds its check tag wrong.
+pub(crate) const FIRST_LIAR: Member = Member {
+    place: "two",
+    sent: &[Sent::Changed("replies2", RANDOMIZER_MASK)],
+};
+
+pub(crate) const CHECKING: Member = Member {
+    place: "one",
+    sent: &[Sent::File("replies1.check")],
+};
+
 /// Trustee 2, whose link ends behind its first reply.
 pub(crate) const LOST: Member = Member {
     place: "two",
@@ -156,6 +186,13 @@ pub(crate) fn bytes_of(
             Sent::Start(name, length) => {
                 let first = file(store, name).get(..length).unwrap_or_default();
                 bytes.extend_from_slice(first)?;
+            }
+            Sent::Changed(name, place) => {
+                let start = bytes.len();
+                bytes.extend_from_slice(file(store, name))?;
+                if let Some(byte) = bytes.get_mut(start.saturating_add(place)) {
+                    *byte ^= 1;
+                }
             }
             Sent::Request(members, name) => push_request(&mut bytes, members, file(store, name))?,
             Sent::Bytes(these) => bytes.extend_from_slice(these)?,

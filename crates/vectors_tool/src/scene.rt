@@ -8,7 +8,7 @@ use std::alloc::{AllocError, Global};
 use std::io::{self, ErrorKind};
 use std::sync::Wait;
 use std::thread::Threads;
-use stream_io::{Store, write_whole};
+use stream_io::{Readers, Store, write_whole};
 use tool_run::{MemClocks, run_tool};
 
 /// Files, each a name and its bytes.
@@ -66,6 +66,15 @@ pub(crate) fn store_of(alloc: Global, files: Files, failing: &[u64]) -> io::Resu
 /// The bytes of a file of a store, none where it is not there.
 pub(crate) fn file<'a>(store: &'a MemStore, name: &str) -> &'a [u8] {
     store.bytes(name).unwrap_or_default()
+}
+
+/// Who may read a file of a store, in a word.
+pub(crate) fn reader(store: &MemStore, name: &str) -> &'static str {
+    match store.readers(name) {
+        Some(Readers::Anyone) => "anyone",
+        Some(Readers::OwnerAlone) => "owner",
+        None => "nobody",
+    }
 }
 
 /// A net that offers the place `here`, with these ports.

@@ -1,6 +1,6 @@
-//! Runs of `sign` and of `hss sign` over files and links in memory. The key is dealt here, from the entropy that another implementation
-//! dealt from; what its trustees replied to its aggregator is what the links give, and signature and asks are compared
-//! with those that it made. Then trustees, files and calls fail.
+//! Runs of `sign`, of `hss sign` and of `blame` over files and links in memory. The key is dealt here, from the entropy
+//! that another implementation dealt from; what its trustees replied to its aggregator is what the links give, and
+//! signature and asks are compared with those that it made. Then trustees, files and calls fail.
 
 mod outcome;
 mod steps;
@@ -102,6 +102,7 @@ fn all_runs(alloc: Global) -> Result<Vec<Run>, NoMemory> {
     push_steps(&mut runs, steps::SIGN_24, false)?;
     push_steps(&mut runs, steps::LOSE, false)?;
     push_steps(&mut runs, steps::LEVELS, false)?;
+    push_steps(&mut runs, steps::BLAME, false)?;
     push_faults(&mut runs)?;
     push_steps(&mut runs, steps::CHANGED, true)?;
     Ok(runs)

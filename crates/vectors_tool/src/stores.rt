@@ -8,8 +8,9 @@ use std::alloc::Global;
 
 /// What another implementation dealt from, the message that it signed, what its trustees were asked and replied, and
 /// its signature, for hashes of 32 bytes and of 24; and a lower key with its signature of the empty message, what was
-/// asked and replied for its signature, and key and signature of the two levels.
-pub(crate) const SESSION_FILES: [&str; 27] = [
+/// asked and replied for its signature, and key and
+/// signature of the two levels; and what trustee 1 is asked and replies where the randomizer is wrong.
+pub(crate) const SESSION_FILES: [&str; 29] = [
     "entropy",
     "message",
     "signature",
@@ -37,13 +38,16 @@ pub(crate) const SESSION_FILES: [&str; 27] = [
     "replies1.low",
     "replies2.low",
     "replies3.low",
+    "asks1.check",
+    "replies1.check",
 ];
 
 /// The files that stay as they are where others are changed, or calls fail.
-const KEPT: [&str; 15] = [
+const KEPT: [&str; 16] = [
     "A.pub",
     "A.tree",
     "A.ref",
+    "C.commit",
     "message",
     "table",
     "table.24",
@@ -61,8 +65,11 @@ const KEPT: [&str; 15] = [
 /// Where the cells of chain 0 of leaf 0 begin in a reference for three members over hashes of 32 bytes, and end.
 const CHAIN: (usize, usize) = (32 + 32 + 3 * 32, 32 + 32 + 3 * 32 + 16 * 32);
 
+/// Where the identifier stands in a head.
+const IDENTIFIER: usize = 16;
+
 /// Files of dealings whose files were mixed, cut or changed: each with its name, the file that it is made of, and how.
-const CHANGED: [(&str, &str, Change); 17] = [
+const CHANGED: [(&str, &str, Change); 26] = [
     ("OtherTree.pub", "A.pub", Change::None),
     ("OtherTree.tree", "B.tree", Change::None),
     ("OtherTree.ref", "A.ref", Change::None),
@@ -80,6 +87,15 @@ const CHANGED: [(&str, &str, Change); 17] = [
     ("ChangedReference.pub", "A.pub", Change::None),
     ("ChangedReference.tree", "A.tree", Change::None),
     ("ChangedReference.ref", "A.ref", Change::Chain),
+    ("ChangedReference.commit", "C.commit", Change::None),
+    ("OtherCommitments.pub", "A.pub", Change::None),
+    ("OtherCommitments.tree", "A.tree", Change::None),
+    ("OtherCommitments.ref", "A.ref", Change::None),
+    ("OtherCommitments.commit", "C.commit", Change::Identifier),
+    ("ShortCommitments.pub", "A.pub", Change::None),
+    ("ShortCommitments.tree", "A.tree", Change::None),
+    ("ShortCommitments.ref", "A.ref", Change::None),
+    ("ShortCommitments.commit", "C.commit", Change::CutByOne),
 ];
 
 /// What is changed in a file.
@@ -91,6 +107,8 @@ enum Change {
     CutByOne,
     /// The first byte of each value of chain 0 of leaf 0 is changed.
     Chain,
+    /// The first byte of the key's identifier is changed.
+    Identifier,
 }
 
 /// What fails: the call of this number of the store, or of the disk of the table `fresh`.
@@ -107,6 +125,11 @@ fn changed(alloc: Global, bytes: &[u8], change: Change) -> Result<Vec<u8>, NoMem
         Change::None => {}
         Change::CutByOne => {
             bytes.pop();
+        }
+        Change::Identifier => {
+            if let Some(byte) = bytes.get_mut(IDENTIFIER) {
+                *byte ^= 1;
+            }
         }
         Change::Chain => {
             for place in (CHAIN.0..CHAIN.1).step_by(32) {

@@ -2,7 +2,7 @@
 //! dealing with its line.
 
 use super::print_in_memory;
-use crate::scene::LINE;
+use crate::scene::{LINE, reader};
 use std::io;
 use std::sync::Wait;
 use std::thread::Threads;
@@ -27,7 +27,7 @@ const REFUSED: &[(&str, usize)] = &[
 
 /// Runs the words over a store with the file `e` of so many bytes, which count up from 0, and the empty file `m`. The
 /// listed calls of the store fail, and the output has this much room. Behind the status it prints the outputs that are
-/// in the store.
+/// in the store, and who may read each.
 fn print_dealing<R: Threads + Wait + Sync>(
     threads: &R,
     rt: HostRuntime,
@@ -46,7 +46,7 @@ fn print_dealing<R: Threads + Wait + Sync>(
     let mut store = print_in_memory(threads, rt, text, files, failing, room)?;
     for name in OUTPUTS {
         if let Ok(true) = store.has(name) {
-            print!(rt; " {name}")?;
+            print!(rt; " {name}:{}", reader(&store, name))?;
         }
     }
     println!(rt; "")

@@ -1,7 +1,7 @@
 //! The links of a trustee, and what is printed behind its commands.
 
 use super::steps::{IN_TURN, Step, Talk};
-use crate::scene::{file, net_at_here, print_ran};
+use crate::scene::{file, net_at_here, print_ran, reader};
 use memory::NoMemory;
 use memory_io::{KeptPort, MemLink, MemNet, MemSink, MemSource, PortScript};
 use memory_store::MemStore;
@@ -77,7 +77,7 @@ pub(crate) fn likeness_of(files: &MemStore, port: Option<&KeptPort>, talk: &Talk
     likeness(written(port), file(files, talk.replies))
 }
 
-/// Prints the name of a file, its length, its first 16 bytes and its SHA-256.
+/// Prints the name of a file, its length, its first 16 bytes, its SHA-256, and who may read it.
 fn print_file(rt: HostRuntime, store: &MemStore, name: &str) -> io::Result<()> {
     let Some(bytes) = store.bytes(name) else {
         return println!(rt; "{name} is not there");
@@ -85,7 +85,8 @@ fn print_file(rt: HostRuntime, store: &MemStore, name: &str) -> io::Result<()> {
     let length = bytes.len();
     let first = hex::encode(rt.alloc(), bytes.get(..16).unwrap_or_default())?;
     let digest = hex::encode(rt.alloc(), Sha256::digest(bytes))?;
-    println!(rt; "{name} {length} {first} {digest}")
+    let reader = reader(store, name);
+    println!(rt; "{name} {length} {first} {digest} {reader}")
 }
 
 /// Prints what a step's command printed, its status, how the replies are, and the files.

@@ -1,7 +1,9 @@
-//! The runs of `sign`, of `hss sign` and of the commands that they need, one after the other over one store.
+//! The runs of `sign`, of `hss sign`, of `blame` and of the commands that they need, one after the other over one
+//! store.
 
 use crate::peers::{
-    EIGHT, GARBLED, LOST, Member, ONE, SESSION, SESSION_24, SESSION_LOW, SEVEN, THREE, TWO,
+    CHECKING, EIGHT, FIRST_LIAR, GARBLED, LIAR, LOST, Member, ONE, OTHER_LIAR, SESSION, SESSION_24,
+    SESSION_LOW, SEVEN, THREE, TWO,
 };
 
 /// A command; the trustees who can be dialled; the places of those of whom all that they are asked is known, each with
@@ -258,6 +260,70 @@ pub(crate) const LEVELS: &[Step] = &[
     },
 ];
 
+/// A key whose masks are committed to: trustees who give wrong masks in round two or in round one are named, and so are
+/// two of them; where none does, the message is signed.
+pub(crate) const BLAME: &[Step] = &[
+    Step {
+        words: "deal entropy 5 3 5 3 C commit",
+        ..PLAIN
+    },
+    Step {
+        words: "enrol C.ref blamed",
+        ..PLAIN
+    },
+    Step {
+        words: "blame A blamed message b 1=one 2=two 3=three",
+        ..PLAIN
+    },
+    Step {
+        words: "blame C blamed message b 1=one 2=two 3=three",
+        ..PLAIN
+    },
+    Step {
+        words: "blame C blamed message b 1=one 2=two 3=three",
+        members: &[ONE, LIAR, THREE],
+        asks: ASKS,
+        out: Some(("b", "none")),
+        ..PLAIN
+    },
+    Step {
+        words: "blame C blamed message b 1=one 2=two 3=three",
+        members: &[ONE, LIAR, OTHER_LIAR],
+        asks: ASKS,
+        out: Some(("b", "none")),
+        ..PLAIN
+    },
+    Step {
+        words: "sign C blamed message b 1=one 2=two 3=three",
+        members: &[CHECKING, FIRST_LIAR, THREE],
+        asks: &[("one", "asks1.check")],
+        out: Some(("b", "none")),
+        ..PLAIN
+    },
+    Step {
+        words: "blame C blamed message b 1=one 2=two 3=three",
+        members: &[CHECKING, FIRST_LIAR, THREE],
+        asks: &[("one", "asks1.check")],
+        out: Some(("b", "none")),
+        ..PLAIN
+    },
+    Step {
+        words: "blame C blamed message b 1=one 2=two 3=three",
+        members: SESSION,
+        asks: ASKS,
+        out: Some(("b", "signature")),
+        ..PLAIN
+    },
+    Step {
+        words: "blame C blamed message b 1=one 2=two 3=three",
+        ..PLAIN
+    },
+    Step {
+        words: "blame C blamed message d 1=one 2=two",
+        ..PLAIN
+    },
+];
+
 /// Files that are not those of one dealing, or not whole.
 pub(crate) const CHANGED: &[Step] = &[
     Step {
@@ -289,6 +355,21 @@ pub(crate) const CHANGED: &[Step] = &[
         members: SESSION,
         asks: ASKS,
         out: Some(("more", "none")),
+        ..PLAIN
+    },
+    Step {
+        words: "blame ChangedReference table message more 1=one 2=two 3=three",
+        members: SESSION,
+        asks: ASKS,
+        out: Some(("more", "none")),
+        ..PLAIN
+    },
+    Step {
+        words: "blame OtherCommitments table message more 1=one 2=two 3=three",
+        ..PLAIN
+    },
+    Step {
+        words: "blame ShortCommitments table message more 1=one 2=two 3=three",
         ..PLAIN
     },
 ];

@@ -4,7 +4,7 @@ use Rattle.client_node.specs.Signing.{too_long}
 use Rattle.leased_session.specs.Signing.{desk_state}
 use Rattle.client_node.proofs.Showing.{shows}
 use Rattle.client_node.proofs.Signing.{cells-of, leased-as, port-of, refused-as}
-use Rattle.leased_session.proofs.Signing.{signed-err, signed-ok}
+use Rattle.leased_session.proofs.Answering.{signed-err, signed-ok}
 use Rattle.client_node.proofs.sign.sign_one.Goals as goal
 
 pub returns-then-message-clause-signs : goal.returns-then-message-clause-signs

@@ -1,4 +1,4 @@
-use Rattle.std.proofs.Common.{◌≡◌, ◌<◌, ◌∙◌, ℕ, Bool, Option, is_some, not, IfNone, IfSome, if◌then◌else◌, length, get_or, refl, sym, ap, subst}
+use Rattle.std.proofs.Common.{◌≡◌, ◌<◌, ◌∙◌, ℕ, Bool, Option, is_some, not, IfNone, IfSome, if◌then◌else◌, length, get_or, refl, sym, ap, subst, arith}
 use Rattle.drill_trustees.specs.Trustees.{leaf_at}
 use Rattle.reference_value.specs.Dealing.{Dealing}
 use Rattle.drill.specs.Courses.{HasNoNext, IsGoing, IsGood, IsNextOf, asks_in, uses_of}
@@ -31,7 +31,7 @@ returns-then-is_none-clause-goes c = λ own good.
     let n = asks-are c.args.desk.now own.dealing c.args.i c.args.drill c.index.result.now c.next_of.result c.is_none.result good c.requires.within c.index.ensures c.is_none.ensures
     c.next_of.ensures.next c.next_of.ensures.none in
     none-twice c.args.desk.now own.dealing c.args.i c.args.drill good c.requires.within _ (record { good = good; parts = refl }) refl
-    (n ∙ ap (λ (b : Bool). if b then 0 else 1) c.if-is_none.true)
+    (n ∙ ap (λ (b : Bool). if b then 0 else 1) c.if-is_none.true) refl
 
 pub returns-clause-goes : goal.returns-clause-goes
 returns-clause-goes c = λ own good.
@@ -41,3 +41,4 @@ returns-clause-goes c = λ own good.
     let second = c.in_ok-drill-2.ensures.goes own first.stays.good in
     some-twice c.args.desk.now own.dealing c.args.i c.args.drill good c.requires.within c.in_ok-drill.drill c.in_ok-drill-2.drill c.in_ok-drill.first c.in_ok-drill-2.second c.sum.result
     (n ∙ ap (λ (b : Bool). if b then 0 else 1) c.if-is_none.false) first second (record { good = second.stays.good; parts = c.sum.ensures.parts first.stays.parts second.stays.parts }) c.sum.ensures.put
+    (let one = c.in_ok-drill.ensures.cut in let two = c.in_ok-drill-2.ensures.cut in let both = c.sum.ensures.cut in omega (arith, one, two, both))

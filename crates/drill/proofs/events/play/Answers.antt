@@ -9,14 +9,14 @@ returns-in_ok-drill-in-Step-clause-goes c = λ own good.
     let drill = c.in_ok-drill-in-Step.drill in
     let asks = c.in_ok-drill-in-Step.asks in
     subst (λ (e : Event). Plays c.args.desk.now own.dealing e c.args.i c.args.drill drill asks) (sym c.in-Step.is)
-    (step-plays c.args.desk.now own.dealing c.args.i c.args.drill good c.requires.within drill asks (c.in_ok-drill-in-Step.ensures.goes own good))
+    (step-plays c.args.desk.now own.dealing c.args.i c.args.drill good c.requires.within drill asks c.in_ok-drill-in-Step.ensures.cut (c.in_ok-drill-in-Step.ensures.goes own good))
 
 pub returns-in_ok-drill-in-Dropped-clause-goes : goal.returns-in_ok-drill-in-Dropped-clause-goes
 returns-in_ok-drill-in-Dropped-clause-goes c = λ own good.
     let drill = c.in_ok-drill-in-Dropped.drill in
     let asks = c.in_ok-drill-in-Dropped.asks in
     subst (λ (e : Event). Plays c.args.desk.now own.dealing e c.args.i c.args.drill drill asks) (sym c.in-Dropped.is)
-    (dropped-plays c.args.desk.now own.dealing c.args.i c.args.drill good c.requires.within drill asks (c.in_ok-drill-in-Dropped.ensures.goes own good))
+    (dropped-plays c.args.desk.now own.dealing c.args.i c.args.drill good c.requires.within drill asks c.in_ok-drill-in-Dropped.ensures.cut (c.in_ok-drill-in-Dropped.ensures.goes own good))
 
 pub returns-in_ok-drill-in-Cut-clause-goes : goal.returns-in_ok-drill-in-Cut-clause-goes
 returns-in_ok-drill-in-Cut-clause-goes c = λ own good.
@@ -36,4 +36,4 @@ returns-in_ok-restarted-in-Restart-clause-goes c = λ own good.
     let drill = c.in_ok-restarted-in-Restart.field-0 in
     subst (λ (e : Event). Plays c.args.desk.now own.dealing e c.args.i c.args.drill drill (record { put = 0; granted = 0; cut = 0 })) (sym c.in-Restart.is)
     (restart-plays c.args.desk.now own.dealing c.args.i c.args.drill good c.requires.within drill (record { put = 0; granted = 0; cut = 0 })
-    (record { good = c.in_ok-restarted-in-Restart.ensures.good own good; parts = refl }) c.in_ok-restarted-in-Restart.ensures.seats refl)
+    (record { good = c.in_ok-restarted-in-Restart.ensures.good own good; parts = refl }) c.in_ok-restarted-in-Restart.ensures.seats refl refl)

@@ -4,7 +4,7 @@ use Rattle.drill.specs.Courses.{AreFinished, HasEnded, HasSigned, uses_of}
 use Rattle.drill.specs.Disks.{AreDisks}
 use Rattle.drill_trustees.specs.Trustees.{leaf_at}
 use Rattle.drill.specs.Counts.{signed_in}
-use Rattle.drill.specs.Schedules.{extra_asks, signed_of}
+use Rattle.drill.specs.Schedules.{cut_asks, extra_asks, signed_of}
 use Rattle.drill.specs.Summaries.{events_in}
 use Rattle.drill.specs.declared.seat.Seat.{Seat}
 use Rattle.drill.specs.declared.seat.Seat.TheVariants.{Refused}
@@ -57,6 +57,7 @@ returns-clause-summary c =
                 let count : c.count_ends-signed.result.0 ≡ signed_in drill.seats.items = ends.signed ∙ ap signed_in is in
                 omega arith);
             parts = done.well.parts;
+            cuts_in = subst (λ (k : ℕ). k ≤ cut_asks c.args.number c.args.sessions (events_in c.args.sessions c.args.events)) (sym c.finish_all.ensures.cuts) well.cuts;
             most = most-is c.most.result _ (length drill.openings.list.items) (most.single good.openings.single) most.none most.some
                 (λ empty. ends.none (subst (λ (l : List Seat). All (λ (seat : Seat). HasSigned seat → ⊥) l) (sym is) (λ k none inside has. let low = good.some k none inside has in omega arith)))
                 (λ some. from (signer c.in_ok-desk.desk own.dealing drill good all some));

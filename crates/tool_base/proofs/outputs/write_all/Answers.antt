@@ -39,7 +39,7 @@ returns-in_err-write_output-clause-refused g c =
     let own : get_or (map name outputs) i [] ≡ string_bytes output.name = get_or-map name outputs i output [] h ∙ ap name (sym c.output-item.is) in
     let new : IsNew (from_to (state c.args.store.now) (state c.args.store.now)) (string_bytes output.name) =
     rw own at (All-get_or (IsNew (from_to (state c.args.store.now) (state c.args.store.now))) (map name outputs) i [] size c.requires.new) in
-    let left = left_same _ _ _ step.unchanged step.onward _ inv.1 in
+    let left = left_same _ _ _ inv.0.onward.told step.unchanged step.onward _ inv.1 in
     λ first calm.
     rw (p.1, p.2) (stopped_part _ _ _ calm _ _ (stops_after _ output_of outputs i output _ h c.output-item.is left
     (stops_behind _ _ _ _ inv.0.onward (λ name told. inv.0.out told name) inv.1 _ _ new (earlier_differ outputs i output h c.output-item.is c.requires.differ) step.refused)))
@@ -54,9 +54,9 @@ outputs-preserved g c =
     let inv = c.outputs.invariant in
     let step = c.in_ok-write_output.ensures in
     let output = c.output-item.result in (
-      back_written _ _ _ _ _ inv.0 step.written step.onward,
+      back_written _ _ _ _ _ _ inv.0 step.written step.onward,
       left_more _ _ _ output_of c.args.outputs.now c.outputs.output-index output c.outputs-test.true c.output-item.is inv.0.onward.told
-          (earlier_differ c.args.outputs.now c.outputs.output-index output c.outputs-test.true c.output-item.is c.requires.differ) inv.1 step.written,
+          (earlier_differ c.args.outputs.now c.outputs.output-index output c.outputs-test.true c.output-item.is c.requires.differ) inv.1 step.written step.onward,
     )
 
 pub returns-clause-written : goal.returns-clause-written

@@ -120,7 +120,7 @@ returns g c =
     record {
       ended = record {
         touched = book ∷ [];
-        cause = book_ends failed first before after last c.args.share.now book c.args.message.now found id old now end calm opened back fails read text added;
+        cause = book_ends failed first before after last c.args.share.now book c.args.message.now found id old now end calm opened back five.onward fails read text added;
         keeps = back.keeps;
       };
     }

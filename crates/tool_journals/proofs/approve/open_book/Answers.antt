@@ -4,13 +4,14 @@ use Rattle.tool_base.specs.Endings.{ending}
 use Rattle.tool_base.specs.Outputs.{IsNew}
 use Rattle.tool_base.specs.Touched.{EndsTouching}
 use Rattle.tool_base.specs.World.{IsCalm, from_to}
-use Rattle.tool_base.proofs.Runs.{calm_on, onward_none, part_of}
+use Rattle.tool_base.proofs.Runs.{calm_on, onward_none, onward_on, part_of}
 use Rattle.tool_base.proofs.Writing.{failed_part}
-use Rattle.tool_journals.specs.Approve.{IsBookDisk, IsNotOpened, is_new, look_failed, no_memory_to_look, not_made, not_taken}
+use Rattle.tool_journals.specs.Approve.{IsBookDisk, IsNotOpened, is_new, look_failed, no_memory_to_look, not_made, not_taken, was_there}
 use Rattle.tool_journals.specs.Blanks.{IsBlankDisk, IsNotMade}
 use Rattle.tool_journals.specs.Taking.{no_memory_to_take, take_failed}
 use Rattle.tool_journals.proofs.Blanks.{new_calm}
-use Rattle.tool_disks.proofs.Outs.{ends_calm, ends_map}
+use Rattle.tool_disks.proofs.Outs.{ends_calm, ends_map, taken_out}
+use Rattle.tool_disks.proofs.Takes.{taken_calm}
 use Rattle.tool_journals.proofs.Approving.{blank_calm, if_err_map, if_ok_map}
 use Rattle.tool_journals.proofs.approve.open_book.Goals as goal
 
@@ -49,6 +50,22 @@ returns-in-Err-NoMemory-take_disk-clause-refused g c = λ first calm.
     rw (← calm.same.names.file, ← calm.same.names.out) (sym (one.found (rw calm.onward.told told)) ∙ c.in-Ok-true.field-0-test) in
     ends_calm (state first) last (calm_on _ _ _ before still) (IsNotOpened run book c.args.blank.now.header) _
     (not_taken _ there no_memory_to_take)
+
+pub returns-in-Ok-clause-opened : goal.returns-in-Ok-clause-opened
+returns-in-Ok-clause-opened g c =
+    let state = g.S.Store.state in
+    let disks = g.S.Disk in
+    let dk = λ (d : g.row.S-Disk.Denot). pages_state disks.Pages.told disks.Pages.honest disks.Faults.steady disks.Faults.count disks.Pages.room disks.Pages.reads disks.Pages.may_leave d in
+    let old = state c.args.store.now in
+    let mid = state c.has.new.self in
+    let last = state c.take_disk.new.self in
+    let book = c.args.book.now in
+    let disk = dk c.in-Ok.disk in
+    let one = c.in-Ok-true.ensures in
+    let two = c.in-Ok.ensures in
+    let still : IsCalm old mid = record { same = one.same; onward = one.onward } in
+    let taken = taken_calm old mid last book disk still two.taken in
+    was_there (taken_out old last book disk taken (onward_on old mid last still.onward two.onward)) taken.reads taken.images
 
 pub returns-in-Ok-false-clause-opened : goal.returns-in-Ok-false-clause-opened
 returns-in-Ok-false-clause-opened g c =

@@ -8,7 +8,7 @@ use Rattle.tool_base.proofs.Runs.{calm_on, onward_none, part_of}
 use Rattle.tool_base.proofs.Writing.{not_new_part}
 use Rattle.tool_journals.specs.Blanks.{IsNeverHalf, IsNotMade, not_new}
 use Rattle.tool_disks.specs.Disks.{IsOut}
-use Rattle.tool_journals.proofs.Blanks.{made_out, new_calm, not_made_of, not_new_of}
+use Rattle.tool_journals.proofs.Blanks.{made_out, new_calm, not_made_of, not_new_of, owners_on}
 use Rattle.tool_disks.proofs.Outs.{IsBackAs, back_as, ends_calm, out_calm, out_same}
 use Rattle.tool_journals.proofs.blank.new_blank.Goals as goal
 
@@ -50,6 +50,7 @@ returns-in-Err-prepare-clause-refused g c = λ first calm.
     let half : IsNeverHalf (file.IsNew c.args.blank.now.header c.args.blank.now.count) run name =
     record {
       stays = λ told. rw (back.file told) refl;
+      owners = owners_on (state first) old mid last name calm.onward c.in-Ok.ensures.onward c.return_disk.ensures.onward made.readers;
       images = λ told honest image left. (step.half (λ _. made.reads (rw calm.onward.told told))).images (fresh.told told)
           (subst (λ (h : Handed). IsTrue h.honest) (fresh.kind told) honest) image ((back.leaves told image).0 left);
     } in

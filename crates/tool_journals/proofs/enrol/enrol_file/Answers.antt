@@ -39,7 +39,7 @@ returns-in-Ok-new_blank g c =
     record {
       ended = record {
         touched = name ∷ [];
-        cause = enrolled c.in-Ok.blank.header c.in-Ok.blank.count read (made_of (state first) before after (state last) name c.in-Ok.blank.header c.in-Ok.blank.count disk one.calm made back);
+        cause = enrolled c.in-Ok.blank.header c.in-Ok.blank.count read (made_of (state first) before after (state last) name c.in-Ok.blank.header c.in-Ok.blank.count disk one.calm made back c.return_disk.ensures.onward);
         keeps = back.keeps;
       };
     }

@@ -7,10 +7,11 @@ use Rattle.slot_file.specs.declared.header.Header.{Header}
 use Rattle.stream_io.specs.Store.{Handed, pages_state}
 use Rattle.tool_base.specs.Endings.{ending}
 use Rattle.tool_base.specs.World.{from_to, IsCalm}
-use Rattle.tool_journals.specs.Blanks.{IsNeverHalf}
+use Rattle.tool_journals.specs.Blanks.{IsNeverHalf, IsOwners}
 use Rattle.tool_disks.specs.Disks.{IsOut, OneFails}
 use Rattle.tool_journals.specs.Migrate.{CopyEnds, IsCopied, migrated, not_made, slot_count}
-use Rattle.tool_journals.proofs.Blanks.{made_out}
+use Rattle.tool_base.proofs.Runs.{onward_none}
+use Rattle.tool_journals.proofs.Blanks.{made_out, owners_on}
 use Rattle.tool_journals.proofs.Copying.{copy_fails, copy_is, damaged_is, not_written_of, taken_is}
 use Rattle.tool_disks.proofs.Outs.{IsBackAs, back_as, ends_calm, out_same}
 use Rattle.tool_journals.proofs.migrate.copy_journal.Goals as goal
@@ -52,6 +53,7 @@ returns-in-Ok-copied-clause-ended g c =
     let back : IsBackAs old name now last = back_as old mid last name now out c.return_disk.ensures.returned c.return_disk.ensures.onward in
     let old_version : c.args.slots.now.header.version ≡ 1 = ap (λ (h : Header). h.version) c.requires.header in
     let copied : IsCopied run share name file = record {
+      owners = owners_on old old mid last name (onward_none old) c.in-Ok.ensures.onward c.return_disk.ensures.onward made.readers;
       copy = λ told. (
         disks.Pages.reads c.copy_slots-copied.new.disk,
         back.file told,
@@ -90,7 +92,9 @@ returns-in-Err-copied-clause-ended g c =
     let old_version : c.args.slots.now.header.version ≡ 1 = ap (λ (h : Header). h.version) c.requires.header in
     let failed = OneFails old last (faults_of c.args.slots.now) (faults_of c.copy_slots-copied.new.from) in
     let honest_is = λ (told : IsTrue old.told) (honest : IsTrue (old.disks name).honest). subst (λ (h : Handed). IsTrue h.honest) (fresh.kind told) honest in
+    let owners : IsOwners run name = owners_on old old mid last name (onward_none old) c.in-Ok.ensures.onward c.return_disk.ensures.onward made.readers in
     let half : IsNeverHalf (IsCopy (journal_header share) (slot_count share) 1 file) run name = record {
+      owners = owners;
       stays = λ told. rw (back.file told) refl;
       images = λ told honest image left.
           elim ((step.half (λ _. made.reads told) (c.requires.told told)).images (fresh.told told) (honest_is told honest) image ((back.leaves told image).0 left)) [
@@ -108,6 +112,7 @@ returns-in-Err-copied-clause-ended g c =
             let shut = step.shut (subst (λ f. IsDamaged f) (sym is) tt) in record {
               file = λ told. (disks.Pages.reads c.copy_slots-copied.new.disk, back.file told, shut.reads (fresh.told told));
               images = λ told honest image left. shut.images (fresh.told told) (honest_is told honest) image ((back.leaves told image).0 left);
+              owners = owners;
             },
           ))
           (λ is. record {

@@ -134,6 +134,7 @@ returns g c =
         unsteady = λ steady. failed.unsteady (rw went.onward.steady steady);
       };
       kind = sym (went.onward.disks name);
+      readers = λ told. five.onward.readers (rw four.ended.keeps.back.onward.told (rw went.onward.told told)) name;
       file = λ told. back.others_file told name (differs told);
       leaves = λ told image. (back.others_leave told name image (differs told)).0;
     } in

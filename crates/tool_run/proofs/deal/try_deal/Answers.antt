@@ -7,7 +7,8 @@ use Rattle.tool_base.specs.Outputs.{IsNew}
 use Rattle.tool_words.specs.Rows.{deal_words}
 use Rattle.tool_base.specs.World.{from_to}
 use Rattle.tool_run.proofs.Dealing.{dealt_differ}
-use Rattle.tool_base.proofs.Runs.{calm_none, calm_on, onward_none, onward_on, part_of}
+use Rattle.tool_run.proofs.Running.{back_after}
+use Rattle.tool_base.proofs.Runs.{back_calm, calm_none, calm_on, onward_none, onward_on, part_of}
 use Rattle.tool_base.proofs.Writing.{all_new_later, ends_stopped, ends_untouched, names_of}
 use Rattle.tool_run.proofs.deal.try_deal.Goals as goal
 
@@ -96,3 +97,12 @@ write_all-requires-clause-new g c =
     rw c.deref-2.ensures.value at (two.new first last (part_of _ _ _ _ one.calm (onward_none _))) in
     λ lives order. rw c.deref-3.ensures.value (all_new_later (state first) (state last) (state last) (state last) (calm_on _ _ _ one.calm two.calm)
     (map (λ output. string_bytes output.name) outputs) new)
+
+pub returns-in_err-test_all_new-clause-back : goal.returns-in_err-test_all_new-clause-back
+returns-in_err-test_all_new-clause-back g c = back_calm _ _ (calm_on _ _ _ c.in_ok-entropy.ensures.calm c.in_err-test_all_new.ensures.calm)
+
+pub returns-in_err-write_all-clause-back : goal.returns-in_err-write_all-clause-back
+returns-in_err-write_all-clause-back g c = back_after _ _ _ (calm_on _ _ _ c.in_ok-entropy.ensures.calm c.in_ok-test_all_new.ensures.calm) c.in_err-write_all.ensures.back
+
+pub returns-clause-back : goal.returns-clause-back
+returns-clause-back g c = back_after _ _ _ (calm_on _ _ _ c.in_ok-entropy.ensures.calm c.in_ok-test_all_new.ensures.calm) c.in_ok-write_all.ensures.back

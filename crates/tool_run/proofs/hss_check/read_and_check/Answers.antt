@@ -44,3 +44,12 @@ returns-clause-verdict g c =
     let signature = three.bytes first last (part_of _ _ _ _ (calm_on _ _ _ one.calm two.calm) (onward_none _)) in
     checked c.in_ok-public.public c.in_ok-text.text.items c.in_ok-bytes.bytes.items c.hss_verify.result key message signature
     (rw (← c.deref.ensures.value, ← c.deref-2.ensures.value) c.hss_verify.ensures.verdict)
+
+pub returns-in_err-text-clause-calm : goal.returns-in_err-text-clause-calm
+returns-in_err-text-clause-calm g c = calm_on _ _ _ c.in_ok-public.ensures.calm c.in_err-text.ensures.calm
+
+pub returns-in_err-bytes-clause-calm : goal.returns-in_err-bytes-clause-calm
+returns-in_err-bytes-clause-calm g c = calm_on _ _ _ (calm_on _ _ _ c.in_ok-public.ensures.calm c.in_ok-text.ensures.calm) c.in_err-bytes.ensures.calm
+
+pub returns-clause-calm : goal.returns-clause-calm
+returns-clause-calm g c = calm_on _ _ _ (calm_on _ _ _ c.in_ok-public.ensures.calm c.in_ok-text.ensures.calm) c.in_ok-bytes.ensures.calm

@@ -6,6 +6,7 @@ use Rattle.tool_base.specs.Outputs.{IsNew}
 use Rattle.tool_run.specs.Rehearse.{RehearseEnds, entropy_not_read, message_not_read, not_new, not_rehearsed, rehearsed, stopped}
 use Rattle.tool_base.specs.World.{from_to}
 use Rattle.tool_run.proofs.Rehearsing.{rehearsed_names, two_differ, two_hold}
+use Rattle.tool_run.proofs.Running.{back_after}
 use Rattle.tool_base.proofs.Runs.{calm_none, calm_on, onward_none, onward_on, part_of}
 use Rattle.tool_base.proofs.Writing.{all_new_later, ends_stopped, ends_untouched, names_of}
 use Rattle.tool_run.proofs.rehearse.try_rehearse.Goals as goal
@@ -177,3 +178,9 @@ write_all-requires-clause-new g c =
     (two.new first last (part_of _ _ _ _ one.calm later)) in
     let names = rehearsed_names _ _ _ _ _ c.in_ok-outputs.ensures.rehearsed in
     λ lives order. rw (← names_of output_of c.in_ok-outputs.outputs, names) (all_new_later (state first) (state last) (state last) (state last) all (key ∷ signature ∷ []) new)
+
+pub returns-clause-back : goal.returns-clause-back
+returns-clause-back g c =
+    let both = calm_on _ _ _ c.in_ok-test_new.ensures.calm c.in_ok-test_new-2.ensures.calm in
+    let read = calm_on _ _ _ c.in_ok-seeds.ensures.calm c.in_ok-text.ensures.calm in
+    back_after _ _ _ (calm_on _ _ _ both read) c.write_all.ensures.back

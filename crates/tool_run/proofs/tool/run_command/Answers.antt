@@ -40,6 +40,9 @@ returns-in-Trustee-clause-ended g c = rw c.in-Trustee.is c.serve_trustee.ensures
 pub returns-in-Sign-clause-ended : goal.returns-in-Sign-clause-ended
 returns-in-Sign-clause-ended g c = rw c.in-Sign.is c.sign.ensures
 
+pub returns-in-Blame-clause-ended : goal.returns-in-Blame-clause-ended
+returns-in-Blame-clause-ended g c = rw c.in-Blame.is c.blame.ensures
+
 pub returns-in-HssSign-clause-ended : goal.returns-in-HssSign-clause-ended
 returns-in-HssSign-clause-ended g c = rw c.in-HssSign.is c.hss_sign.ensures
 

@@ -1,4 +1,4 @@
-use Rattle.std.proofs.Common.{[], Ok, Err, Result, refl}
+use Rattle.std.proofs.Common.{[], Ok, Err, refl}
 use Rattle.leased_session.specs.Signing.{Signature}
 use Rattle.tool_base.proofs.Nets.{net_none}
 use Rattle.tool_base.proofs.Runs.{calm_none, onward_none, onward_on, part_of}

@@ -12,9 +12,9 @@ use Rattle.tool_disks.specs.Loads.{FailsToLoad}
 use Rattle.tool_disks.proofs.Outs.{keeps_calm, out_here, taken_out}
 use Rattle.tool_disks.proofs.Takes.{back, reads_as, slots_not_loaded, stays}
 use Rattle.tool_base.proofs.Nets.{net_none}
-use Rattle.tool_signing.proofs.Signs.{ends_whole}
+use Rattle.tool_signing.proofs.Signs.{ends_whole, same_name, unbegun_to}
 use Rattle.tool_signing.proofs.Tables.{is_fresh, is_table, leaves_table}
-use Rattle.tool_signing.specs.Signs.{no_memory, no_table, not_loaded}
+use Rattle.tool_signing.specs.Signs.{answer_in, no_memory, no_table, not_loaded}
 use Rattle.tool_signing.specs.Tables.{IsTable, table_header}
 use Rattle.tool_signing.proofs.session.sign_with_table.Goals as goal
 
@@ -25,24 +25,24 @@ returns-in-Err-Failed-clause-run g c =
     let fault = c.in-Err-Failed.field-0-is in
     let net = g.N.Net.state c.args.net.now in
     let calm : IsCalm (g.S.Store.state c.args.store.now) (g.S.Store.state c.take_disk.new.self) = record { same = take.refused; onward = take.onward } in
-    record {
+    unbegun_to (ap answer_in c.not_begun.ensures.0) c.not_begun.ensures.1 (record {
       touched = [];
       ends = no_table (record { reads = refl; ports = record { offers = refl; out = refl; kept = refl } }) (take.cause.rose (cc), λ told steady. take.absent told steady (cc));
       keeps = keeps_calm [] _ _ calm;
       ports = net_none net;
-    }
+    }) refl
 
 pub returns-in-Err-NoMemory-clause-run : goal.returns-in-Err-NoMemory-clause-run
 returns-in-Err-NoMemory-clause-run g c =
     let take = c.in-Err-NoMemory.ensures in
     let net = g.N.Net.state c.args.net.now in
     let calm : IsCalm (g.S.Store.state c.args.store.now) (g.S.Store.state c.take_disk.new.self) = record { same = take.refused; onward = take.onward } in
-    record {
+    unbegun_to (ap answer_in c.not_begun-in-Err-NoMemory.ensures.0) c.not_begun-in-Err-NoMemory.ensures.1 (record {
       touched = [];
       ends = no_memory [] (record { reads = refl; ports = record { offers = refl; out = refl; kept = refl } }) (All-nil (Stays (from_to (g.S.Store.state c.args.store.now) (g.S.Store.state c.take_disk.new.self))));
       keeps = keeps_calm [] _ _ calm;
       ports = net_none net;
-    }
+    }) refl
 
 pub returns-in-Err-clause-run : goal.returns-in-Err-clause-run
 returns-in-Err-clause-run g c =
@@ -67,13 +67,13 @@ returns-in-Err-clause-run g c =
     subst (FailsToLoad header count (from_to first last) name) (sym c.end_of_slots.ensures)
     (slots_not_loaded first _ last name disk now out.taken out.onward step comes kind.told kind.honest kind.steady header count c.in-Err.fault refused load.succeeds load.cause) in
     let whole = back first _ last name disk now out.taken out.onward step comes kind.told kind.honest kind.steady in
-    record {
+    unbegun_to (ap answer_in c.not_begun-in-Err.ensures.0) c.not_begun-in-Err.ensures.1 (record {
       touched = name ∷ [];
       ends = not_loaded _ (record { reads = refl; ports = record { offers = refl; out = refl; kept = refl } }) fails
           (stays first _ last name disk now out.taken out.onward step comes kind.told kind.honest kind.steady load.unwritten.same load.unwritten.images);
       keeps = whole.keeps;
       ports = net_none (g.N.Net.state c.args.net.now);
-    }
+    }) refl
 
 pub returns-clause-run : goal.returns-clause-run
 returns-clause-run g c =
@@ -93,8 +93,8 @@ returns-clause-run g c =
     let comes = c.return_disk-2.ensures.onward in
     let loaded = subst (λ h. IsLoaded disks.Pages disks.Faults h plan c.in-Ok.disk c.in-Ok-load.leaves) c.table_header-header.ensures c.in-Ok-load.ensures.loaded in
     let old = c.in-Ok-load.leaves in
-    let new = c.sign_over_net-signed.new.table in
-    let signed = c.sign_over_net-signed.ensures in
+    let new = c.sign_over_net-ended.new.table in
+    let signed = c.sign_over_net-ended.ensures in
     let ended = c.end.ensures in
     let kind = loaded.unwritten.stays in
     let later = signed.table.disk in
@@ -114,15 +114,19 @@ returns-clause-run g c =
     (λ t h. subst (λ b. IsTrue b) (sym honest) (subst (λ (x : Handed). IsTrue x.honest) (out.taken.kind t) h)) round.file round.leaves in
     let counted : now.count ≡ (table_seen new).faults = ap disks.Faults.count end_is in
     let rises = round.disk_count in
-    let named : (table_seen new).name ≡ (table_seen old).name = let a = signed.table.plan in let b = signed.table.header in let d = later.told in let e = later.honest in let f = later.steady in cc in
+    let named : (table_seen new).name ≡ (table_seen old).name = same_name signed.table.header signed.table.plan later.told later.honest later.steady in
+    let whole = ends_whole _ name first last _ same (table_seen old) (table_seen new)
+    (is_fresh header plan c.in-Ok.disk old loaded first _ name out.taken)
+    (reads_as first _ last name disk now out.taken out.onward step comes told honest steady (IsTable header plan (table_seen old).state.entries) is_table_then)
+    named stays_then left ended.holds.cause (omega (arith, rises, counted)) _ _ signed.ends in
     record {
-      touched = name ∷ [];
-      ends = ends_whole _ name first last _ same (table_seen old) (table_seen new)
-          (is_fresh header plan c.in-Ok.disk old loaded first _ name out.taken)
-          (reads_as first _ last name disk now out.taken out.onward step comes told honest steady (IsTable header plan (table_seen old).state.entries) is_table_then)
-          named stays_then left ended.holds.cause (omega (arith, rises, counted)) _ signed.ends;
-      keeps = round.keeps;
-      ports = signed.net;
+      run = record {
+        touched = name ∷ [];
+        ends = whole.ends;
+        keeps = round.keeps;
+        ports = signed.net;
+      };
+      session_is = whole.session_is;
     }
 
 pub return_disk-requires-2 : goal.return_disk-requires-2
@@ -135,7 +139,7 @@ return_disk-requires-2 g c =
     let now = pages c.end.result in
     let out = c.in-Ok.ensures in
     let kind = c.in-Ok-load.ensures.loaded.unwritten.stays in
-    let later = c.sign_over_net-signed.ensures.table.disk in
+    let later = c.sign_over_net-ended.ensures.table.disk in
     let end_is = c.end.ensures.disk in
     let told : now.told ≡ disk.told = ap disks.Pages.told end_is ∙ later.told ∙ kind.told in
     let honest : now.honest ≡ disk.honest = ap disks.Pages.honest end_is ∙ later.honest ∙ kind.honest in

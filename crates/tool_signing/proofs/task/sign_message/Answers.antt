@@ -1,13 +1,12 @@
-use Rattle.std.proofs.Common.{◌≡◌, [], Ok, Err, Result, drop, ap, subst, sym}
+use Rattle.std.proofs.Common.{[], Result, drop}
 use Rattle.leased_session.specs.Signing.{Signature}
 use Rattle.stream_io.specs.Store.{pages_state}
-use Rattle.tool_base.proofs.Runs.{calm_none, calm_on, onward_none, onward_on, part_of}
+use Rattle.tool_base.proofs.Runs.{calm_on, onward_none, onward_on, part_of}
 use Rattle.tool_base.specs.Ending.{Ending}
 use Rattle.tool_base.specs.World.{from_to}
 use Rattle.tool_desk.specs.Files.{reference_name}
 use Rattle.tool_disks.proofs.Outs.{keeps_calm}
 use Rattle.tool_signing.proofs.Whole.{goes_in, is_task, keeps_on, run_lacking, signed_with_key, unbegun, whole_ends, whole_keeps}
-use Rattle.tool_signing.proofs.Views.{back_view}
 use Rattle.tool_signing.specs.Ports.{NetRun, Signing, is_exact, over_net}
 use Rattle.tool_signing.specs.Sessions.{answer_by, ended}
 use Rattle.tool_signing.specs.Sources.{session_words, source_of}
@@ -61,7 +60,7 @@ returns g c = λ first before.
     let read = c.in-Ok.ensures in
     let viewed = c.in-Ok-view_reference.ensures in
     let tasked = c.in-Ok-read_task.ensures in
-    let run = c.sign_task-view.ensures.run in
+    let run = c.sign_task-view.ensures.run.run in
     let calm = calm_on _ _ _ before read.calm in
     let files = c.in-Ok.files in
     let header = c.in-Ok-view_reference.viewed.1 in
@@ -76,7 +75,7 @@ returns g c = λ first before.
       message = task.message.items;
     } in
     let net : NetRun = over_net (g.N.Net.state c.args.net.now) (g.N.Net.state c.sign_task-view.new.net) in
-    let answer : Result Signature Ending = answer_by c.sign_task-view.result.1 in
+    let answer : Result Signature Ending = answer_by c.sign_task-view.result.1.outcome in
     let keeps = whole_keeps files header (state first) (state c.read_key_and_tree.new.store) (state c.view_reference.new.store) (state c.read_task.new.store) (reference_name words.prefix) view
     calm viewed.viewed viewed.onward tasked.calm (state c.sign_task-view.new.store) (state last) now c.end_view-2.ensures.ended c.end_view-2.ensures.onward run.touched run.keeps in
     let ends = whole_ends files header (state first) (state c.read_key_and_tree.new.store) (state c.view_reference.new.store) (state c.read_task.new.store) (reference_name words.prefix) view
@@ -93,8 +92,8 @@ returns g c = λ first before.
     viewed.onward tasked.calm run.keeps.back.onward c.end_view-2.ensures.ended has goes in
     record {
       touched = run.touched;
-      ends = ended signing answer run.touched task_is ends;
-      signed = signed_with_key words (from_to (state first) (state last)) (source (from_to (state first) (state last))) net signing c.sign_task-view.result.1 run.touched task_is ends c.sign_task-view.ensures.key;
+      ends = ended signing answer run.touched task_is ends.ends;
+      signed = signed_with_key words (from_to (state first) (state last)) (source (from_to (state first) (state last))) net signing c.sign_task-view.result.1.outcome run.touched task_is ends.ends c.sign_task-view.ensures.key;
       keeps = keeps;
       ports = run.ports;
     }

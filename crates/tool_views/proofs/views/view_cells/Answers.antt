@@ -5,7 +5,7 @@ use Rattle.tool_base.proofs.Runs.{onward_on, part_of}
 use Rattle.tool_desk.specs.Files.{reference_name}
 use Rattle.tool_desk.specs.Reference.{no_memory}
 use Rattle.tool_views.specs.Views.{AddsCells, not_viewed, other_key}
-use Rattle.tool_views.proofs.Outs.{all_cells, keeps_all, out_calm, out_more}
+use Rattle.tool_views.proofs.Outs.{all_cells, keeps_all, kept_none, out_calm, out_ended, out_more, out_none}
 use Rattle.tool_views.proofs.views.view_cells.Goals as goal
 
 pub returns-in_default-clause-refused : goal.returns-in_default-clause-refused
@@ -65,3 +65,14 @@ returns-in-Err-test_same_key-clause-refused g c = λ first last part.
 pub returns-in-Err-view_others-clause-onward : goal.returns-in-Err-view_others-clause-onward
 returns-in-Err-view_others-clause-onward g c =
     onward_on _ _ _ c.in-Ok-view_reference.ensures.onward (onward_on _ _ _ c.in-Err-view_others.ensures.adds.cells.out.onward c.end_cells.ensures.onward)
+
+pub returns-in-Err-test_same_key-clause-keeps : goal.returns-in-Err-test_same_key-clause-keeps
+returns-in-Err-test_same_key-clause-keeps g c =
+    let viewed = c.in-Ok-view_reference.ensures in
+    kept_none _ _ (out_ended _ _ _ _ 0 _ _ _ (out_none _) viewed.viewed viewed.onward c.end_view.ensures.ended c.end_view.ensures.onward)
+
+pub returns-in-Err-test_same_key-clause-onward : goal.returns-in-Err-test_same_key-clause-onward
+returns-in-Err-test_same_key-clause-onward g c = onward_on _ _ _ c.in-Ok-view_reference.ensures.onward c.end_view.ensures.onward
+
+pub returns-in-Ok-view_others-clause-onward : goal.returns-in-Ok-view_others-clause-onward
+returns-in-Ok-view_others-clause-onward g c = onward_on _ _ _ c.in-Ok-view_reference.ensures.onward c.in-Ok-view_others.ensures.adds.cells.out.onward

@@ -1,7 +1,7 @@
 use Rattle.std.proofs.Common.{refl}
 use Rattle.memory_store.specs.MemStore.{steady_in}
 use Rattle.memory_store.specs.declared.entries.Slot.TheVariants.{Out}
-use Rattle.memory_store.proofs.Added.{as_steady, lent, none_of, slot_at}
+use Rattle.memory_store.proofs.Added.{as_steady, lent, none_of, same_readers, slot_at}
 use Rattle.memory_store.proofs.entries.Entries.lend.Goals as goal
 
 pub returns-in_err-place-clause-lent : goal.returns-in_err-place-clause-lent
@@ -24,3 +24,9 @@ returns-clause-steady c =
     let old = c.index_mut.result.now in
     rw c.take.ensures.out
     (as_steady c.args.self.now.list.items c.args.name.now c.in_ok-place.place old c.in_ok-place.ensures c.index_mut.ensures.value (Out (steady_in old.slot)) refl)
+
+pub returns-clause-readers : goal.returns-clause-readers
+returns-clause-readers c =
+    let old = c.index_mut.result.now in
+    rw c.take.ensures.out
+    (same_readers c.args.self.now.list.items c.args.name.now c.in_ok-place.place old c.in_ok-place.ensures c.index_mut.ensures.value (Out (steady_in old.slot)))

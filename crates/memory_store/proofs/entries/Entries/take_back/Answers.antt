@@ -1,6 +1,6 @@
 use Rattle.std.proofs.Common.{ap, sym, ◌∙◌, is_some}
 use Rattle.memory_store.specs.declared.entries.Slot.TheVariants.{Here}
-use Rattle.memory_store.proofs.Added.{changed, is_placed, returned}
+use Rattle.memory_store.proofs.Added.{changed, is_placed, returned, same_readers}
 use Rattle.memory_store.proofs.entries.Entries.take_back.Goals as goal
 
 pub unwrap-place-requires : goal.unwrap-place-requires
@@ -16,3 +16,8 @@ pub returns-clause-steady : goal.returns-clause-steady
 returns-clause-steady c =
     returned c.args.self.now.list.items c.args.name.now c.unwrap-place.result c.index_mut.result.now
     (sym c.unwrap-place.ensures ∙ c.place_of.ensures) c.index_mut.ensures.value c.args.disk c.requires
+
+pub returns-clause-readers : goal.returns-clause-readers
+returns-clause-readers c =
+    same_readers c.args.self.now.list.items c.args.name.now c.unwrap-place.result c.index_mut.result.now
+    (sym c.unwrap-place.ensures ∙ c.place_of.ensures) c.index_mut.ensures.value (Here c.args.disk)

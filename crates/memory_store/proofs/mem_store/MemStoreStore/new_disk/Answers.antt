@@ -1,15 +1,16 @@
 use Rattle.std.proofs.Common.{arith, refl, sym, [], ◌∙◌}
 use Rattle.memory_store.specs.MemStore.{new_disk}
 use Rattle.memory_store.specs.declared.entries.Slot.TheVariants.{Out}
+use Rattle.stream_io.specs.declared.store.Readers.TheVariants.{OwnerAlone}
 use Rattle.disk_trait.specs.MemDisk.{is_steady}
-use Rattle.memory_store.proofs.Loans.{absent, as_said, as_steady, made, makes_steady, new_steady}
+use Rattle.memory_store.proofs.Loans.{absent, as_said, as_steady, made, makes_steady, new_steady, read_still}
 use Rattle.memory_store.proofs.mem_store.MemStoreStore.new_disk.Goals as goal
 
 pub returns-clause-made : goal.returns-clause-made
 returns-clause-made c =
     rw (c.new.ensures.made, c.in-Ok.ensures)
     (made c.args.self.now.entries.list.items c.add.new.self.list.items c.args.name.now _ _ _ _ _ _ _ (absent _ (sym c.has.ensures ∙ c.if-has.false)) c.args.size
-    (rw (c.is_steady-steady.ensures, c.in-Ok.ensures) at c.in_ok-add.ensures.slots) (makes_steady _ _ _))
+    (rw (c.is_steady-steady.ensures, c.in-Ok.ensures) at c.in_ok-add.ensures.slots) c.in_ok-add.ensures.readers (makes_steady _ _ _))
 
 pub returns-clause-onward : goal.returns-clause-onward
 returns-clause-onward c =
@@ -24,6 +25,7 @@ returns-clause-onward c =
           (rw (c.is_steady-steady.ensures, c.in-Ok.ensures) at c.in_ok-add.ensures.steady));
       disks = as_said old new c.args.name.now stops slot (new_steady [] c.args.size stops) gone
           (rw (c.is_steady-steady.ensures, c.in-Ok.ensures) at c.in_ok-add.ensures.slots);
+      readers = λ told. read_still old new c.args.name.now OwnerAlone gone c.in_ok-add.ensures.readers;
       count = c.in_ok-make.ensures.later;
       disk_count = omega arith;
     }

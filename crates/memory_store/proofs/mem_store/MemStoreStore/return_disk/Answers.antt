@@ -1,4 +1,4 @@
-use Rattle.std.proofs.Common.{ap, arith, refl, sym}
+use Rattle.std.proofs.Common.{ap, arith, refl, sym, ◌∙◌}
 use Rattle.disk_trait.specs.MemDisk.{is_steady}
 use Rattle.memory_store.specs.MemStore.{kind_of}
 use Rattle.memory_store.specs.declared.entries.Slot.TheVariants.{Here}
@@ -18,6 +18,7 @@ returns-clause-onward c =
       steady = rw c.take_back.ensures.steady refl;
       disks = same_for_all c.args.self.now.entries.list.items c.take_back.new.self.list.items c.args.name.now (Here c.args.disk.disk)
           c.take_back.ensures.slots (kind_of c.args.self.now.new_stops) (sym (ap (kind_of c.args.self.now.new_stops) out));
+      readers = λ told name who is. c.take_back.ensures.readers name ∙ is;
       count = omega arith;
       disk_count = omega arith;
     }

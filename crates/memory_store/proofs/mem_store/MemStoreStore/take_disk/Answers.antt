@@ -1,4 +1,4 @@
-use Rattle.std.proofs.Common.{ap, arith, refl, sym}
+use Rattle.std.proofs.Common.{ap, arith, refl, sym, ◌∙◌}
 use Rattle.disk_trait.specs.MemDisk.{is_steady}
 use Rattle.memory_store.specs.MemStore.{kind_of}
 use Rattle.memory_store.specs.declared.entries.Slot.TheVariants.{Out}
@@ -19,6 +19,7 @@ returns-in-Some-clause-onward c =
       steady = rw (c.in_ok-make.ensures.failing, c.in-Some.ensures.steady) refl;
       disks = same_for_all c.args.self.now.entries.list.items c.lend.new.self.list.items c.args.name.now (Out (is_steady c.in-Some.disk))
           c.in-Some.ensures.slots (kind_of c.args.self.now.new_stops) (sym (ap (kind_of c.args.self.now.new_stops) here));
+      readers = λ told name who is. c.in-Some.ensures.readers name ∙ is;
       count = c.in_ok-make.ensures.later;
       disk_count = omega arith;
     }

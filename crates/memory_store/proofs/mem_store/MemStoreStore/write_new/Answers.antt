@@ -1,12 +1,13 @@
 use Rattle.std.proofs.Common.{arith, length, refl, sym, ◌∙◌}
 use Rattle.memory_store.specs.MemStore.{new_disk}
 use Rattle.memory_store.specs.declared.entries.Slot.TheVariants.{Here}
-use Rattle.memory_store.proofs.Loans.{absent, as_said, as_steady, new_steady, written}
+use Rattle.memory_store.proofs.Loans.{absent, as_said, as_steady, new_steady, read_still, written}
 use Rattle.memory_store.proofs.mem_store.MemStoreStore.write_new.Goals as goal
 
 pub returns-clause-written : goal.returns-clause-written
 returns-clause-written c =
-    written c.args.self.now.entries.list.items c.add.new.self.list.items c.args.name.now _ _ _ _ _ _ _ (absent _ (sym c.has.ensures ∙ c.if-has.false)) c.args.bytes.now (rw c.in-Ok.ensures at c.in_ok-add.ensures.slots)
+    written c.args.self.now.entries.list.items c.add.new.self.list.items c.args.name.now _ _ _ _ _ _ _ (absent _ (sym c.has.ensures ∙ c.if-has.false)) c.args.bytes.now c.args.readers (rw c.in-Ok.ensures at c.in_ok-add.ensures.slots)
+    c.in_ok-add.ensures.readers
 
 pub returns-clause-onward : goal.returns-clause-onward
 returns-clause-onward c =
@@ -22,6 +23,7 @@ returns-clause-onward c =
           (rw c.in-Ok.ensures at c.in_ok-add.ensures.steady));
       disks = as_said old new c.args.name.now stops slot (new_steady bytes (length bytes) stops) gone
           (rw c.in-Ok.ensures at c.in_ok-add.ensures.slots);
+      readers = λ told. read_still old new c.args.name.now c.args.readers gone c.in_ok-add.ensures.readers;
       count = c.in_ok-make.ensures.later;
       disk_count = omega arith;
     }

@@ -1,0 +1,6 @@
+pub mod AsSign
+pub mod Causes
+pub mod Lasts
+pub mod Steady
+pub mod Views
+pub mod Whole

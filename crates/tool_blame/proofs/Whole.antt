@@ -1,0 +1,245 @@
+-- The whole command, from what its steps say.
+use Rattle.std.proofs.Common.{◌≡◌, ◌+◌, ◌-◌, ◌^◌, ◌≤◌, min, ℕ, Bool, false, List, [], ◌∷◌, drop, Option, None, Result, Ok, Err, IsTrue, refl, sym, ◌∙◌, subst, arith}
+use Rattle.aggregator_node.specs.Runs.{CellsRead}
+use Rattle.aggregator_node.specs.declared.desk.Address.{Address}
+use Rattle.leased_session.specs.Signing.{Signature}
+use Rattle.session_core.specs.State.{State}
+use Rattle.share_blame.specs.Loads.{commits_fault}
+use Rattle.share_files.specs.declared.reference.RefHeader.{RefHeader}
+use Rattle.stream_io.specs.Net.{NetState}
+use Rattle.stream_io.specs.Store.{PagesState, StoreOnward, StoreState, ViewEnded, Viewed, has_name}
+use Rattle.tool_base.proofs.Nets.{net_none}
+use Rattle.tool_base.proofs.Runs.{calm_none, onward_on}
+use Rattle.tool_base.specs.Ending.{Ending}
+use Rattle.tool_base.specs.Endings as endings
+use Rattle.tool_base.specs.Outputs.{IsNew}
+use Rattle.tool_base.specs.Touched.{Keeps}
+use Rattle.tool_base.specs.World.{Bytes, Failed, IsBack, IsCalm, IsNetBack, StoreRun, file_limit, from_to}
+use Rattle.tool_base.specs.declared.ending.Ending as declared
+use Rattle.tool_desk.specs.Files.{reference_name}
+use Rattle.tool_desk.specs.declared.files.KeyFiles.{KeyFiles}
+use Rattle.tool_disks.proofs.Outs.{keeps_calm}
+use Rattle.tool_blame.specs.Blame.{EndsNaming, BlameRun, FailsToBegin, NamingRun}
+use Rattle.tool_blame.specs.Blame as blame
+use Rattle.tool_blame.specs.Commits.{AreCommitsViewed, AreNoCommits, FailsCommits, GoesWithReference, ReadsCommits, commits_name}
+use Rattle.tool_blame.specs.Commits as commits
+use Rattle.tool_blame.specs.Names.{TellsEnd}
+use Rattle.tool_blame.specs.Names as names
+use Rattle.tool_signing.proofs.Views.{EndsWider, SameButViews, back_view, device_in, fails_in, out_view, read_in, reads_as_in}
+use Rattle.tool_signing.proofs.Whole.{Signed, still_new, table_unwritten, table_written, task_later, whole_ends, whole_keeps}
+use Rattle.tool_signing.proofs.Writes.{as-signed, is_written, keeps_unwritten, keeps_written, not_written}
+use Rattle.tool_signing.specs.Ended.{last_in}
+use Rattle.tool_signing.specs.Ports.{NetRun, Signing, over_net}
+use Rattle.tool_signing.specs.Sessions.{SessionEnds}
+use Rattle.tool_signing.specs.Sessions as sessions
+use Rattle.tool_signing.specs.Sign.{session_words}
+use Rattle.tool_signing.specs.Signs.{SignedTable, TableEnds}
+use Rattle.tool_signing.specs.Signs as signs
+use Rattle.tool_signing.specs.Tasks.{GoesWith, HasFiles, LacksTask, MessageSource, SessionWords, message_in, message_limit}
+use Rattle.tool_signing.specs.Tasks as tasks
+use Rattle.tool_signing.specs.Writes.{WriteEnds, one_output}
+use Rattle.tool_signing.specs.Writes as writes
+use Rattle.tool_words.specs.Words.{SignWords}
+
+-- nothing was begun
+pub unbegun : (words : SignWords) (a e : StoreState) (net : NetState) (end : declared.Ending) → Keeps [] a e
+    → FailsToBegin (session_words words) (from_to a e) (message_in (from_to a e) words.message) (endings.ending end) → NamingRun words a e (over_net net net) (Err end)
+unbegun words a e net end keeps fails = record {
+  touched = [];
+  ends = blame.not_begun (endings.ending end) fails refl;
+  keeps = keeps;
+  ports = net_none net;
+}
+
+both_views : (a b c : StoreState) → SameButViews a b → SameButViews b c → SameButViews a c
+both_views a b c one two = record {
+  names = record {
+    file = two.names.file ∙ one.names.file;
+    leaves = λ other image. let x = one.names.leaves other image in let y = two.names.leaves other image in (λ z. x.0 (y.0 z), λ z. y.1 (x.1 z));
+    out = two.names.out ∙ one.names.out;
+  };
+  onward = onward_on a b c one.onward two.onward;
+}
+
+calm_views : (a b : StoreState) → IsCalm a b → SameButViews a b
+calm_views a b calm = record { names = calm.same.names; onward = calm.onward }
+
+-- a message that was had while views were out was had, however the run goes on
+goes_in : (a b c d : StoreState) → SameButViews a b → (words : SessionWords) (name : List ℕ) (files : KeyFiles) (header : RefHeader) (message members : List ℕ) (addresses : List Address)
+    → GoesWith words (message_in (from_to b c) name) files header message members addresses → GoesWith words (message_in (from_to a d) name) files header message members addresses
+goes_in a b c d on words name files header message members addresses goes = record {
+  message_is = (goes.message_is.0, λ told. rw (← on.names.file) (goes.message_is.1 (rw on.onward.told told)));
+  one_key = goes.one_key;
+  members_are = goes.members_are;
+  coalition = goes.coalition;
+  addresses_are = goes.addresses_are;
+}
+
+-- from a state with all views in to one with them in again
+module _ (a b c d : StoreState) (goes : SameButViews a b) (same : b.disk_count ≡ a.disk_count) (comes : SameButViews c d) where
+  no_commits_in : (name : List ℕ) (header : RefHeader) (end : Ending) → FailsCommits (from_to b c) name header end → FailsCommits (from_to a d) name header end
+  no_commits_in name header _ (commits.no_view r) = commits.no_view (read_in a b c d goes same comes file_limit name Failed r)
+  no_commits_in name header _ (commits.not_in_grammar fault reads) = commits.not_in_grammar fault (reads_as_in a b c d goes same comes name (AreNoCommits header fault) reads)
+  no_commits_in name header _ (commits.device fails) = commits.device (device_in a b c d goes same comes fails)
+  no_commits_in name header _ commits.no_memory = commits.no_memory
+
+  commits_in : (name : List ℕ) (header : RefHeader) → AreCommitsViewed (from_to b c) name header → AreCommitsViewed (from_to a d) name header
+  commits_in name header viewed = record { reads = reads_as_in a b c d goes same comes name (GoesWithReference header) viewed.reads }
+
+  module _ (words : SessionWords) (name : List ℕ) (files : KeyFiles) (header : RefHeader) where
+    lacks_in : (end : Ending) → LacksTask words (message_in (from_to b c) name) files header end → LacksTask words (message_in (from_to a d) name) files header end
+    lacks_in _ tasks.no_memory = tasks.no_memory
+    lacks_in _ (tasks.no_message end fails) = tasks.no_message end (fails_in a b c d goes same comes message_limit name end fails)
+    lacks_in _ (tasks.other_key message end read other) = tasks.other_key message end (read_in a b c d goes same comes message_limit name (Bytes message) read) other
+    lacks_in _ (tasks.no_coalition message read one never) = tasks.no_coalition message (read_in a b c d goes same comes message_limit name (Bytes message) read) one never
+
+-- from the state before the view of the reference to that after it
+module _ (words : SignWords) (files : KeyFiles) (header : RefHeader) (a x b : StoreState) (view : PagesState) (calm : IsCalm a x)
+    (viewed : Viewed x (reference_name words.prefix) view b) (out : StoreOnward x b) where
+  goes_b : SameButViews a b
+  goes_b = out_view a x b (reference_name words.prefix) view calm viewed out
+
+  count_b : b.disk_count ≡ a.disk_count
+  count_b = viewed.disk_count ∙ calm.same.loans.disk_count
+
+  -- there were no commitments
+  pub run_without : (v d : StoreState) (ended : ViewEnded v view d) (comes : StoreOnward v d) (net : NetState) (end : declared.Ending) → Keeps [] b v → HasFiles (session_words words) (from_to a d) files header
+      → FailsCommits (from_to b v) (commits_name words.prefix) header (endings.ending end) → NamingRun words a d (over_net net net) (Err end)
+  run_without v d ended comes net end keeps has fails =
+      unbegun words a d net end (whole_keeps files header a x b b (reference_name words.prefix) view calm viewed out (calm_none b) v d view ended comes [] keeps)
+      (blame.no_commits files header (endings.ending end) has (no_commits_in a b v d goes_b count_b (back_view v d view ended comes) (commits_name words.prefix) header (endings.ending end) fails))
+
+  -- and on to that after the view of the commitments, and to that once the message was read
+  module _ (v p : StoreState) (beside : PagesState) (besides : Viewed b (commits_name words.prefix) beside v) (on : StoreOnward b v) (task : IsCalm v p) where
+    goes_v : SameButViews a v
+    goes_v = both_views a b v goes_b (out_view b b v (commits_name words.prefix) beside (calm_none b) besides on)
+
+    count_v : v.disk_count ≡ a.disk_count
+    count_v = besides.disk_count ∙ count_b
+
+    -- back, first with the view of the commitments
+    module _ (c e d : StoreState) (beside_now now : PagesState) (first : ViewEnded c beside_now e) (back : StoreOnward c e) (ended : ViewEnded e now d) (comes : StoreOnward e d) where
+      both_back : SameButViews c d
+      both_back = both_views c e d (back_view c e beside_now first back) (back_view e d now ended comes)
+
+      pub all_keep : (touched : List (List ℕ)) → Keeps touched p c → Keeps touched a d
+      all_keep touched keeps =
+          whole_keeps files header a x b b (reference_name words.prefix) view calm viewed out (calm_none b) e d now ended comes touched
+          (whole_keeps files header b b v p (commits_name words.prefix) beside (calm_none b) besides on task c e beside_now first back touched keeps)
+
+      pub all_end : (s : Signing) (table : List ℕ) (net : NetRun) (answer : Result Signature Ending) (touched : List (List ℕ)) (ends : TableEnds s table (from_to p c) net answer touched)
+          → EndsWider s table (from_to a d) net answer touched (last_in ends)
+      all_end s table net answer touched ends =
+          let inner = whole_ends files header b b v p (commits_name words.prefix) beside (calm_none b) besides on task c e beside_now first back s table net answer touched ends in
+          let outer = whole_ends files header a x b b (reference_name words.prefix) view calm viewed out (calm_none b) e d now ended comes s table net answer touched inner.ends in
+          record { ends = outer.ends; last_is = outer.last_is ∙ inner.last_is }
+
+      pub all_goes : (message members : List ℕ) (addresses : List Address) → GoesWith (session_words words) (message_in (from_to v p) words.message) files header message members addresses
+          → GoesWith (session_words words) (message_in (from_to a d) words.message) files header message members addresses
+      all_goes message members addresses goes = goes_in a v p d goes_v (session_words words) words.message files header message members addresses goes
+
+      -- the commitments are those of the words
+      pub reads_commits : (IsTrue beside.told → commits_fault header beside.reads ≡ None) → StoreOnward p c
+          → ReadsCommits (session_words words) (from_to a d) header (record { told = beside.told; leaves = drop 32 beside.reads; before = beside.count; now = beside_now.count }) beside.steady
+      reads_commits faultless works = record {
+        told = λ told. besides.given.told (rw goes_b.onward.told told);
+        steady_is = λ steady. besides.given.steady (rw goes_b.onward.steady steady);
+        leaves = record {
+          file = beside.reads;
+          is_read = λ told. rw (← goes_b.names.file) (besides.reads (rw goes_b.onward.told told));
+          is = λ told. record { goes = faultless (besides.given.told (rw goes_b.onward.told told)); leaves_are = refl };
+        };
+        fresh = besides.given.fresh;
+        rise =
+            let one = count_v in
+            let two = task.onward.disk_count in
+            let three = works.disk_count in
+            let four = first.disk_count in
+            let five = comes.disk_count in
+            omega (arith, one, two, three, four, five);
+      }
+
+    -- the message was not had, or not all goes together
+    pub run_lacking : (e d : StoreState) (first : ViewEnded p beside e) (back : StoreOnward p e) (ended : ViewEnded e view d) (comes : StoreOnward e d) (net : NetState) (end : declared.Ending)
+        → HasFiles (session_words words) (from_to a d) files header → AreCommitsViewed (from_to b v) (commits_name words.prefix) header
+        → LacksTask (session_words words) (message_in (from_to v p) words.message) files header (endings.ending end) → NamingRun words a d (over_net net net) (Err end)
+    run_lacking e d first back ended comes net end has are lacks =
+        unbegun words a d net end (all_keep p e d beside view first back ended comes [] (keeps_calm [] p p (calm_none p)))
+        (blame.no_task files header (endings.ending end) has
+        (commits_in a b v d goes_b count_b (both_views v p d (calm_views v p task) (both_back p e d beside view first back ended comes)) (commits_name words.prefix) header are)
+        (lacks_in a v p d goes_v count_v (both_back p e d beside view first back ended comes) (session_words words) words.message files header (endings.ending end) lacks))
+
+-- the answer that is told is a signature: so it was
+pub tells_ok : (reads : CellsRead) (steady : Bool) (message : List ℕ) (session : Option State) (answer told : Result Signature Ending) (signature : Signature) → TellsEnd reads steady message session answer told
+    → told ≡ Ok signature → answer ≡ Ok signature
+tells_ok reads steady message session _ _ signature (names.as_signed same) is = is
+tells_ok reads steady message session _ _ signature (names.as_ended end other) is = is
+tells_ok reads steady message session _ _ signature (names.by_names end told last status some ends) is = absurd (cc)
+
+-- behind the session
+module _ (words : SignWords) (a d : StoreState) (net : NetRun) where
+  -- what was signed, with what table, and beside which commitments
+  pub record Beside (signature : Signature) (touched : List (List ℕ)) : Type 0 where
+    pub by : Signed words a d net (from_to a d) signature touched
+    pub reads : CellsRead
+    pub steady : Bool
+    pub commits : ReadsCommits (session_words words) (from_to a d) by.task.header reads steady
+
+  pub signed_beside : (told : Result Signature Ending) (touched : List (List ℕ)) (signature : Signature) → EndsNaming words (from_to a d) net told touched → told ≡ Ok signature → Beside signature touched
+  signed_beside _ _ signature (blame.not_begun end fails same) is = absurd (cc)
+  signed_beside told touched signature (blame.ended s reads steady answer _ _ task ends commits tells) is =
+      let both = as-signed s words.table a d net answer touched signature ends (tells_ok reads steady s.message (last_in ends) answer told signature tells is) in
+      record {
+        by = record { signing = s; task = task; table = both.0; touches = both.1 };
+        reads = reads;
+        steady = steady;
+        commits = commits;
+      }
+
+  as_session : (signature : Signature) (touched : List (List ℕ)) → Beside signature touched → SessionEnds (session_words words) (from_to a d) (message_in (from_to a d) words.message) net (Ok signature) touched
+  as_session signature touched beside =
+      subst (SessionEnds (session_words words) (from_to a d) (message_in (from_to a d) words.message) net (Ok signature)) (sym beside.by.touches)
+      (sessions.ended beside.by.signing (Ok signature) (words.table ∷ []) beside.by.task (signs.signed (Ok signature) beside.by.table))
+
+  -- the name of the signature is new still
+  pub new_still : (touched : List (List ℕ)) (signature : Signature) → IsNew (from_to a d) words.out → Keeps touched a d → EndsNaming words (from_to a d) net (Ok signature) touched
+      → IsTrue d.told → has_name d words.out ≡ false
+  new_still touched signature is_new keeps ends =
+      still_new words a d net touched signature (Ok signature) is_new keeps (as_session signature touched (signed_beside (Ok signature) touched signature ends refl)) refl
+
+  pub run_unsigned : (touched : List (List ℕ)) (end : Ending) → IsNew (from_to a d) words.out → Keeps touched a d → IsNetBack net.before net.after
+      → EndsNaming words (from_to a d) net (Err end) touched → BlameRun words (from_to a d) net end
+  run_unsigned touched end is_new keeps ports ends = record { touched = touched; ends = blame.not_signed end touched is_new ends; keeps = keeps; ports = ports }
+
+  module _ (e : StoreState) (touched : List (List ℕ)) (signature : Signature) (is_new : IsNew (from_to a d) words.out) (keeps : Keeps touched a d) (ports : IsNetBack net.before net.after)
+      (back : IsBack d e) (beside : Beside signature touched) where
+    commits_later : ReadsCommits (session_words words) (from_to a e) beside.by.task.header beside.reads beside.steady
+    commits_later = record {
+      told = beside.commits.told;
+      steady_is = beside.commits.steady_is;
+      leaves = record { file = beside.commits.leaves.file; is_read = beside.commits.leaves.is_read; is = beside.commits.leaves.is };
+      fresh = beside.commits.fresh;
+      rise = let rise = beside.commits.rise in let later = back.onward.disk_count in omega (arith, rise, later);
+    }
+
+    ends_later : SignedTable beside.by.signing words.table (from_to a e) net (Ok signature) → EndsNaming words (from_to a e) net (Ok signature) touched
+    ends_later table = subst (EndsNaming words (from_to a e) net (Ok signature)) (sym beside.by.touches)
+        (blame.ended beside.by.signing beside.reads beside.steady (Ok signature) (Ok signature) (words.table ∷ [])
+        (task_later (session_words words) a d e back.onward (message_in (from_to a d) words.message) (message_in (from_to a e) words.message) (λ message is. is) beside.by.signing beside.by.task)
+        (signs.signed (Ok signature) table) commits_later (names.as_signed signature))
+
+    pub run_signed : (end : Ending) → WriteEnds (from_to d e) words.out signature.leaf signature.bytes end → BlameRun words (from_to a e) net end
+    run_signed _ (writes.written left) = record {
+      touched = words.out ∷ touched;
+      ends = blame.signed signature touched is_new (ends_later (table_written words a d net e touched signature is_new keeps ports back beside.by left))
+          (is_written a d e touched keeps words.out signature.bytes back left);
+      keeps = keeps_written a d e touched keeps words.out signature.bytes back left;
+      ports = ports;
+    }
+    run_signed _ (writes.not_written end left cause) = record {
+      touched = touched;
+      ends = blame.not_written signature end touched is_new (ends_later (table_unwritten words a d net e touched signature is_new keeps ports back beside.by left))
+          (not_written a d e touched keeps words.out signature.bytes back end cause);
+      keeps = keeps_unwritten a d e touched keeps words.out signature.bytes back left;
+      ports = ports;
+    }

@@ -1,0 +1,35 @@
+//! What follows from the definitions. No function here does anything.
+
+ghost use Rattle.disk_trait.specs.Faults.{Rose};
+ghost use Rattle.tool_base.specs.Ending as ending;
+ghost use Rattle.tool_base.specs.Ending.{Ending};
+ghost use Rattle.tool_base.specs.Touched.{DeviceRose};
+ghost use Rattle.tool_base.specs.World.{from_to};
+ghost use Rattle.tool_blame.specs.AsSign.{IsAsSign};
+ghost use Rattle.tool_blame.specs.Blame.{BlameRun};
+ghost use Rattle.tool_signing.specs.Ports.{NetRun};
+ghost use Rattle.tool_words.specs.Words.{SignWords};
+
+use stream_io::Store;
+
+/// The causes of three ends of `blame`: the store fails only where its count of faults rose, a device only where that
+/// of its disks and views rose, and the net only where its count of failed ports rose.
+pub fn causes<S: Store>(before: &S, after: &S)
+    ensures store { (words : SignWords) (net : NetRun)
+        → BlameRun words (from_to (S.state before.now) (S.state after.now)) net ending.StoreFailed
+        → Rose (S.state before.now).count (S.state after.now).count }
+    ensures device { (words : SignWords) (net : NetRun)
+        → BlameRun words (from_to (S.state before.now) (S.state after.now)) net ending.DeviceFailed
+        → DeviceRose (from_to (S.state before.now) (S.state after.now)) }
+    ensures net { (words : SignWords) (net : NetRun)
+        → BlameRun words (from_to (S.state before.now) (S.state after.now)) net ending.NetFailed
+        → Rose net.before.port_count net.after.port_count }
+{}
+
+/// A run of `blame` is one of `sign`, but where there are no commitments, and but for the end in the place of status 8.
+/// So what is known of each run of `sign` is known of it too.
+pub fn as_sign<S: Store>(before: &S, after: &S)
+    ensures { (words : SignWords) (net : NetRun) (end : Ending)
+        → BlameRun words (from_to (S.state before.now) (S.state after.now)) net end
+        → IsAsSign words (from_to (S.state before.now) (S.state after.now)) net end }
+{}

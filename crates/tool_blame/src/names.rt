@@ -1,0 +1,103 @@
+//! The members that commitments blame, as the end of a command.
+
+ghost use Rattle.std.specs.Prelude.{◌≡◌, IfErr, IfSome, IsTrue, is_some, length};
+ghost use Rattle.share_blame.specs.Commits.{AreOf, PagesStay, leaves_on, pages_of};
+ghost use Rattle.session_core.specs.Verdicts.{digest_of};
+ghost use Rattle.share_files.specs.Commits.{all_commits_length};
+ghost use Rattle.tool_base.specs.Ending.{status_of};
+ghost use Rattle.tool_base.specs.Endings.{ending};
+ghost use Rattle.tool_blame.specs.Names.{NamesEnd, TellsEnd};
+ghost use Rattle.tool_signing.specs.Sessions.{answer_by};
+
+use disk_trait::Pages;
+use leased_session::Ended;
+use lms_bytes::{PublicKey, Val};
+use ots_chain::MessageHash;
+use session_core::Session;
+use share_blame::{Commits, blamed};
+use tool_base::{Ending, Unsigned};
+use tool_signing::SignedBy;
+
+/// The status where the masks of a session were not accepted.
+const NOT_ACCEPTED: u8 = 8;
+
+/// What is told of what came of a session of this key and message: where its masks were not accepted, the end that
+/// names the members whom the commitments blame, and else what came of it.
+pub(crate) fn told_outcome<V: Pages>(
+    commits: &mut Commits<V>,
+    key: &PublicKey,
+    ended: Ended<Result<SignedBy, Ending>>,
+    message: &[u8],
+) -> Result<SignedBy, Ending>
+    requires session { IfSome ended.session (λ session. (session.key ≡ key.now)
+        × AreOf key.now.params session.plan commits.old) }
+    requires whole { IfSome ended.session (λ session. IsTrue (V.told (pages_of commits.old))
+        → length (leaves_on V.Pages.own (pages_of commits.old)) ≡ all_commits_length key.now.params session.plan) }
+    requires begun { IfErr ended.outcome (λ end. status_of (ending end) ≡ 8 → IsTrue (is_some ended.session)) }
+    ensures tells { TellsEnd
+        (record {
+          told = V.told (pages_of commits.old);
+          leaves = leaves_on V.Pages.own (pages_of commits.old);
+          before = V.count (pages_of commits.old);
+          now = V.count (pages_of commits.new);
+        })
+        (V.steady (pages_of commits.old)) message.now ended.session (answer_by ended.outcome) (answer_by result) }
+    ensures stays { PagesStay V.Pages.own V.Faults (pages_of commits.old) (pages_of commits.new) }
+{
+    let Ended { outcome, session } = ended;
+    let end = match outcome {
+        Ok(by) => return Ok(by),
+        Err(end) => end,
+    };
+    if end.status() != NOT_ACCEPTED {
+        return Err(end);
+    }
+    match session {
+        Some(session) => Err(name_blamed(commits, key, &session, message)),
+        None => Err(end),
+    }
+}
+
+/// The end of a session of this key and message whose masks were not accepted: it names the members that the
+/// commitments blame, in round two at the digits of the message's digest.
+pub fn name_blamed<V: Pages>(
+    commits: &mut Commits<V>,
+    key: &PublicKey,
+    session: &Session,
+    message: &[u8],
+) -> Ending
+    requires commits { AreOf key.now.params session.now.plan commits.old }
+    requires key { session.now.key ≡ key.now }
+    requires whole { IsTrue (V.told (pages_of commits.old))
+        → length (leaves_on V.Pages.own (pages_of commits.old)) ≡ all_commits_length key.now.params session.now.plan }
+    ensures names { NamesEnd
+        (record {
+          told = V.told (pages_of commits.old);
+          leaves = leaves_on V.Pages.own (pages_of commits.old);
+          before = V.count (pages_of commits.old);
+          now = V.count (pages_of commits.new);
+        })
+        (V.steady (pages_of commits.old)) session.now (digest_of session.now message.now) (ending result) }
+    ensures stays { PagesStay V.Pages.own V.Faults (pages_of commits.old) (pages_of commits.new) }
+{
+    let digest = session_digest(key, session, message);
+    match blamed(commits, &key.params, session, &digest) {
+        Ok(members) => Ending::NotSigned(Unsigned::Blamed { members }),
+        Err(_) => Ending::DeviceFailed,
+    }
+}
+
+/// The digest of the message under the joined randomizer of a session. A session of round one has none, and zeros stand
+/// in its place: there no mask is compared at a digest.
+fn session_digest(key: &PublicKey, session: &Session, message: &[u8]) -> Val
+    requires { session.now.key ≡ key.now }
+    ensures digest { result ≡ digest_of session.now message.now }
+    ensures length { length result ≡ key.now.params.n }
+{
+    let q = session.leaf();
+    let c = match session.randomizer() {
+        Some(c) => c,
+        None => Val::cut(&[0; 32], key.params.n),
+    };
+    MessageHash::of(&key.params, &key.id, q, &c, message)
+}

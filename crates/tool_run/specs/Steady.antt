@@ -1,0 +1,95 @@
+-- Calls of the tool over objects that do not fail but for their arguments.
+use Rattle.std.specs.Prelude.{◌≡◌, ◌≢◌, ◌⊎◌, ◌≤◌, ℕ, List, [], ◌∷◌, length, Option, None, Some, Contains, IsTrue}
+use Rattle.std.specs.Prelude.{true, false}
+use Rattle.std.specs.Str.{bytes_eq}
+use Rattle.stream_io.specs.Net.{NetState}
+use Rattle.stream_io.specs.Store.{StoreState}
+use Rattle.tool_base.specs.Ending.{Ending, NoMemory, line_of}
+use Rattle.tool_base.specs.World.{Outside, OutputRun, TimeState, World}
+use Rattle.tool_blame.specs.Commits.{commits_name}
+use Rattle.tool_desk.specs.Files.{key_name, reference_name, tree_name}
+use Rattle.tool_run.specs.ToolRun.{WordsRun}
+use Rattle.tool_words.specs.Words.{Row, Verify, Rehearse, Deal, Enrol, Migrate, Approve, Trustee, Sign, Aggregate}
+use Rattle.tool_words.specs.Words.{Blame, Drill, HssCheck, HssSign, TrusteeWords, command_of}
+
+-- the book of a trustee, if there is one
+abbrev pub book_of : Option (List ℕ) → List (List ℕ)
+book_of None = []
+book_of (Some book) = book ∷ []
+
+-- the files of a dealing that an aggregator reads
+abbrev pub dealing_names : List ℕ → List (List ℕ) → List (List ℕ)
+dealing_names prefix names = key_name prefix ∷ tree_name prefix ∷ reference_name prefix ∷ names
+
+-- the names that a command reads, takes or views
+abbrev pub names_read : Row → List (List ℕ)
+names_read (Verify key message signature) = key ∷ message ∷ signature ∷ []
+names_read (Rehearse entropy message key_out signature_out) = entropy ∷ message ∷ []
+names_read (Deal words) = words.entropy ∷ []
+names_read (Enrol file journal) = file ∷ []
+names_read (Migrate share journal new) = share ∷ journal ∷ []
+names_read (Approve share book message) = share ∷ message ∷ book ∷ []
+names_read (Trustee words) = words.share ∷ words.journal ∷ book_of words.book
+names_read (Sign words) = dealing_names words.prefix (words.message ∷ words.table ∷ [])
+names_read (Blame words) =
+    dealing_names words.prefix (commits_name words.prefix ∷ words.message ∷ words.table ∷ [])
+names_read (HssCheck key message signature) = key ∷ message ∷ signature ∷ []
+names_read (HssSign words) = words.low_key ∷ words.low_signature ∷ words.message
+    ∷ dealing_names words.prefix (words.table ∷ [])
+names_read (Aggregate words) = dealing_names words.prefix (words.table ∷ [])
+names_read (Drill number sessions events) = []
+
+-- the place that a command listens at
+abbrev pub place_of : Row → Option (List ℕ)
+place_of (Verify key message signature) = None
+place_of (Rehearse entropy message key_out signature_out) = None
+place_of (Deal words) = None
+place_of (Enrol file journal) = None
+place_of (Migrate share journal new) = None
+place_of (Approve share book message) = None
+place_of (Trustee words) = Some words.place
+place_of (Sign words) = None
+place_of (Blame words) = None
+place_of (HssCheck key message signature) = None
+place_of (HssSign words) = None
+place_of (Aggregate words) = Some words.place
+place_of (Drill number sessions events) = None
+
+-- Nothing is read under a name that the command reads, takes or views. For a trustee this is so too where its book is
+-- to be its journal, whose disk is out by then.
+pub data Lacks (store : StoreState) (row : Row) : Type 0 where
+  no_file : (name : List ℕ) → Contains (names_read row) name → store.file name ≡ None → Lacks store row
+  one_file : (words : TrusteeWords) (name : List ℕ) → row ≡ Trustee words → words.book ≡ Some name
+      → bytes_eq name words.journal ≡ true → Lacks store row
+
+-- the net does not offer the place that the command listens at
+pub record IsUnoffered (net : NetState) (row : Row) : Type 0 where
+  pub place : List ℕ
+  pub is : place_of row ≡ Some place
+  pub none : net.offers place ≡ false
+
+-- what a call is handed beside its output, in one state
+abbrev pub outside_of : StoreState → NetState → TimeState → Outside
+outside_of store net time = record { store = store; net = net; time = time }
+
+-- from one state to another, with this output
+abbrev pub world_of : Outside → Outside → OutputRun → World
+world_of before after output = record { before = before; after = after; output = output }
+
+-- Store and net tell their content, and none of their calls fails but for its arguments; the same holds of the output,
+-- which has room for the line of each end that the command may come to, and for that of want of memory.
+pub record IsSteadyWorld (words : List (List ℕ)) (world : World) : Type 0 where
+  pub store_told : IsTrue world.before.store.told
+  pub store_steady : IsTrue world.before.store.steady
+  pub net_told : IsTrue world.before.net.told
+  pub net_steady : IsTrue world.before.net.steady
+  pub output_steady : IsTrue world.output.steady
+  pub room : (end : Ending) → (end ≡ NoMemory) ⊎ WordsRun (command_of words) world.before world.after end
+      → length (line_of end) ≤ world.output.room
+
+-- What is known of this status of a call with such a command: 3 comes only where nothing is read under one of its
+-- names, 17 only where its place is not offered, and 10 never.
+pub record HasCauses (store : StoreState) (net : NetState) (row : Row) (status : ℕ) : Type 0 where
+  pub lacks : status ≡ 3 → Lacks store row
+  pub no_device : status ≢ 10
+  pub unoffered : status ≡ 17 → IsUnoffered net row
