@@ -1,0 +1,5 @@
+pub mod Answers
+pub mod HssStream
+pub mod LmsStream
+pub mod Numbers
+pub mod States
