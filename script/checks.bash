@@ -1,0 +1,38 @@
+# What the scripts of checks/ share. Whoever sources this has set `top`; `program` is the built program.
+. "$top/script/ports.bash"
+program=${PROGRAM:-$top/crates/tl_cli/out/tl_cli}
+
+fail() { printf '%s: %s\n' "checks/${0##*/}" "$1" >&2; exit 1; }
+passed() { printf 'ok: %s\n' "$1"; }
+
+# Wants the built program.
+want_program() { [ -x "$program" ] || fail 'build the program first: ./build'; }
+
+# The status that belongs to a line.
+status_of() {
+    local rest=${1#error }
+    case $1 in
+    'error '*) echo "${rest%% *}" ;;
+    'not accepted'*) echo 1 ;;
+    *) echo 0 ;;
+    esac
+}
+
+# Runs a command of the program: its line goes to `said`, and its status has to be the line's.
+run_command() {
+    local status=0
+    said=$("$program" "$@") || status=$?
+    [ "$status" = "$(status_of "$said")" ] || fail "status $status with the line '$said': $*"
+}
+
+# Runs a command, which has to print this line, with its status.
+says() {
+    run_command "${@:2}"
+    [ "$said" = "$1" ] || fail "'$said' in place of '$1': ${*:2}"
+}
+
+# Runs a command, whose line has to begin so.
+begins() {
+    run_command "${@:2}"
+    [ "${said#"$1"}" != "$said" ] || fail "'$said' in place of '$1..': ${*:2}"
+}

@@ -1,0 +1,236 @@
+# What the script of a checkout and the installed launcher share: the words before the program, how it is run, and what
+# standard error says afterwards. Whoever sources this has set `program`, and `share`, the folder with the two text files.
+# `own` has the commands of the script itself that are there; nothing is written on standard output but by help.
+
+# Prints each command with what it does.
+list_commands() {
+    awk -v own=" $own " '
+        /^#/ { next }
+        /^[^ ]/ {
+            what = $0 !~ /^(help|install|--version)/ || index(own, " " $1 " ")
+            if (what) print "rikselbe " $0
+            next
+        }
+        what && /^  / { print "  " $0; what = 0 }
+    ' "$share/commands.txt"
+    printf '\nrikselbe help COMMAND says more of one.\n'
+}
+
+# Prints what one command does, its words and an example; status 1 where there is no such command.
+explain_command() {
+    awk -v name="$*" -v own=" $own " '
+        /^#/ { next }
+        /^[^ ]/ {
+            inside = index($0 " ", name " ") == 1 && ($0 !~ /^(help|install|--version)/ || index(own, " " $1 " "))
+            if (inside) { if (found++) print ""; print "rikselbe " $0; what = 1 }
+            next
+        }
+        !inside || NF == 0 { next }
+        what { print "    " substr($0, 3) "\n"; what = 0; next }
+        /^  \$ / { print "\n    Example: " substr($0, 5); next }
+        {
+            mark = substr($2, 1, 1); text = $0; sub(/^ +[^ ]+ +[^ ]+ +/, "", text)
+            printf "    %-18s %s%s\n", $1, text, mark ~ /[=+]/ ? " (changed in place)" : ""
+        }
+        END { exit !found }
+    ' "$share/commands.txt"
+}
+
+# Whether a word begins a command that is there.
+is_command() {
+    local line
+    [[ $1 != install || " $own " == *" install "* ]] || return
+    while IFS= read -r line; do
+        [[ $line == "$1 "* ]] && return
+    done <"$share/commands.txt"
+    return 1
+}
+
+# Answers what asks for words, and what is no command, before anything is built or run.
+words_first() {
+    case ${1-} in
+    help | --help | -h)
+        shift
+        [ $# != 0 ] || { list_commands; exit 0; }
+        [ -n "$*" ] && explain_command "$@" && exit 0
+        printf 'rikselbe: %s is no command\n\n' "$*" >&2 ;;
+    --version) return ;;
+    '') ;;
+    *)
+        is_command "$1" && return
+        printf 'rikselbe: %s is no command\n\n' "$1" >&2 ;;
+    esac
+    list_commands >&2
+    printf 'error 2 usage\n'
+    exit 2
+}
+
+# Says a line on standard error.
+say() { printf 'rikselbe: %s\n' "$1" >&2; }
+
+# Calls a function with mark, file and word for each file that the words of a command name.
+each_file() {
+    local call=$1 line name=$2 inside='' at=2 mark suffixes suffix
+    shift 2
+    [ "$name" != hss ] || { name="hss ${1-}"; shift; }
+    while IFS= read -r line; do
+        if [[ $line == [a-z]* ]]; then
+            inside=
+            [[ "$line " != "$name "* ]] || { inside=yes; at=0; }
+        elif [[ $inside && $line =~ ^\ \ ([A-Za-z=:-]+)\ ([-+\<\>=])([^\ ]*)\  ]]; then
+            at=$((at + 1))
+            mark=${BASH_REMATCH[2]} suffixes=${BASH_REMATCH[3]}
+            [ "$mark" != - ] && [ $at -le $# ] || continue
+            if [ -z "$suffixes" ]; then
+                "$call" "$mark" "${!at}"
+            else
+                for suffix in ${suffixes//,/ }; do "$call" "$mark" "${!at}$suffix"; done
+            fi
+        fi
+    done <"$share/commands.txt"
+}
+
+# Says why a file may not have been read, made or locked. A name with a star is each that is there.
+say_of_file() {
+    local mark=$1 name=$2 folder left
+    folder=$(dirname -- "$name")
+    if [ "$mark" = '<' ]; then
+        if [ -d "$name" ]; then say "$name is a folder"
+        elif [ ! -e "$name" ]; then say "$name is not there"
+        elif [ ! -r "$name" ]; then say "$name cannot be read by the user $(id -un)"
+        fi
+        return
+    fi
+    if [ ! -d "$folder" ]; then say "the folder $folder is not there"
+    elif [ ! -w "$folder" ] || [ ! -r "$folder" ] && { [ "$mark" = '>' ] || [ ! -e "$name" ]; }; then
+        say "the user $(id -un) cannot read and write the folder $folder, where $name is made"
+    fi
+    if [ "$mark" = '>' ]; then
+        for left in "${name%\*}"*.new; do
+            [[ $left == "$name.new" || $name == *\* ]] && [ -e "$left" ] &&
+                say "$left was left by a program that was stopped: look at it, and remove it"
+        done
+        return
+    fi
+    if [ ! -e "$name" ]; then [ "$mark" = + ] || say "$name is not there"
+    elif [ ! -f "$name" ]; then say "$name is no regular file"
+    elif [ ! -r "$name" ] || [ ! -w "$name" ]; then say "$name cannot be read and written by the user $(id -un)"
+    elif grep -q "FLOCK.*:$(stat -Lc %i -- "$name") " /proc/locks 2>/dev/null; then
+        say "$name is in use by another process"
+    fi
+}
+
+# Says where a file lies on a file system that is full.
+say_of_room() {
+    local folder room
+    [ "$1" != '<' ] || return
+    folder=$(dirname -- "$2")
+    room=$(df -P -- "$folder" 2>/dev/null | awk 'NR == 2 { print $4 }')
+    [ "$room" != 0 ] || say "there is no room in the folder $folder, where $2 lies"
+}
+
+# Whether this machine listens at a port; with a process, whether that process does.
+is_listening() {
+    local node nodes it
+    nodes=$(awk -v port=":$(printf %04X "$((10#$1))")" '$4 == "0A" && $2 ~ port "$" { print $10 }' /proc/self/net/tcp{,6} 2>/dev/null)
+    for node in $nodes; do
+        [ -n "${2-}" ] || return 0
+        for it in "/proc/$2/fd"/*; do
+            [ "$(readlink "$it" 2>/dev/null)" != "socket:[$node]" ] || return 0
+        done
+    done
+    return 1
+}
+
+# Says why nobody can listen at a place.
+say_of_place() {
+    local port=${1##*:}
+    if [[ ! $port =~ ^[0-9]{1,5}$ ]]; then say "$1 has no port: HOST:PORT is wanted"
+    elif is_listening "$port"; then say "something listens at port $port already"
+    elif [ "$port" -lt 1024 ] && [ "$(id -u)" != 0 ]; then say "port $port is below 1024, which wants privileges"
+    else say "${1%:*} may be no address of this machine, or a name that has none"
+    fi
+}
+
+# Says what coalition a key wants, as the head of its reference has it.
+say_of_members() {
+    local want
+    want=$(od -An -tu1 -j6 -N2 -- "$1.ref" 2>/dev/null)
+    # shellcheck disable=SC2086 # two numbers
+    set -- $want
+    [ $# != 2 ] || say "this key wants $1 different trustees of 1 to $2"
+}
+
+# Says on standard error what a status means, what was found by looking, and what to do.
+say_of_status() {
+    local status=$1 text
+    shift
+    [ "$status" != 0 ] && [ "$status" != 1 ] || return
+    [ "$status" != 2 ] || { explain_command "$1" >&2 || list_commands >&2; return; }
+    text=$(sed -n "/of blame/!s/^$status //p" "$share/statuses.txt")
+    [ "$status $1" != '8 blame' ] || text=$(sed -n 's/^8 of blame: //p' "$share/statuses.txt")
+    [ -n "$text" ] || return
+    say "$text"
+    case $status in
+    3) each_file say_of_file "$@" 2>&1 | awk '!($0 in said); { said[$0] }' >&2 ;;
+    5) say_of_entropy "$@" ;;
+    8) [ "$1" != sign ] || [ ! -e "$2.commit" ] || say "rikselbe blame with the same words says who it was" ;;
+    10) each_file say_of_room "$@" 2>&1 | awk '!($0 in said); { said[$0] }' >&2 ;;
+    17) say_of_place "${4-}" ;;
+    18) if [ "$1" = hss ]; then say_of_members "${3-}"; else say_of_members "${2-}"; fi ;;
+    esac
+}
+
+# Says what length of entropy a dealing wants, where it has another.
+say_of_entropy() {
+    local has want
+    [[ ${5-} =~ ^[0-9]{1,2}$ ]] && has=$(stat -Lc %s -- "$2" 2>/dev/null) || return
+    want=$((80 + 32 * 10#$5))
+    [ "$has" = "$want" ] || say "$2 has $has bytes, and a key for $5 trustees is dealt from $want"
+}
+
+# Says once that a process listens at a place, as soon as it does, in the first minute.
+say_when_listening() {
+    local port=${3##*:} it
+    [[ $port =~ ^[0-9]{1,5}$ ]] || return
+    for it in $(seq 600); do
+        sleep 0.1
+        kill -0 "$1" 2>/dev/null || return
+        ! is_listening "$port" "$1" || { say "the $2 starts at $3"; return; }
+    done
+}
+
+# Runs the program, and ends with its status.
+run_program() {
+    local status serving='' started=()
+    # A file that grows past a limit is a fault with its status, and no end in the middle of a file. No core: it may hold
+    # a key.
+    trap '' XFSZ
+    ulimit -c 0
+    # A file that the program opens never gets the number of a standard stream. Nothing can be written on one that was
+    # closed.
+    { : <&0; } 2>/dev/null || exec 0</dev/null
+    { : >&1; } 2>/dev/null || exec 1</dev/null
+    { : >&2; } || exec 2</dev/null
+    # What serves ends with this process, however that ends: else it would keep the journal. Where there is no setpriv it
+    # takes this process's place, and nothing is said of its status.
+    [ "$1" != trustee ] || [ $# -lt 6 ] || serving=trustee
+    [ "$1" != aggregate ] || [ $# -lt 7 ] || serving=aggregator
+    if [ -n "$serving" ]; then
+        if command -v setpriv >/dev/null && setpriv --pdeathsig KILL true 2>/dev/null; then
+            started=(setpriv --pdeathsig KILL)
+        else
+            (say_when_listening $$ "$serving" "$4" >/dev/null &)
+            exec "$program" "$@"
+        fi
+    fi
+    # The input is handed on: a command that a script starts beside itself would else read nothing, and a piped message
+    # would pass for an empty one. A signal goes on to the program too.
+    "${started[@]}" "$program" "$@" <&0 &
+    program_at=$!
+    trap 'kill "$program_at" 2>/dev/null' HUP INT TERM
+    [ -z "$serving" ] || (say_when_listening "$program_at" "$serving" "$4" </dev/null >/dev/null &)
+    while wait "$program_at"; status=$?; kill -0 "$program_at" 2>/dev/null; do :; done
+    say_of_status "$status" "$@"
+    exit "$status"
+}
