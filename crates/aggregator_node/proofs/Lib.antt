@@ -1,10 +1,16 @@
-pub mod Addressing
-pub mod Counting
-pub mod Frames
-pub mod Hearing
-pub mod Reaching
-pub mod Refusing
-pub mod Rounds
-pub mod Sessions
-pub mod Tasks
-pub mod Writing
+pub mod Answering
+pub mod Keeping
+pub mod Showing
+pub mod Signing
+pub mod Turning
+pub mod Statuses
+pub mod PortTurns
+pub mod Requests
+pub mod Serving
+mod Working
+mod Standing
+mod Running
+mod Summing
+pub mod Gathering
+mod Joining
+mod Finishing

@@ -1,7 +1,9 @@
-pub mod Addresses
-pub mod Faults
-pub mod Hearing
-pub mod Reaching
-pub mod Runs
-pub mod Tasks
-pub mod Written
+pub mod Clients
+pub mod Failures
+pub mod Logs
+pub mod Signing
+pub mod Turns
+pub mod Posts
+pub mod Ports
+pub mod Workers
+pub mod Gathered

@@ -1,12 +1,17 @@
-//! The running aggregator: it runs the sessions of a coalition over links that it dials.
+//! The running aggregator: it signs for clients, over a table under a lock. Workers serve the clients of ports, beside
+//! each other.
 #![tactic(auto)]
 
-mod asks;
-mod desk;
-mod fault;
-pub mod laws;
-mod session;
+mod client;
+mod failure;
+mod gather;
+mod service;
+mod sign;
+mod start;
+mod turns;
+mod worker;
 
-pub use desk::{Address, Desk};
-pub use fault::{SignFault, Why};
-pub use session::run_session;
+pub use client::serve_client;
+pub use failure::failure_of;
+pub use service::serve_clients;
+pub use sign::sign_one;

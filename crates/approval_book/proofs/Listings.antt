@@ -6,11 +6,11 @@ use Rattle.slot_file.specs.declared.slot.Slot.{Slot}
 use Rattle.slot_file.specs.declared.slot.Slot.TheVariants as slot
 use Rattle.approval_book.specs.Listed.{AddsTo, IsAdding, IsFreeIn, IsSettled, old, is_half, is_listed, lists}
 use Rattle.opening_journal.specs.declared.faults.Entered.TheVariants.{Old}
-use Rattle.slot_cache.specs.Calls.{Settles}
-use Rattle.slot_cache.specs.declared.faults.Settled.{Settled}
-use Rattle.slot_cache.specs.declared.faults.Settled.TheVariants.{Made, Nothing, NotMade}
-use Rattle.slot_cache.specs.State.{CacheState, settled_with, with_made}
-use Rattle.slot_cache.specs.declared.doubted.Doubted.{Doubted}
+use Rattle.slot_file.specs.Calls.{Settles}
+use Rattle.slot_file.specs.declared.faults.Settled.{Settled}
+use Rattle.slot_file.specs.declared.faults.Settled.TheVariants.{Made, Nothing, NotMade}
+use Rattle.slot_file.specs.State.{CacheState, settled_with, with_made}
+use Rattle.slot_file.specs.declared.doubted.Doubted.{Doubted}
 use Rattle.std.specs.List.Sorted.{IsPermutation}
 use Rattle.std.specs.Cmp.Lexicographic.{pointwise, nat_list_cmp_total, nat_list_eq_equiv, same_text, slice_cmp}
 use Rattle.std.specs.Ordering.{nat_cmp}

@@ -3,9 +3,9 @@ use Rattle.std.specs.Prelude.{ℕ}
 use Rattle.disk_trait.specs.declared.disk.Pages as pages
 use Rattle.disk_trait.specs.declared.faults.Faults as faults
 use Rattle.approval_book.specs.declared.book.Book.{Book}
-use Rattle.slot_cache.specs.Cache.{disk_of as cache_disk, state_of as cache_state}
-use Rattle.slot_cache.specs.State.{CacheState}
-use Rattle.slot_cache.specs.declared.cache.CachedSlots.{CachedSlots}
+use Rattle.slot_file.specs.Cache.{disk_of as cache_disk, state_of as cache_state}
+use Rattle.slot_file.specs.State.{CacheState}
+use Rattle.slot_file.specs.declared.cache.CachedSlots.{CachedSlots}
 
 module _ {D : Type 0} {p : pages.Ghosts D} {f : faults.Ghosts D} where
   -- its slots

@@ -8,12 +8,12 @@ use Rattle.approval_book.specs.declared.faults.BookFault.{BookFault}
 use Rattle.approval_book.specs.declared.faults.BookFault.TheVariants.{Device, Damaged, Full}
 use Rattle.opening_journal.specs.declared.faults.Entered.{Entered}
 use Rattle.opening_journal.specs.declared.faults.Entered.TheVariants.{New, Old}
-use Rattle.slot_cache.specs.Calls.{Settles}
-use Rattle.slot_cache.specs.State.{CacheState, settled_with, slot_in}
-use Rattle.slot_cache.specs.declared.doubted.Doubted.{Doubted}
-use Rattle.slot_cache.specs.declared.faults.SettleFault.{SettleFault}
-use Rattle.slot_cache.specs.declared.faults.SettleFault.TheVariants as settling
-use Rattle.slot_cache.specs.declared.faults.Settled.{Settled}
+use Rattle.slot_file.specs.Calls.{Settles}
+use Rattle.slot_file.specs.State.{CacheState, settled_with, slot_in}
+use Rattle.slot_file.specs.declared.doubted.Doubted.{Doubted}
+use Rattle.slot_file.specs.declared.faults.SettleFault.{SettleFault}
+use Rattle.slot_file.specs.declared.faults.SettleFault.TheVariants as settling
+use Rattle.slot_file.specs.declared.faults.Settled.{Settled}
 use Rattle.slot_file.specs.Copies.{is_free}
 use Rattle.slot_file.specs.declared.slot.Slot.{Slot}
 use Rattle.slot_file.specs.declared.slot.Slot.TheVariants as slot

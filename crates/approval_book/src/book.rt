@@ -12,8 +12,8 @@ ghost use Rattle.approval_book.specs.Listed.{lists};
 ghost use Rattle.slot_file.specs.Copies.{is_free, taken_count};
 ghost use Rattle.slot_file.specs.declared.slot.Slot.TheVariants as slot;
 ghost use Rattle.lms_bytes.specs.MessageId.{message_id_bytes};
-ghost use Rattle.slot_cache.specs.Cache.{count_of as cache_count, header_of as cache_header, state_of as cache_state};
-ghost use Rattle.slot_cache.specs.declared.doubted.Doubted.{Doubted as DoubtedPut};
+ghost use Rattle.slot_file.specs.Cache.{count_of as cache_count, header_of as cache_header, state_of as cache_state};
+ghost use Rattle.slot_file.specs.declared.doubted.Doubted.{Doubted as DoubtedPut};
 ghost use Rattle.slot_file.specs.Disks.{RisesAt, Unwritten};
 
 use crate::approved::Approved;
@@ -22,8 +22,7 @@ use disk_trait::{Disk, DiskFault};
 use lms_bytes::MessageId;
 use memory::NoMemory;
 use opening_journal::Entered;
-use slot_cache::{CacheLoad, CachedSlots, Doubted, Settled};
-use slot_file::{Header, Slot};
+use slot_file::{CacheLoad, CachedSlots, Doubted, Header, Settled, Slot};
 use std::alloc::Global;
 
 /// How many messages a book can list.
@@ -97,8 +96,8 @@ fn id_in_doubt(doubt: Option<Doubted>) -> [u8; 36]
 
 impl<D: Disk> Book<D> {
     ghost use Rattle.approval_book.specs.Book.{disk_of, faults_of, slots_of, state_of};
-    ghost use Rattle.slot_cache.specs.Cache.{Holds, IsSteady, IsTold, Stays};
-    ghost use Rattle.slot_cache.specs.Loading.{IsLoaded, LoadRefused};
+    ghost use Rattle.slot_file.specs.Cache.{Holds, IsSteady, IsTold, Stays};
+    ghost use Rattle.slot_file.specs.Loading.{IsLoaded, LoadRefused};
 
     /// Loads a book: reads its 1024 slots, and takes all the memory that is wanted. A refusal gives the disk back.
     pub fn load(alloc: Global, disk: D, header: &Header) -> Result<Book<D>, (D, CacheLoad)>

@@ -3,7 +3,7 @@
 ghost use Rattle.std.specs.Prelude.{◌≡◌};
 ghost use Rattle.approval_book.specs.Listed.{unsettled_by};
 
-use slot_cache::SettleFault;
+use slot_file::SettleFault;
 use thiserror::Error;
 
 /// Why a message is not listed, in the order of the tests.

@@ -4,11 +4,11 @@
 use crate::hashing::first_byte;
 use crate::refuse;
 use lms_bytes::{IdHash, Params, Val};
-use memory_io::MemSource;
 use ots_chain::MessageHash;
 use round_frames::next_ask;
 use std::alloc::{AllocError, Global};
 use std::io;
+use stream_memory::MemSource;
 
 /// The words behind the first.
 const WORDS: &str = "read or hash, and how often";

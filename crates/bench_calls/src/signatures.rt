@@ -3,13 +3,13 @@
 
 use crate::hashing::hash_blocks;
 use crate::refuse;
-use host_io::FileStore;
 use hss_levels::{HssVerdict, hss_verify, read_hss_key};
 use lms_bytes::{Params, PublicKey, SigView, Val, digit, read_public, read_signature};
 use lms_verify::{Verdict, verify};
 use ots_chain::MessageHash;
 use std::alloc::Global;
 use std::io;
+use stream_host::FileStore;
 use stream_io::Store;
 
 /// The words behind the first.

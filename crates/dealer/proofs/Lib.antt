@@ -5,3 +5,6 @@ pub mod FirstShares
 pub mod Mapped
 pub mod SameTree
 pub mod Undivided
+pub mod Sums
+pub mod Signers
+pub mod Rehearsing

@@ -4,3 +4,5 @@ pub mod Entropy
 pub mod Faults
 pub mod Files
 pub mod Secrets
+pub mod Rehearsal
+pub mod Signing

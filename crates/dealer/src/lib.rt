@@ -1,4 +1,5 @@
-//! The dealing of a key: from entropy to the public key, the tree, the masked reference value and the trustees' shares.
+//! The dealing of a key: from entropy to the public key, the tree, the masked reference value and the trustees' shares;
+//! and a rehearsal of signing with a key that is dealt, in memory.
 #![tactic(auto)]
 
 mod building;
@@ -10,9 +11,13 @@ mod faults;
 mod files;
 pub mod laws;
 mod leaves;
+mod masks;
+mod rehearsed;
 mod shares;
+mod signing;
 
 pub use committed::{CommittedFault, deal_committed};
 pub use dealing::{Dealt, deal};
 pub use faults::DealFault;
 pub use files::{DealingFiles, public_file};
+pub use rehearsed::{Rehearsed, rehearse};

@@ -2,8 +2,8 @@
 use Rattle.std.proofs.Common.{◌≡◌, ◌≤◌, ℕ, ◌+◌, ◌*◌, ◌==◌, Bool, true, false, refl, ◌∙◌, ap, arith, add-one, if◌then◌else◌}
 use Rattle.std.proofs.lemmas.Bool.Decides.{nat_tests}
 use Rattle.drill.specs.Summaries.{events_in}
-use Rattle.drill_events.specs.Draws.{event_at, events_of, state_at}
-use Rattle.drill_events.specs.declared.event.Event.{Event}
+use Rattle.drill_schedule.specs.Draws.{event_at, events_of, state_at}
+use Rattle.drill_schedule.specs.declared.event.Event.{Event}
 
 pub events-none : (kind : Event → Bool) (number : ℕ) → events_of kind number 0 ≡ 0
 unfolding events_of

@@ -12,7 +12,7 @@ use Rattle.dealer.specs.Entropy.{dealing_of, id_in, seed_in, trustee_key}
 use Rattle.dealer.specs.Faults.{HasFault, bad_entropy, same_keys, too_high, too_wide}
 use Rattle.dealer.specs.declared.dealing.Dealt.{Dealt}
 use Rattle.dealer.specs.declared.faults.DealFault.{DealFault}
-use Rattle.drill_events.specs.Draws.{bytes_of, draw_at, entropy_of}
+use Rattle.drill_schedule.specs.Draws.{bytes_of, draw_at, entropy_of}
 use Rattle.lms_bytes.proofs.Parts.{length-bytes_at}
 use Rattle.drill.specs.Disks.{IsDealing}
 use Rattle.drill.specs.Keys.{HasDealing}

@@ -1,7 +1,7 @@
 -- That the sessions come as far as the schedule says.
 use Rattle.std.proofs.Common.{◌≡◌, ◌≢◌, ◌<◌, ◌≤◌, ◌+◌, ◌-◌, ◌*◌, ◌%◌, ◌==◌, ℕ, suc, min, Bool, true, false, if◌then◌else◌, List, [], ◌∷◌, All, None, Some, Option, is_some, not, IfNone, IfSome, length, get_or, inl, inr, refl, sym, ◌∙◌, ap, subst, arith}
 use Rattle.std.proofs.lemmas.Bool.{cases_eq, eq-eqb, le-ltb, lt-ltb, ne_eqb}
-use Rattle.drill_events.specs.declared.event.Event.TheVariants.{Twice}
+use Rattle.drill_schedule.specs.declared.event.Event.TheVariants.{Twice}
 use Rattle.leaf_table.specs.Entries.{LeafUse}
 use Rattle.opening_journal.specs.Entries.{LeafState}
 use Rattle.reference_value.specs.Dealing.{Dealing}

@@ -18,7 +18,7 @@ use Rattle.leaf_table.specs.declared.lease.Lease.TheVariants.{Leased}
 use Rattle.leaf_table.proofs.Maps.{map_of-other, map_of-same}
 use Rattle.lms_bytes.specs.MessageId.{message_id, message_id_bytes}
 use Rattle.lms_bytes.specs.declared.message.MessageId.{MessageId}
-use Rattle.drill_events.specs.Draws.{message_bytes}
+use Rattle.drill_schedule.specs.Draws.{message_bytes}
 use Rattle.drill.specs.Courses.{Grows, IsBare, IsOnly, IsSettled, uses_of}
 use Rattle.drill.specs.Ids.{id_of}
 use Rattle.drill.proofs.Desks.{coalition-below, three}

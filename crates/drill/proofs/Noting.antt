@@ -6,7 +6,7 @@ use Rattle.std.proofs.lemmas.Bool.Decides.{nat_tests}
 use Rattle.std.proofs.lemmas.List.{length-append}
 use Rattle.std.proofs.lemmas.List.Elements.{All-append, All-cons, All-head, All-nil, All-tail}
 use Rattle.std.proofs.lemmas.List.Sums.{sum_by-append, sum_by-cons}
-use Rattle.drill_events.specs.Draws.{message_bytes}
+use Rattle.drill_schedule.specs.Draws.{message_bytes}
 use Rattle.leaf_table.specs.Entries.{IsFree, IsLeased, LeafUse}
 use Rattle.lms_bytes.specs.declared.ask.Ask.{Ask}
 use Rattle.lms_bytes.specs.declared.ask.Second.{Second}

@@ -1,9 +1,9 @@
 -- Events that are played, and what the schedule says of them.
 use Rattle.std.proofs.Common.{◌≡◌, ◌<◌, ◌≤◌, ◌+◌, ◌*◌, ◌%◌, ℕ, List, length, get_or, refl, sym, ap, subst, arith, add-one}
-use Rattle.drill_events.specs.Draws.{event_at}
-use Rattle.drill_events.specs.declared.draws.Schedule.{Schedule}
-use Rattle.drill_events.specs.declared.event.Event.{Event}
-use Rattle.drill_events.specs.declared.event.Event.TheVariants.{Cut, Dropped, Restart, Step, Twice}
+use Rattle.drill_schedule.specs.Draws.{event_at}
+use Rattle.drill_schedule.specs.declared.draws.Schedule.{Schedule}
+use Rattle.drill_schedule.specs.declared.event.Event.{Event}
+use Rattle.drill_schedule.specs.declared.event.Event.TheVariants.{Cut, Dropped, Restart, Step, Twice}
 use Rattle.drill_trustees.specs.Trustees.{leaf_at}
 use Rattle.reference_value.specs.Dealing.{Dealing}
 use Rattle.drill.specs.Courses.{Drops, Follows, HasPlayed, IsGood, Plays, StaysGood, Stepped, asks_in, replies_in, uses_of}

@@ -1,6 +1,6 @@
 -- The reply to a session's next ask: a grant's masks are the member's own.
 use Rattle.std.proofs.Common.{◌≡◌, ◌*◌, ℕ, true, false, List, ◌++◌, None, Some, length, inl, inr, refl, sym, ◌∙◌, ap, subst}
-use Rattle.drill_events.specs.Draws.{message_bytes}
+use Rattle.drill_schedule.specs.Draws.{message_bytes}
 use Rattle.drill_trustees.specs.Trustees.{leaf_at, share_at}
 use Rattle.drill_trustees.specs.declared.trustees.Trustees.{Trustees}
 use Rattle.leaf_table.specs.Entries.{LeafUse}

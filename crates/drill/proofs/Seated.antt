@@ -6,7 +6,7 @@ use Rattle.std.proofs.lemmas.List.Elements.{All-contains}
 use Rattle.coalition_map.specs.Coalitions.{PlanNumbers, count_of, leaf_members}
 use Rattle.coalition_map.proofs.CoalitionLaws.{IsSubset-coalition, count_of-pos}
 use Rattle.coalition_map.proofs.MemberLaws.{All-from_IsAscendingIn}
-use Rattle.drill_events.specs.Draws.{message_bytes}
+use Rattle.drill_schedule.specs.Draws.{message_bytes}
 use Rattle.drill_trustees.specs.Members.{MayAsk, state_after, state_before}
 use Rattle.drill_trustees.specs.Trustees.{CutAt, IsTrustee, SameAt, SameShares, SetsAt, leaf_at, share_at}
 use Rattle.drill_trustees.specs.declared.member.Answer.{Answer}

@@ -3,7 +3,7 @@ use Rattle.std.proofs.Common.{◌≡◌, ◌≢◌, ◌⊎◌, ◌<◌, ◌%◌,
 use Rattle.std.proofs.lemmas.Bool.{cases_eq}
 use Rattle.std.proofs.lemmas.List.Elements.{All-cons, All-head, All-nil, All-tail}
 use Rattle.coalition_map.specs.Coalitions.{PlanNumbers, leaf_members}
-use Rattle.drill_events.specs.Draws.{message_bytes}
+use Rattle.drill_schedule.specs.Draws.{message_bytes}
 use Rattle.drill_trustees.specs.Members.{state_after, state_before}
 use Rattle.drill_trustees.specs.Trustees.{IsTrustee, SameShares, SetsAt, leaf_at}
 use Rattle.drill_trustees.specs.declared.trustees.Trustees.{Trustees}

@@ -1,9 +1,9 @@
 -- A table that was just made.
 use Rattle.std.proofs.Common.{◌≡◌, ◌≢◌, ℕ, List, refl, sym, ◌∙◌}
-use Rattle.slot_cache.specs.Loading.{LoadRefused, damaged, no_memory, other_file}
-use Rattle.slot_cache.specs.Loading as refused
-use Rattle.slot_cache.specs.declared.faults.CacheLoad.{CacheLoad}
-use Rattle.slot_cache.specs.declared.faults.CacheLoad.TheVariants as load
+use Rattle.slot_file.specs.Loading.{LoadRefused, damaged, no_memory, other_file}
+use Rattle.slot_file.specs.Loading as refused
+use Rattle.slot_file.specs.declared.faults.CacheLoad.{CacheLoad}
+use Rattle.slot_file.specs.declared.faults.CacheLoad.TheVariants as load
 use Rattle.slot_file.specs.Fresh.{IsNew}
 use Rattle.slot_file.specs.declared.header.Header.{Header}
 

@@ -2,7 +2,7 @@
 use Rattle.std.proofs.Common.{◌≡◌, ◌≢◌, ℕ, List, [], ◌∷◌, All, Contains, IfSome, Option, None, Some, map, inl, inr, refl, sym, ◌∙◌, ap, subst}
 use Rattle.std.proofs.lemmas.List.Elements.{All-cons, All-head, All-nil, All-tail}
 use Rattle.coalition_map.specs.Coalitions.{IsPlan, PlanNumbers, leaf_members}
-use Rattle.drill_events.specs.Draws.{message_bytes}
+use Rattle.drill_schedule.specs.Draws.{message_bytes}
 use Rattle.drill_trustees.specs.Members.{state_after}
 use Rattle.leaf_table.specs.Entries.{LeafUse}
 use Rattle.lms_bytes.specs.MessageId.{message_id_bytes}

@@ -4,8 +4,8 @@ use Rattle.std.specs.Prelude.{IsSome, None, Some, Option, length, replicate, sli
 use Rattle.coalition_map.specs.Coalitions.{leaf_members}
 use Rattle.disk_trait.specs.declared.disk.Pages as pages
 use Rattle.disk_trait.specs.declared.faults.Faults as faults
-use Rattle.drill_events.specs.Draws.{message_bytes}
-use Rattle.drill_events.specs.declared.event.Event.{Event}
+use Rattle.drill_schedule.specs.Draws.{message_bytes}
+use Rattle.drill_schedule.specs.declared.event.Event.{Event}
 use Rattle.drill_trustees.specs.Members.{state_after, state_before}
 use Rattle.drill_trustees.specs.Trustees.{IsTrustee, SetsAt, leaf_at, share_at}
 use Rattle.drill_trustees.specs.declared.trustees.Trustees.{Trustees}

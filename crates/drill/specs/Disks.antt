@@ -3,7 +3,7 @@ use Rattle.std.specs.Prelude.{◌≡◌, ◌⊎◌, ◌<◌, ◌≤◌, ◌+◌,
 use Rattle.coalition_map.specs.Coalitions.{leaf_members}
 use Rattle.dealer.specs.Entropy.{dealing_of}
 use Rattle.disk_trait.specs.MemDisk.{stable_disk}
-use Rattle.drill_events.specs.Draws.{entropy_of, message_bytes}
+use Rattle.drill_schedule.specs.Draws.{entropy_of, message_bytes}
 use Rattle.leaf_table.specs.Entries.{IsFree, IsLeased, LeafUse}
 use Rattle.leaf_table.specs.Loading.{IsTableFile}
 use Rattle.leaf_table.specs.Slots.{use_of_slot}

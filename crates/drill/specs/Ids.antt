@@ -1,6 +1,6 @@
 -- The ids of the messages that a drill signs.
 use Rattle.std.specs.Prelude.{◌≡◌, ◌<◌, ℕ, List}
-use Rattle.drill_events.specs.Draws.{message_bytes}
+use Rattle.drill_schedule.specs.Draws.{message_bytes}
 use Rattle.lms_bytes.specs.MessageId.{message_id, message_id_bytes}
 
 -- the 36 bytes of the id of message i

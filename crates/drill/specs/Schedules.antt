@@ -1,10 +1,10 @@
 -- What a drill comes to by its schedule alone.
 use Rattle.std.specs.Prelude.{ℕ, zero, suc, ◌+◌, ◌-◌, ◌*◌, ◌/◌, ◌%◌, ◌==◌, ◌&&◌, nat_lt, min, Bool, true, false}
 use Rattle.std.specs.Prelude.{if◌then◌else◌}
-use Rattle.drill_events.specs.Draws.{event_at}
-use Rattle.drill_events.specs.Events.{is_cut}
-use Rattle.drill_events.specs.declared.event.Event.{Event}
-use Rattle.drill_events.specs.declared.event.Event.TheVariants.{Step, Twice, Dropped, Cut, Restart}
+use Rattle.drill_schedule.specs.Draws.{event_at}
+use Rattle.drill_schedule.specs.Events.{is_cut}
+use Rattle.drill_schedule.specs.declared.event.Event.{Event}
+use Rattle.drill_schedule.specs.declared.event.Event.TheVariants.{Step, Twice, Dropped, Cut, Restart}
 
 -- how many of so many sessions are of coalition c: session i is of coalition i modulo 3
 abbrev pub sessions_of : ℕ → ℕ → ℕ

@@ -6,7 +6,7 @@ use Rattle.lms_bytes.specs.declared.public_key.PublicKey.{PublicKey}
 use Rattle.session_core.specs.State.{State}
 use Rattle.drill.specs.declared.seat.Seat.{Seat}
 use Rattle.drill.specs.declared.seat.Seat.TheVariants.{Waiting, Running, Signed, Refused}
-use Rattle.drill_events.specs.Draws.{message_bytes}
+use Rattle.drill_schedule.specs.Draws.{message_bytes}
 
 -- the session is of this key and this plan, and signs message i
 pub record IsOf (key : PublicKey) (plan : PlanNumbers) (i : ℕ) (s : State) : Type 0 where

@@ -2,9 +2,9 @@
 use Rattle.std.specs.Prelude.{◌≡◌, ◌<◌, ◌≤◌, ◌+◌, ◌*◌, ◌==◌, ℕ, if◌then◌else◌}
 use Rattle.drill.specs.Ids.{DifferentIds}
 use Rattle.drill.specs.Schedules.{cut_asks, extra_asks, signed_of}
-use Rattle.drill_events.specs.Draws.{events_of}
-use Rattle.drill_events.specs.Events.{is_cut, is_restart}
-use Rattle.drill_summary.specs.declared.summary.Summary.{Summary}
+use Rattle.drill_schedule.specs.Draws.{events_of}
+use Rattle.drill_schedule.specs.Events.{is_cut, is_restart}
+use Rattle.drill_schedule.specs.declared.summary.Summary.{Summary}
 
 -- how many events happen: none where there is no session
 abbrev pub events_in : ℕ → ℕ → ℕ

@@ -3,7 +3,7 @@
 ghost use Rattle.std.specs.Prelude.{◌≡◌, ℕ, IfOk};
 ghost use Rattle.dealer.specs.Dealt.{IsDealt};
 ghost use Rattle.dealer.specs.Entropy.{dealing_of};
-ghost use Rattle.drill_events.specs.Draws.{entropy_of};
+ghost use Rattle.drill_schedule.specs.Draws.{entropy_of};
 
 use crate::desk::Desk;
 use coalition_map::Plan;

@@ -15,5 +15,5 @@ mod state;
 mod steps;
 mod tally;
 
-pub use drill_summary::Summary;
+pub use drill_schedule::Summary;
 pub use run::{Drilled, run_drill};

@@ -12,8 +12,8 @@ ghost use Rattle.drill.specs.Seats.{AreWaiting};
 ghost use Rattle.drill.specs.Summaries.{IsSummary, events_in};
 ghost use Rattle.drill.specs.Tallies.{IsWithin};
 ghost use Rattle.drill.specs.declared.seat.Seat.{Seat as Place};
-ghost use Rattle.drill_events.specs.Draws.{event_at, events_of, state_at};
-ghost use Rattle.drill_events.specs.Events.{is_cut, is_restart};
+ghost use Rattle.drill_schedule.specs.Draws.{event_at, events_of, state_at};
+ghost use Rattle.drill_schedule.specs.Events.{is_cut, is_restart};
 ghost use Rattle.drill_trustees.specs.Trustees.{AreJournals};
 ghost use Rattle.leaf_table.specs.Table.{plan_of};
 
@@ -25,8 +25,7 @@ use crate::start::start;
 use crate::state::Drill;
 use crate::tally::{NOTHING, Tally};
 use disk_trait::{Generator, MemDisk};
-use drill_events::{Schedule, draw_entropy};
-use drill_summary::Summary;
+use drill_schedule::{Schedule, Summary, draw_entropy};
 use memory::NoMemory;
 use std::alloc::Global;
 

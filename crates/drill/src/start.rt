@@ -17,8 +17,7 @@ use disk_trait::MemDisk;
 use drill_trustees::Trustees;
 use leaf_table::Table;
 use memory::NoMemory;
-use slot_cache::CacheLoad;
-use slot_file::{Header, prepare};
+use slot_file::{CacheLoad, Header, prepare};
 use std::alloc::Global;
 
 /// The bytes of a leaf table with a slot for each leaf.

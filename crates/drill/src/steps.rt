@@ -7,7 +7,7 @@ ghost use Rattle.drill.specs.Courses.{IsOnCourse, IsSettled, Steps, steps_in, us
 ghost use Rattle.drill.specs.Keys.{HasDealing};
 ghost use Rattle.drill.specs.Openings.{Notes};
 ghost use Rattle.drill.specs.Seats.{Fits, IsOf};
-ghost use Rattle.drill_events.specs.Draws.{message_bytes};
+ghost use Rattle.drill_schedule.specs.Draws.{message_bytes};
 ghost use Rattle.drill_trustees.specs.Members.{MayAsk, state_after};
 ghost use Rattle.drill_trustees.specs.Trustees.{SameShares, SetsAt, leaf_at, share_at};
 ghost use Rattle.drill_trustees.specs.declared.trustees.Trustees.{Trustees};

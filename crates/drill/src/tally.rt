@@ -2,10 +2,10 @@
 
 ghost use Rattle.std.specs.Prelude.{◌≡◌, ◌≤◌, ◌+◌, if◌then◌else◌};
 ghost use Rattle.drill.specs.Drills.{AtMost};
-ghost use Rattle.drill_events.specs.Events.{is_restart};
+ghost use Rattle.drill_schedule.specs.Events.{is_restart};
 
 use crate::state::Asks;
-use drill_events::Event;
+use drill_schedule::Event;
 
 /// Asks and restarts.
 #[derive(Clone, Copy)]

@@ -1,16 +1,16 @@
 -- Where all is well, `sign` ends with the undivided key's signature, or for want of memory.
 use Rattle.std.proofs.Common.{◌≡◌, ◌⊎◌, ℕ, List, [], Result, Ok, Err, refl, sym, ap, subst, ◌∙◌, inl, inr}
-use Rattle.leased_session.specs.Signing.{Signature}
+use Rattle.aggregator_session.specs.Signing.{Signature}
 use Rattle.lms_verify.specs.UndividedKey.{UndividedKey, rfc_signature}
 use Rattle.reference_value.specs.Dealing.{Dealing, leaf_randomizer}
 use Rattle.tool_base.specs.Ending as ending
 use Rattle.tool_base.specs.Ending.{Ending}
 use Rattle.tool_base.specs.World.{StoreRun}
-use Rattle.tool_signing.specs.Ports.{NetRun}
-use Rattle.tool_signing.specs.Sessions.{SessionEnds, ended, no_task}
-use Rattle.tool_signing.specs.Sign.{SignEnds, SigningRun, not_new, not_signed, not_written, session_words, signed}
-use Rattle.tool_signing.specs.Tasks.{message_in}
-use Rattle.tool_signing.specs.Writes.{IsWritten}
+use Rattle.tool_sign.specs.Ports.{NetRun}
+use Rattle.tool_sign.specs.Sessions.{SessionEnds, ended, no_task}
+use Rattle.tool_sign.specs.Sign.{SignEnds, SigningRun, not_new, not_signed, not_written, session_words, signed}
+use Rattle.tool_sign.specs.Tasks.{message_in}
+use Rattle.tool_sign.specs.Writes.{IsWritten}
 use Rattle.tool_words.specs.Words.{SignWords}
 use Rattle.laws_signing.specs.AllIsWell.{AllIsWell}
 use Rattle.laws_signing.proofs.Ends.{table-ends, table-made}

@@ -3,8 +3,8 @@ use Rattle.std.proofs.Common.{◌≡◌, ◌<◌, ℕ, zero, suc, ◌==◌, Bool
 use Rattle.std.proofs.lemmas.Bool.Decides.{nat_tests}
 use Rattle.std.proofs.lemmas.List.Elements.{All-map}
 use Rattle.std.specs.Prelude.{string_bytes}
-use Rattle.aggregator_node.specs.Addresses.{place_of}
-use Rattle.aggregator_node.specs.declared.desk.Address.{Address}
+use Rattle.aggregator_session.specs.Addresses.{place_of}
+use Rattle.aggregator_session.specs.declared.desk.Address.{Address}
 use Rattle.tool_desk.specs.Members.{Placed, address}
 
 abbrev number : Address → ℕ

@@ -1,19 +1,19 @@
 -- What signing with the table comes to where all is well: the undivided key's signature, or want of memory.
 use Rattle.std.proofs.Common.{◌≡◌, ◌≢◌, ◌⊎◌, ◌++◌, ◌+◌, ◌-◌, ◌^◌, ◌<◌, ◌≤◌, min, ℕ, zero, suc, true, false, List, All, IsTrue, Some, None, Result, Ok, Err, length, refl, sym, ap, subst, ◌∙◌, inl, inr, arith}
-use Rattle.aggregator_node.specs.Addresses.{place_of}
-use Rattle.aggregator_node.specs.Faults.{LostBy}
-use Rattle.aggregator_node.specs.Runs.{SignRun}
-use Rattle.aggregator_node.specs.declared.fault.SignFault.{SignFault}
-use Rattle.aggregator_node.specs.declared.fault.SignFault.TheVariants.{NoMemory, Session}
-use Rattle.aggregator_node.specs.declared.fault.Why.TheVariants.{DialFailed}
+use Rattle.aggregator_session.specs.Addresses.{place_of}
+use Rattle.aggregator_session.specs.Faults.{LostBy}
+use Rattle.aggregator_session.specs.Runs.{SignRun}
+use Rattle.aggregator_session.specs.declared.fault.SignFault.{SignFault}
+use Rattle.aggregator_session.specs.declared.fault.SignFault.TheVariants.{NoMemory, Session}
+use Rattle.aggregator_session.specs.declared.fault.Why.TheVariants.{DialFailed}
 use Rattle.coalition_map.specs.Coalitions.{PlanNumbers, coalition, leaf_members}
 use Rattle.disk_trait.specs.Faults.{Rose}
 use Rattle.leaf_table.specs.Leasing.{LeaseOf, Leases}
 use Rattle.leaf_table.specs.declared.faults.TableFault.{TableFault}
 use Rattle.leaf_table.specs.declared.faults.TableFault.TheVariants.{Device}
 use Rattle.leaf_table.specs.declared.lease.Lease.{Lease}
-use Rattle.leased_session.specs.Signing.{DeskState, RunsOn, Signature, SignsLeased, leased, not_leased, not_started, ran, signed_with, too_long}
-use Rattle.leased_session.specs.Tables.{Entered, TableSeen}
+use Rattle.aggregator_session.specs.Signing.{DeskState, RunsOn, Signature, SignsLeased, leased, not_leased, not_started, ran, signed_with, too_long}
+use Rattle.aggregator_session.specs.Tables.{Entered, TableSeen}
 use Rattle.lms_bytes.specs.MessageId.{message_id, message_id_bytes}
 use Rattle.lms_bytes.specs.declared.public_key.PublicKey.{PublicKey}
 use Rattle.lms_verify.specs.UndividedKey.{UndividedKey, public_key_of, rfc_signature}
@@ -29,20 +29,20 @@ use Rattle.tool_base.specs.Ending.{Ending}
 use Rattle.tool_base.specs.World.{StoreRun, file_limit}
 use Rattle.tool_desk.specs.Files.{reference_name}
 use Rattle.tool_desk.specs.Members.{members_placed}
-use Rattle.tool_disks.specs.Loads.{FailsToLoad, damaged, device, no_memory, other_file}
-use Rattle.tool_signing.specs.Ports.{NetRun, SignedOver, Signing, answer_of}
-use Rattle.tool_signing.specs.Signs.{SignedTable, TableEnds}
-use Rattle.tool_signing.specs.Signs as signs
-use Rattle.tool_signing.specs.Tables.{IsTable, table_header}
-use Rattle.tool_signing.specs.Sign.{session_words}
-use Rattle.tool_signing.specs.Tasks.{IsTask, message_in}
+use Rattle.tool_base.specs.Loads.{FailsToLoad, damaged, device, no_memory, other_file}
+use Rattle.tool_sign.specs.Ports.{NetRun, SignedOver, Signing, answer_of}
+use Rattle.tool_sign.specs.Signs.{SignedTable, TableEnds}
+use Rattle.tool_sign.specs.Signs as signs
+use Rattle.tool_sign.specs.Tables.{IsTable, table_header}
+use Rattle.tool_sign.specs.Sign.{session_words}
+use Rattle.tool_sign.specs.Tasks.{IsTask, message_in}
 use Rattle.tool_words.specs.Words.{SignWords}
 use Rattle.laws_signing.specs.AllIsWell.{AllIsWell, IsQuiet}
 use Rattle.laws_signing.specs.Answering.{AllGave}
 use Rattle.laws_signing.proofs.Dialling.{all-placed}
 use Rattle.laws_signing.proofs.FilesRead.{device-not, read-not, same-file}
 use Rattle.laws_signing.proofs.Leaves.{lease-own, leases-well, one-table}
-use Rattle.laws_signing.proofs.Parses.{one-reference}
+use Rattle.tool_base.proofs.Parses.{one-reference}
 use Rattle.laws_signing.proofs.Sessions.{IsReady, session-goes}
 use Rattle.laws_signing.proofs.Tasks.{AreDealt, are-dealt, id-length}
 

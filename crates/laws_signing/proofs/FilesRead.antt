@@ -8,7 +8,7 @@ use Rattle.tool_base.specs.Grammars.{FailsGrammar, not_in_grammar, not_read}
 use Rattle.tool_base.specs.Outputs.{CallFailed, Output, IsNotNew, IsNotWritten, is_there, no_memory_to_name, no_memory_to_write, test_failed, was_there, write_failed}
 use Rattle.tool_base.specs.Reads.{FailsUpTo, failed, no_memory, too_long}
 use Rattle.tool_base.specs.World.{Failed, IsReadUpTo, StoreRun, file_limit}
-use Rattle.tool_disks.specs.Disks.{DeviceFails}
+use Rattle.tool_base.specs.Disks.{DeviceFails}
 use Rattle.tool_desk.specs.Reference.{FailsReference}
 use Rattle.tool_desk.specs.Reference as viewed
 use Rattle.stream_io.specs.Store.{has_name}

@@ -7,7 +7,7 @@ use Rattle.std.proofs.lemmas.Bool.{eq-eqb}
 use Rattle.std.proofs.lemmas.Bool.Decides.{nat_tests}
 use Rattle.std.proofs.lemmas.List.{length-replicate}
 use Rattle.std.proofs.lemmas.Slice.Eq.{bytes_eq-Decides}
-use Rattle.aggregator_node.specs.Hearing.{Came, by_frame, hear, is_answer, or_lost}
+use Rattle.aggregator_session.specs.Hearing.{Came, by_frame, hear, is_answer, or_lost}
 use Rattle.coalition_map.specs.Coalitions.{leaf_members}
 use Rattle.coalition_map.proofs.MemberLaws.{Contains-cases, Contains-nil}
 use Rattle.lms_bytes.specs.Digits.{digit_of}
@@ -39,7 +39,7 @@ use Rattle.session_core.specs.Verdicts.{digest_of}
 use Rattle.session_core.proofs.Places.{place-here, place-later}
 use Rattle.sha2.proofs.Facts256.{length-sha256}
 use Rattle.stream_io.specs.Talk.{Talk}
-use Rattle.tool_signing.specs.Tasks.{message_limit}
+use Rattle.tool_sign.specs.Tasks.{message_limit}
 use Rattle.laws_signing.specs.AllIsWell.{IsDealing}
 use Rattle.laws_signing.specs.Answering.{Answers, Gave, IsShareOf, grants, message_masks, second_round}
 use Rattle.laws_signing.specs.Answering as answering

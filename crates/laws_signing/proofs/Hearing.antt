@@ -1,8 +1,8 @@
 -- What is heard of a member that has not answered: what the session's start would hear.
 use Rattle.std.proofs.Common.{◌≡◌, ◌++◌, ◌≤◌, ℕ, zero, suc, ◌==◌, Bool, true, false, List, drop, IsTrue, Result, Ok, Err, IfOk, if◌then◌else◌, inl, inr, refl, sym, ap, subst, ◌∙◌, arith}
 use Rattle.std.proofs.lemmas.Bool.{eqb-true}
-use Rattle.aggregator_node.specs.Hearing.{Asked, Came, awaited, by_frame, hear, is_answer, is_kept, or_lost, unwritten}
-use Rattle.aggregator_node.specs.declared.fault.SignFault.{SignFault}
+use Rattle.aggregator_session.specs.Hearing.{Asked, Came, awaited, by_frame, hear, is_answer, is_kept, or_lost, unwritten}
+use Rattle.aggregator_session.specs.declared.fault.SignFault.{SignFault}
 use Rattle.disk_trait.specs.Faults.{Rose}
 use Rattle.lms_bytes.specs.declared.ask.ReplyHead.{ReplyHead}
 use Rattle.lms_bytes.specs.declared.params.Params.{Params}

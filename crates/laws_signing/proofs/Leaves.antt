@@ -13,11 +13,11 @@ use Rattle.leaf_table.specs.declared.faults.TableFault.TheVariants.{Device}
 use Rattle.leaf_table.specs.declared.lease.Lease.{Lease}
 use Rattle.lms_bytes.specs.MessageId.{message_id_bytes}
 use Rattle.lms_bytes.specs.declared.message.MessageId.{MessageId}
-use Rattle.slot_cache.specs.State.{HasSlots, slot_in}
+use Rattle.slot_file.specs.State.{HasSlots, slot_in}
 use Rattle.slot_file.specs.declared.header.Header.{Header}
 use Rattle.slot_file.specs.declared.slot.Slot.{Slot}
 use Rattle.slot_file.specs.declared.slot.Slot.TheVariants.{Free}
-use Rattle.tool_signing.specs.Tables.{IsTable}
+use Rattle.tool_sign.specs.Tables.{IsTable}
 
 -- a file has one list of slots
 one-slots : (header : Header) (xs ys : List Slot) (file : List ℕ) → length xs ≡ length ys → HasSlots header xs file → HasSlots header ys file → xs ≡ ys

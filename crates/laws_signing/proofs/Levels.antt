@@ -1,6 +1,6 @@
 -- Where all is well, `hss sign` ends with the key and the signature of two levels, or for want of memory.
 use Rattle.std.proofs.Common.{◌≡◌, ◌⊎◌, ◌++◌, ◌≤◌, ℕ, false, List, [], ◌∷◌, All, Option, None, Result, Ok, Err, IsTrue, length, option_map, refl, sym, ap, subst, ◌∙◌, inl, inr, arith}
-use Rattle.leased_session.specs.Signing.{Signature}
+use Rattle.aggregator_session.specs.Signing.{Signature}
 use Rattle.lms_bytes.specs.FaultNumbers.{key_fault_number}
 use Rattle.lms_bytes.specs.PublicKey.{public_bytes}
 use Rattle.lms_bytes.specs.declared.public_key.PublicKey.{PublicKey}
@@ -17,19 +17,19 @@ use Rattle.tool_desk.specs.Key.{key_file_fault}
 use Rattle.tool_desk.specs.declared.files.KeyFiles.{KeyFiles}
 use Rattle.tool_levels.specs.HssSign.{AreWritten, HssSignEnds, HssSigningRun, SignsLower, no_lower, no_memory_to_join, not_accepted, not_new, not_signed, session_words, signed, stopped, two_levels}
 use Rattle.tool_levels.specs.Lower.{FailsLower, IsLower, Lower, no_key, no_message, no_signature}
-use Rattle.tool_signing.specs.Ports.{NetRun, Signing}
-use Rattle.tool_signing.specs.Sessions.{SessionEnds, ended}
-use Rattle.tool_signing.specs.Sessions as sessions
-use Rattle.tool_signing.specs.Tasks.{FailsTask, IsTask, LacksTask, message_in, message_limit, message_of}
-use Rattle.tool_signing.specs.Tasks as tasks
+use Rattle.tool_sign.specs.Ports.{NetRun, Signing}
+use Rattle.tool_sign.specs.Sessions.{SessionEnds, ended}
+use Rattle.tool_sign.specs.Sessions as sessions
+use Rattle.tool_sign.specs.Tasks.{FailsTask, IsTask, LacksTask, message_in, message_limit, message_of}
+use Rattle.tool_sign.specs.Tasks as tasks
 use Rattle.tool_words.specs.Words.{HssSignWords}
 use Rattle.laws_signing.specs.LevelsAreWell.{LevelsAreWell, signing_lower}
 use Rattle.laws_signing.proofs.Completeness.{session-signed, session-unsigned}
 use Rattle.laws_signing.proofs.Ends.{key-is}
 use Rattle.laws_signing.proofs.FilesRead.{grammar-well, new-well, reads-well, same-file, written-well}
-use Rattle.laws_signing.proofs.Parses.{key-passes, one-key}
-use Rattle.laws_signing.proofs.Sets.{same-key}
-use Rattle.laws_signing.proofs.Verdicts.{is-accepted}
+use Rattle.tool_base.proofs.Parses.{key-passes, one-key}
+use Rattle.hss_levels.proofs.Sets.{same-key}
+use Rattle.tool_base.proofs.Verdicts.{is-accepted}
 
 module _ (words : HssSignWords) (store : StoreRun) (net : NetRun) (d : Dealing) (key : UndividedKey) (lower : Lower) (leaf : ℕ) (well : LevelsAreWell words store net d key lower leaf) where
   abbrev told : IsTrue store.before.told

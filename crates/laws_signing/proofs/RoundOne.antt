@@ -3,13 +3,13 @@ use Rattle.std.proofs.Common.{◌≡◌, ◌++◌, ◌+◌, ℕ, ◌==◌, true,
 use Rattle.std.specs.List.{AllZip}
 use Rattle.std.proofs.lemmas.List.Elements.{All-cons, All-head, All-nil, All-tail}
 use Rattle.std.proofs.lemmas.List.{map-append}
-use Rattle.aggregator_node.specs.Addresses.{place_of}
-use Rattle.aggregator_node.specs.Faults.{LostBy}
-use Rattle.aggregator_node.specs.Hearing.{hear, is_masks, kept_in}
-use Rattle.aggregator_node.specs.Runs.{Calls, First, dialled, first_all, first_answered, first_lost, first_refused, nowhere, undialled}
-use Rattle.aggregator_node.specs.declared.desk.Address.{Address}
-use Rattle.aggregator_node.specs.declared.fault.SignFault.{SignFault}
-use Rattle.aggregator_node.specs.declared.fault.Why.TheVariants.{DialFailed}
+use Rattle.aggregator_session.specs.Addresses.{place_of}
+use Rattle.aggregator_session.specs.Faults.{LostBy}
+use Rattle.aggregator_session.specs.Hearing.{hear, is_masks, kept_in}
+use Rattle.aggregator_session.specs.Runs.{Calls, First, dialled, first_all, first_answered, first_lost, first_refused, nowhere, undialled}
+use Rattle.aggregator_session.specs.declared.desk.Address.{Address}
+use Rattle.aggregator_session.specs.declared.fault.SignFault.{SignFault}
+use Rattle.aggregator_session.specs.declared.fault.Why.TheVariants.{DialFailed}
 use Rattle.coalition_map.specs.Coalitions.{PlanNumbers, leaf_members}
 use Rattle.coalition_map.specs.Members.{IsAscendingIn}
 use Rattle.lms_bytes.specs.declared.ask.ReplyHead.{ReplyHead}

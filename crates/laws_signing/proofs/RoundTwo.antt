@@ -2,11 +2,11 @@
 use Rattle.std.proofs.Common.{◌≡◌, ◌++◌, ◌+◌, ℕ, ◌==◌, Bool, true, List, [], ◌∷◌, All, IsTrue, Some, Result, Ok, Err, map, refl, sym, ap, subst, ◌∙◌, append-nil, arith}
 use Rattle.std.specs.List.{AllZip}
 use Rattle.std.proofs.lemmas.List.Elements.{All-append, All-cons, All-head, All-nil, All-tail}
-use Rattle.aggregator_node.specs.Hearing.{Asked, hear, is_masks, kept_in}
-use Rattle.aggregator_node.specs.Runs.{Calls, First, Second, dialled, first_all, first_answered, first_lost, first_refused, nowhere, second_all, second_answered, second_lost, second_refused, second_unread, undialled}
-use Rattle.aggregator_node.specs.declared.desk.Address.{Address}
-use Rattle.aggregator_node.specs.declared.fault.SignFault.{SignFault}
-use Rattle.aggregator_node.specs.declared.fault.SignFault.TheVariants.{Session}
+use Rattle.aggregator_session.specs.Hearing.{Asked, hear, is_masks, kept_in}
+use Rattle.aggregator_session.specs.Runs.{Calls, First, Second, dialled, first_all, first_answered, first_lost, first_refused, nowhere, second_all, second_answered, second_lost, second_refused, second_unread, undialled}
+use Rattle.aggregator_session.specs.declared.desk.Address.{Address}
+use Rattle.aggregator_session.specs.declared.fault.SignFault.{SignFault}
+use Rattle.aggregator_session.specs.declared.fault.SignFault.TheVariants.{Session}
 use Rattle.coalition_map.specs.Coalitions.{PlanNumbers, leaf_members}
 use Rattle.coalition_map.specs.Members.{IsAscendingIn}
 use Rattle.lms_bytes.specs.declared.ask.ReplyHead.{ReplyHead}

@@ -3,13 +3,13 @@
 use Rattle.std.proofs.Common.{◌≡◌, ◌⊎◌, ◌+◌, ◌*◌, ◌%◌, ◌^◌, ◌<◌, ℕ, List, [], All, IsTrue, None, Some, Result, Ok, Err, length, map, inl, inr, refl, sym, ap, subst, ◌∙◌, arith}
 use Rattle.std.specs.List.{AllZip}
 use Rattle.std.proofs.lemmas.List.Elements.{All-weaker}
-use Rattle.aggregator_node.specs.Addresses.{place_of}
-use Rattle.aggregator_node.specs.Faults.{LostBy, sign_fault}
-use Rattle.aggregator_node.specs.Runs.{CellsRead, First, Opens, Second, SignRun, Stops, first_frame, judged_in_one, judged_in_two, lost_in_one, lost_in_two, no_memory, signed}
-use Rattle.aggregator_node.specs.declared.desk.Address.{Address}
-use Rattle.aggregator_node.specs.declared.fault.SignFault.{SignFault}
-use Rattle.aggregator_node.specs.declared.fault.SignFault.TheVariants.{NoMemory, Session}
-use Rattle.aggregator_node.specs.declared.fault.Why.TheVariants.{DialFailed}
+use Rattle.aggregator_session.specs.Addresses.{place_of}
+use Rattle.aggregator_session.specs.Faults.{LostBy, sign_fault}
+use Rattle.aggregator_session.specs.Runs.{CellsRead, First, Opens, Second, SignRun, Stops, first_frame, judged_in_one, judged_in_two, lost_in_one, lost_in_two, no_memory, signed}
+use Rattle.aggregator_session.specs.declared.desk.Address.{Address}
+use Rattle.aggregator_session.specs.declared.fault.SignFault.{SignFault}
+use Rattle.aggregator_session.specs.declared.fault.SignFault.TheVariants.{NoMemory, Session}
+use Rattle.aggregator_session.specs.declared.fault.Why.TheVariants.{DialFailed}
 use Rattle.coalition_map.specs.Coalitions.{count_of, leaf_members}
 use Rattle.coalition_map.specs.Members.{IsAscendingIn}
 use Rattle.coalition_map.proofs.CoalitionLaws.{IsSubset-coalition, count_of-pos}

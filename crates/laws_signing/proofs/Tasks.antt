@@ -32,15 +32,15 @@ use Rattle.tool_desk.specs.Key.{key_file_fault}
 use Rattle.tool_desk.specs.Members.{IsCoalition, members_placed}
 use Rattle.tool_desk.specs.Tree.{tree_bytes, tree_file_fault}
 use Rattle.tool_desk.specs.declared.files.KeyFiles.{KeyFiles}
-use Rattle.tool_signing.specs.Ports.{NetRun}
-use Rattle.tool_signing.specs.Sign.{session_words}
-use Rattle.tool_signing.specs.Tasks.{FailsTask, HasFiles, LacksTask, message_in, message_limit}
-use Rattle.tool_signing.specs.Tasks as tasks
+use Rattle.tool_sign.specs.Ports.{NetRun}
+use Rattle.tool_sign.specs.Sign.{session_words}
+use Rattle.tool_sign.specs.Tasks.{FailsTask, HasFiles, LacksTask, message_in, message_limit}
+use Rattle.tool_sign.specs.Tasks as tasks
 use Rattle.tool_words.specs.Words.{SignWords}
 use Rattle.laws_signing.specs.AllIsWell.{HasDealtFiles, IsDealing, NothingFails}
-use Rattle.laws_signing.proofs.Parses.{key-passes, one-key, one-reference, one-tree, reference-passes, tree-passes}
+use Rattle.tool_base.proofs.Parses.{key-passes, one-key, one-reference, one-tree, reference-passes, tree-passes}
 use Rattle.laws_signing.proofs.FilesRead.{grammar-well, reads-well, same-file, view-well}
-use Rattle.laws_signing.proofs.Sets.{same-key}
+use Rattle.hss_levels.proofs.Sets.{same-key}
 
 -- a set that can be dealt has few nodes
 few-nodes : (n h : ℕ) → IsHashLength n → h ≤ 10 → n * (2 ^ (h + 1) - 1) ≤ 65504

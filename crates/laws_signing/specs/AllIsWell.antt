@@ -16,9 +16,9 @@ use Rattle.stream_io.specs.Store.{has_name}
 use Rattle.tool_base.specs.World.{StoreRun}
 use Rattle.tool_desk.specs.Files.{key_name, reference_name, tree_name}
 use Rattle.tool_desk.specs.Members.{members_placed}
-use Rattle.tool_signing.specs.Ports.{NetRun}
-use Rattle.tool_signing.specs.Tables.{IsTable, table_header}
-use Rattle.tool_signing.specs.Tasks.{message_limit}
+use Rattle.tool_sign.specs.Ports.{NetRun}
+use Rattle.tool_sign.specs.Tables.{IsTable, table_header}
+use Rattle.tool_sign.specs.Tasks.{message_limit}
 use Rattle.tool_words.specs.Words.{SignWords}
 use Rattle.laws_signing.specs.Answering.{AllGave}
 

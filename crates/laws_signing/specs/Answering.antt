@@ -1,6 +1,6 @@
 -- What the links of a coalition's members gave, where each member answered both asks of a session with its own masks.
 use Rattle.std.specs.Prelude.{◌≡◌, ◌++◌, ℕ, List, [], ◌∷◌, Ok}
-use Rattle.aggregator_node.specs.Hearing.{hear}
+use Rattle.aggregator_session.specs.Hearing.{hear}
 use Rattle.approval_book.specs.Decisions.{Decided}
 use Rattle.lms_bytes.specs.declared.ask.Ask.{Ask}
 use Rattle.lms_bytes.specs.declared.ask.ReplyHead.{ReplyHead}

@@ -1,3 +1,6 @@
 pub mod Answering
 pub mod AllIsWell
 pub mod LevelsAreWell
+pub mod Uses
+pub mod Requests
+pub mod Every

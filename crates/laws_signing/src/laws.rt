@@ -17,10 +17,10 @@ ghost use Rattle.tool_base.specs.Ending.{Ending};
 ghost use Rattle.tool_base.specs.World.{from_to};
 ghost use Rattle.tool_levels.specs.HssSign.{AreWritten, HssSigningRun, two_levels};
 ghost use Rattle.tool_levels.specs.Lower.{Lower};
-ghost use Rattle.tool_signing.specs.Ports.{NetRun};
-ghost use Rattle.tool_signing.specs.Sign.{SigningRun};
-ghost use Rattle.tool_signing.specs.Tasks.{message_limit};
-ghost use Rattle.tool_signing.specs.Writes.{IsWritten};
+ghost use Rattle.tool_sign.specs.Ports.{NetRun};
+ghost use Rattle.tool_sign.specs.Sign.{SigningRun};
+ghost use Rattle.tool_sign.specs.Tasks.{message_limit};
+ghost use Rattle.tool_sign.specs.Writes.{IsWritten};
 ghost use Rattle.tool_words.specs.Words.{HssSignWords, SignWords};
 
 use stream_io::Store;

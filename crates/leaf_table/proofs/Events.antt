@@ -19,7 +19,7 @@ use Rattle.leaf_table.specs.declared.lease.Lease.{Lease}
 use Rattle.leaf_table.specs.declared.lease.Lease.TheVariants.{Leased, Burnt}
 use Rattle.leaf_table.proofs.Maps.{map_of-other, map_of-same}
 use Rattle.leaf_table.proofs.Sound.{leaf_of-lease}
-use Rattle.slot_cache.specs.State.{slot_in}
+use Rattle.slot_file.specs.State.{slot_in}
 use Rattle.slot_file.specs.declared.slot.Slot.{Slot}
 use Rattle.slot_file.specs.declared.slot.Slot.TheVariants.{Free, Half, Full, Damaged as Torn}
 

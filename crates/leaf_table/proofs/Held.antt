@@ -13,10 +13,10 @@ use Rattle.leaf_table.specs.declared.lease.Lease.{Lease}
 use Rattle.leaf_table.specs.declared.table.Table.{Table}
 use Rattle.leaf_table.proofs.Legal.{legal-more}
 use Rattle.leaf_table.proofs.Sound.{have-made, leaf_of-lease, may-follow}
-use Rattle.slot_cache.specs.State.{CacheState, HasSlots, StandsFor as CacheStandsFor, slot_in, with_made}
-use Rattle.slot_cache.specs.declared.doubted.Doubted.{Doubted}
-use Rattle.slot_cache.specs.Cache.{state_of as cache_state}
-use Rattle.slot_cache.proofs.Held.{holds as cache_holds}
+use Rattle.slot_file.specs.State.{CacheState, HasSlots, StandsFor as CacheStandsFor, slot_in, with_made}
+use Rattle.slot_file.specs.declared.doubted.Doubted.{Doubted}
+use Rattle.slot_file.specs.Cache.{state_of as cache_state}
+use Rattle.slot_file.proofs.Held.{holds as cache_holds}
 use Rattle.slot_file.specs.Copies.{is_damaged}
 use Rattle.slot_file.specs.Layout.{slot_at}
 use Rattle.slot_file.specs.declared.header.Header.{Header}

@@ -14,7 +14,7 @@ use Rattle.std.proofs.lemmas.List.{get_or-set_same, get_or-set_other, length-set
 use Rattle.std.proofs.lemmas.List.Sums.{count_by-le-length, count_by_more_no, count_by_more_yes, sum_by-set}
 use Rattle.coalition_map.specs.Coalitions.{PlanNumbers, count_of}
 use Rattle.leaf_table.specs.Index.{IsListed, IsThere, Listed, Lists}
-use Rattle.slot_cache.specs.State.{slot_in}
+use Rattle.slot_file.specs.State.{slot_in}
 use Rattle.slot_file.specs.Copies.{is_free, taken_count}
 use Rattle.slot_file.specs.declared.slot.Slot.{Slot}
 use Rattle.slot_file.specs.declared.slot.Slot.TheVariants.{Free, Half, Full}

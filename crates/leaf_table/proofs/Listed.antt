@@ -7,7 +7,7 @@ use Rattle.std.specs.List.{flat_map, range_with_len}
 use Rattle.leaf_table.specs.Slots.{entries_of_slot, room_of}
 use Rattle.leaf_table.specs.Loading.{entries_of}
 use Rattle.leaf_table.specs.declared.lease.Lease.{Lease}
-use Rattle.slot_cache.specs.State.{slot_in}
+use Rattle.slot_file.specs.State.{slot_in}
 use Rattle.slot_file.specs.declared.slot.Slot.{Slot}
 use Rattle.slot_file.specs.declared.slot.Slot.TheVariants.{Free, Half, Full, Damaged}
 

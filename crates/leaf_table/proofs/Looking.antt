@@ -11,7 +11,7 @@ use Rattle.leaf_table.specs.Leasing.{HasNone, IsLeast}
 use Rattle.leaf_table.specs.Slots.{use_of_slot}
 use Rattle.leaf_table.proofs.Found.{leased-use}
 use Rattle.leaf_table.proofs.Orders.{from-low, key-exact, key-total, key_cmp, none-low, pair_cmp}
-use Rattle.slot_cache.specs.State.{slot_in}
+use Rattle.slot_file.specs.State.{slot_in}
 use Rattle.slot_file.specs.declared.slot.Slot.{Slot}
 use Rattle.sorted_list.specs.Sorted.{IsAscending, IsLeastFrom}
 

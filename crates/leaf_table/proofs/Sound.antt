@@ -10,8 +10,8 @@ use Rattle.leaf_table.specs.declared.lease.Lease.{Lease}
 use Rattle.leaf_table.specs.declared.lease.Lease.TheVariants.{Leased, Burnt}
 use Rattle.leaf_table.proofs.Legal.{legal-more}
 use Rattle.leaf_table.proofs.Maps.{map_of-other, map_of-same}
-use Rattle.slot_cache.specs.State.{slot_in}
-use Rattle.slot_cache.specs.declared.doubted.Doubted.{Doubted}
+use Rattle.slot_file.specs.State.{slot_in}
+use Rattle.slot_file.specs.declared.doubted.Doubted.{Doubted}
 use Rattle.slot_file.specs.declared.slot.Slot.{Slot}
 use Rattle.slot_file.specs.declared.slot.Slot.TheVariants.{Free, Half, Full, Damaged}
 

@@ -11,7 +11,7 @@ use Rattle.leaf_table.specs.Entries.{IsFree}
 use Rattle.leaf_table.specs.Index.{AreFree, IsFound, IsPassed}
 use Rattle.leaf_table.specs.Slots.{use_of_slot}
 use Rattle.leaf_table.proofs.Found.{free-use}
-use Rattle.slot_cache.specs.State.{slot_in}
+use Rattle.slot_file.specs.State.{slot_in}
 use Rattle.slot_file.specs.declared.slot.Slot.{Slot}
 use Rattle.slot_file.specs.declared.slot.Slot.TheVariants.{Free}
 

@@ -6,7 +6,7 @@ use Rattle.leaf_table.specs.Entries.{IsFree, LeafUse}
 use Rattle.leaf_table.specs.Leasing.{HasNone, IsLeast}
 use Rattle.leaf_table.specs.Slots.{use_of_slot}
 use Rattle.leaf_table.specs.declared.index.LeaseIndex.{LeaseIndex}
-use Rattle.slot_cache.specs.State.{slot_in}
+use Rattle.slot_file.specs.State.{slot_in}
 use Rattle.slot_file.specs.Copies.{taken_count}
 use Rattle.slot_file.specs.declared.slot.Slot.{Slot}
 use Rattle.slot_file.specs.declared.slot.Slot.TheVariants.{Free, Half}

@@ -11,9 +11,9 @@ use Rattle.leaf_table.specs.declared.lease.Lease.{Lease}
 use Rattle.leaf_table.specs.declared.lease.Lease.TheVariants.{Leased, Burnt}
 use Rattle.leaf_table.specs.declared.faults.TableFault.{TableFault}
 use Rattle.leaf_table.specs.declared.faults.TableFault.TheVariants.{Device, Damaged, NotACoalition, NoLeaf}
-use Rattle.slot_cache.specs.Calls.{IsNeither}
-use Rattle.slot_cache.specs.State.{slot_in}
-use Rattle.slot_cache.specs.declared.doubted.Doubted.{Doubted}
+use Rattle.slot_file.specs.Calls.{IsNeither}
+use Rattle.slot_file.specs.State.{slot_in}
+use Rattle.slot_file.specs.declared.doubted.Doubted.{Doubted}
 use Rattle.slot_file.specs.declared.slot.Slot.TheVariants.{Half, Full}
 
 -- the least leaf of coalition c whose use is this

@@ -6,7 +6,7 @@ use Rattle.disk_trait.specs.declared.faults.Faults as faults
 use Rattle.leaf_table.specs.Loading.{entries_of}
 use Rattle.leaf_table.specs.Table.{disk_of, faults_of, header_of, plan_of, state_of}
 use Rattle.leaf_table.specs.declared.table.Table.{Table}
-use Rattle.slot_cache.specs.State.{HasSlots, slot_in}
+use Rattle.slot_file.specs.State.{HasSlots, slot_in}
 use Rattle.slot_file.specs.Disks.{Unwritten}
 use Rattle.slot_file.specs.declared.header.Header.{Header}
 

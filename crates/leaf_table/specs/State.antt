@@ -3,8 +3,8 @@ use Rattle.std.specs.Prelude.{◌≡◌, ◌⊎◌, ◌<◌, ℕ, true, List, []
 use Rattle.leaf_table.specs.Entries.{OneLease, map_of, use_after}
 use Rattle.leaf_table.specs.Slots.{HasEntries, lease_of_slot, may_become, use_of_slot}
 use Rattle.leaf_table.specs.declared.lease.Lease.{Lease}
-use Rattle.slot_cache.specs.State.{CacheState, slot_in}
-use Rattle.slot_cache.specs.declared.doubted.Doubted.{Doubted}
+use Rattle.slot_file.specs.State.{CacheState, slot_in}
+use Rattle.slot_file.specs.declared.doubted.Doubted.{Doubted}
 use Rattle.slot_file.specs.declared.slot.Slot.{Slot}
 
 -- the entries, the slots that have them, and a put in doubt, which was made or was not

@@ -9,7 +9,7 @@ use Rattle.leaf_table.specs.State.{StandsFor, TableState, state_with}
 use Rattle.leaf_table.specs.declared.faults.TableFault.{TableFault}
 use Rattle.leaf_table.specs.declared.faults.TableFault.TheVariants.{Damaged, Device}
 use Rattle.leaf_table.specs.declared.table.Table.{Table}
-use Rattle.slot_cache.specs.Cache.{disk_of as cache_disk, header_of as cache_header, state_of as cache_state}
+use Rattle.slot_file.specs.Cache.{disk_of as cache_disk, header_of as cache_header, state_of as cache_state}
 use Rattle.slot_file.specs.Disks.{RisesAt, SameDisk}
 use Rattle.slot_file.specs.declared.header.Header.{Header}
 

@@ -2,7 +2,7 @@
 
 ghost use Rattle.std.specs.Prelude.{◌≡◌};
 
-use slot_cache::SettleFault;
+use slot_file::SettleFault;
 use thiserror::Error;
 
 /// Why no leaf is leased or burnt, in the order of the tests.

@@ -6,14 +6,13 @@ ghost use Rattle.coalition_map.specs.Coalitions.{PlanNumbers, count_of as coalit
 ghost use Rattle.leaf_table.specs.Entries.{IsFree, IsLeased};
 ghost use Rattle.leaf_table.specs.Index.{AreFree, IsFound, IsIndex, IsPassed, Lists, WasIndex};
 ghost use Rattle.leaf_table.specs.Slots.{may_become};
-ghost use Rattle.slot_cache.specs.Cache.{count_of, state_of as cache_state};
+ghost use Rattle.slot_file.specs.Cache.{count_of, state_of as cache_state};
 ghost use Rattle.slot_file.specs.declared.slot.Slot.{Slot as SlotValue};
 
 use coalition_map::Plan;
 use disk_trait::Disk;
 use memory::NoMemory;
-use slot_cache::CachedSlots;
-use slot_file::Slot;
+use slot_file::{CachedSlots, Slot};
 use sorted_list::SortedList;
 use std::alloc::Global;
 

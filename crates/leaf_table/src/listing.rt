@@ -4,16 +4,15 @@ ghost use Rattle.std.specs.Prelude.{◌≡◌, ◌≢◌, ◌+◌, ◌<◌, ◌�
 ghost use Rattle.leaf_table.specs.Entries.{IsFree, OneLease, map_of};
 ghost use Rattle.leaf_table.specs.Loading.{entries_of};
 ghost use Rattle.leaf_table.specs.Slots.{entries_of_slot, room_in, use_of_slot};
-ghost use Rattle.slot_cache.specs.Cache.{count_of, state_of as cache_state};
-ghost use Rattle.slot_cache.specs.State.{IsWhole, slot_in};
+ghost use Rattle.slot_file.specs.Cache.{count_of, state_of as cache_state};
+ghost use Rattle.slot_file.specs.State.{IsWhole, slot_in};
 ghost use Rattle.slot_file.specs.Copies.{is_damaged};
 
 use crate::lease::Lease;
 use disk_trait::Disk;
 use lms_bytes::MessageId;
 use memory::NoMemory;
-use slot_cache::CachedSlots;
-use slot_file::Slot;
+use slot_file::{CachedSlots, Slot};
 use std::alloc::Global;
 
 /// Adds an entry, for which there is room.

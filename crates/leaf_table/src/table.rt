@@ -10,7 +10,7 @@ ghost use Rattle.leaf_table.specs.Index.{IsIndex};
 ghost use Rattle.leaf_table.specs.Slots.{report_body, room_in};
 ghost use Rattle.leaf_table.specs.State.{IsSound, state_with};
 ghost use Rattle.leaf_table.specs.Steps.{LeasesIn, Makes, Settles};
-ghost use Rattle.slot_cache.specs.Cache.{count_of, header_of as cache_header, state_of as cache_state};
+ghost use Rattle.slot_file.specs.Cache.{count_of, header_of as cache_header, state_of as cache_state};
 ghost use Rattle.slot_file.specs.Disks.{RisesAt, Unwritten};
 
 use crate::bodies::report_bytes;
@@ -22,8 +22,7 @@ use coalition_map::{Members, Plan};
 use disk_trait::{Disk, DiskFault};
 use lms_bytes::MessageId;
 use memory::NoMemory;
-use slot_cache::{CacheLoad, CachedSlots, Doubted, Settled};
-use slot_file::{Header, Slot};
+use slot_file::{CacheLoad, CachedSlots, Doubted, Header, Settled, Slot};
 use std::alloc::Global;
 use turn_lock::Kept;
 
@@ -45,7 +44,7 @@ impl<D: Disk> Table<D> {
     ghost use Rattle.leaf_table.specs.Loaded.{IsLoaded};
     ghost use Rattle.leaf_table.specs.Table.{Enters, Holds, disk_of, faults_of, plan_of};
     ghost use Rattle.leaf_table.specs.Table.{state_of};
-    ghost use Rattle.slot_cache.specs.Loading.{LoadRefused};
+    ghost use Rattle.slot_file.specs.Loading.{LoadRefused};
 
     /// Loads a table: reads every slot, and takes the memory for all entries that can be made. A refusal gives the disk
     /// back.

@@ -9,9 +9,9 @@ use Rattle.opening_journal.specs.Journal.{Holds, Keeps, header_of, state_of}
 use Rattle.opening_journal.specs.Loading.{IsJournalFile}
 use Rattle.opening_journal.specs.declared.journal.Journal.{Journal}
 use Rattle.opening_journal.proofs.Holding.{doubt-none, stands}
-use Rattle.slot_cache.specs.State.{CacheState, HasSlots, StandsFor as CacheStandsFor, with_made}
-use Rattle.slot_cache.specs.Cache.{state_of as cache_state}
-use Rattle.slot_cache.proofs.Held.{holds as cache_holds}
+use Rattle.slot_file.specs.State.{CacheState, HasSlots, StandsFor as CacheStandsFor, with_made}
+use Rattle.slot_file.specs.Cache.{state_of as cache_state}
+use Rattle.slot_file.proofs.Held.{holds as cache_holds}
 use Rattle.slot_file.specs.Copies.{is_damaged}
 use Rattle.slot_file.specs.Layout.{slot_at}
 use Rattle.slot_file.specs.declared.header.Header.{Header}

@@ -14,8 +14,8 @@ use Rattle.opening_journal.specs.declared.entry.Entry.TheVariants.{Bound, Opened
 use Rattle.opening_journal.proofs.BodyBytes.{pair-front, pair-back}
 use Rattle.opening_journal.proofs.Legal.{legal-more}
 use Rattle.opening_journal.proofs.Maps.{map_of-other, map_of-same}
-use Rattle.slot_cache.specs.State.{CacheState, HasSlots, StandsFor as CacheStandsFor, settled_with, slot_in, with_made}
-use Rattle.slot_cache.specs.declared.doubted.Doubted.{Doubted}
+use Rattle.slot_file.specs.State.{CacheState, HasSlots, StandsFor as CacheStandsFor, settled_with, slot_in, with_made}
+use Rattle.slot_file.specs.declared.doubted.Doubted.{Doubted}
 use Rattle.slot_file.specs.Layout.{slot_at}
 use Rattle.slot_file.specs.declared.header.Header.{Header}
 use Rattle.slot_file.specs.declared.slot.Slot.{Slot}

@@ -8,12 +8,12 @@ use Rattle.opening_journal.specs.EntrySlots.{room_of}
 use Rattle.opening_journal.specs.Faults.{journal_load}
 use Rattle.opening_journal.specs.Loading.{LoadRefused, damaged, device, entries_of, entries_of_slot, no_memory, other_file}
 use Rattle.opening_journal.specs.declared.entry.Entry.{Entry}
-use Rattle.slot_cache.specs.Loading as cache_refused
-use Rattle.slot_cache.specs.Loading.{LoadRefused as CacheRefused}
-use Rattle.slot_cache.specs.declared.faults.CacheLoad.{CacheLoad}
+use Rattle.slot_file.specs.Loading as cache_refused
+use Rattle.slot_file.specs.Loading.{LoadRefused as CacheRefused}
+use Rattle.slot_file.specs.declared.faults.CacheLoad.{CacheLoad}
 use Rattle.slot_file.specs.Copies.{IsFirstDamaged}
 use Rattle.slot_file.specs.declared.header.Header.{Header}
-use Rattle.slot_cache.specs.State.{slot_in}
+use Rattle.slot_file.specs.State.{slot_in}
 use Rattle.slot_file.specs.declared.slot.Slot.{Slot}
 use Rattle.slot_file.specs.declared.slot.Slot.TheVariants.{Free, Half, Full, Damaged}
 

@@ -13,7 +13,7 @@ use Rattle.opening_journal.specs.declared.faults.Entered.TheVariants.{New, Old}
 use Rattle.opening_journal.specs.declared.faults.JournalFault.{JournalFault}
 use Rattle.opening_journal.specs.declared.faults.JournalFault.TheVariants.{Device, Damaged, NotBound, Spent}
 use Rattle.opening_journal.specs.declared.faults.JournalFault.TheVariants.{OtherDigest}
-use Rattle.slot_cache.specs.Calls.{IsNeither}
+use Rattle.slot_file.specs.Calls.{IsNeither}
 
 -- C and Q have n bytes
 abbrev pub HasSizes : ℕ → Entry → Type 0

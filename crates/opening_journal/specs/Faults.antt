@@ -3,10 +3,10 @@ use Rattle.opening_journal.specs.declared.faults.JournalFault.{JournalFault}
 use Rattle.opening_journal.specs.declared.faults.JournalFault.TheVariants as journal
 use Rattle.opening_journal.specs.declared.faults.JournalLoad.{JournalLoad}
 use Rattle.opening_journal.specs.declared.faults.JournalLoad.TheVariants as load
-use Rattle.slot_cache.specs.declared.faults.CacheLoad.{CacheLoad}
-use Rattle.slot_cache.specs.declared.faults.CacheLoad.TheVariants as cache
-use Rattle.slot_cache.specs.declared.faults.SettleFault.{SettleFault}
-use Rattle.slot_cache.specs.declared.faults.SettleFault.TheVariants as settle
+use Rattle.slot_file.specs.declared.faults.CacheLoad.{CacheLoad}
+use Rattle.slot_file.specs.declared.faults.CacheLoad.TheVariants as cache
+use Rattle.slot_file.specs.declared.faults.SettleFault.{SettleFault}
+use Rattle.slot_file.specs.declared.faults.SettleFault.TheVariants as settle
 
 abbrev pub journal_fault : SettleFault → JournalFault
 journal_fault settle.Device = journal.Device

@@ -3,7 +3,7 @@ use Rattle.std.specs.Prelude.{◌≡◌, ◌<◌, ℕ, List, length, Option, Non
 use Rattle.opening_journal.specs.Entries.{Adds, IsLegalList, leaf_of, map_of, state_after, state_of_slot}
 use Rattle.opening_journal.specs.EntrySlots.{slot_with}
 use Rattle.opening_journal.specs.declared.entry.Entry.{Entry}
-use Rattle.slot_cache.specs.State.{CacheState, slot_in}
+use Rattle.slot_file.specs.State.{CacheState, slot_in}
 use Rattle.slot_file.specs.declared.slot.Slot.{Slot}
 
 -- each slot has what the entries make of its leaf

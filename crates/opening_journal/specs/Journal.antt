@@ -11,7 +11,7 @@ use Rattle.opening_journal.specs.declared.faults.Entered.{Entered}
 use Rattle.opening_journal.specs.declared.faults.JournalFault.{JournalFault}
 use Rattle.opening_journal.specs.declared.faults.JournalFault.TheVariants.{Damaged, Device}
 use Rattle.opening_journal.specs.declared.journal.Journal.{Journal}
-use Rattle.slot_cache.specs.Cache.{disk_of as cache_disk, header_of as cache_header}
+use Rattle.slot_file.specs.Cache.{disk_of as cache_disk, header_of as cache_header}
 use Rattle.slot_file.specs.Disks.{RisesAt, SameDisk}
 use Rattle.slot_file.specs.declared.header.Header.{Header}
 

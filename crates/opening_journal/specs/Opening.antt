@@ -12,7 +12,7 @@ use Rattle.opening_journal.specs.declared.faults.Entered.TheVariants.{New, Old}
 use Rattle.opening_journal.specs.declared.faults.JournalFault.{JournalFault}
 use Rattle.opening_journal.specs.declared.faults.JournalFault.TheVariants.{Device, Damaged, NotBound, Spent}
 use Rattle.opening_journal.specs.declared.faults.JournalFault.TheVariants.{OtherDigest}
-use Rattle.slot_cache.specs.Calls.{IsNeither}
+use Rattle.slot_file.specs.Calls.{IsNeither}
 
 -- the state with these entries and no doubt
 abbrev pub settled_with : List Entry → JournalState

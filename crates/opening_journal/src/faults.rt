@@ -4,8 +4,7 @@ ghost use Rattle.std.specs.Prelude.{◌≡◌};
 ghost use Rattle.opening_journal.specs.Faults.{journal_fault, journal_load};
 
 use lms_bytes::{MessageId, Val};
-use slot_cache::{CacheLoad, SettleFault};
-use slot_file::LoadFault;
+use slot_file::{CacheLoad, LoadFault, SettleFault};
 use thiserror::Error;
 
 /// Whether an entry was made.

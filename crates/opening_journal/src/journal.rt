@@ -7,7 +7,7 @@ ghost use Rattle.opening_journal.specs.Entries.{Adds, leaf_of, map_of};
 ghost use Rattle.opening_journal.specs.EntrySlots.{room_in};
 ghost use Rattle.opening_journal.specs.Inside.{IsHeld};
 ghost use Rattle.opening_journal.specs.Opening.{Binds, Opens};
-ghost use Rattle.slot_cache.specs.Cache.{count_of, header_of as cache_header, state_of as cache_state};
+ghost use Rattle.slot_file.specs.Cache.{count_of, header_of as cache_header, state_of as cache_state};
 ghost use Rattle.slot_file.specs.Disks.{RisesAt, Unwritten};
 
 use crate::answers::{binding, opening};
@@ -18,8 +18,7 @@ use crate::steps::put_entry;
 use disk_trait::{Disk, DiskFault};
 use lms_bytes::{MessageId, Params, Val};
 use memory::NoMemory;
-use slot_cache::{CachedSlots, Settled};
-use slot_file::Header;
+use slot_file::{CachedSlots, Header, Settled};
 use std::alloc::Global;
 
 /// A journal on a disk.

@@ -6,8 +6,8 @@ ghost use Rattle.opening_journal.specs.Entries.{IsFree, IsLegalList, map_of, sta
 ghost use Rattle.opening_journal.specs.EntrySlots.{room_in};
 ghost use Rattle.opening_journal.specs.Inside.{HaveEntries};
 ghost use Rattle.opening_journal.specs.Loading.{entries_of, entries_of_slot};
-ghost use Rattle.slot_cache.specs.Cache.{count_of, state_of as cache_state};
-ghost use Rattle.slot_cache.specs.State.{IsWhole, slot_in};
+ghost use Rattle.slot_file.specs.Cache.{count_of, state_of as cache_state};
+ghost use Rattle.slot_file.specs.State.{IsWhole, slot_in};
 ghost use Rattle.slot_file.specs.Copies.{is_damaged};
 
 use crate::bodies::value_at;
@@ -15,8 +15,7 @@ use crate::entry::Entry;
 use disk_trait::Disk;
 use lms_bytes::MessageId;
 use memory::NoMemory;
-use slot_cache::CachedSlots;
-use slot_file::Slot;
+use slot_file::{CachedSlots, Slot};
 use std::alloc::Global;
 
 /// Adds an entry, for which there is room.

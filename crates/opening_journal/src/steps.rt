@@ -4,14 +4,14 @@ ghost use Rattle.std.specs.Prelude.{◌≡◌, ◌<◌, IsOk, None};
 ghost use Rattle.disk_trait.specs.Faults.{HasCause};
 ghost use Rattle.opening_journal.specs.Entries.{leaf_of};
 ghost use Rattle.opening_journal.specs.EntrySlots.{slot_before, slot_with};
-ghost use Rattle.slot_cache.specs.Cache.{IsSteady, IsTold, Stays, count_of, faults_of, header_of, state_of};
-ghost use Rattle.slot_cache.specs.Calls.{Puts};
-ghost use Rattle.slot_cache.specs.State.{slot_in};
+ghost use Rattle.slot_file.specs.Cache.{IsSteady, IsTold, Stays, count_of, faults_of, header_of, state_of};
+ghost use Rattle.slot_file.specs.Calls.{Puts};
+ghost use Rattle.slot_file.specs.State.{slot_in};
 
 use crate::bodies::pair_bytes;
 use crate::entry::Entry;
 use disk_trait::{Disk, DiskFault};
-use slot_cache::CachedSlots;
+use slot_file::CachedSlots;
 
 /// Puts an entry into its slot, where no put is in doubt.
 pub(crate) fn put_entry<D: Disk>(slots: &mut CachedSlots<D>, entry: &Entry) -> Result<(), DiskFault>

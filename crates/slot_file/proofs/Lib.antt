@@ -9,3 +9,8 @@ mod Puts
 mod Shown
 mod Shut
 pub mod Unwritten
+mod Files
+pub mod Held
+mod Read
+mod Same
+mod Sure

@@ -9,3 +9,9 @@ pub mod Layout
 pub mod Opened
 pub mod Slots
 pub mod SlotsLaws
+pub mod Cache
+pub mod Calls
+pub mod Inside
+pub mod Loading
+pub mod Reading
+pub mod State

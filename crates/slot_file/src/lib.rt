@@ -1,15 +1,22 @@
-//! Files of slots.
+//! Files of slots, and such files with all their slots in memory.
 #![tactic(auto)]
 
+mod cache;
 mod copies;
+mod doubted;
+mod faults;
 mod fresh;
 mod gated;
 mod header;
 mod prepared;
+mod reading;
 mod slot;
 mod slots;
 
+pub use cache::CachedSlots;
 pub use copies::{CopyFault, copy_slots};
+pub use doubted::Doubted;
+pub use faults::{CacheLoad, SettleFault, Settled};
 pub use header::{Header, LoadFault};
 pub use prepared::{PrepareFault, prepare};
 pub use slot::Slot;

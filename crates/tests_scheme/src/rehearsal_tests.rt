@@ -1,10 +1,9 @@
 //! Tests of what no contract says: that the definitions are the profile's, by a key and signatures that another program
 //! made, and each refusal once.
 
-use dealer::DealFault;
+use dealer::{DealFault, Rehearsed, rehearse};
 use lms_bytes::write_public;
 use lms_verify::{Verdict, verify};
-use rehearsal::{Rehearsed, rehearse};
 use sha2::{Digest, Sha256};
 use std::alloc::Global;
 use std::test::Fail;

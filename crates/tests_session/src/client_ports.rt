@@ -4,8 +4,8 @@ ghost use Rattle.std.specs.Prelude.{◌≡◌, [], false, All, vec_len, IfOk, If
 ghost use Rattle.leaf_table.specs.Table.{plan_of};
 
 use crate::ports::{have_written, two_ports};
-use aggregator_node::{Address, Desk};
-use client_service::serve_clients;
+use aggregator_node::serve_clients;
+use aggregator_session::{Address, Desk};
 use coalition_map::Plan;
 use disk_trait::{Faults, MemDisk};
 use leaf_table::Table;
@@ -15,7 +15,7 @@ use merkle_path::Tree;
 use reference_value::{Cells, RefFault};
 use slot_file::{Header, prepare};
 use std::alloc::Global;
-use trustee_service::Totals;
+use trustee_node::Totals;
 
 /// A request for the signature of `hello` by trustees 1 and 2.
 const REQUEST: [u8; 15] = [

@@ -1,9 +1,9 @@
 //! Tests of what no contract says: that a store in memory is asked, and what of.
 
 use memory::NoMemory;
-use memory_store::MemStore;
 use std::alloc::Global;
 use std::test::Fail;
+use stream_memory::MemStore;
 use tool_base::Ending;
 use tool_journals::enrol_file;
 

@@ -6,13 +6,13 @@ ghost use Rattle.round_frames.specs.Replies.{IsHead};
 use coalition_map::Members;
 use disk_trait::Faults;
 use lms_bytes::{Ask, MessageId, Params, ReplyHead, Val};
-use memory_io::{MemSink, MemSource};
 use round_frames::{
     Failure, FrameFault, Outcome, next_ask, next_reply, next_request, next_result, write_ask,
     write_failure, write_reply_head, write_request, write_signature,
 };
 use std::alloc::Global;
 use stream_io::write_whole;
+use stream_memory::{MemSink, MemSource};
 
 /// A failure of round two.
 const FAILURE: Failure = Failure {

@@ -3,8 +3,8 @@
 ghost use Rattle.std.specs.Prelude.{◌≡◌, IfOk, vec_len};
 
 use memory::NoMemory;
-use memory_io::{MemLink, MemPort, MemSink, MemSource, PortScript};
 use std::alloc::Global;
+use stream_memory::{MemLink, MemPort, MemSink, MemSource, PortScript};
 
 /// A link that gives these bytes.
 fn link(alloc: Global, bytes: &[u8]) -> Result<MemLink, NoMemory> {

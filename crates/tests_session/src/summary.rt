@@ -1,6 +1,6 @@
 //! The line of a summary.
 
-use drill_summary::Summary;
+use drill_schedule::Summary;
 use std::test::Fail;
 
 #[test]

@@ -12,7 +12,7 @@ use share_files::{Share, read_share};
 use slot_file::{Header, prepare};
 use std::alloc::Global;
 use trustee_core::{Clock, Trustee};
-use trustee_service::{Totals, serve_ports};
+use trustee_node::{Totals, serve_ports};
 
 /// The share of trustee 1 in a dealing of the typecodes 5 and 3 to coalitions of 3 of 5 trustees.
 const SHARE: [u8; 64] = [

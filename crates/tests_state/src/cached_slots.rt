@@ -1,12 +1,11 @@
 //! Caches of slots: what is kept, and how a put that was refused is settled.
 
 ghost use Rattle.std.specs.Prelude.{◌≡◌, ◌<◌};
-ghost use Rattle.slot_cache.specs.Cache.{count_of, header_of};
+ghost use Rattle.slot_file.specs.Cache.{count_of, header_of};
 
 use crate::disks::{failing_file, free_file, header, stopping_file, with_byte};
 use disk_trait::{DiskFault, MemDisk};
-use slot_cache::{CacheLoad, CachedSlots, Doubted, SettleFault, Settled};
-use slot_file::{LoadFault, Slot};
+use slot_file::{CacheLoad, CachedSlots, Doubted, LoadFault, SettleFault, Settled, Slot};
 use std::alloc::Global;
 use std::process::Abort;
 

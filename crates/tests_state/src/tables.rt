@@ -12,7 +12,7 @@ use coalition_map::{Members, Plan};
 use disk_trait::{Disk, MemDisk};
 use leaf_table::{Lease, Table, TableFault};
 use lms_bytes::MessageId;
-use slot_cache::CacheLoad;
+use slot_file::CacheLoad;
 use std::alloc::Global;
 use std::process::Abort;
 use turn_lock::Kept;

@@ -3,12 +3,12 @@
 
 mod standard;
 
-use host_io::{FileStore, StdoutSink, TcpNet};
 use memory::NoMemory;
 use standard::hold_standard;
 use std::env;
 use std::io::ErrorKind;
 use std::process::ExitCode;
+use stream_host::{FileStore, StdoutSink, TcpNet};
 use stream_io::write_whole;
 use tool_run::{SystemClocks, run_tool};
 

@@ -5,3 +5,7 @@ pub mod Nets
 pub mod Runs
 pub mod Sharing
 pub mod Writing
+pub mod Outs
+pub mod Takes
+pub mod Parses
+pub mod Verdicts

@@ -1,7 +1,7 @@
 -- How a call of the tool ends: the status that it answers and the line that it prints.
 use Rattle.std.specs.Prelude.{ℕ, List, [], ◌∷◌, ◌++◌, codes}
 use Rattle.std.specs.Fmt.{decimal}
-use Rattle.drill_summary.specs.declared.summary.Summary.{Summary}
+use Rattle.drill_schedule.specs.declared.summary.Summary.{Summary}
 use Rattle.hex.specs.Hex.{encode_lower}
 use Rattle.hss_levels.specs.declared.faults.HssFault.{HssFault}
 use Rattle.hss_levels.specs.declared.faults.HssFault.TheVariants as hss

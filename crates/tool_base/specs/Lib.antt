@@ -8,3 +8,6 @@ pub mod Reads
 pub mod Touched
 pub mod Undealt
 pub mod World
+pub mod Disks
+pub mod Headers
+pub mod Loads

@@ -11,7 +11,7 @@ ghost use Rattle.tool_base.specs.Undealt.{end_of_fault};
 use crate::undealt::Undealt;
 use crate::unsigned::Unsigned;
 use dealer::DealFault;
-use drill_summary::Summary;
+use drill_schedule::Summary;
 use hss_levels::{HssFault, HssVerdict};
 use lms_bytes::Val;
 use lms_verify::Verdict;

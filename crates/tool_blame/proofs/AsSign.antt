@@ -1,6 +1,6 @@
 -- A run of `blame`, told as one of `sign`.
 use Rattle.std.proofs.Common.{◌≡◌, ℕ, List, [], ◌∷◌, Result, Ok, Err, refl, sym, subst}
-use Rattle.leased_session.specs.Signing.{Signature}
+use Rattle.aggregator_session.specs.Signing.{Signature}
 use Rattle.tool_base.specs.Ending as ending
 use Rattle.tool_base.specs.Ending.{Ending}
 use Rattle.tool_base.specs.Outputs.{IsNew}
@@ -12,15 +12,15 @@ use Rattle.tool_blame.specs.Blame.{BlameEnds, BlameRun, EndsNaming, FailsToBegin
 use Rattle.tool_blame.specs.Blame as blame
 use Rattle.tool_blame.specs.Names as names
 use Rattle.tool_blame.proofs.Whole.{tells_ok}
-use Rattle.tool_signing.specs.Ended.{last_in}
-use Rattle.tool_signing.specs.Ports.{NetRun}
-use Rattle.tool_signing.specs.Sessions.{SessionEnds}
-use Rattle.tool_signing.specs.Sessions as sessions
-use Rattle.tool_signing.specs.Sign.{SignEnds, SigningRun, session_words}
-use Rattle.tool_signing.specs.Sign as sign
-use Rattle.tool_signing.specs.Signs.{TableEnds}
-use Rattle.tool_signing.specs.Tasks.{message_in}
-use Rattle.tool_signing.specs.Tasks as tasks
+use Rattle.tool_sign.specs.Ended.{last_in}
+use Rattle.tool_sign.specs.Ports.{NetRun}
+use Rattle.tool_sign.specs.Sessions.{SessionEnds}
+use Rattle.tool_sign.specs.Sessions as sessions
+use Rattle.tool_sign.specs.Sign.{SignEnds, SigningRun, session_words}
+use Rattle.tool_sign.specs.Sign as sign
+use Rattle.tool_sign.specs.Signs.{TableEnds}
+use Rattle.tool_sign.specs.Tasks.{message_in}
+use Rattle.tool_sign.specs.Tasks as tasks
 use Rattle.tool_words.specs.Words.{SignWords}
 
 module _ (words : SignWords) (store : StoreRun) (net : NetRun) where

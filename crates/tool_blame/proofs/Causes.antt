@@ -1,8 +1,8 @@
 -- Which count rose, by the end of the command.
 use Rattle.std.proofs.Common.{◌≡◌, ◌+◌, ◌-◌, ◌^◌, ◌≤◌, min, ℕ, Bool, List, [], Option, Result, Ok, Err, refl, ap, arith}
-use Rattle.aggregator_node.specs.Runs.{CellsRead}
+use Rattle.aggregator_session.specs.Runs.{CellsRead}
 use Rattle.disk_trait.specs.Faults.{Rose}
-use Rattle.leased_session.specs.Signing.{Signature}
+use Rattle.aggregator_session.specs.Signing.{Signature}
 use Rattle.session_core.specs.State.{State}
 use Rattle.share_files.specs.declared.reference.RefHeader.{RefHeader}
 use Rattle.tool_base.specs.Ending as ending
@@ -15,11 +15,11 @@ use Rattle.tool_blame.specs.Commits.{FailsCommits}
 use Rattle.tool_blame.specs.Commits as commits
 use Rattle.tool_blame.specs.Names.{NamesEnd, TellsEnd}
 use Rattle.tool_blame.specs.Names as names
-use Rattle.tool_signing.proofs.Causes.{keys-other, keys-store, lacks-other, lacks-store, new-other, new-store, reference-device, reference-net, reference-store, table-device, table-net, table-store, unwritten-other, unwritten-store, upto-other, upto-store}
-use Rattle.tool_signing.specs.Ended.{last_in}
-use Rattle.tool_signing.specs.Ports.{NetRun}
-use Rattle.tool_signing.specs.Sign.{session_words}
-use Rattle.tool_signing.specs.Tasks.{message_in, message_limit}
+use Rattle.tool_sign.proofs.Causes.{keys-other, keys-store, lacks-other, lacks-store, new-other, new-store, reference-device, reference-net, reference-store, table-device, table-net, table-store, unwritten-other, unwritten-store, upto-other, upto-store}
+use Rattle.tool_sign.specs.Ended.{last_in}
+use Rattle.tool_sign.specs.Ports.{NetRun}
+use Rattle.tool_sign.specs.Sign.{session_words}
+use Rattle.tool_sign.specs.Tasks.{message_in, message_limit}
 use Rattle.tool_words.specs.Words.{SignWords}
 
 abbrev err_of : Ending → Result Signature Ending

@@ -1,14 +1,14 @@
 -- The session of a message that was signed with a table, as it stands at its end.
 use Rattle.std.proofs.Common.{◌≡◌, ℕ, List, Option, Some, None, Result, Ok, Err, IfErr, IfSome, IsTrue, is_some, refl, sym, ap, ◌∙◌}
-use Rattle.aggregator_node.specs.Runs.{CellsRead}
-use Rattle.aggregator_node.specs.declared.fault.SignFault.{SignFault}
-use Rattle.aggregator_node.specs.declared.fault.SignFault.TheVariants as fault
+use Rattle.aggregator_session.specs.Runs.{CellsRead}
+use Rattle.aggregator_session.specs.declared.fault.SignFault.{SignFault}
+use Rattle.aggregator_session.specs.declared.fault.SignFault.TheVariants as fault
 use Rattle.leaf_table.specs.declared.faults.TableFault.{TableFault}
 use Rattle.leaf_table.specs.declared.faults.TableFault.TheVariants as table
-use Rattle.leased_session.specs.Ended.{last_of, last_on}
-use Rattle.leased_session.specs.Signing.{DeskState, RunsOn, Signature, SignsLeased, not_started, ran, signed_with}
-use Rattle.leased_session.specs.Signing as signing
-use Rattle.leased_session.specs.Tables.{TableSeen}
+use Rattle.aggregator_session.specs.Ended.{last_of, last_on}
+use Rattle.aggregator_session.specs.Signing.{DeskState, RunsOn, Signature, SignsLeased, not_started, ran, signed_with}
+use Rattle.aggregator_session.specs.Signing as signing
+use Rattle.aggregator_session.specs.Tables.{TableSeen}
 use Rattle.session_core.specs.State.{State}
 use Rattle.session_core.specs.declared.faults.SessionFault.{SessionFault}
 use Rattle.session_core.specs.declared.faults.SessionFault.TheVariants as session
@@ -22,15 +22,15 @@ use Rattle.tool_base.specs.Ending.{Ending, status_of}
 use Rattle.tool_base.specs.Endings as endings
 use Rattle.tool_base.specs.World.{StoreRun}
 use Rattle.tool_base.specs.declared.ending.Ending as declared
-use Rattle.tool_disks.specs.Loads.{FailsToLoad}
-use Rattle.tool_disks.specs.Loads as loads
-use Rattle.tool_signing.specs.Ended.{last_in}
-use Rattle.tool_signing.specs.Faults.{end_of_fault}
-use Rattle.tool_signing.specs.Ports.{NetRun, Signing, answer_of}
-use Rattle.tool_signing.specs.Sessions.{answer_by}
-use Rattle.tool_signing.specs.Signs.{SignedTable, TableEnds}
-use Rattle.tool_signing.specs.Signs as signs
-use Rattle.tool_signing.specs.declared.task.SignedBy.{SignedBy}
+use Rattle.tool_base.specs.Loads.{FailsToLoad}
+use Rattle.tool_base.specs.Loads as loads
+use Rattle.tool_sign.specs.Ended.{last_in}
+use Rattle.tool_sign.specs.Faults.{end_of_fault}
+use Rattle.tool_sign.specs.Ports.{NetRun, Signing, answer_of}
+use Rattle.tool_sign.specs.Sessions.{answer_by}
+use Rattle.tool_sign.specs.Signs.{SignedTable, TableEnds}
+use Rattle.tool_sign.specs.Signs as signs
+use Rattle.tool_sign.specs.declared.task.SignedBy.{SignedBy}
 
 -- the session that stands at the end is of this desk's key and plan
 pub record IsOfDesk (desk : DeskState) (last : State) : Type 0 where

@@ -1,7 +1,7 @@
 -- How the command ends over a steady store that tells its content, and over such a net.
 use Rattle.std.proofs.Common.{◌≡◌, ℕ, Bool, List, [], Option, Result, Ok, Err, IsTrue, refl, ap, subst}
-use Rattle.aggregator_node.specs.Runs.{CellsRead}
-use Rattle.leased_session.specs.Signing.{Signature}
+use Rattle.aggregator_session.specs.Runs.{CellsRead}
+use Rattle.aggregator_session.specs.Signing.{Signature}
 use Rattle.session_core.specs.State.{State}
 use Rattle.share_files.specs.declared.reference.RefHeader.{RefHeader}
 use Rattle.tool_base.specs.Ending as ending
@@ -13,10 +13,10 @@ use Rattle.tool_blame.specs.Commits.{FailsCommits, commits_name}
 use Rattle.tool_blame.specs.Commits as commits
 use Rattle.tool_blame.specs.Names.{NamesEnd, TellsEnd, as_ended, as_signed, by_names, named, unread}
 use Rattle.tool_desk.specs.Files.{key_name, reference_name, tree_name}
-use Rattle.tool_signing.proofs.Steady.{EndsSteady, Lack, keys-steady, lacking, lacks-steady, new-steady, plain, reference-steady, table-steady, unwritten-steady, upto-steady}
-use Rattle.tool_signing.specs.Ports.{NetRun}
-use Rattle.tool_signing.specs.Sign.{session_words}
-use Rattle.tool_signing.specs.Tasks.{SessionWords, message_in, message_limit}
+use Rattle.tool_sign.proofs.Steady.{EndsSteady, Lack, keys-steady, lacking, lacks-steady, new-steady, plain, reference-steady, table-steady, unwritten-steady, upto-steady}
+use Rattle.tool_sign.specs.Ports.{NetRun}
+use Rattle.tool_sign.specs.Sign.{session_words}
+use Rattle.tool_sign.specs.Tasks.{SessionWords, message_in, message_limit}
 use Rattle.tool_words.specs.Words.{SignWords}
 
 module _ (lacks unoffered : Type 0) (words : SignWords) (store : StoreRun) (net : NetRun) (told : IsTrue store.before.told) (steady : IsTrue store.before.steady)

@@ -1,8 +1,8 @@
 -- The whole command, from what its steps say.
 use Rattle.std.proofs.Common.{◌≡◌, ◌+◌, ◌-◌, ◌^◌, ◌≤◌, min, ℕ, Bool, false, List, [], ◌∷◌, drop, Option, None, Result, Ok, Err, IsTrue, refl, sym, ◌∙◌, subst, arith}
-use Rattle.aggregator_node.specs.Runs.{CellsRead}
-use Rattle.aggregator_node.specs.declared.desk.Address.{Address}
-use Rattle.leased_session.specs.Signing.{Signature}
+use Rattle.aggregator_session.specs.Runs.{CellsRead}
+use Rattle.aggregator_session.specs.declared.desk.Address.{Address}
+use Rattle.aggregator_session.specs.Signing.{Signature}
 use Rattle.session_core.specs.State.{State}
 use Rattle.share_blame.specs.Loads.{commits_fault}
 use Rattle.share_files.specs.declared.reference.RefHeader.{RefHeader}
@@ -18,27 +18,27 @@ use Rattle.tool_base.specs.World.{Bytes, Failed, IsBack, IsCalm, IsNetBack, Stor
 use Rattle.tool_base.specs.declared.ending.Ending as declared
 use Rattle.tool_desk.specs.Files.{reference_name}
 use Rattle.tool_desk.specs.declared.files.KeyFiles.{KeyFiles}
-use Rattle.tool_disks.proofs.Outs.{keeps_calm}
+use Rattle.tool_base.proofs.Outs.{keeps_calm}
 use Rattle.tool_blame.specs.Blame.{EndsNaming, BlameRun, FailsToBegin, NamingRun}
 use Rattle.tool_blame.specs.Blame as blame
 use Rattle.tool_blame.specs.Commits.{AreCommitsViewed, AreNoCommits, FailsCommits, GoesWithReference, ReadsCommits, commits_name}
 use Rattle.tool_blame.specs.Commits as commits
 use Rattle.tool_blame.specs.Names.{TellsEnd}
 use Rattle.tool_blame.specs.Names as names
-use Rattle.tool_signing.proofs.Views.{EndsWider, SameButViews, back_view, device_in, fails_in, out_view, read_in, reads_as_in}
-use Rattle.tool_signing.proofs.Whole.{Signed, still_new, table_unwritten, table_written, task_later, whole_ends, whole_keeps}
-use Rattle.tool_signing.proofs.Writes.{as-signed, is_written, keeps_unwritten, keeps_written, not_written}
-use Rattle.tool_signing.specs.Ended.{last_in}
-use Rattle.tool_signing.specs.Ports.{NetRun, Signing, over_net}
-use Rattle.tool_signing.specs.Sessions.{SessionEnds}
-use Rattle.tool_signing.specs.Sessions as sessions
-use Rattle.tool_signing.specs.Sign.{session_words}
-use Rattle.tool_signing.specs.Signs.{SignedTable, TableEnds}
-use Rattle.tool_signing.specs.Signs as signs
-use Rattle.tool_signing.specs.Tasks.{GoesWith, HasFiles, LacksTask, MessageSource, SessionWords, message_in, message_limit}
-use Rattle.tool_signing.specs.Tasks as tasks
-use Rattle.tool_signing.specs.Writes.{WriteEnds, one_output}
-use Rattle.tool_signing.specs.Writes as writes
+use Rattle.tool_sign.proofs.Views.{EndsWider, SameButViews, back_view, device_in, fails_in, out_view, read_in, reads_as_in}
+use Rattle.tool_sign.proofs.Whole.{Signed, still_new, table_unwritten, table_written, task_later, whole_ends, whole_keeps}
+use Rattle.tool_sign.proofs.Writes.{as-signed, is_written, keeps_unwritten, keeps_written, not_written}
+use Rattle.tool_sign.specs.Ended.{last_in}
+use Rattle.tool_sign.specs.Ports.{NetRun, Signing, over_net}
+use Rattle.tool_sign.specs.Sessions.{SessionEnds}
+use Rattle.tool_sign.specs.Sessions as sessions
+use Rattle.tool_sign.specs.Sign.{session_words}
+use Rattle.tool_sign.specs.Signs.{SignedTable, TableEnds}
+use Rattle.tool_sign.specs.Signs as signs
+use Rattle.tool_sign.specs.Tasks.{GoesWith, HasFiles, LacksTask, MessageSource, SessionWords, message_in, message_limit}
+use Rattle.tool_sign.specs.Tasks as tasks
+use Rattle.tool_sign.specs.Writes.{WriteEnds, one_output}
+use Rattle.tool_sign.specs.Writes as writes
 use Rattle.tool_words.specs.Words.{SignWords}
 
 -- nothing was begun

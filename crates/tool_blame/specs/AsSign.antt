@@ -5,9 +5,9 @@ use Rattle.tool_base.specs.Ending.{Ending, status_of}
 use Rattle.tool_base.specs.Touched.{Keeps}
 use Rattle.tool_base.specs.World.{StoreRun}
 use Rattle.tool_desk.specs.declared.files.KeyFiles.{KeyFiles}
-use Rattle.tool_signing.specs.Ports.{NetRun}
-use Rattle.tool_signing.specs.Sign.{SigningRun, session_words}
-use Rattle.tool_signing.specs.Tasks.{HasFiles}
+use Rattle.tool_sign.specs.Ports.{NetRun}
+use Rattle.tool_sign.specs.Sign.{SigningRun, session_words}
+use Rattle.tool_sign.specs.Tasks.{HasFiles}
 use Rattle.tool_words.specs.Words.{SignWords}
 use Rattle.tool_blame.specs.Commits.{FailsCommits, commits_name}
 

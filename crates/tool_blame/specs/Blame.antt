@@ -2,8 +2,8 @@
 -- view of the commitments; names the members that these blame where the masks of the session were not accepted; and
 -- else writes the signature.
 use Rattle.std.specs.Prelude.{◌≡◌, ℕ, Bool, List, [], ◌∷◌, Result, Ok, Err}
-use Rattle.aggregator_node.specs.Runs.{CellsRead}
-use Rattle.leased_session.specs.Signing.{Signature}
+use Rattle.aggregator_session.specs.Runs.{CellsRead}
+use Rattle.aggregator_session.specs.Signing.{Signature}
 use Rattle.share_files.specs.declared.reference.RefHeader.{RefHeader}
 use Rattle.stream_io.specs.Store.{StoreState}
 use Rattle.tool_base.specs.Ending as ending
@@ -15,14 +15,14 @@ use Rattle.tool_base.specs.declared.ending.Ending as declared
 use Rattle.tool_desk.specs.Files.{AreKeyFiles, FailsKeyFiles, reference_name}
 use Rattle.tool_desk.specs.Reference.{FailsReference}
 use Rattle.tool_desk.specs.declared.files.KeyFiles.{KeyFiles}
-use Rattle.tool_signing.specs.Ended.{last_in}
-use Rattle.tool_signing.specs.Ports.{NetRun, Signing}
-use Rattle.tool_signing.specs.Sessions.{answer_by}
-use Rattle.tool_signing.specs.Sign.{session_words}
-use Rattle.tool_signing.specs.Signs.{TableEnds}
-use Rattle.tool_signing.specs.Tasks.{HasFiles, IsTask, LacksTask, MessageSource, SessionWords, message_in}
-use Rattle.tool_signing.specs.Writes.{IsWritten}
-use Rattle.tool_signing.specs.declared.task.SignedBy.{SignedBy}
+use Rattle.tool_sign.specs.Ended.{last_in}
+use Rattle.tool_sign.specs.Ports.{NetRun, Signing}
+use Rattle.tool_sign.specs.Sessions.{answer_by}
+use Rattle.tool_sign.specs.Sign.{session_words}
+use Rattle.tool_sign.specs.Signs.{TableEnds}
+use Rattle.tool_sign.specs.Tasks.{HasFiles, IsTask, LacksTask, MessageSource, SessionWords, message_in}
+use Rattle.tool_sign.specs.Writes.{IsWritten}
+use Rattle.tool_sign.specs.declared.task.SignedBy.{SignedBy}
 use Rattle.tool_words.specs.Words.{SignWords}
 use Rattle.tool_blame.specs.Commits.{AreCommitsViewed, FailsCommits, ReadsCommits, commits_name}
 use Rattle.tool_blame.specs.Names.{TellsEnd}

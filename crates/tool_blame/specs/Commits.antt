@@ -1,6 +1,6 @@
 -- The commitments of a dealing, which are read through a view of their file, PREFIX.commit.
 use Rattle.std.specs.Prelude.{◌≡◌, ◌+◌, ◌-◌, ◌^◌, ◌≤◌, ℕ, Bool, List, Some, None, ◌++◌, codes, drop, min, IsTrue}
-use Rattle.aggregator_node.specs.Runs.{CellsRead}
+use Rattle.aggregator_session.specs.Runs.{CellsRead}
 use Rattle.share_blame.specs.Loads.{commits_fault}
 use Rattle.share_blame.specs.declared.faults.CommitsFault.{CommitsFault}
 use Rattle.share_blame.specs.declared.faults.CommitsFault.TheVariants.{Device, File}
@@ -10,9 +10,9 @@ use Rattle.share_files.specs.declared.reference.RefHeader.{RefHeader}
 use Rattle.tool_base.specs.Ending as ending
 use Rattle.tool_base.specs.Ending.{Ending}
 use Rattle.tool_base.specs.World.{StoreRun, Failed, IsRead}
-use Rattle.tool_disks.specs.Disks.{DeviceFails}
-use Rattle.tool_disks.specs.Loads.{ReadsAs}
-use Rattle.tool_signing.specs.Tasks.{SessionWords}
+use Rattle.tool_base.specs.Disks.{DeviceFails}
+use Rattle.tool_base.specs.Loads.{ReadsAs}
+use Rattle.tool_sign.specs.Tasks.{SessionWords}
 
 -- the name of the commitment file of a dealing
 abbrev pub commits_name : List ℕ → List ℕ

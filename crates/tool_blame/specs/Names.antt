@@ -1,9 +1,9 @@
 -- The members that commitments blame, as the end of a command.
 use Rattle.std.specs.Prelude.{◌≡◌, ◌≢◌, ℕ, Bool, List, Option, Some, Result, Ok, Err, IsTrue}
-use Rattle.aggregator_node.specs.Runs.{CellsRead}
+use Rattle.aggregator_session.specs.Runs.{CellsRead}
 use Rattle.disk_trait.specs.Faults.{Rose}
 use Rattle.share_blame.specs.Blamed.{AreBlamed}
-use Rattle.leased_session.specs.Signing.{Signature}
+use Rattle.aggregator_session.specs.Signing.{Signature}
 use Rattle.session_core.specs.State.{State}
 use Rattle.session_core.specs.Verdicts.{digest_of}
 use Rattle.tool_base.specs.Ending as ending

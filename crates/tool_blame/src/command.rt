@@ -3,7 +3,7 @@
 ghost use Rattle.tool_base.specs.Endings.{ending};
 ghost use Rattle.tool_base.specs.World.{IsCalm, from_to};
 ghost use Rattle.tool_blame.specs.Blame.{BlameRun, NamingRun};
-ghost use Rattle.tool_signing.specs.Ports.{over_net};
+ghost use Rattle.tool_sign.specs.Ports.{over_net};
 ghost use Rattle.tool_words.specs.Rows.{sign_words};
 
 use crate::commits::view_commits;
@@ -12,7 +12,7 @@ use std::alloc::Global;
 use stream_io::{Net, Store};
 use tool_base::{Ending, test_new};
 use tool_desk::{read_key_and_tree, view_reference};
-use tool_signing::{Message, SessionWords, SignedBy, read_task, sign_task, write_signature};
+use tool_sign::{Message, SessionWords, SignedBy, read_task, sign_task, write_signature};
 use tool_words::SignWords;
 
 /// Signs a message as `sign` does. Where the masks of the session are not accepted, it names the members whose masks

@@ -7,7 +7,7 @@ ghost use Rattle.tool_base.specs.Touched.{DeviceRose};
 ghost use Rattle.tool_base.specs.World.{from_to};
 ghost use Rattle.tool_blame.specs.AsSign.{IsAsSign};
 ghost use Rattle.tool_blame.specs.Blame.{BlameRun};
-ghost use Rattle.tool_signing.specs.Ports.{NetRun};
+ghost use Rattle.tool_sign.specs.Ports.{NetRun};
 ghost use Rattle.tool_words.specs.Words.{SignWords};
 
 use stream_io::Store;

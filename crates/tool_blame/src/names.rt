@@ -7,16 +7,16 @@ ghost use Rattle.share_files.specs.Commits.{all_commits_length};
 ghost use Rattle.tool_base.specs.Ending.{status_of};
 ghost use Rattle.tool_base.specs.Endings.{ending};
 ghost use Rattle.tool_blame.specs.Names.{NamesEnd, TellsEnd};
-ghost use Rattle.tool_signing.specs.Sessions.{answer_by};
+ghost use Rattle.tool_sign.specs.Sessions.{answer_by};
 
+use aggregator_session::Ended;
 use disk_trait::Pages;
-use leased_session::Ended;
 use lms_bytes::{PublicKey, Val};
 use ots_chain::MessageHash;
 use session_core::Session;
 use share_blame::{Commits, blamed};
 use tool_base::{Ending, Unsigned};
-use tool_signing::SignedBy;
+use tool_sign::SignedBy;
 
 /// The status where the masks of a session were not accepted.
 const NOT_ACCEPTED: u8 = 8;

@@ -2,4 +2,5 @@ pub mod Grammars
 pub mod Heads
 pub mod Keys
 pub mod Placing
-pub mod Views
+pub mod Viewing
+pub mod Outs

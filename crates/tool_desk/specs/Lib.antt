@@ -4,3 +4,4 @@ pub mod Key
 pub mod Members
 pub mod Reference
 pub mod Tree
+pub mod Views

@@ -1,6 +1,6 @@
 -- The trustees that an aggregator asks, each with the place where it is dialled.
 use Rattle.std.specs.Prelude.{◌+◌, ℕ, List, [], ◌∷◌, Option, None, Some, map, string_bytes, Contains}
-use Rattle.aggregator_node.specs.declared.desk.Address.{Address}
+use Rattle.aggregator_session.specs.declared.desk.Address.{Address}
 use Rattle.coalition_map.specs.Coalitions.{PlanNumbers, coalitions}
 
 -- a trustee with its place

@@ -8,8 +8,8 @@ use Rattle.share_files.specs.declared.reference.RefHeader.{RefHeader}
 use Rattle.tool_base.specs.Ending as ending
 use Rattle.tool_base.specs.Ending.{Ending}
 use Rattle.tool_base.specs.World.{StoreRun, Failed, IsRead}
-use Rattle.tool_disks.specs.Disks.{DeviceFails}
-use Rattle.tool_disks.specs.Loads.{ReadsAs}
+use Rattle.tool_base.specs.Disks.{DeviceFails}
+use Rattle.tool_base.specs.Loads.{ReadsAs}
 
 -- a file is a reference with this header and some leaves, and has the length that the header asks for
 pub record IsReferenceOf (header : RefHeader) (file : List ℕ) : Type 0 where

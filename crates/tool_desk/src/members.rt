@@ -6,7 +6,7 @@ ghost use Rattle.tool_base.specs.Endings.{ending};
 ghost use Rattle.tool_base.specs.declared.unsigned.Unsigned.TheVariants as unsigned;
 ghost use Rattle.tool_desk.specs.Members.{IsCoalition, address, members_placed, placed};
 
-use aggregator_node::Address;
+use aggregator_session::Address;
 use coalition_map::{Members, Plan};
 use memory::NoMemory;
 use std::alloc::Global;

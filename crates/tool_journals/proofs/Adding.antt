@@ -6,13 +6,13 @@ use Rattle.approval_book.specs.Listed.{Adds, AddsTo, IsSettled, settled, unsettl
 use Rattle.approval_book.specs.declared.faults.BookFault.{BookFault}
 use Rattle.approval_book.specs.declared.faults.BookFault.TheVariants.{Damaged, Device, Full}
 use Rattle.opening_journal.specs.declared.faults.Entered.{Entered}
-use Rattle.slot_cache.specs.Calls.{Settles}
-use Rattle.slot_cache.specs.Loading.{LoadRefused, damaged as is_damaged, no_memory, other_file}
-use Rattle.slot_cache.specs.State.{CacheState}
-use Rattle.slot_cache.specs.declared.faults.CacheLoad.{CacheLoad}
-use Rattle.slot_cache.specs.declared.faults.CacheLoad.TheVariants as loading
-use Rattle.slot_cache.specs.declared.faults.Settled.{Settled}
-use Rattle.slot_cache.specs.declared.faults.Settled.TheVariants.{Made, Nothing, NotMade}
+use Rattle.slot_file.specs.Calls.{Settles}
+use Rattle.slot_file.specs.Loading.{LoadRefused, damaged as is_damaged, no_memory, other_file}
+use Rattle.slot_file.specs.State.{CacheState}
+use Rattle.slot_file.specs.declared.faults.CacheLoad.{CacheLoad}
+use Rattle.slot_file.specs.declared.faults.CacheLoad.TheVariants as loading
+use Rattle.slot_file.specs.declared.faults.Settled.{Settled}
+use Rattle.slot_file.specs.declared.faults.Settled.TheVariants.{Made, Nothing, NotMade}
 use Rattle.slot_file.specs.Copies.{IsFirstDamaged, taken_count}
 use Rattle.slot_file.specs.Layout.{load_fault}
 use Rattle.slot_file.specs.declared.header.Header.{Header}
@@ -20,7 +20,7 @@ use Rattle.slot_file.specs.declared.header.LoadFault.{LoadFault}
 use Rattle.tool_base.specs.Ending.{Ending}
 use Rattle.tool_journals.specs.Adding.{AddEnds, FileRun, HasListed, IsStill, Stands, approved, damaged, device, full, no_memory_to_load, not_opened, not_read}
 use Rattle.tool_journals.proofs.Listing.{lists_also}
-use Rattle.tool_disks.specs.Loads.{end_of_slots}
+use Rattle.tool_base.specs.Loads.{end_of_slots}
 use Rattle.tool_journals.specs.Faults.{end_of_add}
 
 never_some : {A : Type 0} → (x : Option A) → x ≡ None → IsSome x → ⊥

@@ -7,15 +7,15 @@ use Rattle.tool_base.specs.Ending.{Ending}
 use Rattle.tool_base.specs.Grammars.{IsShareRead}
 use Rattle.tool_base.specs.World.{IsCalm, from_to}
 use Rattle.tool_journals.specs.Adding.{AddEnds, FileRun}
-use Rattle.tool_disks.specs.Headers.{book_header}
+use Rattle.tool_base.specs.Headers.{book_header}
 use Rattle.tool_journals.specs.Approve.{ApproveEnds, IsBookDisk, IsMessageRead, in_book, in_new_book, is_new, file_run, was_there}
-use Rattle.tool_disks.specs.Disks.{DeviceFails}
+use Rattle.tool_base.specs.Disks.{DeviceFails}
 use Rattle.tool_journals.specs.Blanks.{IsBlankDisk}
-use Rattle.tool_disks.specs.Disks.{IsOut}
-use Rattle.tool_disks.proofs.Outs.{IsBackAs}
+use Rattle.tool_base.specs.Disks.{IsOut}
+use Rattle.tool_base.proofs.Outs.{IsBackAs}
 use Rattle.tool_journals.proofs.Adding.{add_within}
 use Rattle.tool_journals.proofs.Blanks.{new_calm, owners_on}
-use Rattle.tool_disks.proofs.Outs.{out_calm}
+use Rattle.tool_base.proofs.Outs.{out_calm}
 
 pub if_ok_map : {T E : Type 0} (r : Result T E) (one two : T → Type 0) → ((x : T) → one x → two x) → IfOk r one → IfOk r two
 if_ok_map (Ok x) one two f is = f x is

@@ -13,10 +13,10 @@ use Rattle.tool_base.specs.Ending.{Ending}
 use Rattle.tool_base.specs.Outputs.{IsNew, IsNotNew, CallFailed, test_failed, no_memory_to_name}
 use Rattle.tool_base.specs.World.{IsCalm, StoreRun, from_to}
 use Rattle.tool_base.proofs.Writing.{there_or_no_memory}
-use Rattle.tool_disks.specs.Disks.{DeviceFails}
+use Rattle.tool_base.specs.Disks.{DeviceFails}
 use Rattle.tool_journals.specs.Blanks.{IsBlankDisk, IsMade, IsNeverHalf, IsNotMade, IsOwners, device, not_empty}
-use Rattle.tool_disks.specs.Disks.{IsOut}
-use Rattle.tool_disks.proofs.Outs.{IsBackAs}
+use Rattle.tool_base.specs.Disks.{IsOut}
+use Rattle.tool_base.proofs.Outs.{IsBackAs}
 use Rattle.tool_journals.specs.Faults.{IsEndOfNew, end_of_prepare}
 
 -- a name that was not new for a disk

@@ -5,7 +5,7 @@ use Rattle.std.specs.Cmp.Lexicographic.{pointwise, same_text}
 use Rattle.std.specs.List.{list_any}
 use Rattle.approval_book.specs.Listed.{AddsTo, is_listed, lists, new, old}
 use Rattle.opening_journal.specs.declared.faults.Entered.{Entered}
-use Rattle.slot_cache.specs.State.{CacheState}
+use Rattle.slot_file.specs.State.{CacheState}
 use Rattle.slot_file.specs.Copies.{is_free}
 use Rattle.slot_file.specs.declared.slot.Slot.{Slot}
 use Rattle.slot_file.specs.declared.slot.Slot.TheVariants as slot

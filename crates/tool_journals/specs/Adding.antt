@@ -7,7 +7,7 @@ use Rattle.disk_trait.specs.Faults.{Rose}
 use Rattle.disk_trait.specs.declared.disk.Pages as pages
 use Rattle.disk_trait.specs.declared.faults.Faults as faults
 use Rattle.opening_journal.specs.declared.faults.Entered.{Entered}
-use Rattle.slot_cache.specs.State.{CacheState, HasSlots, StandsFor}
+use Rattle.slot_file.specs.State.{CacheState, HasSlots, StandsFor}
 use Rattle.slot_file.specs.Copies.{IsFirstDamaged, taken_count}
 use Rattle.slot_file.specs.Layout.{load_fault}
 use Rattle.slot_file.specs.declared.header.Header.{Header}
@@ -15,7 +15,7 @@ use Rattle.slot_file.specs.declared.header.LoadFault.{LoadFault}
 use Rattle.slot_file.specs.declared.slot.Slot.{Slot}
 use Rattle.tool_base.specs.Ending as ending
 use Rattle.tool_base.specs.Ending.{Ending}
-use Rattle.tool_disks.specs.Loads.{load_fault_number}
+use Rattle.tool_base.specs.Loads.{load_fault_number}
 
 -- A file over a call: whether its content is told, whether it keeps the model of crashes, what a read gave and gives,
 -- and what a crash might have left of it and may leave.

@@ -13,10 +13,10 @@ use Rattle.tool_base.specs.Outputs.{CallFailed, IsNew}
 use Rattle.tool_base.specs.Reads.{FailsToRead}
 use Rattle.tool_base.specs.World.{StoreRun, Bytes, IsRead}
 use Rattle.tool_journals.specs.Adding.{AddEnds, FileRun}
-use Rattle.tool_disks.specs.Disks.{DeviceFails}
+use Rattle.tool_base.specs.Disks.{DeviceFails}
 use Rattle.tool_journals.specs.Blanks.{IsBlankDisk, IsNotMade, IsOwners}
-use Rattle.tool_disks.specs.Headers.{book_header}
-use Rattle.tool_disks.specs.Disks.{IsOut}
+use Rattle.tool_base.specs.Headers.{book_header}
+use Rattle.tool_base.specs.Disks.{IsOut}
 use Rattle.tool_journals.specs.Taking.{IsNotTaken}
 
 -- the end where no disk of the book is had, with the names that were touched

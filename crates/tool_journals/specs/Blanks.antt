@@ -11,7 +11,7 @@ use Rattle.tool_base.specs.Ending as ending
 use Rattle.tool_base.specs.Ending.{Ending}
 use Rattle.tool_base.specs.Outputs.{IsNew, IsNotNew}
 use Rattle.tool_base.specs.World.{StoreRun}
-use Rattle.tool_disks.specs.Disks.{DeviceFails, IsOut}
+use Rattle.tool_base.specs.Disks.{DeviceFails, IsOut}
 
 -- the disk of the name keeps the model of crashes
 abbrev pub IsHonest : StoreRun → List ℕ → Type 0

@@ -13,9 +13,9 @@ use Rattle.tool_base.specs.Ending.{Ending}
 use Rattle.tool_base.specs.Grammars.{FailsGrammar, IsShareRead, share_fault_number}
 use Rattle.tool_base.specs.Outputs.{IsNew, IsNotNew, IsNotWritten}
 use Rattle.tool_base.specs.World.{StoreRun}
-use Rattle.tool_disks.specs.Disks.{DeviceFails}
+use Rattle.tool_base.specs.Disks.{DeviceFails}
 use Rattle.tool_journals.specs.Blanks.{IsHonest, IsNeverHalf, IsOwners}
-use Rattle.tool_disks.specs.Loads.{load_fault_number}
+use Rattle.tool_base.specs.Loads.{load_fault_number}
 use Rattle.tool_journals.specs.Taking.{IsNotTaken}
 use Rattle.trustee_core.specs.Trustee.{journal_header}
 

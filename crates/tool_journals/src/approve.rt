@@ -19,8 +19,7 @@ use lms_bytes::MessageId;
 use slot_file::Header;
 use std::alloc::Global;
 use stream_io::{CallFault, Store};
-use tool_base::{Ending, FILE_LIMIT, read_file, read_share_file};
-use tool_disks::end_of_slots;
+use tool_base::{Ending, FILE_LIMIT, end_of_slots, read_file, read_share_file};
 
 /// Lists a message in the book of a share's trustee, all three by the names of their files. A book that is not in the
 /// store is made.

@@ -6,7 +6,7 @@ ghost use Rattle.stream_io.specs.Store.{pages_state};
 ghost use Rattle.tool_base.specs.Endings.{ending};
 ghost use Rattle.tool_base.specs.Touched.{EndsTouching};
 ghost use Rattle.tool_base.specs.World.{IsCalm, from_to};
-ghost use Rattle.tool_disks.specs.Headers.{book_header};
+ghost use Rattle.tool_base.specs.Headers.{book_header};
 ghost use Rattle.tool_journals.specs.Blanks.{IsBlankDisk, IsNotMade};
 ghost use Rattle.trustee_core.specs.Trustee.{journal_header};
 
@@ -15,8 +15,7 @@ use share_files::Share;
 use slot_file::{Header, prepare};
 use std::alloc::Global;
 use stream_io::Store;
-use tool_base::Ending;
-use tool_disks::header_of;
+use tool_base::{Ending, header_of};
 
 /// A blank file of slots.
 #[derive(Clone, Copy)]

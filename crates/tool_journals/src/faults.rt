@@ -10,8 +10,7 @@ use opening_journal::Entered;
 use slot_file::{CopyFault, LoadFault, PrepareFault};
 use std::alloc::{AllocError, Global};
 use stream_io::NewFault;
-use tool_base::Ending;
-use tool_disks::load_fault_number;
+use tool_base::{Ending, load_fault_number};
 
 /// The end where a disk was not made under a name.
 pub(crate) fn end_of_new(alloc: Global, name: &str, fault: NewFault) -> Ending

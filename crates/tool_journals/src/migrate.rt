@@ -9,7 +9,7 @@ ghost use Rattle.tool_base.specs.Endings.{ending};
 ghost use Rattle.tool_base.specs.Outputs.{IsNew};
 ghost use Rattle.tool_base.specs.Touched.{EndsTouching};
 ghost use Rattle.tool_base.specs.World.{from_to};
-ghost use Rattle.tool_disks.specs.Disks.{OneFails};
+ghost use Rattle.tool_base.specs.Disks.{OneFails};
 ghost use Rattle.tool_journals.specs.Migrate.{CopyEnds, MigrateEnds, old_header, slot_count};
 
 use crate::blank::file_length;
@@ -19,8 +19,7 @@ use share_files::Share;
 use slot_file::{Slots, copy_slots};
 use std::alloc::Global;
 use stream_io::{CallFault, Store};
-use tool_base::{Ending, read_share_file, test_new};
-use tool_disks::header_of;
+use tool_base::{Ending, header_of, read_share_file, test_new};
 
 /// Copies the journal of version 1 of a share's trustee into a new journal, all three by the names of their files.
 pub fn migrate_journal<S: Store>(

@@ -1,7 +1,7 @@
 -- Which count rose, by the end of the command.
 use Rattle.std.proofs.Common.{◌≡◌, ◌⊎◌, inl, inr, ℕ, List, Result, Err, refl, ap}
 use Rattle.disk_trait.specs.Faults.{Rose}
-use Rattle.leased_session.specs.Signing.{Signature}
+use Rattle.aggregator_session.specs.Signing.{Signature}
 use Rattle.lms_bytes.specs.PublicKey.{public_bytes}
 use Rattle.tool_base.specs.Ending as ending
 use Rattle.tool_base.specs.Ending.{Ending}
@@ -9,12 +9,12 @@ use Rattle.tool_base.specs.Touched.{DeviceRose}
 use Rattle.tool_base.specs.World.{StoreRun}
 use Rattle.tool_levels.specs.HssSign.{HssSignEnds, HssSigningRun, no_lower, no_memory_to_join, not_accepted, not_new, not_signed, session_words, signed, stopped}
 use Rattle.tool_levels.specs.Lower.{FailsLower, Lower, no_key, no_message, no_signature}
-use Rattle.tool_signing.proofs.Causes.{grammar-other, grammar-store, new-other, new-store, session-device, session-net, session-store, unwritten-other, unwritten-store, upto-other, upto-store}
-use Rattle.tool_signing.proofs.Losses.{by-session, grammar-heard, missing, new-heard, unwritten-heard, upto-heard}
+use Rattle.tool_sign.proofs.Causes.{grammar-other, grammar-store, new-other, new-store, session-device, session-net, session-store, unwritten-other, unwritten-store, upto-other, upto-store}
+use Rattle.tool_sign.proofs.Losses.{by-session, grammar-heard, missing, new-heard, unwritten-heard, upto-heard}
 use Rattle.tool_levels.specs.Lost.{LosesForLower}
-use Rattle.tool_signing.specs.Ports.{NetRun}
-use Rattle.tool_signing.specs.Sessions.{SessionEnds}
-use Rattle.tool_signing.specs.Tasks.{message_of}
+use Rattle.tool_sign.specs.Ports.{NetRun}
+use Rattle.tool_sign.specs.Sessions.{SessionEnds}
+use Rattle.tool_sign.specs.Tasks.{message_of}
 use Rattle.tool_words.specs.Words.{HssSignWords}
 
 abbrev err_of : Ending → Result Signature Ending

@@ -1,6 +1,6 @@
 -- How the command ends over a steady store that tells its content, and over such a net.
 use Rattle.std.proofs.Common.{◌≡◌, ℕ, List, Result, Err, IsTrue, refl, ap}
-use Rattle.leased_session.specs.Signing.{Signature}
+use Rattle.aggregator_session.specs.Signing.{Signature}
 use Rattle.lms_bytes.specs.PublicKey.{public_bytes}
 use Rattle.tool_base.specs.Ending as ending
 use Rattle.tool_base.specs.Ending.{Ending}
@@ -8,9 +8,9 @@ use Rattle.tool_base.specs.World.{StoreRun}
 use Rattle.tool_desk.specs.Files.{key_name, reference_name, tree_name}
 use Rattle.tool_levels.specs.HssSign.{HssSignEnds, HssSigningRun, no_lower, no_memory_to_join, not_accepted, not_new, not_signed, session_words, signed, stopped}
 use Rattle.tool_levels.specs.Lower.{FailsLower, Lower, no_key, no_message, no_signature}
-use Rattle.tool_signing.proofs.Steady.{EndsSteady, Lack, grammar-steady, new-steady, plain, session-steady, unwritten-steady, upto-steady}
-use Rattle.tool_signing.specs.Ports.{NetRun}
-use Rattle.tool_signing.specs.Tasks.{message_of}
+use Rattle.tool_sign.proofs.Steady.{EndsSteady, Lack, grammar-steady, new-steady, plain, session-steady, unwritten-steady, upto-steady}
+use Rattle.tool_sign.specs.Ports.{NetRun}
+use Rattle.tool_sign.specs.Tasks.{message_of}
 use Rattle.tool_words.specs.Words.{HssSignWords}
 
 abbrev err_of : Ending → Result Signature Ending

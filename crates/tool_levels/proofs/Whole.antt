@@ -4,7 +4,7 @@ use Rattle.std.proofs.lemmas.List.Elements.{All-cons, All-head, All-nil, All-tai
 use Rattle.hss_levels.proofs.OneLevel.{two-levels}
 use Rattle.hss_levels.specs.Levels.{Accepts}
 use Rattle.hss_levels.specs.TwoLevels.{two_level_key, two_level_signature}
-use Rattle.leased_session.specs.Signing.{Signature}
+use Rattle.aggregator_session.specs.Signing.{Signature}
 use Rattle.lms_bytes.specs.PublicKey.{public_bytes}
 use Rattle.lms_bytes.specs.declared.public_key.PublicKey.{PublicKey}
 use Rattle.stream_io.specs.Net.{NetState}
@@ -15,17 +15,17 @@ use Rattle.tool_base.specs.Ending.{Ending}
 use Rattle.tool_base.specs.Outputs.{AreDifferent, IsLeft, IsNew, Output}
 use Rattle.tool_base.specs.Touched.{Keeps}
 use Rattle.tool_base.specs.World.{IsBack, IsCalm, IsNetBack, from_to}
-use Rattle.tool_disks.proofs.Outs.{keeps_calm}
+use Rattle.tool_base.proofs.Outs.{keeps_calm}
 use Rattle.tool_levels.proofs.Written.{IsForAnyone, are_written, first_ones, keeps_written, new_since, others_leave, others_read, read_before, stops_later}
 use Rattle.tool_levels.specs.HssSign.{HssSignEnds, HssSigningRun, LevelsEnd, SignsLower, names_of, session_words, two_levels}
 use Rattle.tool_levels.specs.HssSign as hss
 use Rattle.tool_levels.specs.Lower.{IsReady, Lower, output_names}
-use Rattle.tool_signing.proofs.Whole.{table_later, task_later}
-use Rattle.tool_signing.proofs.Writes.{as-signed}
-use Rattle.tool_signing.specs.Ports.{NetRun, over_net}
-use Rattle.tool_signing.specs.Sessions.{SessionEnds}
-use Rattle.tool_signing.specs.Signs as signs
-use Rattle.tool_signing.specs.Tasks.{message_of}
+use Rattle.tool_sign.proofs.Whole.{table_later, task_later}
+use Rattle.tool_sign.proofs.Writes.{as-signed}
+use Rattle.tool_sign.specs.Ports.{NetRun, over_net}
+use Rattle.tool_sign.specs.Sessions.{SessionEnds}
+use Rattle.tool_sign.specs.Signs as signs
+use Rattle.tool_sign.specs.Tasks.{message_of}
 use Rattle.tool_words.specs.Words.{HssSignWords}
 
 -- nothing was begun

@@ -12,8 +12,8 @@ use Rattle.tool_base.specs.Outputs.{AreDifferent, IsLeft, IsNew, IsNotWritten, I
 use Rattle.tool_base.specs.Touched.{IsUntouched, Keeps}
 use Rattle.tool_base.specs.World.{IsBack, from_to}
 use Rattle.tool_levels.specs.HssSign.{AreWritten, names_of}
-use Rattle.tool_signing.proofs.Writes.{new_is_other, turned_about}
-use Rattle.tool_signing.specs.Writes.{IsWritten}
+use Rattle.tool_sign.proofs.Writes.{new_is_other, turned_about}
+use Rattle.tool_sign.specs.Writes.{IsWritten}
 
 true_or_false : (b : Bool) → (b ≡ true) ⊎ (b ≡ false)
 true_or_false true = inl refl

@@ -3,7 +3,7 @@
 use Rattle.std.specs.Prelude.{◌≡◌, ℕ, List, [], ◌∷◌, ◌++◌, All, Err, map}
 use Rattle.hss_levels.specs.HssAccepts.{HssAccepts}
 use Rattle.hss_levels.specs.TwoLevels.{two_level_key, two_level_signature}
-use Rattle.leased_session.specs.Signing.{Signature}
+use Rattle.aggregator_session.specs.Signing.{Signature}
 use Rattle.lms_bytes.specs.PublicKey.{public_bytes}
 use Rattle.lms_bytes.specs.declared.public_key.PublicKey.{PublicKey}
 use Rattle.lms_verify.specs.Verdict.{IsVerdict}
@@ -15,10 +15,10 @@ use Rattle.tool_base.specs.Outputs.{FirstNotNew, IsLeft, IsNew, Output, StopsAft
 use Rattle.tool_base.specs.Touched.{Keeps}
 use Rattle.tool_base.specs.World.{IsNetBack, StoreRun}
 use Rattle.tool_levels.specs.Lower.{FailsLower, IsLower, IsReady, Lower, output_names}
-use Rattle.tool_signing.specs.Ports.{NetRun}
-use Rattle.tool_signing.specs.Sessions.{IsSignedBy, SessionEnds}
-use Rattle.tool_signing.specs.Tasks.{SessionWords, message_of}
-use Rattle.tool_signing.specs.Writes.{IsWritten}
+use Rattle.tool_sign.specs.Ports.{NetRun}
+use Rattle.tool_sign.specs.Sessions.{IsSignedBy, SessionEnds}
+use Rattle.tool_sign.specs.Tasks.{SessionWords, message_of}
+use Rattle.tool_sign.specs.Writes.{IsWritten}
 use Rattle.tool_words.specs.Words.{HssSignWords}
 
 -- what the session of the command is run with

@@ -8,7 +8,7 @@ ghost use Rattle.tool_base.specs.World.{from_to};
 ghost use Rattle.tool_base.specs.declared.unsigned.Unsigned.TheVariants.{Missing};
 ghost use Rattle.tool_levels.specs.HssSign.{HssSigningRun};
 ghost use Rattle.tool_levels.specs.Lost.{LosesForLower};
-ghost use Rattle.tool_signing.specs.Ports.{NetRun};
+ghost use Rattle.tool_sign.specs.Ports.{NetRun};
 ghost use Rattle.tool_words.specs.Words.{HssSignWords};
 
 use stream_io::Store;

@@ -8,7 +8,7 @@ ghost use Rattle.tool_base.specs.Outputs.{FirstNotNew, IsNew};
 ghost use Rattle.tool_base.specs.World.{IsCalm, IsPart, from_to};
 ghost use Rattle.tool_levels.specs.HssSign.{HssSigningRun};
 ghost use Rattle.tool_levels.specs.Lower.{FailsLower, IsLower, IsReady, lower_of, output_names};
-ghost use Rattle.tool_signing.specs.Ports.{over_net};
+ghost use Rattle.tool_sign.specs.Ports.{over_net};
 ghost use Rattle.tool_words.specs.Rows.{hss_sign_words};
 
 use lms_bytes::PublicKey;

@@ -17,7 +17,7 @@ use memory::NoMemory;
 use std::alloc::Global;
 use stream_io::{Readers, Store};
 use tool_base::{Ending, Output, write_all};
-use tool_signing::SignedBy;
+use tool_sign::SignedBy;
 use tool_words::HssSignWords;
 
 /// Joins both levels, and writes their key and their signature under names that differ and were found new. `by` is the

@@ -11,8 +11,8 @@ use Rattle.lms_verify.specs.declared.verification.Verdict.TheVariants.{Accepted,
 use Rattle.merkle_path.specs.Nodes.{candidate_root}
 use Rattle.ots_chain.specs.LeafKey.{candidate_leaf_key}
 use Rattle.ots_chain.specs.MessageHash.{message_digest}
-use Rattle.laws_signing.proofs.Parses.{SameKey, key-passes, one-key}
-use Rattle.laws_signing.proofs.Verdicts.{is-accepted}
+use Rattle.tool_base.proofs.Parses.{SameKey, key-passes, one-key}
+use Rattle.tool_base.proofs.Verdicts.{is-accepted}
 use Rattle.stream_io.specs.Store.{StoreState}
 use Rattle.tool_base.specs.Ending as ending
 use Rattle.tool_base.specs.Ending.{Ending}

@@ -2,7 +2,7 @@
 use Rattle.std.proofs.Common.{[], ◌∷◌, ◌≢◌, All, map, refl, ◌≡◌, ◌⊎◌, List, ℕ, inl, inr}
 use Rattle.dealer.specs.declared.faults.DealFault.{DealFault}
 use Rattle.dealer.specs.declared.faults.DealFault.TheVariants.{NoMemory}
-use Rattle.rehearsal.specs.Rehearsal.{CanRehearse, RehearsalFault}
+use Rattle.dealer.specs.Rehearsal.{CanRehearse, RehearsalFault}
 use Rattle.tool_run.specs.Rehearse.{IsNotRehearsed, IsRehearsedTo, faulty, no_memory}
 use Rattle.std.proofs.lemmas.List.Elements.{All-cons, All-nil}
 use Rattle.tool_base.specs.Outputs.{AreDifferent, Output}

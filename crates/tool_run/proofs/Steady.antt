@@ -18,10 +18,10 @@ use Rattle.tool_base.specs.declared.unsigned.Unsigned.TheVariants as unsigned
 use Rattle.tool_base.specs.World.{Outside, OutputRun, StoreRun, TimeState, World, from_to}
 use Rattle.tool_blame.proofs.Steady.{blame-steady}
 use Rattle.tool_blame.specs.Commits.{commits_name}
-use Rattle.tool_clients.proofs.Steady.{aggregate-steady}
+use Rattle.tool_aggregate.proofs.Steady.{aggregate-steady}
 use Rattle.tool_desk.specs.Files.{key_name, reference_name, tree_name}
-use Rattle.tool_disks.specs.Disks.{DeviceFails}
-use Rattle.tool_disks.specs.Loads.{FailsToLoad}
+use Rattle.tool_base.specs.Disks.{DeviceFails}
+use Rattle.tool_base.specs.Loads.{FailsToLoad}
 use Rattle.tool_journals.specs.Adding.{AddEnds, FileRun}
 use Rattle.tool_journals.specs.Adding as adding
 use Rattle.tool_journals.specs.Approve.{ApproveEnds, IsNotOpened}
@@ -45,9 +45,9 @@ use Rattle.tool_run.specs.Steady.{HasCauses, IsSteadyWorld, IsUnoffered, Lacks, 
 use Rattle.tool_run.specs.ToolRun.{CommandRun, IsAnswered, ToolRun, WordsRun}
 use Rattle.tool_run.specs.Verify.{VerifyEnds}
 use Rattle.tool_run.specs.Verify as verify
-use Rattle.tool_service.specs.Trustee.{ServedTrustee, TrusteeEnds, store_of}
-use Rattle.tool_service.specs.Trustee as trustee
-use Rattle.tool_signing.proofs.Steady.{EndsSteady, grammar-steady, lacking, load-steady, new-steady, plain, sign-steady, unheard, unwritten-steady, upto-steady}
+use Rattle.tool_trustee.specs.Trustee.{ServedTrustee, TrusteeEnds, store_of}
+use Rattle.tool_trustee.specs.Trustee as trustee
+use Rattle.tool_sign.proofs.Steady.{EndsSteady, grammar-steady, lacking, load-steady, new-steady, plain, sign-steady, unheard, unwritten-steady, upto-steady}
 use Rattle.tool_words.specs.Words.{Row, Verify, Rehearse, Deal, Enrol, Migrate, Approve, Trustee, Sign, Aggregate, Drill, HssCheck, HssSign, Blame, DealWords, SignWords, TrusteeWords, command_of}
 
 -- a name by its place in a list of names

@@ -1,7 +1,7 @@
 -- How `drill` ends.
 use Rattle.std.specs.Prelude.{ℕ}
 use Rattle.drill.specs.Summaries.{IsSummary}
-use Rattle.drill_summary.specs.declared.summary.Summary.{Summary}
+use Rattle.drill_schedule.specs.declared.summary.Summary.{Summary}
 use Rattle.tool_base.specs.Ending as ending
 use Rattle.tool_base.specs.Ending.{Ending}
 

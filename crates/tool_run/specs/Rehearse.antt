@@ -4,7 +4,7 @@ use Rattle.std.specs.Prelude.{◌≡◌, ℕ, List, [], ◌∷◌, All}
 use Rattle.dealer.specs.declared.faults.DealFault.{DealFault}
 use Rattle.lms_bytes.specs.PublicKey.{public_bytes}
 use Rattle.lms_bytes.specs.declared.public_key.PublicKey.{PublicKey}
-use Rattle.rehearsal.specs.Rehearsal.{CanRehearse, IsRehearsed, RehearsalFault}
+use Rattle.dealer.specs.Rehearsal.{CanRehearse, IsRehearsed, RehearsalFault}
 use Rattle.stream_io.specs.declared.store.Readers.TheVariants.{Anyone}
 use Rattle.tool_base.specs.Ending as ending
 use Rattle.tool_base.specs.Ending.{Ending}

@@ -8,7 +8,7 @@ use Rattle.tool_run.specs.Deal.{DealEnds}
 use Rattle.tool_base.specs.Outputs.{EndsWith}
 use Rattle.tool_base.specs.Touched.{EndsTouching}
 use Rattle.tool_blame.specs.Blame.{BlameRun}
-use Rattle.tool_clients.specs.Aggregate.{AggregateRun}
+use Rattle.tool_aggregate.specs.Aggregate.{AggregateRun}
 use Rattle.tool_journals.specs.Approve.{ApproveEnds}
 use Rattle.tool_journals.specs.Enrol.{EnrolEnds}
 use Rattle.tool_journals.specs.Migrate.{MigrateEnds}
@@ -17,9 +17,9 @@ use Rattle.tool_run.specs.Drill.{DrillEnds}
 use Rattle.tool_run.specs.HssCheck.{HssCheckEnds}
 use Rattle.tool_run.specs.Rehearse.{RehearseEnds}
 use Rattle.tool_run.specs.Verify.{VerifyEnds}
-use Rattle.tool_service.specs.Trustee.{TrusteeRun}
-use Rattle.tool_signing.specs.Ports.{over_net}
-use Rattle.tool_signing.specs.Sign.{SigningRun}
+use Rattle.tool_trustee.specs.Trustee.{TrusteeRun}
+use Rattle.tool_sign.specs.Ports.{over_net}
+use Rattle.tool_sign.specs.Sign.{SigningRun}
 use Rattle.tool_words.specs.Words.{Row, Verify, Rehearse, Deal, Enrol, Migrate, Approve, Trustee, Sign, Aggregate}
 use Rattle.tool_words.specs.Words.{AggregateWords, Blame, Drill, HssCheck, HssSign, HssSignWords, SignWords, command_of}
 use Rattle.tool_base.specs.World.{AllBack, Onward, Outside, OutputRun, StoreRun, World, from_to}

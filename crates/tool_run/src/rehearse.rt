@@ -10,9 +10,8 @@ ghost use Rattle.tool_base.specs.Outputs.{EndsWith};
 ghost use Rattle.tool_run.specs.Rehearse.{IsNotRehearsed, IsRehearsedTo, RehearseEnds};
 ghost use Rattle.tool_base.specs.World.{IsBack, from_to};
 
-use dealer::public_file;
+use dealer::{Rehearsed, public_file, rehearse};
 use memory::NoMemory;
-use rehearsal::{Rehearsed, rehearse};
 use std::alloc::Global;
 use stream_io::{Readers, Store};
 use tool_base::{Ending, FILE_LIMIT, Output, end_of_fault, read_file, test_new, write_all};

@@ -9,3 +9,9 @@ pub mod Serving
 pub mod Standing
 mod Turning
 mod Working
+pub mod PortStanding
+pub mod Gathering
+mod Joining
+pub mod Finishing
+mod Running
+pub mod PortOpening

@@ -3,12 +3,19 @@
 #![tactic(auto)]
 
 mod connection;
+mod gather;
 pub mod laws;
+pub mod port_laws;
 mod reply;
 mod served;
+mod service;
+mod start;
+mod totals;
 mod turn;
 mod worker;
 
 pub use connection::serve_connection;
 pub use served::{Served, ServedEnd};
+pub use service::serve_ports;
+pub use totals::Totals;
 pub use worker::{Worker, serve};

@@ -5,14 +5,14 @@
 
 mod reading;
 
-use host_io::FileStore;
 use lms_bytes::Params;
-use memory_io::MemSource;
 use reading::reading;
 use std::alloc::{AllocError, Global};
 use std::io::{self, ErrorKind};
 use std::str;
+use stream_host::FileStore;
 use stream_io::Store;
+use stream_memory::MemSource;
 
 /// A row of the table.
 #[derive(Clone, Copy)]

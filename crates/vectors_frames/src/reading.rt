@@ -1,10 +1,10 @@
 //! Readings as the table writes them.
 
 use lms_bytes::{Ask, MessageId, Params, ReplyHead};
-use memory_io::MemSource;
 use round_frames::{FrameFault, Outcome, next_ask, next_reply, next_request, next_result};
 use std::alloc::{AllocError, Global};
 use stream_io::Source;
+use stream_memory::MemSource;
 
 /// What a reader reads of a source that has so many bytes, and how many of them it took, or the fault.
 pub(crate) fn reading(

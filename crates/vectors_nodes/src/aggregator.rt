@@ -7,15 +7,14 @@ mod client;
 mod scene;
 
 use crate::files::file_of;
-use aggregator_node::SignFault;
+use aggregator_session::{SignFault, Signed, sign_leased};
 use client::{requests, serve};
 use coalition_map::Members;
-use leased_session::{Signed, sign_leased};
-use memory_io::MemPort;
 use reference_value::Whole;
 use scene::{Scene, port};
 use std::io;
 use std::sync::Wait;
+use stream_memory::MemPort;
 use trustee_node::Served;
 
 /// What came of signing: its outcome, and the port that it was done at.

@@ -5,14 +5,13 @@
 use crate::files::file_of;
 use crate::links::link;
 use crate::trustee::{Still, trustee};
-use memory_io::{MemPort, PortScript};
 use share_files::read_share;
 use std::alloc::Global;
 use std::io;
 use std::sync::Wait;
 use std::thread::Threads;
-use trustee_service::serve_ports;
-use waiting_io::{Before, Bell, Hold, Ring, WaitingPort};
+use stream_memory::{Before, Bell, Hold, MemPort, PortScript, Ring, WaitingPort};
+use trustee_node::serve_ports;
 
 /// The session whose asks to trustee 1 are served.
 const SESSION: &str = "5-3";

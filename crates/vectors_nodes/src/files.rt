@@ -1,6 +1,6 @@
 //! The files of the other implementation's sessions.
 
-use host_io::FileStore;
+use stream_host::FileStore;
 use stream_io::Store;
 
 /// No file here is longer.

@@ -1,7 +1,7 @@
 //! Links in memory.
 
-use memory_io::{MemLink, MemSink, MemSource};
 use std::alloc::Global;
+use stream_memory::{MemLink, MemSink, MemSource};
 
 /// No link here is written more bytes, and each write takes all that it is given.
 const ROOM: usize = 8192;

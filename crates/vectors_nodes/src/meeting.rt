@@ -8,14 +8,13 @@ mod ports;
 mod scene;
 
 use crate::files::file;
-use aggregator_node::Desk;
-use client_service::serve_clients;
+use aggregator_node::serve_clients;
+use aggregator_session::Desk;
 use coalition_map::Members;
 use disk_trait::MemDisk;
 use leaf_table::{Lease, Table};
 use lms_bytes::PublicKey;
 use lms_verify::{Verdict, verify};
-use memory_io::{MemSink, MemSource};
 use ports::{Meeting, MeetingPort};
 use round_frames::{Outcome, next_result, write_request};
 use scene::Scene;
@@ -23,7 +22,7 @@ use std::alloc::Global;
 use std::io;
 use std::sync::Wait;
 use std::thread::Threads;
-use waiting_io::Bell;
+use stream_memory::{Bell, MemSink, MemSource};
 
 /// The trustees 3, 4 and 5.
 const COALITION: u16 = 0b11100;

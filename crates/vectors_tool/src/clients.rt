@@ -12,13 +12,12 @@ use crate::scene::{LINE, made, net_at_here, read_files, run, store_of};
 use crate::stores::{Failing, SESSION_FILES, changed_store, failing_store};
 use answers::outcome_of;
 use memory::NoMemory;
-use memory_io::{MemNet, PortScript};
-use memory_store::MemStore;
 use std::alloc::Global;
 use std::io;
 use std::sync::Wait;
 use std::thread::Threads;
 use steps::{Client, Step};
+use stream_memory::{MemNet, MemStore, PortScript};
 use trustees::{REQUESTS, serve_request};
 
 /// Messages that trustees of this program sign, each under its name.

@@ -8,16 +8,15 @@ mod rows;
 mod verifying;
 
 use crate::scene::{Files, print_ran, read, run, store_of, words_of};
-use host_io::{FileStore, StdoutSink};
-use memory_io::MemNet;
-use memory_store::MemStore;
 use rows::{COMMITMENTS, DEALINGS, DRILLS, FAULTY, REFUSED, REHEARSALS, VECTORS};
 use sha2::{Digest, Sha256};
 use share_files::{read_reference, read_share, read_tree};
 use std::io;
 use std::sync::Wait;
 use std::thread::Threads;
+use stream_host::{FileStore, StdoutSink};
 use stream_io::Net;
+use stream_memory::{MemNet, MemStore};
 use tool_run::{SystemClocks, run_tool};
 
 /// Prints the name of a file, its length and its SHA-256.

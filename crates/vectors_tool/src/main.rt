@@ -13,8 +13,8 @@ mod service;
 mod signing;
 mod stores;
 
-use host_io::TcpNet;
 use std::io;
+use stream_host::TcpNet;
 
 fn main(rt: HostRuntime) -> io::Result<()> {
     keys::print_runs(&rt, rt, &mut TcpNet::new(rt))?;

@@ -2,9 +2,8 @@
 
 use crate::scene::file;
 use memory::NoMemory;
-use memory_io::{MemLink, MemSink, MemSource, PortScript};
-use memory_store::MemStore;
 use std::alloc::Global;
+use stream_memory::{MemLink, MemSink, MemSource, MemStore, PortScript};
 
 /// Bytes that a peer sends.
 #[derive(Clone, Copy)]

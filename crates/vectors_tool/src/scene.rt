@@ -1,14 +1,13 @@
 //! What all commands are given beside their words, their runs in memory, and how what they printed is shown.
 
-use host_io::{FileStore, StdoutSink};
 use memory::NoMemory;
-use memory_io::{KeptPort, MemNet, MemSink, PortScript};
-use memory_store::MemStore;
 use std::alloc::{AllocError, Global};
 use std::io::{self, ErrorKind};
 use std::sync::Wait;
 use std::thread::Threads;
+use stream_host::{FileStore, StdoutSink};
 use stream_io::{Readers, Store, write_whole};
+use stream_memory::{KeptPort, MemNet, MemSink, MemStore, PortScript};
 use tool_run::{MemClocks, run_tool};
 
 /// Files, each a name and its bytes.

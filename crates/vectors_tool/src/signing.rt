@@ -9,14 +9,13 @@ use crate::peers::push_dialled;
 use crate::scene::{LINE, made, read_files, run, store_of};
 use crate::stores::{Failing, SESSION_FILES, changed_store, failing_store};
 use memory::NoMemory;
-use memory_io::{MemNet, PortScript};
-use memory_store::MemStore;
 use outcome::print_outcome;
 use std::alloc::Global;
 use std::io;
 use std::sync::Wait;
 use std::thread::Threads;
 use steps::Step;
+use stream_memory::{MemNet, MemStore, PortScript};
 
 /// More calls than a session makes of a link, and of the view.
 const LINK_CALLS: u64 = 24;

@@ -3,8 +3,8 @@
 use crate::scene::file;
 use disk_trait::MemDisk;
 use memory::NoMemory;
-use memory_store::MemStore;
 use std::alloc::Global;
+use stream_memory::MemStore;
 
 /// What another implementation dealt from, the message that it signed, what its trustees were asked and replied, and
 /// its signature, for hashes of 32 bytes and of 24; and a lower key with its signature of the empty message, what was

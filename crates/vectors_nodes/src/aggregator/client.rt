@@ -3,7 +3,7 @@
 use super::scene::{Scene, port};
 use crate::links::link;
 use crate::turns::only_pass;
-use client_node::serve_client;
+use aggregator_node::serve_client;
 use reference_value::Whole;
 use std::alloc::Global;
 use std::sync::Wait;

@@ -7,16 +7,16 @@ ghost use Rattle.share_files.specs.Reference.{leaves_length};
 use crate::files::file_of;
 use crate::links::link;
 use crate::tables::{LEAVES, table_of};
-use aggregator_node::{Address, Desk};
+use aggregator_session::{Address, Desk};
 use coalition_map::Plan;
 use disk_trait::MemDisk;
 use leaf_table::Table;
 use lms_bytes::{PublicKey, read_public};
-use memory_io::{MemPort, PortScript};
 use merkle_path::Tree;
 use reference_value::leaf_bytes;
 use share_files::read_tree;
 use std::alloc::Global;
+use stream_memory::{MemPort, PortScript};
 
 /// What a session was signed with. Leaf 0 of the reference is as given, and all others are zeros.
 #[derive(Drop)]

@@ -3,7 +3,7 @@
 
 ghost use Rattle.std.specs.Prelude.{◌≡◌, ◌≤◌, Some, codes, length, refl, false, vec_len};
 ghost use Rattle.disk_trait.specs.Faults.{Rose};
-ghost use Rattle.host_io.specs.Untold.{untold_port, untold_talk};
+ghost use Rattle.stream_host.specs.Untold.{untold_port, untold_talk};
 
 use crate::trustee::replies;
 use disk_trait::Faults;
@@ -11,7 +11,7 @@ use share_files::Share;
 use std::alloc::Global;
 use std::sync::Wait;
 use stream_io::{Accepted, Failed, Port, Sink, Source, Stream};
-use waiting_io::{Before, Bell, Hold, WaitingLink};
+use stream_memory::{Before, Bell, Hold, WaitingLink};
 
 /// How often the last member is dialled before it answers.
 const BOTH: u64 = 2;

@@ -4,7 +4,7 @@ ghost use Rattle.std.specs.Prelude.{◌≡◌, IfSome};
 ghost use Rattle.leaf_table.specs.Table.{plan_of};
 
 use crate::tables::table_of;
-use aggregator_node::Address;
+use aggregator_session::Address;
 use coalition_map::Plan;
 use dealer::{Dealt, deal};
 use disk_trait::MemDisk;

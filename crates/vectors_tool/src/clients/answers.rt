@@ -2,10 +2,9 @@
 
 use super::steps::Step;
 use crate::scene::{TALKS, file};
-use memory_io::{KeptPort, MemNet};
-use memory_store::MemStore;
 use std::alloc::Global;
 use std::io;
+use stream_memory::{KeptPort, MemNet, MemStore};
 
 /// More frames than a client here is answered with.
 const FRAMES: usize = 8;

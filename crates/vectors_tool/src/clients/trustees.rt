@@ -5,13 +5,12 @@ use super::steps::{PLAIN, Step};
 use crate::peers::{ROOM, link, push_request};
 use crate::scene::{LINE, asked, file, made, net_at_here, run};
 use memory::NoMemory;
-use memory_io::{MemNet, PortScript};
-use memory_store::MemStore;
 use std::alloc::Global;
 use std::io;
 use std::sync::Wait;
 use std::thread::Threads;
 use stream_io::{Readers, Store};
+use stream_memory::{MemNet, MemStore, PortScript};
 
 /// The places of the trustees 1 to 5.
 const PLACES: [&str; 5] = ["one", "two", "three", "four", "five"];

@@ -5,13 +5,12 @@ use super::steps::MOVED_TALKS;
 use super::talks::{likeness_of, net_of};
 use crate::scene::{LINE, made, run};
 use memory::NoMemory;
-use memory_io::MemSink;
-use memory_store::MemStore;
 use std::alloc::Global;
 use std::sync::Wait;
 use std::thread::Threads;
 use std::{io, str};
 use stream_io::Store;
+use stream_memory::{MemSink, MemStore};
 
 /// How many calls of its disk a new journal of 32 slots takes: its length is asked, and the closed gate is written and
 /// made stable; the rest of the header and the slots are written and made stable; the open gate is written and made

@@ -3,11 +3,10 @@
 use super::steps::{IN_TURN, Step, Talk};
 use crate::scene::{file, net_at_here, print_ran, reader};
 use memory::NoMemory;
-use memory_io::{KeptPort, MemLink, MemNet, MemSink, MemSource, PortScript};
-use memory_store::MemStore;
 use sha2::{Digest, Sha256};
 use std::alloc::Global;
 use std::io;
+use stream_memory::{KeptPort, MemLink, MemNet, MemSink, MemSource, MemStore, PortScript};
 
 /// How many bytes the reads of so many bytes give, one after the other.
 fn pieces_of(alloc: Global, length: usize, piece: usize) -> Result<Vec<usize>, NoMemory> {

@@ -2,9 +2,8 @@
 
 use super::steps::Step;
 use crate::scene::{asked, file, print_ran};
-use memory_io::MemNet;
-use memory_store::MemStore;
 use std::io;
+use stream_memory::{MemNet, MemStore};
 
 /// How these bytes are like those that are wanted.
 fn likeness(got: &[u8], want: &[u8]) -> &'static str {

@@ -1,5 +1,5 @@
 use Rattle.std.proofs.Common.{refl, sym, subst}
-use Rattle.drill_events.specs.declared.event.Event.{Event}
+use Rattle.drill_schedule.specs.declared.event.Event.{Event}
 use Rattle.drill.specs.Courses.{Plays}
 use Rattle.drill.proofs.Playing.{cut-plays, dropped-plays, restart-plays, step-plays}
 use Rattle.drill.proofs.events.play.Goals as goal

@@ -1,10 +1,10 @@
 use Rattle.std.proofs.Common.{◌≡◌, ◌≤◌, ◌+◌, ◌*◌, ℕ, refl, sym, subst, arith}
-use Rattle.drill_events.specs.Draws.{event_at, events_of}
-use Rattle.drill_events.specs.Events.{is_cut, is_restart}
+use Rattle.drill_schedule.specs.Draws.{event_at, events_of}
+use Rattle.drill_schedule.specs.Events.{is_cut, is_restart}
 use Rattle.drill.specs.Courses.{HasPlayed}
 use Rattle.drill.proofs.Playing.{none-played}
 use Rattle.drill.proofs.Counting.{events-more, events-none, one-or-none, state-more}
-use Rattle.drill_events.proofs.Drawing.{state-none}
+use Rattle.drill_schedule.proofs.Drawing.{state-none}
 use Rattle.drill.proofs.run.play_all.Goals as goal
 
 pub events-init : goal.events-init

@@ -4,8 +4,8 @@ use Rattle.drill.specs.Keys.{HasDealing}
 use Rattle.drill.specs.Drills.{IsFor}
 use Rattle.drill.specs.Seats.{AreWaiting}
 use Rattle.drill.specs.Tallies.{IsWithin}
-use Rattle.drill_events.specs.Draws.{events_of, state_at}
-use Rattle.drill_events.specs.Events.{is_cut, is_restart}
+use Rattle.drill_schedule.specs.Draws.{events_of, state_at}
+use Rattle.drill_schedule.specs.Events.{is_cut, is_restart}
 use Rattle.drill.proofs.run.play_all.Given as goal
 
 -- so many events were played and counted

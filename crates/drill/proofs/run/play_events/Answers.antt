@@ -1,6 +1,6 @@
 use Rattle.std.proofs.Common.{◌≡◌, ◌≤◌, ℕ, refl, sym, subst, arith}
-use Rattle.drill_events.specs.Draws.{events_of}
-use Rattle.drill_events.specs.Events.{is_cut, is_restart}
+use Rattle.drill_schedule.specs.Draws.{events_of}
+use Rattle.drill_schedule.specs.Events.{is_cut, is_restart}
 use Rattle.drill.proofs.Counting.{events-few, events-none, events-some}
 use Rattle.drill.proofs.Playing.{none-played}
 use Rattle.drill.specs.Courses.{HasPlayed}

@@ -1,6 +1,6 @@
 use Rattle.std.proofs.Common.{◌≡◌, ◌≤◌, ◌+◌, ◌*◌, ◌∙◌, subst, arith, if◌then◌else◌}
-use Rattle.drill_events.specs.Events.{is_cut, is_restart}
-use Rattle.drill_events.specs.declared.draws.Schedule.{Schedule}
+use Rattle.drill_schedule.specs.Events.{is_cut, is_restart}
+use Rattle.drill_schedule.specs.declared.draws.Schedule.{Schedule}
 use Rattle.drill.proofs.Playing.{plays-on}
 use Rattle.drill.proofs.run.play_next.Goals as goal
 

@@ -8,10 +8,10 @@ use Rattle.drill.specs.Schedules.{cut_asks, extra_asks, signed_of}
 use Rattle.drill.specs.Summaries.{events_in}
 use Rattle.drill.specs.declared.seat.Seat.{Seat}
 use Rattle.drill.specs.declared.seat.Seat.TheVariants.{Refused}
-use Rattle.drill_events.specs.Draws.{events_of}
-use Rattle.drill_events.specs.Events.{is_cut}
+use Rattle.drill_schedule.specs.Draws.{events_of}
+use Rattle.drill_schedule.specs.Events.{is_cut}
 use Rattle.drill.proofs.Desks.{own-dealing, own-drawn}
-use Rattle.drill_summary.specs.declared.summary.Summary.{Summary}
+use Rattle.drill_schedule.specs.declared.summary.Summary.{Summary}
 use Rattle.drill.proofs.Counted.{held-all, signed-are}
 use Rattle.drill.proofs.Following.{ended-replies}
 use Rattle.drill.proofs.Finishing.{Signer, all-ended, first-signs, most-is, signer}

@@ -1,7 +1,7 @@
 use Rattle.std.proofs.Common.{◌∙◌, ◌<◌, length, arith}
 use Rattle.std.proofs.lemmas.List.{length-set}
 use Rattle.coalition_map.specs.Coalitions.{count_of}
-use Rattle.slot_cache.specs.Cache.{state_of}
+use Rattle.slot_file.specs.Cache.{state_of}
 use Rattle.leaf_table.proofs.Walking.{fewer-free, more-free}
 use Rattle.leaf_table.proofs.index.free_leaves.Goals as goal
 

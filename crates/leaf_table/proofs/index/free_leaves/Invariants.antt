@@ -1,6 +1,6 @@
 use Rattle.std.proofs.Common.{◌≡◌, length}
 use Rattle.coalition_map.specs.Coalitions.{count_of}
-use Rattle.slot_cache.specs.Cache.{state_of}
+use Rattle.slot_file.specs.Cache.{state_of}
 use Rattle.leaf_table.specs.Index.{AreFree}
 use Rattle.leaf_table.proofs.index.free_leaves.Given as goal
 

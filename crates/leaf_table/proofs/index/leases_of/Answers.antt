@@ -4,7 +4,7 @@ use Rattle.std.proofs.lemmas.List.{take_all}
 use Rattle.leaf_table.specs.Index.{Listed}
 use Rattle.leaf_table.proofs.Indexing.{ListsBelow, below-half, below-other}
 use Rattle.leaf_table.proofs.Orders.{key_cmp, listed-exact, pair_cmp}
-use Rattle.slot_cache.specs.Cache.{state_of}
+use Rattle.slot_file.specs.Cache.{state_of}
 use Rattle.slot_file.specs.Copies.{taken_count}
 use Rattle.sorted_list.proofs.Exact.{contains-added}
 use Rattle.sorted_list.specs.Sorted.{SortedItems}

@@ -1,5 +1,5 @@
 use Rattle.std.proofs.Common.{◌≤◌, length}
-use Rattle.slot_cache.specs.Cache.{state_of}
+use Rattle.slot_file.specs.Cache.{state_of}
 use Rattle.leaf_table.proofs.Indexing.{ListsBelow}
 use Rattle.leaf_table.proofs.index.leases_of.Given as goal
 

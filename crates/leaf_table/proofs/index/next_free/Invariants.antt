@@ -1,5 +1,5 @@
 use Rattle.std.proofs.Common.{◌^◌}
-use Rattle.slot_cache.specs.Cache.{state_of}
+use Rattle.slot_file.specs.Cache.{state_of}
 use Rattle.leaf_table.proofs.Walking.{Seeks, left_of}
 use Rattle.leaf_table.proofs.index.next_free.Given as goal
 

@@ -6,8 +6,8 @@ use Rattle.leaf_table.specs.declared.lease.Lease.{Lease}
 use Rattle.leaf_table.proofs.Legal.{legal-none}
 use Rattle.leaf_table.proofs.Listed.{entries-more, entries-none, room-more}
 use Rattle.leaf_table.proofs.Maps.{map_of-none}
-use Rattle.slot_cache.specs.Cache.{state_of}
-use Rattle.slot_cache.specs.State.{slot_in}
+use Rattle.slot_file.specs.Cache.{state_of}
+use Rattle.slot_file.specs.State.{slot_in}
 use Rattle.slot_file.specs.declared.slot.Slot.{Slot}
 use Rattle.leaf_table.proofs.listing.entries_of.Goals as goal
 

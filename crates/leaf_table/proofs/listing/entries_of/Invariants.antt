@@ -2,8 +2,8 @@ use Rattle.std.proofs.Common.{◌≡◌, ◌+◌, ◌*◌, ◌<◌, ◌≤◌, �
 use Rattle.leaf_table.specs.Entries.{IsFree, OneLease, map_of}
 use Rattle.leaf_table.specs.Loading.{entries_of}
 use Rattle.leaf_table.specs.Slots.{room_of, use_of_slot}
-use Rattle.slot_cache.specs.Cache.{state_of}
-use Rattle.slot_cache.specs.State.{slot_in}
+use Rattle.slot_file.specs.Cache.{state_of}
+use Rattle.slot_file.specs.State.{slot_in}
 use Rattle.leaf_table.proofs.listing.entries_of.Given as goal
 
 abbrev pub invariant-leaves : goal.invariant-leaves

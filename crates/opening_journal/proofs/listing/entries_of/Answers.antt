@@ -7,8 +7,8 @@ use Rattle.opening_journal.specs.declared.entry.Entry.{Entry}
 use Rattle.opening_journal.proofs.Legal.{legal-none}
 use Rattle.opening_journal.proofs.Listed.{entries-more, entries-none, room-more}
 use Rattle.opening_journal.proofs.Maps.{map_of-none}
-use Rattle.slot_cache.specs.Cache.{state_of}
-use Rattle.slot_cache.specs.State.{slot_in}
+use Rattle.slot_file.specs.Cache.{state_of}
+use Rattle.slot_file.specs.State.{slot_in}
 use Rattle.slot_file.specs.declared.slot.Slot.{Slot}
 use Rattle.opening_journal.proofs.listing.entries_of.Goals as goal
 

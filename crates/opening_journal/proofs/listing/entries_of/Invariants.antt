@@ -2,8 +2,8 @@ use Rattle.std.proofs.Common.{◌≡◌, ◌+◌, ◌*◌, ◌<◌, ◌≤◌, �
 use Rattle.opening_journal.specs.Entries.{IsFree, IsLegalList, map_of, state_of_slot}
 use Rattle.opening_journal.specs.EntrySlots.{room_of}
 use Rattle.opening_journal.specs.Loading.{entries_of}
-use Rattle.slot_cache.specs.Cache.{state_of}
-use Rattle.slot_cache.specs.State.{slot_in}
+use Rattle.slot_file.specs.Cache.{state_of}
+use Rattle.slot_file.specs.State.{slot_in}
 use Rattle.opening_journal.proofs.listing.entries_of.Given as goal
 
 abbrev pub invariant-loop-leaf : goal.invariant-loop-leaf

@@ -1,10 +1,10 @@
 use Rattle.std.proofs.Common.{[], Ok, refl}
-use Rattle.leased_session.specs.Signing.{Signature}
+use Rattle.aggregator_session.specs.Signing.{Signature}
 use Rattle.tool_base.proofs.Nets.{net_none}
 use Rattle.tool_base.proofs.Runs.{calm_none, onward_none, onward_on, part_of}
 use Rattle.tool_base.specs.Endings.{ending}
-use Rattle.tool_disks.proofs.Outs.{keeps_calm}
-use Rattle.tool_signing.specs.Ports.{NetRun, over_net}
+use Rattle.tool_base.proofs.Outs.{keeps_calm}
+use Rattle.tool_sign.specs.Ports.{NetRun, over_net}
 use Rattle.tool_words.specs.Rows.{sign_words}
 use Rattle.tool_blame.proofs.Whole.{new_still, run_signed, run_unsigned, signed_beside}
 use Rattle.tool_blame.specs.Blame.{not_new}

@@ -1,6 +1,6 @@
 use Rattle.std.proofs.Common.{[], Option, Result, drop, refl, sym, ◌∙◌, subst}
-use Rattle.aggregator_node.specs.Runs.{CellsRead}
-use Rattle.leased_session.specs.Signing.{Signature}
+use Rattle.aggregator_session.specs.Runs.{CellsRead}
+use Rattle.aggregator_session.specs.Signing.{Signature}
 use Rattle.session_core.specs.State.{State}
 use Rattle.share_blame.specs.Commits.{pages_of}
 use Rattle.stream_io.specs.Store.{pages_state}
@@ -8,12 +8,12 @@ use Rattle.tool_base.proofs.Runs.{calm_none, calm_on, onward_none, onward_on, pa
 use Rattle.tool_base.specs.Ending.{Ending}
 use Rattle.tool_base.specs.World.{from_to}
 use Rattle.tool_desk.specs.Files.{reference_name}
-use Rattle.tool_disks.proofs.Outs.{keeps_calm}
-use Rattle.tool_signing.proofs.Whole.{is_task, keeps_on}
-use Rattle.tool_signing.specs.Ports.{NetRun, Signing, is_exact, over_net}
-use Rattle.tool_signing.specs.Sessions.{answer_by}
-use Rattle.tool_signing.specs.Sign.{session_words}
-use Rattle.tool_signing.specs.Tasks.{HasFiles, desk_of, message_in}
+use Rattle.tool_base.proofs.Outs.{keeps_calm}
+use Rattle.tool_sign.proofs.Whole.{is_task, keeps_on}
+use Rattle.tool_sign.specs.Ports.{NetRun, Signing, is_exact, over_net}
+use Rattle.tool_sign.specs.Sessions.{answer_by}
+use Rattle.tool_sign.specs.Sign.{session_words}
+use Rattle.tool_sign.specs.Tasks.{HasFiles, desk_of, message_in}
 use Rattle.tool_words.specs.Rows.{sign_words}
 use Rattle.hss_levels.proofs.Sets.{same-set}
 use Rattle.tool_blame.proofs.Lasts.{begun_if, session_fits, session_whole}

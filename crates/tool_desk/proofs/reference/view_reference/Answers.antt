@@ -3,7 +3,7 @@ use Rattle.std.proofs.lemmas.Result.{err_from_is_err_and}
 use Rattle.stream_io.specs.Store.{pages_state}
 use Rattle.tool_desk.specs.Files.{reference_name}
 use Rattle.tool_desk.specs.Reference.{no_memory, no_view}
-use Rattle.tool_desk.proofs.Views.{fails_part, head_refused}
+use Rattle.tool_desk.proofs.Viewing.{fails_part, head_refused}
 use Rattle.tool_desk.proofs.reference.view_reference.Goals as goal
 
 pub returns-in_err-name-clause-refused : goal.returns-in_err-name-clause-refused

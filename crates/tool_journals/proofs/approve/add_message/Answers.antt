@@ -1,7 +1,7 @@
 use Rattle.std.proofs.Common.{◌≡◌, IsTrue, subst, ◌∙◌}
 use Rattle.approval_book.specs.Book.{disk_of, state_of}
 use Rattle.lms_bytes.specs.MessageId.{message_id_bytes}
-use Rattle.slot_cache.specs.State.{StandsFor}
+use Rattle.slot_file.specs.State.{StandsFor}
 use Rattle.slot_file.specs.declared.header.Header.{Header}
 use Rattle.tool_base.specs.Endings.{ending}
 use Rattle.tool_journals.specs.Adding.{DiskFails, Stands, disk_run}

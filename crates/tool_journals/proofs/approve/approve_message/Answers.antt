@@ -6,13 +6,13 @@ use Rattle.tool_base.specs.Endings.{ending}
 use Rattle.tool_base.specs.World.{IsCalm, from_to}
 use Rattle.tool_base.proofs.Runs.{calm_none, calm_on, onward_none, onward_on, part_of}
 use Rattle.tool_journals.specs.Adding.{AddEnds, DiskFails, disk_run}
-use Rattle.tool_disks.specs.Headers.{book_header}
+use Rattle.tool_base.specs.Headers.{book_header}
 use Rattle.tool_journals.specs.Approve.{ApproveEnds, IsBookDisk, IsNotOpened, no_book, no_message, no_share}
-use Rattle.tool_disks.specs.Disks.{DeviceFails}
-use Rattle.tool_disks.specs.Disks.{IsOut}
-use Rattle.tool_disks.proofs.Outs.{IsBackAs}
+use Rattle.tool_base.specs.Disks.{DeviceFails}
+use Rattle.tool_base.specs.Disks.{IsOut}
+use Rattle.tool_base.proofs.Outs.{IsBackAs}
 use Rattle.tool_journals.proofs.Approving.{book_ends, book_out}
-use Rattle.tool_disks.proofs.Outs.{back_as, ends_calm, ends_map, out_calm, out_here, out_same}
+use Rattle.tool_base.proofs.Outs.{back_as, ends_calm, ends_map, out_calm, out_here, out_same}
 use Rattle.tool_journals.proofs.Sharing.{share_fails}
 use Rattle.tool_journals.proofs.approve.approve_message.Goals as goal
 

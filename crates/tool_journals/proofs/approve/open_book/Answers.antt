@@ -10,8 +10,8 @@ use Rattle.tool_journals.specs.Approve.{IsBookDisk, IsNotOpened, is_new, look_fa
 use Rattle.tool_journals.specs.Blanks.{IsBlankDisk, IsNotMade}
 use Rattle.tool_journals.specs.Taking.{no_memory_to_take, take_failed}
 use Rattle.tool_journals.proofs.Blanks.{new_calm}
-use Rattle.tool_disks.proofs.Outs.{ends_calm, ends_map, taken_out}
-use Rattle.tool_disks.proofs.Takes.{taken_calm}
+use Rattle.tool_base.proofs.Outs.{ends_calm, ends_map, taken_out}
+use Rattle.tool_base.proofs.Takes.{taken_calm}
 use Rattle.tool_journals.proofs.Approving.{blank_calm, if_err_map, if_ok_map}
 use Rattle.tool_journals.proofs.approve.open_book.Goals as goal
 

@@ -7,9 +7,9 @@ use Rattle.tool_base.specs.World.{from_to, IsCalm}
 use Rattle.tool_base.proofs.Runs.{calm_on, onward_none, part_of}
 use Rattle.tool_base.proofs.Writing.{not_new_part}
 use Rattle.tool_journals.specs.Blanks.{IsNeverHalf, IsNotMade, not_new}
-use Rattle.tool_disks.specs.Disks.{IsOut}
+use Rattle.tool_base.specs.Disks.{IsOut}
 use Rattle.tool_journals.proofs.Blanks.{made_out, new_calm, not_made_of, not_new_of, owners_on}
-use Rattle.tool_disks.proofs.Outs.{IsBackAs, back_as, ends_calm, out_calm, out_same}
+use Rattle.tool_base.proofs.Outs.{IsBackAs, back_as, ends_calm, out_calm, out_same}
 use Rattle.tool_journals.proofs.blank.new_blank.Goals as goal
 
 pub returns-in-Err-clause-refused : goal.returns-in-Err-clause-refused

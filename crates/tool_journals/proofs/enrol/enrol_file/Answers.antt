@@ -6,7 +6,7 @@ use Rattle.tool_base.proofs.Runs.{calm_none, onward_none, onward_on, part_of}
 use Rattle.tool_journals.specs.Blanks.{IsNotMade}
 use Rattle.tool_journals.specs.Enrol.{EnrolEnds, enrolled, not_made, not_read}
 use Rattle.tool_journals.proofs.Blanks.{made_of}
-use Rattle.tool_disks.proofs.Outs.{IsBackAs, back_as, ends_calm, ends_map, out_calm}
+use Rattle.tool_base.proofs.Outs.{IsBackAs, back_as, ends_calm, ends_map, out_calm}
 use Rattle.tool_journals.proofs.enrol.enrol_file.Goals as goal
 
 pub returns-in-Err : goal.returns-in-Err

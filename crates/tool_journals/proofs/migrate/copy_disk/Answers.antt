@@ -3,10 +3,10 @@ use Rattle.slot_file.specs.Slots.{faults_of, file_of}
 use Rattle.tool_base.specs.Endings.{ending}
 use Rattle.tool_base.specs.World.{from_to}
 use Rattle.tool_base.proofs.Runs.{calm_none}
-use Rattle.tool_disks.specs.Disks.{OneFails}
+use Rattle.tool_base.specs.Disks.{OneFails}
 use Rattle.tool_journals.specs.Migrate.{CopyEnds, old_header, slot_count}
 use Rattle.tool_journals.proofs.Copying.{copy_later, later_none, load_fails, load_is}
-use Rattle.tool_disks.proofs.Outs.{ends_calm, ends_map}
+use Rattle.tool_base.proofs.Outs.{ends_calm, ends_map}
 use Rattle.tool_journals.proofs.migrate.copy_disk.Goals as goal
 
 pub returns-in-Ok-clause-ended : goal.returns-in-Ok-clause-ended

@@ -8,12 +8,12 @@ use Rattle.stream_io.specs.Store.{Handed, pages_state}
 use Rattle.tool_base.specs.Endings.{ending}
 use Rattle.tool_base.specs.World.{from_to, IsCalm}
 use Rattle.tool_journals.specs.Blanks.{IsNeverHalf, IsOwners}
-use Rattle.tool_disks.specs.Disks.{IsOut, OneFails}
+use Rattle.tool_base.specs.Disks.{IsOut, OneFails}
 use Rattle.tool_journals.specs.Migrate.{CopyEnds, IsCopied, migrated, not_made, slot_count}
 use Rattle.tool_base.proofs.Runs.{onward_none}
 use Rattle.tool_journals.proofs.Blanks.{made_out, owners_on}
 use Rattle.tool_journals.proofs.Copying.{copy_fails, copy_is, damaged_is, not_written_of, taken_is}
-use Rattle.tool_disks.proofs.Outs.{IsBackAs, back_as, ends_calm, out_same}
+use Rattle.tool_base.proofs.Outs.{IsBackAs, back_as, ends_calm, out_same}
 use Rattle.tool_journals.proofs.migrate.copy_journal.Goals as goal
 use Rattle.trustee_core.specs.Trustee.{journal_header}
 

@@ -4,12 +4,12 @@ use Rattle.tool_base.specs.Endings.{ending}
 use Rattle.tool_base.specs.Outputs.{IsNew}
 use Rattle.tool_base.specs.World.{IsCalm, from_to}
 use Rattle.tool_base.proofs.Runs.{calm_none, calm_on, onward_none, onward_on, part_of}
-use Rattle.tool_disks.specs.Disks.{DeviceFails}
-use Rattle.tool_disks.specs.Disks.{IsOut, OneFails}
+use Rattle.tool_base.specs.Disks.{DeviceFails}
+use Rattle.tool_base.specs.Disks.{IsOut, OneFails}
 use Rattle.tool_journals.specs.Migrate.{MigrateEnds, StandsStill, no_share, not_new, not_taken, taken}
 use Rattle.tool_journals.specs.Taking.{no_memory_to_take, take_failed}
 use Rattle.tool_journals.proofs.Copying.{Later, copy_later}
-use Rattle.tool_disks.proofs.Outs.{Round, ends_calm, new_beside, new_differs, out_calm, out_same, round, taken_out}
+use Rattle.tool_base.proofs.Outs.{Round, ends_calm, new_beside, new_differs, out_calm, out_same, round, taken_out}
 use Rattle.tool_journals.proofs.Sharing.{share_fails}
 use Rattle.tool_journals.proofs.migrate.migrate_journal.Goals as goal
 

@@ -1,8 +1,8 @@
 use Rattle.tool_base.proofs.Runs.{calm_none, onward_on}
 use Rattle.tool_levels.proofs.Whole.{new_behind, run_signed, run_unsigned, top_accepts}
 use Rattle.tool_levels.specs.Lower.{lower_of}
-use Rattle.tool_signing.specs.Ports.{NetRun, over_net}
-use Rattle.tool_signing.specs.Sessions.{signature_by}
+use Rattle.tool_sign.specs.Ports.{NetRun, over_net}
+use Rattle.tool_sign.specs.Sessions.{signature_by}
 use Rattle.tool_words.specs.Rows.{hss_sign_words}
 use Rattle.tool_levels.proofs.command.hss_sign.Goals as goal
 

@@ -3,10 +3,10 @@ use Rattle.lms_bytes.specs.PublicKey.{public_bytes}
 use Rattle.tool_base.specs.Grammars.{not_read}
 use Rattle.tool_base.specs.Reads.{no_memory}
 use Rattle.tool_desk.specs.Files.{no_key}
-use Rattle.tool_disks.proofs.Outs.{keeps_calm}
+use Rattle.tool_base.proofs.Outs.{keeps_calm}
 use Rattle.tool_levels.specs.HssSign.{session_words}
-use Rattle.tool_signing.proofs.Whole.{unbegun}
-use Rattle.tool_signing.specs.Tasks.{message_of, no_key_files}
+use Rattle.tool_sign.proofs.Whole.{unbegun}
+use Rattle.tool_sign.specs.Tasks.{message_of, no_key_files}
 use Rattle.tool_words.specs.Rows.{hss_sign_words}
 use Rattle.tool_levels.proofs.command.sign_lower.Goals as goal
 

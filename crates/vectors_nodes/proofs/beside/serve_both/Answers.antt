@@ -1,5 +1,5 @@
 use denote.Param.Send.{sendable}
-use Rattle.waiting_io.proofs.Crosses.{waiting_port_send}
+use Rattle.stream_memory.proofs.Crosses.{waiting_port_send}
 use Rattle.vectors_nodes.proofs.beside.serve_both.Goals as goal
 
 pub serve_ports-served-requires-send-P : goal.serve_ports-served-requires-send-P

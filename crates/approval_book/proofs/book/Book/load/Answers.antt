@@ -1,5 +1,5 @@
 use Rattle.std.proofs.Common.{◌∙◌, ℕ, ap, sym}
-use Rattle.slot_cache.specs.Loading.{no_memory}
+use Rattle.slot_file.specs.Loading.{no_memory}
 use Rattle.slot_file.specs.Layout.{load_fault}
 use Rattle.approval_book.proofs.book.Book.load.Goals as goal
 

@@ -1,7 +1,7 @@
 use Rattle.std.proofs.Common.{◌≡◌, ◌∙◌, ◌+◌, Bool, nat_eq, ap, sym, arith, ◌||◌}
 use Rattle.approval_book.specs.Listed.{full, device, new}
 use Rattle.approval_book.proofs.Listings.{free-in, is_listed-put, no_doubt, settled-is, taken_count-less, taken_count-put}
-use Rattle.slot_cache.specs.State.{CacheState}
+use Rattle.slot_file.specs.State.{CacheState}
 use Rattle.slot_file.specs.Copies.{taken_count}
 use Rattle.std.specs.Cmp.Lexicographic.{pointwise}
 use Rattle.approval_book.proofs.book.Book.put.Goals as goal

@@ -1,6 +1,6 @@
 use Rattle.std.proofs.Common.{subst}
 use Rattle.leaf_table.specs.Index.{WasIndex}
-use Rattle.slot_cache.specs.Cache.{state_of}
+use Rattle.slot_file.specs.Cache.{state_of}
 use Rattle.slot_file.specs.declared.slot.Slot.{Slot}
 use Rattle.slot_file.specs.declared.slot.Slot.TheVariants.{Half}
 use Rattle.leaf_table.proofs.index.LeaseIndex.enter.Goals as goal

@@ -5,7 +5,7 @@ use Rattle.leaf_table.specs.Entries.{IsFree}
 use Rattle.leaf_table.specs.Index.{IsFound, IsPassed}
 use Rattle.leaf_table.proofs.Indexing.{half≢free}
 use Rattle.leaf_table.proofs.Walking.{free-at, other-leaf, passes-taken, same-leaf, stays-found}
-use Rattle.slot_cache.specs.Cache.{state_of}
+use Rattle.slot_file.specs.Cache.{state_of}
 use Rattle.slot_file.specs.declared.slot.Slot.{Slot}
 use Rattle.slot_file.specs.declared.slot.Slot.TheVariants.{Half}
 use Rattle.leaf_table.proofs.index.LeaseIndex.free_after.Goals as goal

@@ -6,8 +6,8 @@ use Rattle.leaf_table.specs.Leasing as leasing
 use Rattle.leaf_table.specs.Table.{state_of}
 use Rattle.leaf_table.proofs.Events.{burns-made, burns-unsettled, was-leased}
 use Rattle.leaf_table.proofs.Found.{burnt-of, half-of}
-use Rattle.slot_cache.specs.Cache.{state_of as cache_state}
-use Rattle.slot_cache.specs.State.{slot_in}
+use Rattle.slot_file.specs.Cache.{state_of as cache_state}
+use Rattle.slot_file.specs.State.{slot_in}
 use Rattle.leaf_table.proofs.table.Table.burn.Goals as goal
 
 pub returns-in-Err-clause-event : goal.returns-in-Err-clause-event

@@ -3,7 +3,7 @@ use Rattle.leaf_table.specs.Entries.{IsLeased}
 use Rattle.leaf_table.specs.Index.{IsFound}
 use Rattle.leaf_table.specs.Table.{plan_of}
 use Rattle.leaf_table.proofs.Events.{found-least-of, found-none-of}
-use Rattle.slot_cache.specs.Cache.{state_of as cache_state}
+use Rattle.slot_file.specs.Cache.{state_of as cache_state}
 use Rattle.leaf_table.proofs.table.Table.leased_leaf.Goals as goal
 
 pub returns-clause-least : goal.returns-clause-least

@@ -1,7 +1,7 @@
 use Rattle.std.proofs.Common.{◌≡◌, ◌^◌, ◌<◌, ℕ, length, sym, ◌∙◌, ap, arith}
 use Rattle.std.proofs.lemmas.Nat.{one_shl}
-use Rattle.slot_cache.specs.Loading.{no_memory}
-use Rattle.slot_cache.specs.Cache.{state_of}
+use Rattle.slot_file.specs.Loading.{no_memory}
+use Rattle.slot_file.specs.Cache.{state_of}
 use Rattle.slot_file.specs.Layout.{load_fault}
 use Rattle.leaf_table.proofs.table.Table.load.Goals as goal
 

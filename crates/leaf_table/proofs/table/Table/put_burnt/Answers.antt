@@ -7,8 +7,8 @@ use Rattle.leaf_table.specs.declared.lease.Lease.TheVariants.{Burnt}
 use Rattle.leaf_table.specs.Index.{IsIndex}
 use Rattle.leaf_table.proofs.Found.{leased-use}
 use Rattle.leaf_table.proofs.Sound.{room-put, sound-doubt, sound-made}
-use Rattle.slot_cache.specs.Cache.{state_of}
-use Rattle.slot_cache.specs.State.{CacheState, slot_in}
+use Rattle.slot_file.specs.Cache.{state_of}
+use Rattle.slot_file.specs.State.{CacheState, slot_in}
 use Rattle.slot_file.specs.Files.{with_b}
 use Rattle.slot_file.specs.declared.slot.Slot.{Slot}
 use Rattle.slot_file.specs.declared.slot.Slot.TheVariants.{Full, Half}

@@ -11,8 +11,8 @@ use Rattle.leaf_table.specs.Index.{IsIndex}
 use Rattle.leaf_table.proofs.Found.{free-use}
 use Rattle.leaf_table.proofs.Maps.{map_of-same}
 use Rattle.leaf_table.proofs.Sound.{room-put, sound-doubt, sound-made}
-use Rattle.slot_cache.specs.Cache.{state_of}
-use Rattle.slot_cache.specs.State.{CacheState, slot_in}
+use Rattle.slot_file.specs.Cache.{state_of}
+use Rattle.slot_file.specs.State.{CacheState, slot_in}
 use Rattle.slot_file.specs.declared.slot.Slot.{Slot}
 use Rattle.slot_file.specs.declared.slot.Slot.TheVariants.{Half}
 use Rattle.leaf_table.proofs.table.Table.put_lease.Goals as goal

@@ -4,11 +4,11 @@ use Rattle.slot_file.specs.declared.slot.Slot.{Slot}
 use Rattle.leaf_table.specs.State.{IsSound, lease_of, state_with, with_lease}
 use Rattle.leaf_table.specs.declared.lease.Lease.{Lease}
 use Rattle.leaf_table.proofs.Sound.{room-put, sound-with_made}
-use Rattle.slot_cache.specs.Cache.{header_of, state_of}
-use Rattle.slot_cache.specs.Calls.{Settles}
-use Rattle.slot_cache.specs.State.{CacheState, settled_with, with_made}
-use Rattle.slot_cache.specs.declared.doubted.Doubted.{Doubted}
-use Rattle.slot_cache.specs.declared.faults.Settled.{Settled}
+use Rattle.slot_file.specs.Cache.{header_of, state_of}
+use Rattle.slot_file.specs.Calls.{Settles}
+use Rattle.slot_file.specs.State.{CacheState, settled_with, with_made}
+use Rattle.slot_file.specs.declared.doubted.Doubted.{Doubted}
+use Rattle.slot_file.specs.declared.faults.Settled.{Settled}
 use Rattle.leaf_table.proofs.table.Table.settle_entry.Goals as goal
 
 only-some : {A : Type 0} {x y : A} → ◌≡◌ {A = Option A} (Some x) (Some y) → x ≡ y

@@ -6,7 +6,7 @@ use Rattle.opening_journal.specs.Entries.{LeafState, state_of_slot}
 use Rattle.opening_journal.specs.Journal.{state_of}
 use Rattle.opening_journal.specs.declared.faults.Entered.{Entered}
 use Rattle.opening_journal.specs.declared.faults.Entered.TheVariants.{New, Old}
-use Rattle.slot_cache.specs.Cache.{state_of as cache_state}
+use Rattle.slot_file.specs.Cache.{state_of as cache_state}
 use Rattle.opening_journal.proofs.journal.Journal.bind.Goals as goal
 
 pub returns-in-Err-clause-event : goal.returns-in-Err-clause-event

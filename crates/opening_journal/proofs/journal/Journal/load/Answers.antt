@@ -3,8 +3,8 @@ use Rattle.opening_journal.specs.Loading.{IsJournalFile, LoadRefused, entries_of
 use Rattle.opening_journal.specs.Opening.{settled_with}
 use Rattle.opening_journal.proofs.Held.{has-loads}
 use Rattle.opening_journal.proofs.Listed.{entries-same, refused-load}
-use Rattle.slot_cache.specs.Cache.{state_of}
-use Rattle.slot_cache.specs.State.{slot_in}
+use Rattle.slot_file.specs.Cache.{state_of}
+use Rattle.slot_file.specs.State.{slot_in}
 use Rattle.slot_file.specs.Layout.{load_fault, slot_at}
 use Rattle.opening_journal.proofs.journal.Journal.load.Goals as goal
 

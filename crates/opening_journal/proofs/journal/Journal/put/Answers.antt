@@ -3,8 +3,8 @@ use Rattle.opening_journal.specs.Entries.{leaf_of}
 use Rattle.opening_journal.specs.EntrySlots.{room_in, slot_with}
 use Rattle.opening_journal.specs.Inside.{IsHeld}
 use Rattle.opening_journal.specs.declared.entry.Entry.{Entry}
-use Rattle.slot_cache.specs.Cache.{state_of}
-use Rattle.slot_cache.specs.State.{CacheState, settled_with}
+use Rattle.slot_file.specs.Cache.{state_of}
+use Rattle.slot_file.specs.State.{CacheState, settled_with}
 use Rattle.opening_journal.proofs.Holding.{held-doubt, held-made, most, put_of, room-made, slot-after}
 use Rattle.opening_journal.proofs.journal.Journal.put.Goals as goal
 

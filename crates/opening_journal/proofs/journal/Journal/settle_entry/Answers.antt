@@ -2,13 +2,13 @@ use Rattle.std.proofs.Common.{◌≡◌, ◌∷◌, [], List, None, Ok, length, 
 use Rattle.opening_journal.specs.EntrySlots.{room_in}
 use Rattle.opening_journal.specs.Inside.{IsHeld}
 use Rattle.opening_journal.specs.declared.entry.Entry.{Entry}
-use Rattle.slot_cache.specs.Cache.{header_of, state_of}
-use Rattle.slot_cache.specs.State.{CacheState, settled_with, with_made}
-use Rattle.slot_cache.specs.Calls.{Settles}
-use Rattle.slot_cache.specs.declared.doubted.Doubted.{Doubted}
-use Rattle.slot_cache.specs.declared.faults.Settled.{Settled}
-use Rattle.slot_cache.specs.declared.faults.Settled.TheVariants.{Made}
-use Rattle.slot_cache.proofs.Held.{holds}
+use Rattle.slot_file.specs.Cache.{header_of, state_of}
+use Rattle.slot_file.specs.State.{CacheState, settled_with, with_made}
+use Rattle.slot_file.specs.Calls.{Settles}
+use Rattle.slot_file.specs.declared.doubted.Doubted.{Doubted}
+use Rattle.slot_file.specs.declared.faults.Settled.{Settled}
+use Rattle.slot_file.specs.declared.faults.Settled.TheVariants.{Made}
+use Rattle.slot_file.proofs.Held.{holds}
 use Rattle.opening_journal.proofs.Holding.{held-made, put-is, put_of, room-made}
 use Rattle.opening_journal.proofs.journal.Journal.settle_entry.Goals as goal
 

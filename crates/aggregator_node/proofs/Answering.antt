@@ -1,0 +1,117 @@
+-- One request of a client, read, signed and answered.
+use Rattle.std.proofs.Common.{◌≡◌, ◌≢◌, ◌++◌, ℕ, List, [], ◌∷◌, length, Option, Some, Result, Ok, Err, IfOk, MatchResult, IsTrue, sym, ap, ◌∙◌}
+use Rattle.aggregator_session.specs.Tasks as tasks
+use Rattle.aggregator_session.specs.declared.fault.SignFault.{SignFault}
+use Rattle.aggregator_session.specs.declared.fault.SignFault.TheVariants as sign
+use Rattle.aggregator_node.specs.Clients.{Answers, Exchange, IsExact, IsSigned, NoRoom, ReferenceState, Request, SameReference, Stand, answered, end_after, no_request, no_room, no_room_unanswered, reply_frame, unanswered}
+use Rattle.disk_trait.specs.Faults.{HasCause, Rose}
+use Rattle.disk_trait.specs.declared.faults.Faults as faults
+use Rattle.reference_value.specs.Stay.{CellsStay}
+use Rattle.reference_value.specs.declared.cells.Cells as cells
+use Rattle.aggregator_session.specs.Causes.{PortCauses}
+use Rattle.aggregator_session.specs.Signing.{DeskState, Signature, signature_in}
+use Rattle.aggregator_session.specs.declared.sign.Signed.{Signed}
+use Rattle.lms_bytes.specs.declared.public_key.PublicKey.{PublicKey}
+use Rattle.lms_verify.specs.Accepts.{AcceptsAt}
+use Rattle.session_core.specs.declared.faults.SessionFault.TheVariants.{Reference}
+use Rattle.share_files.specs.Reference.{leaves_length}
+use Rattle.stream_io.specs.Net.{PortState}
+use Rattle.stream_io.specs.Talk.{OnlyWrote, Talk, WrotePart}
+use Rattle.stream_io.specs.declared.failed.Failed.{Failed}
+use Rattle.trustee_node.specs.declared.served.ServedEnd.{ServedEnd}
+use Rattle.trustee_node.specs.declared.served.ServedEnd.TheVariants.{WriteFailed}
+
+-- what is said of an answer is said of its signature
+pub accepted_as : (key : PublicKey) (message : List ℕ) (result : Result Signed SignFault) → IfOk result (λ signed. AcceptsAt key message signed.bytes.items signed.leaf)
+    → IfOk (signature_in result) (λ signature. AcceptsAt key message signature.bytes signature.leaf)
+accepted_as key message (Ok signed) accepted = accepted
+accepted_as key message (Err fault) accepted = accepted
+
+pub port_as : (before now : PortState) (result : Result Signed SignFault) → PortCauses before now result → PortCauses before now (signature_in result)
+port_as before now (Ok signed) p = record { dialled = p.dialled; unwritten = p.unwritten; unread = p.unread; reads = p.reads; onward = p.onward; accepting = p.accepting }
+port_as before now (Err fault) p = record { dialled = p.dialled; unwritten = p.unwritten; unread = p.unread; reads = p.reads; onward = p.onward; accepting = p.accepting }
+
+pub reference_as : (before now : ℕ) (result : Result Signed SignFault) → (result ≡ Err (sign.Session Reference) → Rose before now)
+    → signature_in result ≡ Err (sign.Session Reference) → Rose before now
+reference_as before now (Ok signed) rises is = absurd (cc)
+reference_as before now (Err fault) rises is = let same : fault ≡ sign.Session Reference = cc in rises (ap Err same)
+
+pub never_as : (result : Result Signed SignFault) → result ≢ Err (sign.Session Reference) → signature_in result ≢ Err (sign.Session Reference)
+never_as (Ok signed) never is = absurd (cc)
+never_as (Err fault) never is = let same : fault ≡ sign.Session Reference = cc in never (ap Err same)
+
+-- how many replies were written, and the end, by whether the answer was
+abbrev pub Answered : Result (Unit {0}) Failed → Result Signature SignFault → ℕ → Option ServedEnd → Type 0
+Answered written outcome replies ended =
+    MatchResult written (λ _. (replies ≡ 1) × (ended ≡ end_after outcome)) (λ _. (replies ≡ 0) × (ended ≡ Some WriteFailed))
+
+abbrev pub Wrote : Talk → Talk → List ℕ → Result (Unit {0}) Failed → Type 0
+Wrote old new bytes written = IsTrue old.told → MatchResult written (λ _. new.written ≡ old.written ++ bytes) (λ _. WrotePart old new bytes)
+
+module _ (desk : DeskState) (reference : ReferenceState) (old : Stand) where
+  pub exchange_answered : (mid : Stand) (talk : Talk) (request : Request) (written : Result (Unit {0}) Failed) (replies : ℕ) (ended : Option ServedEnd)
+      → Exchange desk reference old mid request → Wrote mid.talk talk (reply_frame request.outcome) written → OnlyWrote mid.talk talk → HasCause mid.talk.count talk.count written
+      → Answered written request.outcome replies ended → Answers desk reference old (request ∷ []) replies ended (record mid { talk = talk })
+  exchange_answered mid talk request (Ok done) replies ended exchange wrote only cause is =
+      rw (is.0, is.1) (answered mid talk request exchange (record { wrote = wrote; only = only; count = cause.succeeded }))
+  exchange_answered mid talk request (Err failed) replies ended exchange wrote only cause is =
+      rw (is.0, is.1) (unanswered mid talk request exchange (record { wrote = wrote; only = only; rose = cause.failed }))
+
+  pub room_answered : (mid talk : Talk) (written : Result (Unit {0}) Failed) (replies : ℕ) (ended : Option ServedEnd)
+      → NoRoom old.talk mid → Wrote mid talk (reply_frame (Err sign.NoMemory)) written → OnlyWrote mid talk → HasCause mid.count talk.count written
+      → Answered written (Err sign.NoMemory) replies ended → Answers desk reference old [] replies ended (record old { talk = talk })
+  room_answered mid talk (Ok done) replies ended room wrote only cause is =
+      rw (is.0, is.1) (no_room mid talk room (record { wrote = wrote; only = only; count = cause.succeeded }))
+  room_answered mid talk (Err failed) replies ended room wrote only cause is =
+      rw (is.0, is.1) (no_room_unanswered mid talk room (record { wrote = wrote; only = only; rose = cause.failed }))
+
+exact_then : (desk : DeskState) (old new : ReferenceState) → SameReference old new → IsExact desk old → IsExact desk new
+exact_then desk old new same is = record {
+  steady = rw same.steady is.steady;
+  told = rw same.told is.told;
+  whole = ap length (same.leaves is.told) ∙ is.whole;
+}
+
+-- what is said of the reference later is said of it as it was
+signed_told : (desk : DeskState) (before reference : ReferenceState) (old new : Stand) (request : Request)
+    → SameReference before reference → IsSigned desk reference old new request → IsSigned desk before old new request
+signed_told desk before reference old new request same s = record {
+  read = s.read;
+  read_is = λ is. s.read_is (rw same.told is) ∙ same.leaves is;
+  signs = rw same.told at s.signs;
+  shows = s.shows;
+  own = s.own;
+  accepted = s.accepted;
+  port = s.port;
+  rises = s.rises;
+  succeeds = λ is. s.succeeds (exact_then desk before reference same is);
+}
+
+exchange_told : (desk : DeskState) (before reference : ReferenceState) (old new : Stand) (request : Request)
+    → SameReference before reference → Exchange desk reference old new request → Exchange desk before old new request
+exchange_told desk before reference old new request same e = record {
+  read = e.read;
+  signed = signed_told desk before reference old new request same e.signed;
+}
+
+pub answers_told : (desk : DeskState) (before reference : ReferenceState) (old new : Stand) (requests : List Request) (replies : ℕ) (ended : Option ServedEnd)
+    → SameReference before reference → Answers desk reference old requests replies ended new → Answers desk before old requests replies ended new
+answers_told desk before reference old _ _ replies ended same (no_request talk fault other none) = no_request talk fault other none
+answers_told desk before reference old _ _ replies ended same (no_room mid talk room replied) = no_room mid talk room replied
+answers_told desk before reference old _ _ replies ended same (no_room_unanswered mid talk room failed) = no_room_unanswered mid talk room failed
+answers_told desk before reference old _ _ replies ended same (answered mid talk request exchange replied) =
+    answered mid talk request (exchange_told desk before reference old mid request same exchange) replied
+answers_told desk before reference old _ _ replies ended same (unanswered mid talk request exchange failed) =
+    unanswered mid talk request (exchange_told desk before reference old mid request same exchange) failed
+
+module _ {C : Type 0} (c : cells.Ghosts C) (f : faults.Ghosts C) where
+  -- what cells are as a reference
+  abbrev pub reference_of : C → ReferenceState
+  reference_of r = record { told = c.told r; steady = f.steady r; leaves = c.leaves r }
+
+  pub same_cells : (old new : C) → CellsStay c f old new → SameReference (reference_of old) (reference_of new)
+  same_cells old new stays = record { told = stays.told; steady = stays.steady; leaves = stays.leaves }
+
+  -- a reference that gives what it has is made of cells that do
+  pub exact_cells : (desk : DeskState) (r : C) → c.set r ≡ desk.key.params → c.plan r ≡ desk.plan → IsExact desk (reference_of r) → tasks.IsExact c f r
+  exact_cells desk r set plan is = record { steady = is.steady; told = is.told; whole = is.whole ∙ (λ i. leaves_length (sym set i) (sym plan i)) }

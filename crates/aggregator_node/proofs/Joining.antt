@@ -1,0 +1,68 @@
+-- Workers of which some are joined.
+use Rattle.std.proofs.Common.{◌≡◌, ℕ, List, [], ◌∷◌, ◌++◌, sym, ap, ◌∙◌, subst, append_assoc, append-nil}
+use Rattle.aggregator_node.specs.Gathered.{AreDone, Gathered, IsDone}
+use Rattle.aggregator_node.specs.Ports.{Place}
+use Rattle.aggregator_node.specs.Workers.{WorkerState}
+use Rattle.aggregator_node.proofs.Gathering.{gathered-one}
+use Rattle.aggregator_node.proofs.Standing.{no-places, split}
+use Rattle.leaf_table.specs.declared.lease.Lease.{Lease}
+use Rattle.leaf_table.specs.declared.table.TableName.{TableName}
+use Rattle.aggregator_session.specs.Signing.{DeskState}
+use Rattle.trustee_node.specs.declared.totals.Totals.{Totals}
+use Rattle.turn_lock.specs.Lock.{Lock}
+use Rattle.turn_lock.specs.Pass.{Seen, first_pass}
+
+module _ {W : Type 0} (state : W → WorkerState) (desk : DeskState) (asked : ℕ) (lock : Lock Lease TableName) where
+  abbrev IsSo : Place → W → Type 0
+  IsSo place worker = IsDone desk asked (first_pass lock) place (state worker)
+
+  -- the place of a worker
+  abbrev pub place-after : W → Place
+  place-after worker = record { port = (state worker).post.port; reference = (state worker).reference; faults = (state worker).post.faults }
+
+  -- the first places are joined, and the workers of the others are left
+  pub record InHand (olds : List Place) (workers : List W) (pass : Seen Lease TableName) (news : List Place) (totals : Totals) : Type 0 where
+    pub taken : List Place
+    pub others : List Place
+    pub places_are : olds ≡ taken ++ others
+    pub left : AreDone state desk asked (first_pass lock) others workers
+    pub gathered : Gathered desk asked lock pass taken news totals
+
+  -- the first of them
+  pub hand-one : (olds : List Place) (all workers : List W) (worker : W) (pass : Seen Lease TableName) (news : List Place) (totals : Totals)
+      → AreDone state desk asked (first_pass lock) olds all → all ≡ workers ++ worker ∷ [] → pass ≡ (state worker).post.pass → news ≡ place-after worker ∷ []
+      → totals.connections ≡ (state worker).connections → totals.frames ≡ (state worker).frames → InHand olds workers pass news totals
+  hand-one olds all workers worker pass news totals done is pass_is news_are connections frames =
+      let s = split IsSo olds all workers worker done is in
+      let one = gathered-one desk asked lock s.place (state worker) totals s.is connections frames in
+      record {
+        taken = s.place ∷ [];
+        others = s.other_places;
+        places_are = s.places_are;
+        left = s.others;
+        gathered = subst (λ (p : Seen Lease TableName). Gathered desk asked lock p (s.place ∷ []) news totals) (sym pass_is)
+            (subst (λ (l : List Place). Gathered desk asked lock (state worker).post.pass (s.place ∷ []) l totals) (sym news_are) one);
+      }
+
+  -- one more
+  pub hand-more : (olds : List Place) (all workers : List W) (worker : W) (old new : Seen Lease TableName) (news nows : List Place) (totals sums : Totals)
+      → InHand olds all old news totals → all ≡ workers ++ worker ∷ []
+      → ((taken : List Place) (place : Place) → Gathered desk asked lock old taken news totals → IsSo place worker
+      → Gathered desk asked lock new (taken ++ place ∷ []) nows sums)
+      → InHand olds workers new nows sums
+  hand-more olds all workers worker old new news nows totals sums hand is more =
+      let s = split IsSo hand.others all workers worker hand.left is in
+      record {
+        taken = hand.taken ++ s.place ∷ [];
+        others = s.other_places;
+        places_are = hand.places_are ∙ ap (λ (l : List Place). hand.taken ++ l) s.places_are ∙ sym (append_assoc hand.taken (s.place ∷ []) s.other_places);
+        left = s.others;
+        gathered = more hand.taken s.place hand.gathered s.is;
+      }
+
+  -- all of them
+  pub hand-all : (olds : List Place) (workers : List W) (pass : Seen Lease TableName) (news : List Place) (totals : Totals)
+      → InHand olds workers pass news totals → workers ≡ [] → Gathered desk asked lock pass olds news totals
+  hand-all olds workers pass news totals hand none =
+      let places : hand.taken ≡ olds = sym (append-nil hand.taken) ∙ ap (λ (l : List Place). hand.taken ++ l) (sym (no-places IsSo hand.others workers hand.left none)) ∙ sym hand.places_are in
+      subst (λ (l : List Place). Gathered desk asked lock pass l news totals) places hand.gathered

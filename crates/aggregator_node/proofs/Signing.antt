@@ -1,0 +1,70 @@
+-- A message that is signed over a table under a lock.
+use Rattle.std.proofs.Common.{◌≡◌, ◌⊎◌, inl, inr, ◌≤◌, ◌<◌, ◌^◌, ℕ, List, length, IfErr, IfOk, Option, Result, Ok, Err, refl, rules, subst, sym}
+use Rattle.aggregator_session.specs.Runs.{CellsRead}
+use Rattle.aggregator_session.specs.declared.fault.SignFault.{SignFault}
+use Rattle.aggregator_session.specs.declared.fault.SignFault.TheVariants.{Table as TableFailed, Worn}
+use Rattle.aggregator_node.specs.Signing.{Burning, LeaseTurn, SignsInTurns, asked, leased, no_turn, not_leased}
+use Rattle.coalition_map.specs.Coalitions.{PlanNumbers}
+use Rattle.disk_trait.specs.declared.disk.Pages as pages
+use Rattle.disk_trait.specs.declared.faults.Faults as faults
+use Rattle.leaf_table.specs.Entries.{IsLeased, map_of}
+use Rattle.leaf_table.specs.Leasing.{Leases}
+use Rattle.leaf_table.specs.Table.{Enters, plan_of, state_of}
+use Rattle.leaf_table.specs.declared.faults.TableFault.{TableFault}
+use Rattle.leaf_table.specs.declared.lease.Lease.{Lease}
+use Rattle.leaf_table.specs.declared.table.Table.{Table}
+use Rattle.leaf_table.specs.declared.table.TableName.{TableName}
+use Rattle.aggregator_session.specs.Causes.{PortCauses, ReferenceCauses}
+use Rattle.aggregator_session.specs.Signing.{DeskState, RunsOn, Signature, signed_with, spent_by}
+use Rattle.aggregator_session.specs.Tables.{AsksLeaf, table_seen}
+use Rattle.aggregator_session.proofs.Signing.{entered-as}
+use Rattle.lms_bytes.specs.MessageId.{message_id, message_id_bytes}
+use Rattle.lms_bytes.specs.declared.message.MessageId.{MessageId}
+use Rattle.reference_value.specs.declared.cells.Cells as cells
+use Rattle.stream_io.specs.Net.{PortState}
+use Rattle.turn_lock.specs.Pass.{Seen}
+
+module _ {D : Type 0} {p : pages.Ghosts D} {f : faults.Ghosts D} {old new : Table D p f} where
+  pub asks : {members : List ℕ} {id : MessageId} {result : Result ℕ TableFault} → Leases (plan_of old) (state_of old) members id result (state_of new)
+      → IfOk result (λ leaf. leaf < 2 ^ (plan_of new).h) → IfOk result (λ leaf. map_of (state_of new).entries leaf ≡ IsLeased (message_id_bytes id)) → Enters old new result
+      → AsksLeaf (table_seen old) members id result (table_seen new)
+  asks {members} {id} {result} event within theirs enters = record {
+    event = event;
+    within = subst (λ (plan : PlanNumbers). IfOk result (λ leaf. leaf < 2 ^ plan.h)) enters.stays.plan within;
+    leased = theirs;
+    entered = entered-as enters;
+  }
+
+-- a turn for a lease fails by a worn pass or by the table
+turn-fault : (members : List ℕ) (message : MessageId) (old new : Seen Lease TableName) (result : Result ℕ SignFault) → LeaseTurn members message old new result
+    → IfErr result (λ fault. (fault ≡ Worn) ⊎ ((why : TableFault) × (fault ≡ TableFailed why)))
+turn-fault members message old new result (no_turn t) = inl refl
+turn-fault members message old new result (asked before after (Ok leaf) t a) = tt
+turn-fault members message old new result (asked before after (Err why) t a) = inr (why, refl)
+
+none-dialled : {V : Type 0} (state : PortState) (fault : SignFault) → (fault ≡ Worn) ⊎ ((why : TableFault) × (fault ≡ TableFailed why)) → PortCauses {V = V} state state (Err fault)
+none-dialled {V} state fault (inl is) = subst (λ (x : SignFault). PortCauses {V = V} state state (Err x)) (sym is) (search rules)
+none-dialled {V} state fault (inr is) = subst (λ (x : SignFault). PortCauses {V = V} state state (Err x)) (sym is.1) (search rules)
+
+none-read : {C V : Type 0} (c : cells.Ghosts C) (f : faults.Ghosts C) (old : C) (fault : SignFault) → (fault ≡ Worn) ⊎ ((why : TableFault) × (fault ≡ TableFailed why)) → ReferenceCauses {V = V} c f old old (Err fault)
+none-read {C} {V} c f old fault (inl is) = subst (λ (x : SignFault). ReferenceCauses {V = V} c f old old (Err x)) (sym is) (search rules)
+none-read {C} {V} c f old fault (inr is) = subst (λ (x : SignFault). ReferenceCauses {V = V} c f old old (Err x)) (sym is.1) (search rules)
+
+module _ {members : List ℕ} {message : MessageId} {old new : Seen Lease TableName} {fault : SignFault} where
+  pub port-of : {V : Type 0} (state : PortState) → LeaseTurn members message old new (Err fault) → PortCauses {V = V} state state (Err fault)
+  port-of state turn = none-dialled state fault (turn-fault members message old new (Err fault) turn)
+
+  pub cells-of : {C V : Type 0} (c : cells.Ghosts C) (f : faults.Ghosts C) (cells : C) → LeaseTurn members message old new (Err fault) → ReferenceCauses {V = V} c f cells cells (Err fault)
+  cells-of c f cells turn = none-read c f cells fault (turn-fault members message old new (Err fault) turn)
+
+module _ {desk : DeskState} {reads : CellsRead} {members message : List ℕ} {old new : Seen Lease TableName} {port : PortState} {id : MessageId} where
+  pub refused-as : {fault : SignFault} → length message ≤ 16777216 → reads.now ≡ reads.before → id ≡ message_id message → LeaseTurn members id old new (Err fault)
+      → SignsInTurns desk reads members message old port new port (Err fault)
+  refused-as {fault} short unread named turn = not_leased new fault short unread (subst (λ (m : MessageId). LeaseTurn members m old new (Err fault)) named turn)
+
+module _ {desk : DeskState} {reads : CellsRead} {members message : List ℕ} {old mid new : Seen Lease TableName} {port now : PortState} {leaf : ℕ} {id : MessageId} {result : Result (List ℕ) SignFault} where
+  pub leased-as : {end : Result Signature SignFault} {spent : Option ℕ} → end ≡ signed_with leaf result → length message ≤ 16777216 → id ≡ message_id message → LeaseTurn members id old mid (Ok leaf)
+      → RunsOn desk reads leaf message port now result → spent ≡ spent_by result → Burning mid new leaf id spent → SignsInTurns desk reads members message old port new now end
+  leased-as is short named turn runs of burns = subst (λ (e : Result Signature SignFault). SignsInTurns desk reads members message old port new now e) (sym is)
+      (leased leaf mid new now result short (subst (λ (m : MessageId). LeaseTurn members m old mid (Ok leaf)) named turn) runs
+      (subst (λ (m : MessageId). Burning mid new leaf m (spent_by result)) named (subst (λ (o : Option ℕ). Burning mid new leaf id o) of burns)))

@@ -1,0 +1,155 @@
+-- A worker, connection by connection.
+use Rattle.std.proofs.Common.{◌≡◌, ◌+◌, ◌*◌, ◌-◌, ◌^◌, ◌≤◌, ℕ, Bool, true, false, true≢false, min, List, [], ◌∷◌, ◌++◌, length, refl, sym, ap, ◌∙◌, subst, arith, append-nil, length-append}
+use Rattle.std.proofs.lemmas.Grind.{flat_map-append}
+use Rattle.std.proofs.lemmas.List.Sums.{sum_by-append}
+use Rattle.aggregator_node.specs.Clients.{ReferenceState, Request, SameReference}
+use Rattle.aggregator_node.specs.Posts.{Connection, Leaves, Post, ServesLink, Works, left, next, requests_of}
+use Rattle.aggregator_node.specs.Posts.{frames_of}
+use Rattle.aggregator_node.specs.Workers.{HasServedLink, Worked, WorkerState}
+use Rattle.aggregator_node.proofs.Serving.{onward-same, onward-then, serves-few, serves-port, serves-told, serves-worn}
+use Rattle.aggregator_session.specs.Signing.{DeskState}
+use Rattle.stream_io.specs.Net.{Accepts, PortOnward, PortState, SameLinks}
+use Rattle.stream_io.specs.Store.{RisesWhere}
+use Rattle.stream_io.specs.Talk.{Talk}
+use Rattle.trustee_node.specs.declared.served.Served.{Served}
+use Rattle.trustee_node.specs.declared.served.ServedEnd.TheVariants.{Worn}
+
+-- a worker's connections so far
+pub data Links (desk : DeskState) (reference : ReferenceState) : Post → List Connection → Post → Type 0 where
+  no_link : (post : Post) → Links desk reference post [] post
+  link_more : (old mid new : Post) (one : Connection) (others : List Connection) → ServesLink desk reference old mid one → Links desk reference mid others new
+      → Links desk reference old (one ∷ others) new
+
+links-more : (desk : DeskState) (reference : ReferenceState) (old mid new : Post) (one : Connection) (served : List Connection) → Links desk reference old served mid
+    → ServesLink desk reference mid new one → Links desk reference old (served ++ one ∷ []) new
+links-more desk reference old mid new one served (no_link post) serves = link_more old new new one [] serves (no_link new)
+links-more desk reference old mid new one served (link_more at after last first others serves rest) more =
+    link_more old after new first (others ++ one ∷ []) serves (links-more desk reference after mid new one others rest more)
+
+links-leave : (desk : DeskState) (reference : ReferenceState) (old new : Post) (served : List Connection) (port : PortState) → Links desk reference old served new → Leaves new.port port
+    → Works desk reference old served (record new { port = port })
+links-leave desk reference old new served port (no_link post) leaves = left old port leaves
+links-leave desk reference old new served port (link_more at after last first others serves rest) leaves =
+    next old after (record new { port = port }) first others serves (links-leave desk reference after new others port rest leaves)
+
+-- the same reference at a time that is later still
+same-then : (old mid new : ReferenceState) → SameReference old mid → SameReference mid new → SameReference old new
+same-then old mid new a b = record { told = b.told ∙ a.told; steady = b.steady ∙ a.steady; leaves = λ is. b.leaves (a.told ∙ is) ∙ a.leaves is }
+
+requests-more : (served : List Connection) (one : Connection) → requests_of (served ++ one ∷ []) ≡ requests_of served ++ one.requests
+requests-more served one =
+    flat_map-append (λ (c : Connection). c.requests) served (one ∷ []) ∙ ap (λ (l : List Request). requests_of served ++ l) (append-nil one.requests)
+
+-- a count that stays
+pub rises-nowhere : (failed : Bool) (before now : ℕ) → failed ≡ false → now ≡ before → RisesWhere (failed ≡ true) before now
+rises-nowhere failed before now never same =
+    record { later = omega (arith, same); rose = λ is. absurd (true≢false (sym is ∙ never)); same = λ _. same }
+
+-- a worker that has served these connections, and serves on
+pub record Working (desk : DeskState) (old new : WorkerState) : Type 0 where
+  pub served : List Connection
+  pub links : Links desk old.reference old.post served new.post
+  pub few : length (requests_of served) ≤ 65537 * length served
+  pub same : SameReference old.reference new.reference
+  pub onward : PortOnward old.post.port new.post.port
+  pub accepting : new.post.port.accept_count ≡ old.post.port.accept_count
+  pub connections : new.connections ≡ length served
+  pub frames : new.frames ≡ min (frames_of served) (2 ^ 32 - 1)
+
+-- a worker that has done nothing yet
+abbrev pub begun : WorkerState → WorkerState
+begun old = record { post = old.post; reference = old.reference; connections = 0; frames = 0; worn = false; failed = false }
+
+module _ (desk : DeskState) where
+  pub working-none : (old : WorkerState) → Working desk old (begun old)
+  working-none old = record {
+    served = [];
+    links = no_link old.post;
+    few = omega arith;
+    same = record { told = refl; steady = refl; leaves = λ _. refl };
+    onward = onward-same old.post.port;
+    accepting = refl;
+    connections = refl;
+    frames = omega arith;
+  }
+
+  -- a link was accepted and served
+  pub working-more : (old mid : WorkerState) (port : PortState) (post : Post) (reference : ReferenceState) (link : Talk) (steady : Bool) (served : Served) (frames : ℕ) (worn : Bool)
+      → Working desk old mid → Accepts mid.post.port link steady port → PortOnward mid.post.port port → port.accept_count ≡ mid.post.port.accept_count
+      → HasServedLink desk mid.reference (record { pass = mid.post.pass; port = port; faults = mid.post.faults }) post link steady served → SameReference mid.reference reference
+      → frames ≡ min (mid.frames + served.frames) (2 ^ 32 - 1)
+      → Working desk old (record { post = post; reference = reference; connections = mid.connections + 1; frames = frames; worn = worn; failed = mid.failed })
+  working-more old mid port post reference link steady served frames worn a accepts onward quiet b same sum =
+      let one : Connection = record { link = link; talk = b.talk; requests = b.requests; served = served } in
+      let dialled = serves-port desk mid.reference _ _ _ _ _ b.serves in
+      let serves : ServesLink desk old.reference mid.post post one = record {
+        steady = steady;
+        begun = port;
+        done = b.done;
+        accepted = accepts;
+        serves = serves-told desk old.reference mid.reference _ _ _ _ _ a.same b.serves;
+        most = b.most;
+        full = b.full;
+        answers = b.answers;
+        hung_up = b.hung_up;
+      } in
+      record {
+        served = a.served ++ one ∷ [];
+        links = links-more desk old.reference old.post mid.post post one a.served a.links serves;
+        few = (
+            let before = a.few in
+            let most = b.most in
+            let here = serves-few desk mid.reference _ _ _ _ _ b.serves in
+            let all = ap length (requests-more a.served one) in
+            omega (arith, before, most, here, all, length-append (requests_of a.served) b.requests, length-append a.served (one ∷ []))
+            );
+        same = same-then old.reference mid.reference reference a.same same;
+        onward = onward-then old.post.port mid.post.port post.port a.onward
+            (onward-then mid.post.port port post.port onward (onward-then port b.done post.port dialled.onward b.onward));
+        accepting = b.hung_up.accept_count ∙ dialled.accepting ∙ quiet ∙ a.accepting;
+        connections = (let c = a.connections in omega (arith, c, length-append a.served (one ∷ [])));
+        frames = (let t = a.frames in omega (arith, t, sum, sum_by-append (λ (c : Connection). c.served.frames) a.served (one ∷ [])));
+      }
+
+  -- a link that ended by a worn pass
+  pub link-worn : (reference : ReferenceState) (old new : Post) (link : Talk) (steady : Bool) (served : Served) → HasServedLink desk reference old new link steady served → served.ended ≡ Worn
+      → 2 ^ 62 ≤ new.pass.greatest
+  link-worn reference old new link steady served b is = serves-worn desk reference _ _ _ _ _ b.serves is
+
+  -- no further link was accepted
+  pub worked-refused : (old mid : WorkerState) (port : PortState) (failed : Bool) → Working desk old mid → SameLinks mid.post.port port → PortOnward mid.post.port port
+      → RisesWhere (failed ≡ true) mid.post.port.accept_count port.accept_count → mid.worn ≡ false
+      → Worked desk old (record {
+        post = record { pass = mid.post.pass; port = port; faults = mid.post.faults };
+        reference = mid.reference;
+        connections = mid.connections;
+        frames = mid.frames;
+        worn = mid.worn;
+        failed = failed;
+      })
+  worked-refused old mid port failed a links onward rises fresh = record {
+    served = a.served;
+    works = links-leave desk old.reference old.post mid.post a.served port a.links (record { links = links; onward = onward });
+    few = a.few;
+    same = a.same;
+    onward = onward-then old.post.port mid.post.port port a.onward onward;
+    accepts = subst (λ (n : ℕ). RisesWhere (failed ≡ true) n port.accept_count) a.accepting rises;
+    connections = a.connections;
+    frames = a.frames;
+    worn = λ is. absurd (true≢false (sym is ∙ fresh));
+  }
+
+  -- no further link was asked for
+  pub worked-all : (old new : WorkerState) → Working desk old new → new.failed ≡ false → (new.worn ≡ true → 2 ^ 62 ≤ new.post.pass.greatest) → Worked desk old new
+  worked-all old new a sound worn = record {
+    served = a.served;
+    works = links-leave desk old.reference old.post new.post a.served new.post.port a.links
+        (record { links = record { waiting = refl; reaches = refl; talks = refl }; onward = onward-same new.post.port });
+    few = a.few;
+    same = a.same;
+    onward = a.onward;
+    accepts = rises-nowhere new.failed old.post.port.accept_count new.post.port.accept_count sound a.accepting;
+    connections = a.connections;
+    frames = a.frames;
+    worn = worn;
+  }

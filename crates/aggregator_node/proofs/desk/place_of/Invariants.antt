@@ -1,5 +1,0 @@
-use Rattle.aggregator_node.proofs.Addressing.{IsSearching}
-use Rattle.aggregator_node.proofs.desk.place_of.Given as goal
-
-abbrev pub invariant-addresses : goal.invariant-addresses
-invariant-addresses l = IsSearching l.addresses l.member l.i

@@ -1,0 +1,190 @@
+//! Connections of clients.
+
+ghost use Rattle.std.specs.Prelude.{◌≡◌, ◌≢◌, ◌≤◌, ◌<◌, ◌^◌, ◌++◌, None, Some, length, IfOk, IsTrue, MatchResult};
+ghost use Rattle.aggregator_node.specs.Clients.{HasAnswered, HasServed, end_after, reply_frame};
+ghost use Rattle.aggregator_node.specs.Turns.{IsIdle};
+ghost use Rattle.disk_trait.specs.Faults.{HasCause};
+ghost use Rattle.aggregator_session.specs.Signing.{desk_state, signature_in};
+ghost use Rattle.reference_value.specs.Stay.{CellsStay};
+ghost use Rattle.stream_io.specs.Talk.{OnlyWrote, WrotePart};
+ghost use Rattle.trustee_node.specs.Connections.{end_by};
+
+use crate::failure::failure_of;
+use crate::sign::sign_one;
+use aggregator_session::{Desk, SignFault, Signed};
+use disk_trait::{Disk, Faults};
+use leaf_table::Table;
+use reference_value::Cells;
+use round_frames::{FrameFault, next_request, write_failure, write_signature};
+use session_core::SessionFault;
+use std::alloc::Global;
+use std::sync::Wait;
+use stream_io::{Failed, Port, Sink, Source, Stream};
+use trustee_node::{Served, ServedEnd};
+use turn_lock::{Pass, TurnLock};
+
+/// The most frames of one connection.
+const MOST_FRAMES: u32 = 65_536;
+
+/// What came of one request.
+#[derive(Clone, Copy)]
+struct Step {
+    /// How many replies were written whole: one or none.
+    replies: u32,
+    /// How the connection ended behind it, if it did.
+    ended: Option<ServedEnd>,
+}
+
+/// Serves a client's connection: reads requests one after the other, signs each over the port, and writes the signature
+/// or why there is none. The table's lock is held for leases and burnings alone, each in a turn of its own: neither
+/// while a request is read or answered, nor while a member is talked to. A request for which there is no memory, or no
+/// turn, is answered so and ends the connection.
+pub fn serve_client<R: Cells, D: Disk, P: Port, L: Source + Sink>(
+    rt: &impl Wait,
+    alloc: Global,
+    desk: &Desk,
+    cells: &mut R,
+    lock: &TurnLock<Table<D>>,
+    pass: &mut Pass<Table<D>>,
+    port: &mut P,
+    link: &mut L,
+) -> Served
+    requires pass { IsIdle lock.now desk.now.plan.now pass.old }
+    requires height { desk.now.plan.now.h ≡ desk.now.key.now.params.h }
+    requires cells { (R.set cells.old ≡ desk.now.key.now.params) × (R.plan cells.old ≡ desk.now.plan.now) }
+    requires tree { (desk.now.tree.now.n ≡ desk.now.key.now.params.n)
+        × (desk.now.tree.now.h ≡ desk.now.key.now.params.h) }
+    ensures serves { HasServed (desk_state desk.now)
+        (record { told = R.told cells.old; steady = R.steady cells.old; leaves = R.leaves cells.old })
+        (record { pass = pass.old; port = P.state port.old; faults = R.count cells.old; talk = L.talk link.old })
+        (record { pass = pass.new; port = P.state port.new; faults = R.count cells.new; talk = L.talk link.new })
+        result.frames result.ended }
+    ensures most { result.frames ≤ 65536 }
+    ensures full { result.ended ≡ ServedEnd.Full → result.frames ≡ 65536 }
+    ensures answers { IsTrue (L.steady link.old) → result.ended ≢ ServedEnd.Frame FrameFault.ReadFault }
+    ensures steady { L.steady link.new ≡ L.steady link.old }
+    ensures cells { CellsStay R.Cells.own R.Faults cells.old cells.new }
+    ensures pass { IsIdle lock.now desk.now.plan.now pass.new }
+{
+    let mut frames = 0;
+    'requests: for _ in 0..MOST_FRAMES {
+        let step = answer_next(rt, alloc, desk, cells, lock, pass, port, link);
+        frames += step.replies;
+        if let Some(ended) = step.ended {
+            return Served { frames, ended };
+        }
+    }
+    Served {
+        frames,
+        ended: ServedEnd::Full,
+    }
+}
+
+/// Reads a request, signs its message, and answers it.
+fn answer_next<R: Cells, D: Disk, P: Port, L: Source + Sink>(
+    rt: &impl Wait,
+    alloc: Global,
+    desk: &Desk,
+    cells: &mut R,
+    lock: &TurnLock<Table<D>>,
+    pass: &mut Pass<Table<D>>,
+    port: &mut P,
+    link: &mut L,
+) -> Step
+    requires pass { IsIdle lock.now desk.now.plan.now pass.old }
+    requires height { desk.now.plan.now.h ≡ desk.now.key.now.params.h }
+    requires cells { (R.set cells.old ≡ desk.now.key.now.params) × (R.plan cells.old ≡ desk.now.plan.now) }
+    requires tree { (desk.now.tree.now.n ≡ desk.now.key.now.params.n)
+        × (desk.now.tree.now.h ≡ desk.now.key.now.params.h) }
+    ensures answers { HasAnswered (desk_state desk.now)
+        (record { told = R.told cells.old; steady = R.steady cells.old; leaves = R.leaves cells.old })
+        (record { pass = pass.old; port = P.state port.old; faults = R.count cells.old; talk = L.talk link.old })
+        (record { pass = pass.new; port = P.state port.new; faults = R.count cells.new; talk = L.talk link.new })
+        result.replies result.ended }
+    ensures most { result.replies ≤ 1 }
+    ensures one { result.ended ≡ None → result.replies ≡ 1 }
+    ensures open { result.ended ≢ Some ServedEnd.Full }
+    ensures reads { IsTrue (L.steady link.old) → result.ended ≢ Some (ServedEnd.Frame FrameFault.ReadFault) }
+    ensures steady { L.steady link.new ≡ L.steady link.old }
+    ensures cells { CellsStay R.Cells.own R.Faults cells.old cells.new }
+    ensures pass { IsIdle lock.now desk.now.plan.now pass.new }
+{
+    let (members, message) = match next_request(alloc, link) {
+        Ok(request) => request,
+        Err(fault) => {
+            if fault == FrameFault::NoMemory {
+                let outcome = Err(SignFault::NoMemory);
+                return answered(&outcome, write_outcome(&outcome, link));
+            }
+            return Step {
+                replies: 0,
+                ended: Some(end_by(fault)),
+            };
+        }
+    };
+    let outcome = sign_one(rt, alloc, desk, cells, lock, pass, port, members, &message);
+    answered(&outcome, write_outcome(&outcome, link))
+}
+
+/// What came of a request with this outcome, by whether the answer was written whole.
+fn answered(outcome: &Result<Signed, SignFault>, written: Result<(), Failed>) -> Step
+    ensures { MatchResult written
+        (λ _. (result.replies ≡ 1) × (result.ended ≡ end_after (signature_in outcome.now)))
+        (λ _. (result.replies ≡ 0) × (result.ended ≡ Some ServedEnd.WriteFailed)) }
+{
+    match written {
+        Ok(()) => Step {
+            replies: 1,
+            ended: end_after(outcome),
+        },
+        Err(Failed) => Step {
+            replies: 0,
+            ended: Some(ServedEnd::WriteFailed),
+        },
+    }
+}
+
+/// How a connection ends behind a request with this outcome, if it does.
+fn end_after(outcome: &Result<Signed, SignFault>) -> Option<ServedEnd>
+    ensures { result ≡ end_after (signature_in outcome.now) }
+{
+    match outcome {
+        Err(SignFault::Worn) => Some(ServedEnd::Worn),
+        Err(SignFault::NoMemory | SignFault::Session(SessionFault::NoMemory)) => {
+            Some(ServedEnd::Frame(FrameFault::NoMemory))
+        }
+        _ => None,
+    }
+}
+
+/// Writes the frame that answers a request.
+fn write_outcome<K: Sink>(outcome: &Result<Signed, SignFault>, sink: &mut K) -> Result<(), Failed>
+    requires { IfOk outcome.now (λ signed. length signed.bytes.items < 2 ^ 32) }
+    ensures wrote { IsTrue (K.talk sink.old).told → MatchResult result
+        (λ _. (K.talk sink.new).written ≡ (K.talk sink.old).written ++ reply_frame (signature_in outcome.now))
+        (λ _. WrotePart (K.talk sink.old) (K.talk sink.new) (reply_frame (signature_in outcome.now))) }
+    ensures only { OnlyWrote (K.talk sink.old) (K.talk sink.new) }
+    ensures cause { HasCause (K.talk sink.old).count (K.talk sink.new).count result }
+    ensures steady { K.steady sink.new ≡ K.steady sink.old }
+{
+    match outcome {
+        Ok(signed) => write_signature(&signed.bytes, sink),
+        Err(fault) => write_failure(&failure_of(fault), sink),
+    }
+}
+
+/// The end of a connection whose next frame has this fault.
+fn end_by(fault: FrameFault) -> ServedEnd
+    ensures { result ≡ end_by fault }
+{
+    match fault {
+        FrameFault::End => ServedEnd::Closed,
+        FrameFault::Cut
+        | FrameFault::Magic
+        | FrameFault::Kind { .. }
+        | FrameFault::TooLong { .. }
+        | FrameFault::Shape
+        | FrameFault::ReadFault
+        | FrameFault::NoMemory => ServedEnd::Frame(fault),
+    }
+}

@@ -1,0 +1,68 @@
+//! One message, signed with a leaf that is leased for it in a turn of a table's lock.
+
+ghost use Rattle.std.specs.Prelude.{◌≡◌, IfOk};
+ghost use Rattle.aggregator_session.specs.Runs.{reads_of};
+ghost use Rattle.aggregator_node.specs.Logs.{Shown};
+ghost use Rattle.aggregator_node.specs.Signing.{SignsInTurns};
+ghost use Rattle.aggregator_node.specs.Turns.{IsIdle};
+ghost use Rattle.aggregator_session.specs.Causes.{PortCauses, ReferenceCauses};
+ghost use Rattle.aggregator_session.specs.Signing.{desk_state, signature_in};
+ghost use Rattle.lms_bytes.specs.MessageId.{message_id};
+ghost use Rattle.lms_verify.specs.Accepts.{AcceptsAt};
+
+use crate::turns::{burn_spent, lease_in_turn};
+use aggregator_session::{Desk, SignFault, Signed, run_on, spent_by};
+use coalition_map::Members;
+use disk_trait::Disk;
+use leaf_table::Table;
+use lms_bytes::{LIMIT, MessageId};
+use reference_value::Cells;
+use std::alloc::Global;
+use std::sync::Wait;
+use stream_io::Port;
+use turn_lock::{Pass, TurnLock};
+
+/// Signs a message: leases a leaf of these members for it in one turn of the table's lock, runs a session outside the
+/// turn, and burns the leaf in a second turn where a member has spent it. A lease that was made stays. What comes of
+/// the burning does not change the answer: a leaf that could not be burnt is burnt by the next session that meets it.
+pub fn sign_one<R: Cells, D: Disk, P: Port>(
+    rt: &impl Wait,
+    alloc: Global,
+    desk: &Desk,
+    cells: &mut R,
+    lock: &TurnLock<Table<D>>,
+    pass: &mut Pass<Table<D>>,
+    port: &mut P,
+    members: Members,
+    message: &[u8],
+) -> Result<Signed, SignFault>
+    requires pass { IsIdle lock.now desk.now.plan.now pass.old }
+    requires height { desk.now.plan.now.h ≡ desk.now.key.now.params.h }
+    requires cells { (R.set cells.old ≡ desk.now.key.now.params) × (R.plan cells.old ≡ desk.now.plan.now) }
+    requires tree { (desk.now.tree.now.n ≡ desk.now.key.now.params.n)
+        × (desk.now.tree.now.h ≡ desk.now.key.now.params.h) }
+    ensures signs { SignsInTurns (desk_state desk.now) (reads_of R.Cells.own R.Faults cells.old cells.new) members
+        message.now pass.old (P.state port.old) pass.new (P.state port.new) (signature_in result) }
+    ensures shows { Shown desk.now.plan.now members (message_id message.now) pass.old pass.new
+        (signature_in result) }
+    ensures accepted { IfOk result (λ signed.
+        AcceptsAt desk.now.key.now message.now signed.bytes.items signed.leaf) }
+    ensures port { PortCauses (P.state port.old) (P.state port.new) result }
+    ensures cells { ReferenceCauses R.Cells.own R.Faults cells.old cells.new result }
+    ensures pass { IsIdle lock.now desk.now.plan.now pass.new }
+{
+    if message.len() > LIMIT as usize {
+        return Err(SignFault::TooLong { got: message.len() });
+    }
+    let id = MessageId::of(message);
+    let leaf = match lease_in_turn(rt, lock, pass, desk.plan, members, &id) {
+        Ok(leaf) => leaf,
+        Err(fault) => return Err(fault),
+    };
+    let outcome = run_on(alloc, desk, cells, port, leaf, &id, message);
+    burn_spent(rt, lock, pass, desk.plan, leaf, &id, spent_by(&outcome));
+    Ok(Signed {
+        leaf,
+        bytes: outcome?,
+    })
+}

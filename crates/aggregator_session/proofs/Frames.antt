@@ -1,0 +1,71 @@
+-- The frames of asks.
+use Rattle.std.proofs.Common.{◌≡◌, ℕ, Bool, true, false, List, IsTrue, Option, None, Result, refl, ap, ◌∙◌}
+use Rattle.aggregator_session.specs.Runs.{AskedAgain, IsSecondFrame, asked, first_frame, not_read, second_frame}
+use Rattle.aggregator_session.specs.declared.fault.SignFault.{SignFault}
+use Rattle.lms_bytes.specs.declared.ask.Ask.{Ask}
+use Rattle.lms_bytes.specs.declared.message.MessageId.{MessageId}
+use Rattle.lms_bytes.specs.declared.public_key.PublicKey.{PublicKey}
+use Rattle.round_frames.specs.Asks.{ask_frame}
+use Rattle.reference_value.specs.Places.{tag_in}
+use Rattle.session_core.specs.Asks.{IsAskOf, ask_with}
+use Rattle.session_core.specs.State.{SameAsk, State}
+use Rattle.session_core.specs.Verdicts.{digest_of}
+use Rattle.stream_io.specs.Talk.{Talk}
+
+-- the ask of a session with this randomizer or none
+abbrev made : State → Option (List ℕ) → List ℕ → List ℕ → Ask
+made s c tag digest = ask_with (record s { c = c }) tag digest
+
+pub first-frame : (s : State) (digest message : List ℕ) (ask : Ask) → s.c ≡ None → IsAskOf s digest ask → ask_frame ask message ≡ first_frame s
+unfolding first_frame
+first-frame s digest message ask none a =
+    ap (λ (x : Ask). ask_frame x message) a.same ∙ ap (λ (c : Option (List ℕ)). ask_frame (made s c a.tag digest) message) none
+
+pub second-frame : (told : Bool) (leaves : List ℕ) (s : State) (digest message : List ℕ) (member : ℕ) (ask : Ask) → digest ≡ digest_of s message → IsAskOf s digest ask
+    → (IsTrue told → ask ≡ ask_with s (tag_in s.key.params s.plan leaves s.leaf member) digest) → IsSecondFrame told leaves s message member (ask_frame ask message)
+unfolding second_frame
+second-frame true leaves s digest message member ask is a tag = record {
+  tag = tag_in s.key.params s.plan leaves s.leaf member;
+  is = ap (λ (x : Ask). ask_frame x message) (tag refl) ∙ ap (λ (d : List ℕ). ask_frame (ask_with s (tag_in s.key.params s.plan leaves s.leaf member) d) message) is;
+  tag_is = λ _. refl;
+}
+second-frame false leaves s digest message member ask is a tag = record {
+  tag = a.tag;
+  is = ap (λ (x : Ask). ask_frame x message) a.same ∙ ap (λ (d : List ℕ). ask_frame (ask_with s a.tag d) message) is;
+  tag_is = λ no. absurd (cc);
+}
+
+same-tag : (told : Bool) (leaves : List ℕ) (old new : State) (tag : List ℕ) (member : ℕ) → SameAsk old new → (IsTrue told → tag ≡ tag_in new.key.params new.plan leaves new.leaf member)
+    → IsTrue told → tag ≡ tag_in old.key.params old.plan leaves old.leaf member
+same-tag told leaves old new tag member same is t = is t ∙ rw (same.key, same.plan, same.leaf) refl
+
+same-frame : (old new : State) (message tag : List ℕ) → SameAsk old new → second_frame new message tag ≡ second_frame old message tag
+unfolding second_frame
+same-frame old new message tag same =
+    let frame = λ (key : PublicKey) (leaf : ℕ) (id : MessageId) (c : Option (List ℕ)). second_frame (record old { key = key; leaf = leaf; message = id; c = c }) message tag in
+    ap (λ (key : PublicKey). frame key new.leaf new.message new.c) same.key
+    ∙ (ap (λ (leaf : ℕ). frame old.key leaf new.message new.c) same.leaf
+    ∙ (ap (λ (id : MessageId). frame old.key old.leaf id new.c) same.message
+    ∙ ap (λ (c : Option (List ℕ)). frame old.key old.leaf old.message c) same.c))
+
+-- no reply changes what the members are asked
+pub framed-same : (told : Bool) (leaves : List ℕ) (old new : State) (message : List ℕ) (member : ℕ) (ask : List ℕ) → SameAsk old new → IsSecondFrame told leaves new message member ask
+    → IsSecondFrame told leaves old message member ask
+framed-same told leaves old new message member ask same f = record {
+  tag = f.tag;
+  is = f.is ∙ same-frame old new message f.tag same;
+  tag_is = same-tag told leaves old new f.tag member same f.tag_is;
+}
+
+pub framed-as : (t u : Bool) (ls ms : List ℕ) (s : State) (message : List ℕ) (member : ℕ) (ask : List ℕ) → t ≡ u → (IsTrue u → ls ≡ ms) → IsSecondFrame t ls s message member ask → IsSecondFrame u ms s message member ask
+framed-as t u ls ms s message member ask is leaves f = record {
+  tag = f.tag;
+  is = f.is;
+  tag_is = λ told. f.tag_is (is ∙ told) ∙ ap (λ (l : List ℕ). tag_in s.key.params s.plan l s.leaf member) (leaves told);
+}
+
+-- the same of a reference that tells the same
+module _ {old new : State} {message : List ℕ} {member : ℕ} {before now : Talk} where
+  pub asked-as : (t u : Bool) (ls ms : List ℕ) (result : Result Bool SignFault) → t ≡ u → (IsTrue u → ls ≡ ms) → AskedAgain t ls old new message member before now result → AskedAgain u ms old new message member before now result
+  asked-as t u ls ms result is leaves (not_read state talk) = not_read state talk
+  asked-as t u ls ms result is leaves (asked ask r framed h) = asked ask r (framed-as t u ls ms old message member ask is leaves framed) h

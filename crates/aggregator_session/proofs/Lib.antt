@@ -1,0 +1,14 @@
+pub mod Addressing
+pub mod Counting
+pub mod Frames
+pub mod Hearing
+pub mod Reaching
+pub mod Refusing
+pub mod Rounds
+pub mod Sessions
+pub mod Tasks
+pub mod Writing
+pub mod Answering
+pub mod Ending
+pub mod Running
+pub mod Signing

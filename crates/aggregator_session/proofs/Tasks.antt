@@ -1,0 +1,85 @@
+-- What calls one after the other leave as it was.
+use Rattle.std.proofs.Common.{◌≡◌, ◌≤◌, ℕ, Bool, List, Result, Ok, Err, refl, sym, subst, ◌∙◌, arith}
+use Rattle.std.specs.declared.alloc.Global.{Global}
+use Rattle.std.specs.declared.vec.Vec.{Vec}
+use Rattle.aggregator_session.specs.Faults.{IsLostBy, LostBy}
+use Rattle.aggregator_session.specs.Runs.{HasCalled, bytes_in, first_frame}
+use Rattle.aggregator_session.specs.Tasks.{OnlyDials, RisesOnce}
+use Rattle.aggregator_session.specs.declared.desk.Address.{Address}
+use Rattle.aggregator_session.specs.declared.fault.SignFault.{SignFault}
+use Rattle.aggregator_session.specs.declared.fault.Why.{Why}
+use Rattle.aggregator_session.specs.declared.fault.Why.TheVariants.{DialFailed}
+use Rattle.disk_trait.specs.Faults.{Rose}
+use Rattle.session_core.specs.State.{SameAsk, State}
+use Rattle.stream_io.specs.Talk.{Talk}
+use Rattle.stream_io.specs.Net.{PortOnward, PortState}
+
+pub onward-then : (a b c : PortState) → PortOnward a b → PortOnward b c → PortOnward a c
+onward-then a b c x y = record {
+  told = y.told ∙ x.told;
+  steady = y.steady ∙ x.steady;
+  place = y.place ∙ x.place;
+  count = (let p = x.count in let q = y.count in omega arith);
+  accept_count = (let p = x.accept_count in let q = y.accept_count in omega arith);
+}
+
+pub dials-then : (a b c : PortState) → OnlyDials a b → OnlyDials b c → OnlyDials a c
+dials-then a b c x y = record { onward = onward-then a b c x.onward y.onward; talks = y.talks ∙ x.talks; accepting = y.accepting ∙ x.accepting }
+
+pub same-then : (a b c : State) → SameAsk a b → SameAsk b c → SameAsk a c
+same-then a b c x y = record {
+  key = y.key ∙ x.key;
+  plan = y.plan ∙ x.plan;
+  leaf = y.leaf ∙ x.leaf;
+  message = y.message ∙ x.message;
+  c = y.c ∙ x.c;
+}
+
+-- the ask of round one stays the same
+pub frame-same : (a b : State) → SameAsk a b → first_frame b ≡ first_frame a
+unfolding first_frame
+frame-same a b same = rw (same.key, same.leaf, same.message) refl
+
+module _ {addresses : List Address} {old new : State} {member : ℕ} {before now : PortState} {olds news : List Talk} {result : Result Bool SignFault} where
+  pub called-as : (f g : List ℕ) → g ≡ f → HasCalled addresses g old new member before now olds news result → HasCalled addresses f old new member before now olds news result
+  called-as f g is h = subst (λ (x : List ℕ). HasCalled addresses x old new member before now olds news result) is h
+
+pub rose-later : (a b c : ℕ) → a ≤ b → Rose b c → Rose a c
+rose-later a b c le rose = omega arith
+
+-- a loss that is handed on is the loss that came
+pub lost-as : {V W : Type 0} (why : Why) (r : Result V SignFault) (q : Result W SignFault) (x y : SignFault) → r ≡ Err x → x ≡ y → q ≡ Err y → LostBy why r → LostBy why q
+lost-as {V} {W} why r q x y is same was lost =
+    let here : IsLostBy why x = subst (λ (z : Result V SignFault). LostBy why z) is lost in
+    let there : IsLostBy why y = subst (IsLostBy why) same here in
+    subst (λ (z : Result W SignFault). LostBy why z) (sym was) there
+
+-- where a value came, no member is lost
+pub ok-not : {V : Type 0} (why : Why) (r : Result V SignFault) (x : V) → r ≡ Ok x → LostBy why r → ⊥
+ok-not {V} why r x is lost = subst (λ (z : Result V SignFault). LostBy why z) is lost
+
+pub rises-later : {failed : Type 0} (a b c : ℕ) → b ≤ a → RisesOnce failed b c → RisesOnce failed a c
+rises-later a b c le rises = record {
+  once = (let once = rises.once in omega (arith, once));
+  same = λ not. let same = rises.same not in omega (arith, same);
+}
+
+-- the same of an answer that hands on the loss
+pub once-as : {V W : Type 0} (r : Result V SignFault) (q : Result W SignFault) (x y : SignFault) (before now : ℕ) → r ≡ Err x → x ≡ y → q ≡ Err y
+    → RisesOnce (LostBy DialFailed r) before now → RisesOnce (LostBy DialFailed q) before now
+once-as {V} {W} r q x y before now is same was rises = record {
+  once = rises.once;
+  same = λ not. rises.same (λ lost. not (lost-as DialFailed r q x y is same was lost));
+}
+
+-- the same where a value came, whatever is made of it
+pub once-of : {V : Type 0} (failed : Type 0) (r : Result V SignFault) (x : V) (before now : ℕ) → r ≡ Ok x → RisesOnce (LostBy DialFailed r) before now → RisesOnce failed before now
+once-of failed r x before now is rises = record {
+  once = rises.once;
+  same = λ _. rises.same (ok-not DialFailed r x is);
+}
+
+-- the same of the bytes of an answer
+pub bytes-lost : (why : Why) (result : Result (Vec ℕ Global) SignFault) → LostBy why result → LostBy why (bytes_in result)
+bytes-lost why (Ok bytes) lost = lost
+bytes-lost why (Err fault) lost = lost

@@ -1,0 +1,53 @@
+use Rattle.std.proofs.Common.{◌≡◌, ◌<◌, true, false, length, refl, ap, ◌∙◌, arith}
+use Rattle.std.proofs.lemmas.List.{length-set}
+use Rattle.std.proofs.lemmas.List.Elements.{All-set}
+use Rattle.std.proofs.lemmas.Result.{err_from_is_err_and}
+use Rattle.aggregator_session.proofs.Frames.{asked-as}
+use Rattle.aggregator_session.proofs.Rounds.{ok-is, second-done, second-ends, second-more, second-refuses}
+use Rattle.aggregator_session.proofs.Tasks.{same-then}
+use Rattle.reference_value.proofs.Staying.{stays-then}
+use Rattle.aggregator_session.proofs.session.ask_again.Goals as goal
+
+pub returns-in_err-ask_once_more-clause-run : goal.returns-in_err-ask_once_more-clause-run
+returns-in_err-ask_once_more-clause-run g c =
+    let v = c.members.invariant in
+    let talk = g.L.Stream.talk in
+    let p = err_from_is_err_and c.from_residual.result c.from_residual.ensures.1 in
+    rw (p.1, p.2) (second-ends talk (g.R.Cells.told c.args.cells.now) (g.R.Cells.leaves c.args.cells.now) c.args.session.now c.args.task.now.message.now c.args.task.now.members.now _ c.members.session c.members.i
+    c.members.links.items c.members-test.true v.many v.run 0 c.index_mut.result.now c.ask_once_more.new.link _ c.ask_once_more.new.session c.index_mut.ensures.value refl
+    c.ask_once_more.result c.in_err-ask_once_more.field-0.0 (asked-as _ _ _ _ _ v.stays.told v.stays.leaves c.ask_once_more.ensures.asked) v.same c.in_err-ask_once_more.was)
+
+pub returns-then-not-branch-clause-run : goal.returns-then-not-branch-clause-run
+returns-then-not-branch-clause-run g c =
+    let v = c.members.invariant in
+    let talk = g.L.Stream.talk in
+    second-refuses talk (g.R.Cells.told c.args.cells.now) (g.R.Cells.leaves c.args.cells.now) c.args.session.now c.args.task.now.message.now c.args.task.now.members.now _ c.members.session c.members.i
+    c.members.links.items c.members-test.true v.many v.run 0 c.index_mut.result.now c.ask_once_more.new.link _ c.ask_once_more.new.session c.index_mut.ensures.value refl
+    c.ask_once_more.result (asked-as _ _ _ _ _ v.stays.told v.stays.leaves c.ask_once_more.ensures.asked) v.same (ok-is _ _ false c.in_ok-ask_once_more.was c.if-not-branch.true)
+
+pub members-preserved : goal.members-preserved
+members-preserved g c =
+    let v = c.members.invariant in
+    let talk = g.L.Stream.talk in
+    let a = c.ask_once_more.ensures in
+    let is_steady = λ (link : _). g.L.Faults.steady link ≡ true in
+    record {
+      run = second-more talk (g.R.Cells.told c.args.cells.now) (g.R.Cells.leaves c.args.cells.now) c.args.session.now c.args.task.now.message.now c.args.task.now.members.now _ c.members.session c.members.i
+          c.members.links.items c.members-test.true v.many v.run 0 c.index_mut.result.now c.ask_once_more.new.link _ c.ask_once_more.new.session c.index_mut.ensures.value refl
+          c.ask_once_more.result (asked-as _ _ _ _ _ v.stays.told v.stays.leaves a.asked) v.same (ok-is _ _ true c.in_ok-ask_once_more.was c.if-not-branch.false);
+      many = length-set c.members.links.items c.members.i c.ask_once_more.new.link ∙ v.many;
+      steady = λ all.
+          let before = v.steady all in
+          let inside : c.members.i < length c.members.links.items = (let x = v.many in let y = c.members-test.true in omega arith) in
+          All-set is_steady c.members.links.items c.members.i c.ask_once_more.new.link
+          (a.steady ∙ (ap (λ (l : _). g.L.Faults.steady l) c.index_mut.ensures.value ∙ before c.members.i c.index_mut.result.now inside)) before;
+      same = same-then _ _ _ v.same a.same;
+      count = (let x = v.count in let y = a.onward.count in omega arith);
+      stays = stays-then v.stays a.onward.stays;
+    }
+
+pub returns-clause-run : goal.returns-clause-run
+returns-clause-run g c =
+    let v = c.members.invariant in
+    second-done g.L.Stream.talk (g.R.Cells.told c.args.cells.now) (g.R.Cells.leaves c.args.cells.now) c.args.session.now c.args.task.now.message.now c.args.task.now.members.now _ c.members.session c.members.i
+    c.members.links.items c.members-test.false v.many v.run

@@ -1,0 +1,171 @@
+use Rattle.std.proofs.Common.{rules, ◌≤◌, ℕ, List, [], sym, ap, subst, ◌∙◌, arith}
+use Rattle.std.proofs.lemmas.List.{length-map}
+use Rattle.std.proofs.lemmas.Result.{err_from_is_err_and}
+use Rattle.session_core.specs.State.{State}
+use Rattle.session_core.specs.declared.faults.SessionFault.TheVariants.{Reference}
+use Rattle.aggregator_session.specs.Runs.{judged_in_one, judged_in_two, lost_in_one, lost_in_two, signed}
+use Rattle.aggregator_session.proofs.Tasks.{once-as, once-of}
+use Rattle.aggregator_session.proofs.Sessions.{count-as, dealt-as, err-as, exact-as, exact-stays, fails-as, fails-reference, first-as, first-not, joined-as, none-of, opens, run-as, same-err, second-end, sign-reference, stops-later, stops-reference, whole-as}
+use Rattle.reference_value.proofs.Staying.{stays-as, stays-then}
+use Rattle.lms_bytes.specs.declared.public_key.PublicKey.{PublicKey}
+use Rattle.session_core.specs.Verdicts.{digest_of, joined_bytes}
+use Rattle.session_core.specs.Dealing.{IsAnswered}
+use Rattle.aggregator_session.proofs.session.ask_all.Goals as goal
+
+pub returns-in_err-dial_all-clause-run : goal.returns-in_err-dial_all-clause-run
+returns-in_err-dial_all-clause-run g c =
+    let p = err_from_is_err_and c.from_residual.result c.from_residual.ensures.1 in
+    rw (p.1, p.2) (lost_in_one _ c.dial_all.new.session c.in_err-dial_all.field-0.0
+    (first-as _ _ _ c.args.session.now _ _ _ _ _ _ c.requires.task.all c.in_err-dial_all.was c.dial_all.ensures.run))
+
+pub returns-in_err-dial_all-clause-reference : goal.returns-in_err-dial_all-clause-reference
+returns-in_err-dial_all-clause-reference g c is =
+    let p = err_from_is_err_and c.from_residual.result c.from_residual.ensures.1 in
+    absurd (first-not _ _ _ _ _ _ _ _ Reference c.dial_all.ensures.run (err-as _ _ _ _ _ p.1 p.2 c.in_err-dial_all.was is))
+
+pub returns-in_err-dial_all-clause-succeeds : goal.returns-in_err-dial_all-clause-succeeds
+returns-in_err-dial_all-clause-succeeds g c exact is =
+    let p = err_from_is_err_and c.from_residual.result c.from_residual.ensures.1 in
+    first-not _ _ _ _ _ _ _ _ Reference c.dial_all.ensures.run (err-as _ _ _ _ _ p.1 p.2 c.in_err-dial_all.was is)
+
+pub returns-in_err-turn-clause-run : goal.returns-in_err-turn-clause-run
+returns-in_err-turn-clause-run g c =
+    let p = err_from_is_err_and c.from_residual-in_err-turn.result c.from_residual-in_err-turn.ensures.1 in
+    let count = g.R.Faults.count in
+    let same = ap count c.dial_all.ensures.cells in
+    rw (p.1, p.2) (run-as c.dial_all.new.session c.turn.new.self c.in_err-turn.ensures.same
+    (judged_in_one _ c.dial_all.new.session c.in_err-turn.field-0.0
+    (first-as _ _ _ c.args.session.now _ _ _ _ _ _ c.requires.task.all c.in_ok-dial_all.was c.dial_all.ensures.run)
+    (stops-later _ [] _ _ _ _ (count-as _ _ same) c.in_err-turn.ensures.cause)))
+
+pub returns-in_err-turn-clause-reference : goal.returns-in_err-turn-clause-reference
+returns-in_err-turn-clause-reference g c is =
+    let p = err_from_is_err_and c.from_residual-in_err-turn.result c.from_residual-in_err-turn.ensures.1 in
+    let count = g.R.Faults.count in
+    let same = ap count c.dial_all.ensures.cells in
+    let both = stops-reference _ [] _ _ _ c.in_err-turn.ensures.cause (same-err _ _ _ _ p.1 p.2 is) in
+    let rose = both.1 in
+    omega arith
+
+pub returns-in_err-turn-clause-succeeds : goal.returns-in_err-turn-clause-succeeds
+returns-in_err-turn-clause-succeeds g c exact is =
+    let p = err_from_is_err_and c.from_residual-in_err-turn.result c.from_residual-in_err-turn.ensures.1 in
+    let both = stops-reference _ [] _ _ _ c.in_err-turn.ensures.cause (same-err _ _ _ _ p.1 p.2 is) in
+    let d = c.dial_all.ensures in
+    let e = exact-as d.cells exact in
+    let set = ap g.R.Cells.set d.cells ∙ (c.requires.cells.0 ∙ ap (λ (k : PublicKey). k.params) (sym d.same.key)) in
+    let plan = ap g.R.Cells.plan d.cells ∙ (c.requires.cells.1 ∙ sym d.same.plan) in
+    let no = c.in_err-turn.ensures.succeeds e.steady e.told (whole-as _ _ _ _ _ e.whole set plan) both.0 in
+    absurd (cc)
+
+pub returns-in_err-ask_again-clause-run : goal.returns-in_err-ask_again-clause-run
+returns-in_err-ask_again-clause-run g c =
+    let p = err_from_is_err_and c.from_residual-in_err-ask_again.result c.from_residual-in_err-ask_again.ensures.1 in
+    let d = c.dial_all.ensures in
+    let t = c.in_ok-turn.ensures in
+    let many = length-map c.dial_all.new.links.items g.P.Link.Stream.talk in
+    let stays = stays-as d.cells t.onward.stays in
+    rw (p.1, p.2) (lost_in_two _ _ c.turn.new.self c.ask_again.new.session c.in_err-ask_again.field-0.0
+    (opens _ _ _ c.args.session.now c.dial_all.new.session c.turn.new.self _ _ _ _ c.requires.task.all d.run c.in_ok-dial_all.was c.in_ok-dial_all.ensures.whole (search rules) t.turned
+    (joined-as g.R.Cells.told g.R.Cells.leaves _ _ c.dial_all.new.session c.turn.new.self d.cells t.joined)
+    (dealt-as g.R.Cells.told g.R.Cells.leaves _ _ c.dial_all.new.session c.turn.new.self d.cells t.dealt))
+    (second-end _ _ _ _ _ _ _ _ stays.told stays.leaves c.requires.task.all c.in_err-ask_again.was c.ask_again.ensures.run))
+
+pub returns-in_err-finish-clause-run : goal.returns-in_err-finish-clause-run
+returns-in_err-finish-clause-run g c =
+    let p = err_from_is_err_and c.from_residual-in_err-finish.result c.from_residual-in_err-finish.ensures.1 in
+    let d = c.dial_all.ensures in
+    let t = c.in_ok-turn.ensures in
+    let a = c.ask_again.ensures in
+    let many = length-map c.dial_all.new.links.items g.P.Link.Stream.talk in
+    let stays = stays-as d.cells t.onward.stays in
+    let later = stays-then stays a.onward.stays in
+    let count = g.R.Faults.count in
+    let le : count c.args.cells.now ≤ count c.ask_again.new.cells = (let x = ap count d.cells in let y = t.onward.count in let z = a.onward.count in omega arith) in
+    rw (p.1, p.2) (judged_in_two _ _ c.turn.new.self c.ask_again.new.session c.in_err-finish.field-0.0
+    (opens _ _ _ c.args.session.now c.dial_all.new.session c.turn.new.self _ _ _ _ c.requires.task.all d.run c.in_ok-dial_all.was c.in_ok-dial_all.ensures.whole (search rules) t.turned
+    (joined-as g.R.Cells.told g.R.Cells.leaves _ _ c.dial_all.new.session c.turn.new.self d.cells t.joined)
+    (dealt-as g.R.Cells.told g.R.Cells.leaves _ _ c.dial_all.new.session c.turn.new.self d.cells t.dealt))
+    (second-end _ _ _ _ _ _ _ _ stays.told stays.leaves c.requires.task.all c.in_ok-ask_again.was a.run)
+    (fails-as _ c.args.task.now.message.now c.args.task.now.desk.now.tree.now _ _ _ _ _ _ _ _ later.told later.leaves le c.in_err-finish.ensures.cause))
+
+pub returns-in_err-finish-clause-reference : goal.returns-in_err-finish-clause-reference
+returns-in_err-finish-clause-reference g c is =
+    let p = err_from_is_err_and c.from_residual-in_err-finish.result c.from_residual-in_err-finish.ensures.1 in
+    let d = c.dial_all.ensures in
+    let t = c.in_ok-turn.ensures in
+    let a = c.ask_again.ensures in
+    let count = g.R.Faults.count in
+    let le : count c.args.cells.now ≤ count c.ask_again.new.cells = (let x = ap count d.cells in let y = t.onward.count in let z = a.onward.count in omega arith) in
+    let both = fails-reference _ c.args.task.now.message.now _ _ _ _ _ c.in_err-finish.ensures.cause (same-err _ _ _ _ p.1 p.2 is) in
+    let rose = both.1 in
+    omega arith
+
+pub returns-in_err-finish-clause-succeeds : goal.returns-in_err-finish-clause-succeeds
+returns-in_err-finish-clause-succeeds g c exact is =
+    let p = err_from_is_err_and c.from_residual-in_err-finish.result c.from_residual-in_err-finish.ensures.1 in
+    let d = c.dial_all.ensures in
+    let t = c.in_ok-turn.ensures in
+    let a = c.ask_again.ensures in
+    let stays = stays-then (stays-as d.cells t.onward.stays) a.onward.stays in
+    let e = exact-stays stays exact in
+    let key = a.same.key ∙ (ap (λ (x : State). x.key) t.turned.same ∙ d.same.key) in
+    let plans = a.same.plan ∙ (ap (λ (x : State). x.plan) t.turned.same ∙ d.same.plan) in
+    let set = stays.set ∙ (c.requires.cells.0 ∙ ap (λ (k : PublicKey). k.params) (sym key)) in
+    let plan = stays.plan ∙ (c.requires.cells.1 ∙ sym plans) in
+    let reference = same-err _ _ _ _ p.1 p.2 is in
+    let both = fails-reference _ c.args.task.now.message.now _ _ _ _ _ c.in_err-finish.ensures.cause reference in
+    c.in_err-finish.ensures.read e.steady e.told (whole-as _ _ _ _ _ e.whole set plan) both.0 (sign-reference _ reference)
+
+pub returns-clause-run : goal.returns-clause-run
+returns-clause-run g c =
+    let d = c.dial_all.ensures in
+    let t = c.in_ok-turn.ensures in
+    let a = c.ask_again.ensures in
+    let f = c.in_ok-finish.ensures in
+    let many = length-map c.dial_all.new.links.items g.P.Link.Stream.talk in
+    let stays = stays-as d.cells t.onward.stays in
+    let later = stays-then stays a.onward.stays in
+    let message = c.args.task.now.message.now in
+    let tree = c.args.task.now.desk.now.tree.now in
+    let kept = c.ask_again.new.session in
+    signed _ _ c.turn.new.self kept _
+    (opens _ _ _ c.args.session.now c.dial_all.new.session c.turn.new.self _ _ _ _ c.requires.task.all d.run c.in_ok-dial_all.was c.in_ok-dial_all.ensures.whole (search rules) t.turned
+    (joined-as g.R.Cells.told g.R.Cells.leaves _ _ c.dial_all.new.session c.turn.new.self d.cells t.joined)
+    (dealt-as g.R.Cells.told g.R.Cells.leaves _ _ c.dial_all.new.session c.turn.new.self d.cells t.dealt))
+    (second-end _ _ _ _ _ _ _ _ stays.told stays.leaves c.requires.task.all c.in_ok-ask_again.was a.run)
+    (record {
+      faultless = none-of _ (λ fault some. let no = c.finish.ensures.fault fault some in let was = c.in_ok-finish.was in absurd (cc));
+      accepted = f.accepted;
+      joined = λ told. f.joined (later.told ∙ told) ∙ ap (λ (l : List ℕ). joined_bytes kept l tree message) (later.leaves told);
+      dealt = λ told d key answered. f.dealt d key (later.told ∙ told) (subst (λ (l : List ℕ). IsAnswered d key kept (digest_of kept message) l tree) (sym (later.leaves told)) answered);
+    })
+
+pub returns-clause-onward : goal.returns-clause-onward
+returns-clause-onward g c =
+    let d = c.dial_all.ensures in
+    let t = c.in_ok-turn.ensures.onward in
+    let a = c.ask_again.ensures.onward in
+    let f = c.in_ok-finish.ensures.onward in
+    let count = g.R.Faults.count in
+    record {
+      stays = stays-then (stays-then (stays-as d.cells t.stays) a.stays) f.stays;
+      count = (let x = ap count d.cells in let y = t.count in let z = a.count in let u = f.count in omega arith);
+    }
+
+pub returns-in_err-dial_all-clause-once : goal.returns-in_err-dial_all-clause-once
+returns-in_err-dial_all-clause-once g c =
+    let p = err_from_is_err_and c.from_residual.result c.from_residual.ensures.1 in
+    once-as _ _ _ _ _ _ c.in_err-dial_all.was (sym p.2) p.1 c.dial_all.ensures.once
+
+pub returns-in_err-turn-clause-once : goal.returns-in_err-turn-clause-once
+returns-in_err-turn-clause-once g c = once-of _ _ _ _ _ c.in_ok-dial_all.was c.dial_all.ensures.once
+
+pub returns-in_err-ask_again-clause-once : goal.returns-in_err-ask_again-clause-once
+returns-in_err-ask_again-clause-once g c = once-of _ _ _ _ _ c.in_ok-dial_all.was c.dial_all.ensures.once
+
+pub returns-in_err-finish-clause-once : goal.returns-in_err-finish-clause-once
+returns-in_err-finish-clause-once g c = once-of _ _ _ _ _ c.in_ok-dial_all.was c.dial_all.ensures.once
+
+pub returns-clause-once : goal.returns-clause-once
+returns-clause-once g c = once-of _ _ _ _ _ c.in_ok-dial_all.was c.dial_all.ensures.once

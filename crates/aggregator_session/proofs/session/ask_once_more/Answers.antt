@@ -1,0 +1,19 @@
+use Rattle.std.proofs.Common.{refl}
+use Rattle.std.proofs.lemmas.Result.{err_from_is_err_and}
+use Rattle.round_frames.specs.Asks.{ask_frame}
+use Rattle.aggregator_session.proofs.Frames.{second-frame}
+use Rattle.aggregator_session.specs.Runs.{asked, not_read}
+use Rattle.aggregator_session.proofs.session.ask_once_more.Goals as goal
+
+pub returns-in_err-ask-clause-asked : goal.returns-in_err-ask-clause-asked
+returns-in_err-ask-clause-asked g c =
+    let p = err_from_is_err_and c.from_residual.result c.from_residual.ensures.1 in
+    rw (p.1, p.2) (not_read refl refl)
+
+pub returns-clause-asked : goal.returns-clause-asked
+returns-clause-asked g c =
+    let a = c.in_ok-ask.ensures in
+    let message = c.args.task.now.message.now in
+    asked (ask_frame c.in_ok-ask.ask message) c.ask_member.result
+    (second-frame (g.R.Cells.told c.args.cells.now) (g.R.Cells.leaves c.args.cells.now) c.args.session.now c.args.digest.now message c.args.member c.in_ok-ask.ask c.requires.digest a.ask a.tag)
+    c.ask_member.ensures.asked

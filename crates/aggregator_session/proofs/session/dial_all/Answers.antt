@@ -1,0 +1,80 @@
+use Rattle.std.proofs.Common.{true, false, sym, ◌∙◌, arith, inr}
+use Rattle.std.proofs.lemmas.Result.{err_from_is_err_and}
+use Rattle.aggregator_session.proofs.Refusing.{called-refused}
+use Rattle.aggregator_session.proofs.Rounds.{first-done, first-ends, first-more, first-refuses, ok-is}
+use Rattle.aggregator_session.proofs.Tasks.{called-as, dials-then, frame-same, lost-as, ok-not, once-as, once-of, rises-later, rose-later, same-then}
+use Rattle.aggregator_session.specs.Runs.{first_frame}
+use Rattle.aggregator_session.proofs.session.dial_all.Goals as goal
+
+pub returns-in_err-dial_member-clause-run : goal.returns-in_err-dial_member-clause-run
+returns-in_err-dial_member-clause-run g c =
+    let v = c.members.invariant in
+    let p = err_from_is_err_and c.from_residual.result c.from_residual.ensures.1 in
+    let frame = first_frame c.args.session.now in
+    rw (p.1, p.2) (first-ends c.args.task.now.desk.now.addresses.now frame (g.P.Port.state c.args.port.now) c.args.session.now c.args.task.now.members.now
+    (g.P.Port.state c.members.port) c.members.session c.members.i 0 _ _ (g.P.Port.state c.dial_member.new.port) c.dial_member.new.session c.dial_member.result
+    c.members-test.true v.run (called-as _ _ (frame-same _ _ v.same) c.dial_member.ensures.called) c.in_err-dial_member.field-0.0 c.in_err-dial_member.was)
+
+pub returns-in_err-dial_member-clause-dialled : goal.returns-in_err-dial_member-clause-dialled
+returns-in_err-dial_member-clause-dialled g c lost =
+    let v = c.members.invariant in
+    let p = err_from_is_err_and c.from_residual.result c.from_residual.ensures.1 in
+    rose-later _ _ _ v.port.onward.count (c.dial_member.ensures.dialled (lost-as _ _ _ _ _ p.1 p.2 c.in_err-dial_member.was lost))
+
+pub returns-in_err-dial_member-clause-once : goal.returns-in_err-dial_member-clause-once
+returns-in_err-dial_member-clause-once g c =
+    let v = c.members.invariant in
+    let p = err_from_is_err_and c.from_residual.result c.from_residual.ensures.1 in
+    rises-later _ _ _ v.undialled (once-as _ _ _ _ _ _ c.in_err-dial_member.was (sym p.2) p.1 c.dial_member.ensures.once)
+
+pub returns-in_err-dial_member-clause-reads : goal.returns-in_err-dial_member-clause-reads
+returns-in_err-dial_member-clause-reads g c steady lost =
+    let v = c.members.invariant in
+    let p = err_from_is_err_and c.from_residual.result c.from_residual.ensures.1 in
+    c.dial_member.ensures.reads (v.port.onward.steady ∙ steady) (lost-as _ _ _ _ _ p.1 p.2 c.in_err-dial_member.was lost)
+
+pub returns-then-not-branch-clause-run : goal.returns-then-not-branch-clause-run
+returns-then-not-branch-clause-run g c =
+    let v = c.members.invariant in
+    first-refuses c.args.task.now.desk.now.addresses.now (first_frame c.args.session.now) (g.P.Port.state c.args.port.now) c.args.session.now c.args.task.now.members.now
+    (g.P.Port.state c.members.port) c.members.session c.members.i 0 _ _ (g.P.Port.state c.dial_member.new.port) c.dial_member.new.session c.dial_member.result
+    c.members-test.true v.run (called-as _ _ (frame-same _ _ v.same) c.dial_member.ensures.called) (ok-is _ _ false c.in_ok-dial_member.was c.if-not-branch.true)
+
+pub returns-then-not-branch-clause-whole : goal.returns-then-not-branch-clause-whole
+returns-then-not-branch-clause-whole g c = inr (λ all.
+    let v = c.members.invariant in
+    let h = c.dial_member.ensures.called in
+    called-refused _ _ c.members.session _ _ _ _ _ h.answer c.dial_member.result (v.same.c ∙ c.requires.round) h.calls h.state h.told (ok-is _ _ false c.in_ok-dial_member.was c.if-not-branch.true) all)
+
+pub returns-then-not-branch-clause-once : goal.returns-then-not-branch-clause-once
+returns-then-not-branch-clause-once g c =
+    let v = c.members.invariant in
+    rises-later _ _ _ v.undialled (once-of _ _ _ _ _ c.in_ok-dial_member.was c.dial_member.ensures.once)
+
+pub returns-clause-once : goal.returns-clause-once
+returns-clause-once g c =
+    let v = c.members.invariant in
+    record { once = (let most = v.undialled in omega arith); same = λ _. v.undialled }
+
+pub returns-clause-run : goal.returns-clause-run
+returns-clause-run g c =
+    let v = c.members.invariant in
+    first-done c.args.task.now.desk.now.addresses.now (first_frame c.args.session.now) (g.P.Port.state c.args.port.now) c.args.session.now c.args.task.now.members.now
+    (g.P.Port.state c.members.port) c.members.session c.members.i _ c.members-test.false v.run
+
+pub members-preserved : goal.members-preserved
+members-preserved g c =
+    let v = c.members.invariant in
+    let d = c.dial_member.ensures in
+    record {
+      run = first-more c.args.task.now.desk.now.addresses.now (first_frame c.args.session.now) (g.P.Port.state c.args.port.now) c.args.session.now c.args.task.now.members.now
+          (g.P.Port.state c.members.port) c.members.session c.members.i 0 _ _ (g.P.Port.state c.dial_member.new.port) c.dial_member.new.session c.dial_member.result
+          c.members-test.true v.run (called-as _ _ (frame-same _ _ v.same) d.called) (ok-is _ _ true c.in_ok-dial_member.was c.if-not-branch.false);
+      many = (let a = v.many in let b = c.in_ok-dial_member.ensures.links.1 in omega arith);
+      room = (let a = v.room in let b = d.links.0 in omega arith);
+      steady = λ s. d.steady (v.port.onward.steady ∙ s) (v.steady s);
+      port = dials-then _ _ _ v.port d.port;
+      undialled = (let first = v.undialled in let last = d.once.same (ok-not _ _ _ c.in_ok-dial_member.was) in omega arith);
+      same = same-then _ _ _ v.same d.same;
+      cells = d.cells ∙ v.cells;
+    }

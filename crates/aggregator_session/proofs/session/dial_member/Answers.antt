@@ -1,0 +1,54 @@
+use Rattle.std.proofs.Common.{[], ◌∷◌, List, Err, IsTrue, All, map, refl, sym, ap, subst, ◌∙◌}
+use Rattle.std.proofs.lemmas.List.{append-nil, map_push}
+use Rattle.std.proofs.lemmas.List.Elements.{All-push}
+use Rattle.aggregator_session.specs.Hearing.{Asked}
+use Rattle.aggregator_session.specs.Runs.{dialled, nowhere, undialled}
+use Rattle.aggregator_session.specs.declared.fault.SignFault.TheVariants.{Lost}
+use Rattle.aggregator_session.specs.declared.fault.Why.TheVariants.{DialFailed, NoAddress}
+use Rattle.aggregator_session.proofs.Frames.{first-frame}
+use Rattle.aggregator_session.proofs.session.dial_member.Goals as goal
+
+pub returns-in_default-clause-called : goal.returns-in_default-clause-called
+returns-in_default-clause-called g c = record {
+  answer = Err (Lost c.args.member 1 NoAddress);
+  talks = [];
+  calls = nowhere c.in_default.ensures.none;
+  links = sym (append-nil _);
+  state = refl;
+  told = refl;
+}
+
+pub returns-in_default-dial-clause-called : goal.returns-in_default-dial-clause-called
+returns-in_default-dial-clause-called g c =
+    let d = c.in_default-dial.ensures in
+    record {
+      answer = Err (Lost c.args.member 1 DialFailed);
+      talks = [];
+      calls = undialled c.in-Some.place.now (g.P.Port.state c.dial.new.self) c.in-Some.ensures.some d.onward d.cause.failed d.refused d.nobody;
+      links = sym (append-nil _);
+      state = refl;
+      told = refl;
+    }
+
+pub returns-clause-called : goal.returns-clause-called
+returns-clause-called g c =
+    let talk = g.P.Link.Stream.talk in
+    let h = c.ask_member-answer.ensures.asked in
+    let start = talk c.in-Ok.link in
+    let last = talk c.ask_member-answer.new.link in
+    let frame = first-frame c.args.session.now _ c.args.task.now.message.now c.in_ok-ask.ask c.requires.round c.in_ok-ask.ensures.ask in
+    record {
+      answer = h.answer;
+      talks = last ∷ [];
+      calls = dialled c.in-Some.place.now start last (g.P.Link.Faults.steady c.in-Ok.link) (g.P.Port.state c.dial.new.self) h.answer c.in-Some.ensures.some c.in-Ok.ensures.onward c.in-Ok.ensures.cause.succeeded c.in-Ok.ensures.link
+          (subst (λ (f : List _). Asked c.args.session.now c.args.member f start last h.answer) frame h.asked);
+      links = ap (λ (l : List _). map talk l) c.push_reserved.ensures.items ∙ map_push talk _ _;
+      state = h.state;
+      told = h.told;
+    }
+
+pub returns-clause-steady : goal.returns-clause-steady
+returns-clause-steady g c steady all =
+    let is_steady = λ (link : _). IsTrue (g.P.Link.Faults.steady link) in
+    subst (All is_steady) (sym c.push_reserved.ensures.items)
+    (All-push is_steady c.args.links.now.items c.ask_member-answer.new.link all (c.ask_member-answer.ensures.steady ∙ c.in-Ok.ensures.link.link.steady steady))

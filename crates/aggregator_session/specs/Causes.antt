@@ -1,0 +1,30 @@
+-- What the outside has to do with a session that gives no signature.
+use Rattle.std.specs.Prelude.{◌≡◌, ◌≢◌, Result, Err, IsTrue}
+use Rattle.aggregator_session.specs.Faults.{LostBy}
+use Rattle.aggregator_session.specs.Tasks.{IsExact}
+use Rattle.aggregator_session.specs.declared.fault.SignFault.{SignFault}
+use Rattle.aggregator_session.specs.declared.fault.SignFault.TheVariants.{Session}
+use Rattle.aggregator_session.specs.declared.fault.Why.TheVariants.{DialFailed, ReadFailed, WriteFailed}
+use Rattle.disk_trait.specs.Faults.{Rose}
+use Rattle.disk_trait.specs.declared.faults.Faults as faults
+use Rattle.reference_value.specs.Stay.{CellsStay}
+use Rattle.reference_value.specs.declared.cells.Cells as cells
+use Rattle.session_core.specs.declared.faults.SessionFault.TheVariants.{Reference}
+use Rattle.stream_io.specs.Net.{PortOnward, PortState}
+
+-- Nobody fails to be dialled, written to or read unless the port's count rose, and no read fails at a steady port. No
+-- link is accepted.
+pub record PortCauses {V : Type 0} (before now : PortState) (result : Result V SignFault) : Type 0 where
+  pub dialled : LostBy DialFailed result → Rose before.count now.count
+  pub unwritten : LostBy WriteFailed result → Rose before.count now.count
+  pub unread : LostBy ReadFailed result → Rose before.count now.count
+  pub reads : IsTrue before.steady → ¬ LostBy ReadFailed result
+  pub onward : PortOnward before now
+  pub accepting : now.accept_count ≡ before.accept_count
+
+-- the reference is found unread only where the count of the cells rose, and never where they give what they have
+pub record ReferenceCauses {C V : Type 0} (c : cells.Ghosts C) (f : faults.Ghosts C) (old new : C)
+    (result : Result V SignFault) : Type 0 where
+  pub rises : result ≡ Err (Session Reference) → Rose (f.count old) (f.count new)
+  pub succeeds : IsExact c f old → result ≢ Err (Session Reference)
+  pub stays : CellsStay c f old new

@@ -1,0 +1,11 @@
+pub mod Addresses
+pub mod Faults
+pub mod Hearing
+pub mod Reaching
+pub mod Runs
+pub mod Tasks
+pub mod Written
+pub mod Causes
+pub mod Ended
+pub mod Signing
+pub mod Tables

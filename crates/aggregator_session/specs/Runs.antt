@@ -1,0 +1,217 @@
+-- A session over links: the members are dialled and asked one after the other, and then asked again over these links.
+use Rattle.std.specs.Prelude.{◌≡◌, ◌⊎◌, ◌+◌, ◌≤◌, ◌++◌, ℕ, Bool, true, false, List, [], ◌∷◌, length, IsTrue}
+use Rattle.std.specs.Prelude.{Some, None, Result, Ok, Err}
+use Rattle.std.specs.declared.alloc.Global.{Global}
+use Rattle.std.specs.declared.vec.Vec.{Vec}
+use Rattle.aggregator_session.specs.Addresses.{place_of}
+use Rattle.aggregator_session.specs.Faults.{LostBy, sign_fault}
+use Rattle.aggregator_session.specs.Hearing.{Asked, HasAsked, granted, is_masks, kept_in}
+use Rattle.aggregator_session.specs.Tasks.{RisesOnce, faulty_links}
+use Rattle.aggregator_session.specs.declared.desk.Address.{Address}
+use Rattle.aggregator_session.specs.declared.fault.SignFault.{SignFault}
+use Rattle.aggregator_session.specs.declared.fault.SignFault.TheVariants.{Lost, NoMemory, Session}
+use Rattle.aggregator_session.specs.declared.fault.Why.TheVariants.{DialFailed, NoAddress}
+use Rattle.coalition_map.specs.Coalitions.{leaf_members}
+use Rattle.disk_trait.specs.Faults.{Rose}
+use Rattle.disk_trait.specs.declared.faults.Faults as faults
+use Rattle.lms_verify.specs.Accepts.{AcceptsAt}
+use Rattle.lms_verify.specs.UndividedKey.{UndividedKey, rfc_signature}
+use Rattle.merkle_path.specs.Tree.{TreeNodes}
+use Rattle.reference_value.specs.Dealing.{Dealing, leaf_randomizer, reference}
+use Rattle.reference_value.specs.Places.{tag_in}
+use Rattle.reference_value.specs.declared.cells.Cells as cells
+use Rattle.round_frames.specs.Asks.{ask_frame, first_payload}
+use Rattle.round_frames.specs.Frames.{frame}
+use Rattle.round_frames.specs.Replies.{Reply}
+use Rattle.session_core.specs.Asks.{ask_with}
+use Rattle.session_core.specs.Dealing.{FirstMasks, IsAnswered, IsOfDealing}
+use Rattle.session_core.specs.Judging.{round_fault}
+use Rattle.session_core.specs.State.{State}
+use Rattle.session_core.specs.Verdicts.{FinishFails, Turned, Unread, digest_of, joined_bytes, joined_c}
+use Rattle.session_core.specs.declared.faults.SessionFault.{SessionFault}
+use Rattle.session_core.specs.declared.faults.SessionFault.TheVariants.{Reference}
+use Rattle.stream_io.specs.Net.{Dials, PortOnward, PortState, SameLinks}
+use Rattle.stream_io.specs.Talk.{Talk}
+
+-- the reference that a session reads: whether it is told, its leaves, and its count of faults before and after
+pub record CellsRead : Type 0 where
+  pub told : Bool
+  pub leaves : List ℕ
+  pub before : ℕ
+  pub now : ℕ
+
+-- the same of cells before and after a call
+abbrev pub reads_of : {C : Type 0} → cells.Ghosts C → faults.Ghosts C → C → C → CellsRead
+reads_of c f old new = record { told = c.told old; leaves = c.leaves old; before = f.count old; now = f.count new }
+
+-- the frame of the ask of round one, which is the same for all members
+unfoldable pub first_frame : State → List ℕ
+first_frame s = frame 1 (first_payload (ask_with s [] []))
+
+-- the frame of the ask of round two to a member, with this tag
+unfoldable pub second_frame : State → List ℕ → List ℕ → List ℕ
+second_frame s message tag = ask_frame (ask_with s tag (digest_of s message)) message
+
+-- this is the frame of the ask of round two to a member: its tag is that of the reference, where this is told
+pub record IsSecondFrame
+    (told : Bool) (leaves : List ℕ) (s : State) (message : List ℕ) (member : ℕ) (bytes : List ℕ) : Type 0 where
+  pub tag : List ℕ
+  pub is : bytes ≡ second_frame s message tag
+  pub tag_is : IsTrue told → tag ≡ tag_in s.key.params s.plan leaves s.leaf member
+
+-- A member is dialled and asked in round one: the port and the session as they stand before, the port after, the talk
+-- on its link if there is one, and what came. The port's count rises where dialling failed, and nowhere else.
+pub data Calls (addresses : List Address) (ask : List ℕ) (s : State) (member : ℕ) (port : PortState)
+    : PortState → List Talk → Result Reply SignFault → Type 0 where
+  nowhere : place_of addresses member ≡ None
+      → Calls addresses ask s member port port [] (Err (Lost member 1 NoAddress))
+  undialled : (place : List ℕ) (after : PortState) → place_of addresses member ≡ Some place
+      → PortOnward port after → Rose port.count after.count → SameLinks port after
+      → (IsTrue port.told → IsTrue port.steady → port.reaches place ≡ false)
+      → Calls addresses ask s member port after [] (Err (Lost member 1 DialFailed))
+  dialled : (place : List ℕ) (start talk : Talk) (steady : Bool) (after : PortState) (answer : Result Reply SignFault)
+      → place_of addresses member ≡ Some place → PortOnward port after → after.count ≡ port.count
+      → Dials port place start steady after
+      → Asked s member ask start talk answer
+      → Calls addresses ask s member port after (talk ∷ []) answer
+
+-- the session is of the same key, plan, leaf and message
+pub record SameSession (old new : State) : Type 0 where
+  pub key : new.key ≡ old.key
+  pub plan : new.plan ≡ old.plan
+  pub leaf : new.leaf ≡ old.leaf
+  pub message : new.message ≡ old.message
+
+-- Round one over these members, from a port and a session as they stand: the talks, and what is kept and came at the
+-- end. Nobody after the first that is lost, strays or refuses is dialled.
+pub data First (addresses : List Address) (ask : List ℕ)
+    : PortState → State → List ℕ → List Talk → State → Result (Unit {0}) SignFault → Type 0 where
+  first_all : (port : PortState) (s : State) → First addresses ask port s [] [] s (Ok tt)
+  first_lost : (port after : PortState) (s : State) (member : ℕ) (members : List ℕ) (talks : List Talk)
+      (fault : SignFault) → Calls addresses ask s member port after talks (Err fault)
+      → First addresses ask port s (member ∷ members) talks s (Err fault)
+  first_refused : (port after : PortState) (s : State) (member : ℕ) (members : List ℕ) (talks : List Talk)
+      (reply : Reply) → Calls addresses ask s member port after talks (Ok reply) → is_masks reply ≡ false
+      → First addresses ask port s (member ∷ members) talks (kept_in s (Ok reply)) (Ok tt)
+  first_answered : (port after : PortState) (s last : State) (member : ℕ) (members : List ℕ) (talks later : List Talk)
+      (reply : Reply) (end : Result (Unit {0}) SignFault)
+      → Calls addresses ask s member port after talks (Ok reply) → is_masks reply ≡ true
+      → First addresses ask after (kept_in s (Ok reply)) members later last end
+      → First addresses ask port s (member ∷ members) (talks ++ later) last end
+
+-- Round two over these members, from a session as it stands, over links as they stand: the talks after it, and what is
+-- kept and came at the end. Nobody after the first that is lost, strays or refuses is asked.
+pub data Second (told : Bool) (leaves : List ℕ) (turned : State) (message : List ℕ)
+    : State → List ℕ → List Talk → List Talk → State → Result (Unit {0}) SignFault → Type 0 where
+  second_all : (s : State) → Second told leaves turned message s [] [] [] s (Ok tt)
+  second_unread : (s : State) (member : ℕ) (members : List ℕ) (olds : List Talk)
+      → Second told leaves turned message s (member ∷ members) olds olds s (Err (Session Reference))
+  second_lost : (s : State) (member : ℕ) (members ask : List ℕ) (old new : Talk) (olds : List Talk)
+      (fault : SignFault) → IsSecondFrame told leaves turned message member ask → Asked s member ask old new (Err fault)
+      → Second told leaves turned message s (member ∷ members) (old ∷ olds) (new ∷ olds) s (Err fault)
+  second_refused : (s : State) (member : ℕ) (members ask : List ℕ) (old new : Talk) (olds : List Talk)
+      (reply : Reply) → IsSecondFrame told leaves turned message member ask → Asked s member ask old new (Ok reply)
+      → is_masks reply ≡ false
+      → Second told leaves turned message s (member ∷ members) (old ∷ olds) (new ∷ olds) (kept_in s (Ok reply)) (Ok tt)
+  second_answered : (s last : State) (member : ℕ) (members ask : List ℕ) (old new : Talk) (olds news : List Talk)
+      (reply : Reply) (end : Result (Unit {0}) SignFault)
+      → IsSecondFrame told leaves turned message member ask → Asked s member ask old new (Ok reply)
+      → is_masks reply ≡ true
+      → Second told leaves turned message (kept_in s (Ok reply)) members olds news last end
+      → Second told leaves turned message s (member ∷ members) (old ∷ olds) (new ∷ news) last end
+
+-- internal: a member was dialled and asked in round one, or was not reached
+pub record HasCalled (addresses : List Address) (ask : List ℕ) (old new : State) (member : ℕ) (before now : PortState)
+    (olds news : List Talk) (result : Result Bool SignFault) : Type 0 where
+  pub answer : Result Reply SignFault
+  pub talks : List Talk
+  pub calls : Calls addresses ask old member before now talks answer
+  pub links : news ≡ olds ++ talks
+  pub state : new ≡ kept_in old answer
+  pub told : result ≡ granted answer
+
+-- internal: a member was asked in round two, or the reference was not read
+pub data AskedAgain (told : Bool) (leaves : List ℕ) (old new : State) (message : List ℕ) (member : ℕ)
+    (before now : Talk) : Result Bool SignFault → Type 0 where
+  not_read : new ≡ old → now ≡ before
+      → AskedAgain told leaves old new message member before now (Err (Session Reference))
+  asked : (ask : List ℕ) (result : Result Bool SignFault) → IsSecondFrame told leaves old message member ask
+      → HasAsked old new member ask before now result
+      → AskedAgain told leaves old new message member before now result
+
+-- what was kept of round one does not lead to round two: its first fault by member, or a reference that was not read
+abbrev pub Stops : CellsRead → State → SessionFault → Type 0
+Stops reads s fault = (round_fault s [] ≡ Some fault) ⊎ Unread s [] reads.before reads.now fault
+
+-- where reference and masks are the dealer's, the randomizer is the dealer's
+abbrev pub DealtC : State → State → List ℕ → Type 0
+DealtC kept turned leaves = (d : Dealing) (key : UndividedKey) → leaves ≡ reference d → IsOfDealing d key kept
+    → FirstMasks d kept → turned ≡ record kept { c = Some (leaf_randomizer d kept.leaf) }
+
+-- where reference, tree and masks are the dealer's, the bytes are the undivided key's signature
+abbrev pub DealtBytes : State → List ℕ → TreeNodes → List ℕ → List ℕ → Type 0
+DealtBytes s leaves tree message bytes = (d : Dealing) (key : UndividedKey)
+    → IsAnswered d key s (digest_of s message) leaves tree
+    → bytes ≡ rfc_signature key s.leaf (leaf_randomizer d s.leaf) message
+
+-- all members were dialled and answered round one with masks, and the session went to round two
+pub record Opens
+    (addresses : List Address) (reads : CellsRead) (port : PortState) (s turned : State) (talks : List Talk)
+    : Type 0 where
+  pub kept : State
+  pub first : First addresses (first_frame s) port s (leaf_members s.plan s.leaf) talks kept (Ok tt)
+  pub all : length talks ≡ length (leaf_members s.plan s.leaf)
+  pub turns : Turned kept turned
+  pub c : IsTrue reads.told → turned ≡ record kept { c = Some (joined_c kept reads.leaves) }
+  pub dealt : IsTrue reads.told → DealtC kept turned reads.leaves
+
+-- the signature that is made of what was kept of round two
+pub record Signs (reads : CellsRead) (tree : TreeNodes) (s : State) (message bytes : List ℕ) : Type 0 where
+  pub faultless : round_fault s (digest_of s message) ≡ None
+  pub accepted : AcceptsAt s.key message bytes s.leaf
+  pub joined : IsTrue reads.told → bytes ≡ joined_bytes s reads.leaves tree message
+  pub dealt : IsTrue reads.told → DealtBytes s reads.leaves tree message bytes
+
+-- A session from its start: the talks of the links that were dialled, in their order, the session at the end, and what
+-- came of it.
+pub data SignRun (addresses : List Address) (tree : TreeNodes) (reads : CellsRead) (message : List ℕ) (port : PortState)
+    (s : State) : List Talk → State → Result (List ℕ) SignFault → Type 0 where
+  no_memory : SignRun addresses tree reads message port s [] s (Err NoMemory)
+  lost_in_one : (talks : List Talk) (kept : State) (fault : SignFault)
+      → First addresses (first_frame s) port s (leaf_members s.plan s.leaf) talks kept (Err fault)
+      → SignRun addresses tree reads message port s talks kept (Err fault)
+  judged_in_one : (talks : List Talk) (kept : State) (fault : SessionFault)
+      → First addresses (first_frame s) port s (leaf_members s.plan s.leaf) talks kept (Ok tt)
+      → Stops reads kept fault
+      → SignRun addresses tree reads message port s talks kept (Err (sign_fault fault))
+  lost_in_two : (mids talks : List Talk) (turned kept : State) (fault : SignFault)
+      → Opens addresses reads port s turned mids
+      → Second reads.told reads.leaves turned message turned (leaf_members s.plan s.leaf) mids talks kept (Err fault)
+      → SignRun addresses tree reads message port s talks kept (Err fault)
+  judged_in_two : (mids talks : List Talk) (turned kept : State) (fault : SessionFault)
+      → Opens addresses reads port s turned mids
+      → Second reads.told reads.leaves turned message turned (leaf_members s.plan s.leaf) mids talks kept (Ok tt)
+      → FinishFails kept message reads.told (joined_bytes kept reads.leaves tree message) reads.before reads.now fault
+      → SignRun addresses tree reads message port s talks kept (Err (sign_fault fault))
+  signed : (mids talks : List Talk) (turned kept : State) (bytes : List ℕ)
+      → Opens addresses reads port s turned mids
+      → Second reads.told reads.leaves turned message turned (leaf_members s.plan s.leaf) mids talks kept (Ok tt)
+      → Signs reads tree kept message bytes
+      → SignRun addresses tree reads message port s talks kept (Ok bytes)
+
+-- All of a session's call: the talks that were hung up, in their order, and what came of them. Of the session it is
+-- the replies that are kept, and the randomizer in round two, that may be other than before. The port counts each link
+-- that has a fault, and beside these a dial that failed, which is the last: so no member is dialled twice.
+pub record HasRun (addresses : List Address) (tree : TreeNodes) (reads : CellsRead) (message : List ℕ)
+    (before now : PortState) (old new : State) (result : Result (List ℕ) SignFault) : Type 0 where
+  pub talks : List Talk
+  pub hung_up : IsTrue before.told → now.talks ≡ before.talks ++ talks
+  pub run : SignRun addresses tree reads message before old talks new result
+  pub same : SameSession old new
+  pub later : reads.before ≤ reads.now
+  pub counts : RisesOnce (LostBy DialFailed result) (before.count + faulty_links talks) now.count
+
+-- the bytes of an answer
+abbrev pub bytes_in : Result (Vec ℕ Global) SignFault → Result (List ℕ) SignFault
+bytes_in (Ok bytes) = Ok bytes.items
+bytes_in (Err fault) = Err fault

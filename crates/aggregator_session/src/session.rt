@@ -1,0 +1,325 @@
+//! A session over links.
+
+ghost use Rattle.std.specs.Prelude.{◌≡◌, ◌≢◌, ◌⊎◌, ◌+◌, ◌*◌, ◌<◌, ◌≤◌, ◌++◌, [], All, Contains, length, map};
+ghost use Rattle.std.specs.Prelude.{None, Err, IfOk, IfSome, IsSome, IsTrue, OnOk};
+ghost use Rattle.std.specs.Vec.{vec_capacity, vec_len};
+ghost use Rattle.aggregator_session.specs.Faults.{LostBy};
+ghost use Rattle.aggregator_session.specs.Runs.{AskedAgain, First, HasCalled, HasRun, SameSession, Second, SignRun};
+ghost use Rattle.aggregator_session.specs.Runs.{bytes_in, first_frame, reads_of};
+ghost use Rattle.aggregator_session.specs.Tasks.{IsExact, IsTask, MayRun, OnlyDials, RisesOnce, counts_of};
+ghost use Rattle.aggregator_session.specs.Tasks.{faulty_links};
+ghost use Rattle.coalition_map.specs.Coalitions.{leaf_members};
+ghost use Rattle.disk_trait.specs.Faults.{Rose};
+ghost use Rattle.reference_value.specs.Stay.{CellsOnward, CellsStay};
+ghost use Rattle.session_core.specs.State.{SameAsk};
+ghost use Rattle.session_core.specs.Verdicts.{AreMasks, digest_of};
+ghost use Rattle.session_core.specs.declared.faults.SessionFault.TheVariants.{Reference};
+ghost use Rattle.stream_io.specs.Net.{PortOnward};
+
+use crate::asks::ask_member;
+use crate::desk::{Desk, place_of};
+use crate::fault::{SignFault, Why};
+use coalition_map::Plan;
+use disk_trait::Faults;
+use lms_bytes::{PublicKey, Val};
+use ots_chain::MessageHash;
+use reference_value::Cells;
+use session_core::Session;
+use std::alloc::{AllocError, Global};
+use stream_io::{Port, Sink, Source, Stream};
+
+/// What a session is asked to do: the members of its leaf sign a message.
+#[derive(Clone, Copy)]
+struct Task<'a> {
+    desk: &'a Desk<'a>,
+    members: &'a [u8],
+    message: &'a [u8],
+}
+
+/// Runs a session with the members of its leaf, and hangs up every link that it dialled. The members are dialled and
+/// asked one after the other in ascending order, and then asked again over the same links; the first that is lost,
+/// strays or refuses ends the session. The answer is the signature.
+pub fn run_session<R: Cells, P: Port>(
+    alloc: Global,
+    desk: &Desk,
+    cells: &mut R,
+    port: &mut P,
+    session: &mut Session,
+    message: &[u8],
+) -> Result<Vec<u8>, SignFault>
+    requires session { MayRun desk.now.key.now desk.now.plan.now message.now session.old }
+    requires cells { (R.set cells.old ≡ desk.now.key.now.params) × (R.plan cells.old ≡ desk.now.plan.now) }
+    requires tree { (desk.now.tree.now.n ≡ desk.now.key.now.params.n)
+        × (desk.now.tree.now.h ≡ desk.now.key.now.params.h) }
+    ensures ran { HasRun desk.now.addresses.now desk.now.tree.now
+        (reads_of R.Cells.own R.Faults cells.old cells.new) message.now (P.state port.old) (P.state port.new)
+        session.old session.new (bytes_in result) }
+    ensures dialled { LostBy Why.DialFailed result → Rose (P.state port.old).count (P.state port.new).count }
+    ensures unwritten { LostBy Why.WriteFailed result → Rose (P.state port.old).count (P.state port.new).count }
+    ensures unread { LostBy Why.ReadFailed result → Rose (P.state port.old).count (P.state port.new).count }
+    ensures reads { IsTrue (P.state port.old).steady → ¬ LostBy Why.ReadFailed result }
+    ensures reference { result ≡ Err (SignFault.Session Reference) → Rose (R.count cells.old) (R.count cells.new) }
+    ensures succeeds { IsExact R.Cells.own R.Faults cells.old → result ≢ Err (SignFault.Session Reference) }
+    ensures onward { PortOnward (P.state port.old) (P.state port.new) }
+    ensures accepting { (P.state port.new).accept_count ≡ (P.state port.old).accept_count }
+    ensures stays { CellsStay R.Cells.own R.Faults cells.old cells.new }
+{
+    let members = members_of(alloc, desk.plan, session.leaf())?;
+    let params = &desk.key.params;
+    let mut room = vec![in alloc; 0; params.p as usize * params.n as usize]?;
+    let mut links = Vec::with_capacity(alloc, members.len())?;
+    let task = Task {
+        desk,
+        members: &members,
+        message,
+    };
+    let result = ask_all(alloc, &task, cells, port, session, &mut links, &mut room);
+    hang_up_all(port, links);
+    result
+}
+
+/// The members of a leaf, in ascending order.
+fn members_of(alloc: Global, plan: &Plan, leaf: u32) -> Result<Vec<u8>, AllocError>
+    ensures { IfOk result (λ list. list.items ≡ leaf_members plan.now leaf) }
+{
+    // Leaf q belongs to coalition q mod B.
+    let members = plan.members(leaf % plan.count());
+    let mut list = Vec::with_capacity(alloc, members.size() as usize)?;
+    'trustees: for t in 1..plan.n() + 1 {
+        if members.has(t) {
+            list.push(t)?;
+        }
+    }
+    Ok(list)
+}
+
+/// The digest of the message under the randomizer of a session in round two.
+fn digest_of(key: &PublicKey, session: &Session, message: &[u8]) -> Val
+    requires key { session.now.key ≡ key.now }
+    requires round { IsSome session.now.c }
+    requires c { IfSome session.now.c (λ c. length c ≡ key.now.params.n) }
+    ensures { result ≡ digest_of session.now message.now }
+{
+    let Some(c) = session.randomizer() else {
+        unreachable!()
+    };
+    MessageHash::of(&key.params, &key.id, session.leaf(), &c, message)
+}
+
+/// Hangs all links up, the first one first.
+fn hang_up_all<P: Port>(port: &mut P, mut links: Vec<P::Link>)
+    ensures kept { IsTrue (P.state port.old).told → (P.state port.new).talks
+        ≡ (P.state port.old).talks ++ map (λ link. P.Link.talk link) links.items }
+    ensures count { counts_of (map (λ link. P.Link.talk link) links.items) ≢ 0
+        → Rose (P.state port.old).count (P.state port.new).count }
+    ensures most { (P.state port.new).count ≤ (P.state port.old).count
+        + faulty_links (map (λ link. P.Link.talk link) links.items) }
+    ensures onward { PortOnward (P.state port.old) (P.state port.new) }
+    ensures accepting { (P.state port.new).accept_count ≡ (P.state port.old).accept_count }
+{
+    for _ in 0..links.len() {
+        port.hang_up(links.remove(0));
+    }
+    links.destroy_empty();
+}
+
+/// Both rounds. The links stay with the caller, however this ends.
+fn ask_all<R: Cells, P: Port>(
+    alloc: Global,
+    task: &Task,
+    cells: &mut R,
+    port: &mut P,
+    session: &mut Session,
+    links: &mut Vec<P::Link>,
+    room: &mut [u8],
+) -> Result<Vec<u8>, SignFault>
+    requires task { IsTask task.now.desk.now.key.now task.now.desk.now.plan.now task.now.members.now
+        task.now.message.now session.old }
+    requires round { session.old.c ≡ None }
+    requires cells { (R.set cells.old ≡ session.old.key.params) × (R.plan cells.old ≡ session.old.plan) }
+    requires tree { (task.now.desk.now.tree.now.n ≡ session.old.key.params.n)
+        × (task.now.desk.now.tree.now.h ≡ session.old.key.params.h) }
+    requires none { links.old.items ≡ [] }
+    requires space { length task.now.members.now ≤ vec_capacity links.old }
+    requires room { session.old.key.params.p * session.old.key.params.n ≤ length room.old }
+    ensures run { SignRun task.now.desk.now.addresses.now task.now.desk.now.tree.now
+        (reads_of R.Cells.own R.Faults cells.old cells.new) task.now.message.now (P.state port.old) session.old
+        (map (λ link. P.Link.talk link) links.new.items) session.new (bytes_in result) }
+    ensures dialled { LostBy Why.DialFailed result → Rose (P.state port.old).count (P.state port.new).count }
+    ensures once { RisesOnce (LostBy Why.DialFailed result) (P.state port.old).count (P.state port.new).count }
+    ensures reads { IsTrue (P.state port.old).steady → ¬ LostBy Why.ReadFailed result }
+    ensures reference { result ≡ Err (SignFault.Session Reference) → Rose (R.count cells.old) (R.count cells.new) }
+    ensures succeeds { IsExact R.Cells.own R.Faults cells.old → result ≢ Err (SignFault.Session Reference) }
+    ensures port { OnlyDials (P.state port.old) (P.state port.new) }
+    ensures same { SameSession session.old session.new }
+    ensures onward { CellsOnward R.Cells.own R.Faults cells.old cells.new }
+{
+    dial_all(task, cells, port, session, links, room)?;
+    session.turn(cells)?;
+    let digest = digest_of(task.desk.key, session, task.message);
+    ask_again(task, &digest, cells, session, links, room)?;
+    Ok(session.finish(alloc, cells, task.desk.tree, task.message)?)
+}
+
+/// Round one, until a member refuses.
+fn dial_all<R: Cells, P: Port>(
+    task: &Task,
+    cells: &mut R,
+    port: &mut P,
+    session: &mut Session,
+    links: &mut Vec<P::Link>,
+    room: &mut [u8],
+) -> Result<(), SignFault>
+    requires task { IsTask task.now.desk.now.key.now task.now.desk.now.plan.now task.now.members.now
+        task.now.message.now session.old }
+    requires round { session.old.c ≡ None }
+    requires cells { (R.set cells.old ≡ session.old.key.params) × (R.plan cells.old ≡ session.old.plan) }
+    requires none { links.old.items ≡ [] }
+    requires space { length task.now.members.now ≤ vec_capacity links.old }
+    requires room { session.old.key.params.p * session.old.key.params.n ≤ length room.old }
+    ensures run { First task.now.desk.now.addresses.now (first_frame session.old) (P.state port.old) session.old
+        task.now.members.now (map (λ link. P.Link.talk link) links.new.items) session.new result }
+    ensures whole { OnOk result ((vec_len links.new ≡ length task.now.members.now)
+        ⊎ (AreMasks session.new.first → ⊥)) }
+    ensures dialled { LostBy Why.DialFailed result → Rose (P.state port.old).count (P.state port.new).count }
+    ensures once { RisesOnce (LostBy Why.DialFailed result) (P.state port.old).count (P.state port.new).count }
+    ensures reads { IsTrue (P.state port.old).steady → ¬ LostBy Why.ReadFailed result }
+    ensures steady { IsTrue (P.state port.old).steady → All (λ link. IsTrue (P.Link.steady link)) links.new.items }
+    ensures port { OnlyDials (P.state port.old) (P.state port.new) }
+    ensures same { SameAsk session.old session.new }
+    ensures cells { cells.new ≡ cells.old }
+{
+    'members: for i in 0..task.members.len() {
+        if !dial_member(task, task.members[i], cells, port, session, links, room)? {
+            return Ok(());
+        }
+    }
+    Ok(())
+}
+
+/// Dials a member and asks it in round one, and tells whether it answered with masks.
+fn dial_member<R: Cells, P: Port>(
+    task: &Task,
+    member: u8,
+    cells: &mut R,
+    port: &mut P,
+    session: &mut Session,
+    links: &mut Vec<P::Link>,
+    room: &mut [u8],
+) -> Result<bool, SignFault>
+    requires task { IsTask task.now.desk.now.key.now task.now.desk.now.plan.now task.now.members.now
+        task.now.message.now session.old }
+    requires round { session.old.c ≡ None }
+    requires member { Contains (leaf_members session.old.plan session.old.leaf) member }
+    requires cells { (R.set cells.old ≡ session.old.key.params) × (R.plan cells.old ≡ session.old.plan) }
+    requires space { vec_len links.old < vec_capacity links.old }
+    requires room { session.old.key.params.p * session.old.key.params.n ≤ length room.old }
+    ensures called { HasCalled task.now.desk.now.addresses.now (first_frame session.old) session.old session.new member
+        (P.state port.old) (P.state port.new) (map (λ link. P.Link.talk link) links.old.items)
+        (map (λ link. P.Link.talk link) links.new.items) result }
+    ensures dialled { LostBy Why.DialFailed result → Rose (P.state port.old).count (P.state port.new).count }
+    ensures once { RisesOnce (LostBy Why.DialFailed result) (P.state port.old).count (P.state port.new).count }
+    ensures reads { IsTrue (P.state port.old).steady → ¬ LostBy Why.ReadFailed result }
+    ensures steady { IsTrue (P.state port.old).steady → All (λ link. IsTrue (P.Link.steady link)) links.old.items
+        → All (λ link. IsTrue (P.Link.steady link)) links.new.items }
+    ensures port { OnlyDials (P.state port.old) (P.state port.new) }
+    ensures same { SameAsk session.old session.new }
+    ensures cells { cells.new ≡ cells.old }
+    ensures links { (vec_capacity links.new ≡ vec_capacity links.old)
+        × OnOk result (vec_len links.new ≡ vec_len links.old + 1) }
+{
+    let params = &task.desk.key.params;
+    // The ask of round one has no digest.
+    let ask = session.ask(cells, member, &Val::cut(&[0; 32], params.n))?;
+    let Some(place) = place_of(task.desk.addresses, member) else {
+        return Err(SignFault::Lost {
+            member,
+            round: 1,
+            why: Why::NoAddress,
+        });
+    };
+    let Ok(mut link) = port.dial(place) else {
+        return Err(SignFault::Lost {
+            member,
+            round: 1,
+            why: Why::DialFailed,
+        });
+    };
+    let answer = ask_member(params, session, member, &ask, task.message, &mut link, room);
+    links.push_reserved(link);
+    answer
+}
+
+/// Round two, until a member refuses.
+fn ask_again<R: Cells, L: Source + Sink>(
+    task: &Task,
+    digest: &Val,
+    cells: &mut R,
+    session: &mut Session,
+    links: &mut Vec<L>,
+    room: &mut [u8],
+) -> Result<(), SignFault>
+    requires task { IsTask task.now.desk.now.key.now task.now.desk.now.plan.now task.now.members.now
+        task.now.message.now session.old }
+    requires round { IsSome session.old.c }
+    requires digest { digest.now ≡ digest_of session.old task.now.message.now }
+    requires cells { (R.set cells.old ≡ session.old.key.params) × (R.plan cells.old ≡ session.old.plan) }
+    requires links { vec_len links.old ≡ length task.now.members.now }
+    requires room { session.old.key.params.p * session.old.key.params.n ≤ length room.old }
+    ensures run { Second (R.told cells.old) (R.leaves cells.old) session.old task.now.message.now session.old
+        task.now.members.now (map (λ link. L.talk link) links.old.items) (map (λ link. L.talk link) links.new.items)
+        session.new result }
+    ensures reference { result ≡ Err (SignFault.Session Reference) → Rose (R.count cells.old) (R.count cells.new) }
+    ensures succeeds { IsExact R.Cells.own R.Faults cells.old → result ≢ Err (SignFault.Session Reference) }
+    ensures reads { All (λ link. IsTrue (L.steady link)) links.old.items → ¬ LostBy Why.ReadFailed result }
+    ensures dialled { ¬ LostBy Why.DialFailed result }
+    ensures same { SameAsk session.old session.new }
+    ensures onward { CellsOnward R.Cells.own R.Faults cells.old cells.new }
+{
+    'members: for i in 0..task.members.len() {
+        let member = task.members[i];
+        if !ask_once_more(task, digest, member, cells, session, &mut links[i], room)? {
+            return Ok(());
+        }
+    }
+    Ok(())
+}
+
+/// Asks a member in round two, and tells whether it answered with masks.
+fn ask_once_more<R: Cells, L: Source + Sink>(
+    task: &Task,
+    digest: &Val,
+    member: u8,
+    cells: &mut R,
+    session: &mut Session,
+    link: &mut L,
+    room: &mut [u8],
+) -> Result<bool, SignFault>
+    requires task { IsTask task.now.desk.now.key.now task.now.desk.now.plan.now task.now.members.now
+        task.now.message.now session.old }
+    requires round { IsSome session.old.c }
+    requires digest { digest.now ≡ digest_of session.old task.now.message.now }
+    requires member { Contains (leaf_members session.old.plan session.old.leaf) member }
+    requires cells { (R.set cells.old ≡ session.old.key.params) × (R.plan cells.old ≡ session.old.plan) }
+    requires room { session.old.key.params.p * session.old.key.params.n ≤ length room.old }
+    ensures asked { AskedAgain (R.told cells.old) (R.leaves cells.old) session.old session.new task.now.message.now
+        member (L.talk link.old) (L.talk link.new) result }
+    ensures reference { result ≡ Err (SignFault.Session Reference) → Rose (R.count cells.old) (R.count cells.new) }
+    ensures succeeds { IsExact R.Cells.own R.Faults cells.old → result ≢ Err (SignFault.Session Reference) }
+    ensures reads { IsTrue (L.steady link.old) → ¬ LostBy Why.ReadFailed result }
+    ensures dialled { ¬ LostBy Why.DialFailed result }
+    ensures steady { L.steady link.new ≡ L.steady link.old }
+    ensures same { SameAsk session.old session.new }
+    ensures onward { CellsOnward R.Cells.own R.Faults cells.old cells.new }
+{
+    let ask = session.ask(cells, member, digest)?;
+    ask_member(
+        &task.desk.key.params,
+        session,
+        member,
+        &ask,
+        task.message,
+        link,
+        room,
+    )
+}

@@ -1,4 +1,0 @@
-pub mod Posts
-pub mod Ports
-pub mod Workers
-pub mod Gathered

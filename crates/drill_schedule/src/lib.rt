@@ -1,0 +1,10 @@
+//! The schedule of a drill, drawn from a number, and what came of it.
+#![tactic(auto)]
+
+mod draws;
+mod event;
+mod summary;
+
+pub use draws::{ENTROPY, Schedule, draw_entropy, message_of};
+pub use event::Event;
+pub use summary::Summary;

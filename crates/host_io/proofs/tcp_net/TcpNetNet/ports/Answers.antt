@@ -1,9 +1,0 @@
-use Rattle.std.proofs.Common.{option_copied}
-use Rattle.host_io.specs.TcpPort.{port_state}
-use Rattle.host_io.proofs.Ports.{if_makes_ports}
-use Rattle.host_io.proofs.tcp_net.TcpNetNet.ports.Goals as goal
-
-pub returns-clause-made : goal.returns-clause-made
-returns-clause-made g c =
-    if_makes_ports port_state _ _ (λ ports. ports.items) c.make_ports-made.result c.note.new.self c.note-2.new.self
-    c.args.count (option_copied c.args.place) c.make_ports-made.ensures.many c.make_ports-made.ensures.fresh

@@ -1,9 +1,0 @@
-pub mod Prefixes
-pub mod Leased
-pub mod Ids
-pub mod Left
-pub mod Coming
-pub mod Desks
-pub mod LeaseTurns
-pub mod Answered
-pub mod Every

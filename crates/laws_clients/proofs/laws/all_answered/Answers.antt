@@ -1,5 +1,0 @@
-use Rattle.laws_clients.proofs.Every.{run-answered}
-use Rattle.laws_clients.proofs.laws.all_answered.Goals as goal
-
-pub returns : goal.returns
-returns g c = λ words net header desk end d key run dealt. run-answered words _ net header desk end d key run dealt

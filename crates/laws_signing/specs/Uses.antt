@@ -1,0 +1,95 @@
+-- The leaves that the requests of clients came to.
+use Rattle.std.specs.Prelude.{◌≡◌, ◌⊎◌, ◌<◌, ℕ, List, Option, Result, Ok, Err, IfOk, length}
+use Rattle.aggregator_session.specs.declared.fault.SignFault.{SignFault}
+use Rattle.aggregator_session.specs.declared.fault.SignFault.TheVariants as sign
+use Rattle.aggregator_node.specs.Clients.{Answers, IsSigned, ReferenceState, Request, Serves, Stand}
+use Rattle.aggregator_node.specs.Clients as clients
+use Rattle.aggregator_node.specs.Logs.{Shows}
+use Rattle.aggregator_node.specs.Logs as logs
+use Rattle.aggregator_node.specs.Ports.{PortRun, Place, ServedClients}
+use Rattle.aggregator_node.specs.Posts.{Connection, Post, Works}
+use Rattle.aggregator_node.specs.Posts as posts
+use Rattle.coalition_map.specs.Coalitions.{PlanNumbers}
+use Rattle.leaf_table.specs.Entries.{map_of}
+use Rattle.leaf_table.specs.Leasing.{WasLeasedFor}
+use Rattle.leaf_table.specs.declared.lease.Lease.{Lease}
+use Rattle.leaf_table.specs.declared.table.TableName.{TableName}
+use Rattle.aggregator_session.specs.Signing.{DeskState, Signature}
+use Rattle.aggregator_session.specs.Tables.{TableSeen}
+use Rattle.lms_bytes.specs.MessageId.{message_id_bytes}
+use Rattle.lms_bytes.specs.declared.message.MessageId.{MessageId}
+use Rattle.tool_base.specs.World.{StoreRun}
+use Rattle.tool_sign.specs.Leases.{AllLeave, IsLeasedIn}
+use Rattle.trustee_node.specs.declared.served.ServedEnd.{ServedEnd}
+use Rattle.trustee_node.specs.declared.totals.Totals.{Totals}
+use Rattle.turn_lock.specs.Pass.{Seen}
+
+-- an outcome before which no leaf was leased: the message was too long, there was no turn, or the table gave no leaf
+abbrev pub IsUnleased : Result Signature SignFault → Type 0
+IsUnleased (Ok signature) = ⊥
+IsUnleased (Err (sign.TooLong got)) = Unit {0}
+IsUnleased (Err sign.Worn) = Unit {0}
+IsUnleased (Err (sign.Table why)) = Unit {0}
+IsUnleased (Err (sign.Lost member round why)) = ⊥
+IsUnleased (Err (sign.Stray member round)) = ⊥
+IsUnleased (Err (sign.Session fault)) = ⊥
+IsUnleased (Err sign.NoMemory) = ⊥
+
+-- Signing a message came to this leaf: it was leased, and the outcome is that of a session with it.
+abbrev pub CameTo : ℕ → {plan : PlanNumbers} {members : List ℕ} {message : MessageId} {old new : Seen Lease TableName}
+    {outcome : Result Signature SignFault} {added : List Lease} → Shows plan members message old new outcome added
+    → Type 0
+CameTo leaf (logs.too_long got same) = ⊥
+CameTo leaf (logs.no_turn turn) = ⊥
+CameTo leaf (logs.refused why refuses draws) = ⊥
+CameTo leaf (logs.leased own added burning result lease draws burnt is_burning) = leaf ≡ own
+
+module _ (request : Request) (leaf : ℕ) {desk : DeskState} {reference : ReferenceState} where
+  -- this is the request that was signed, and it came to this leaf
+  pub record SignedWith {old new : Stand} {one : Request} (signed : IsSigned desk reference old new one) : Type 0 where
+    pub request_is : request ≡ one
+    pub leaf_is : CameTo leaf signed.shows
+
+  -- the same of the request that was read, where one was
+  abbrev pub AnsweredWith : {old new : Stand} {requests : List Request} {replies : ℕ} {ended : Option ServedEnd}
+      → Answers desk reference old requests replies ended new → Type 0
+  AnsweredWith (clients.no_request talk fault known none) = ⊥
+  AnsweredWith (clients.no_room mid talk room replied) = ⊥
+  AnsweredWith (clients.no_room_unanswered mid talk room failed) = ⊥
+  AnsweredWith (clients.answered mid talk one exchange replied) = SignedWith exchange.signed
+  AnsweredWith (clients.unanswered mid talk one exchange failed) = SignedWith exchange.signed
+
+  -- the same of one of the requests of a connection
+  abbrev pub ServedWith : {old new : Stand} {requests : List Request} {replies : ℕ} {end : ServedEnd}
+      → Serves desk reference old requests replies end new → Type 0
+  ServedWith (clients.ended old new requests replies end answers) = AnsweredWith answers
+  ServedWith (clients.more old mid new requests others replies later end answers serves) =
+      AnsweredWith answers ⊎ ServedWith serves
+  ServedWith (clients.full old) = ⊥
+
+  -- the same of one of the requests of all connections of a worker
+  abbrev pub WorkedWith : {old new : Post} {served : List Connection} → Works desk reference old served new → Type 0
+  WorkedWith (posts.left old port leaves) = ⊥
+  WorkedWith (posts.next old mid new one others link works) = ServedWith link.serves ⊎ WorkedWith works
+
+-- One of the requests at all ports that were served, and the leaf that it came to.
+pub record Uses {desk : DeskState} {asked : ℕ} {old new : TableSeen} {places_old places_new : List Place}
+    {totals : Totals} (all : ServedClients desk asked old new places_old places_new totals) (request : Request)
+    (leaf : ℕ) : Type 0 where
+  pub port : ℕ
+  pub none : PortRun
+  pub within : port < length all.runs
+  pub came : WorkedWith request leaf (all.are port none within).works
+
+-- A request came to a leaf, that of its signature if it has one; or no leaf was leased for it.
+abbrev pub Comes : {desk : DeskState} {asked : ℕ} {old new : TableSeen} {places_old places_new : List Place}
+    {totals : Totals} → ServedClients desk asked old new places_old places_new totals → Request → Type 0
+Comes all request = IsUnleased request.outcome
+    ⊎ ((leaf : ℕ) × IfOk request.outcome (λ signature. signature.leaf ≡ leaf) × Uses all request leaf)
+
+-- What is left of a leaf that was leased for a message: it is leased for that, or was and is burnt, by the entries that
+-- the table stands for, in the table's file, and in each image that a crash may leave of it.
+pub record LeafIsLeft (store : StoreRun) (table : List ℕ) (now : TableSeen) (message : MessageId) (leaf : ℕ)
+    : Type 0 where
+  pub stands : WasLeasedFor (message_id_bytes message) (map_of now.state.entries leaf)
+  pub files : AllLeave store table (IsLeasedIn leaf message)

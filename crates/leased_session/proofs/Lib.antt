@@ -1,4 +1,0 @@
-pub mod Answering
-pub mod Ending
-pub mod Running
-pub mod Signing

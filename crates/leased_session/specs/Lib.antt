@@ -1,4 +1,0 @@
-pub mod Causes
-pub mod Ended
-pub mod Signing
-pub mod Tables

@@ -1,5 +1,0 @@
-pub mod Calls
-pub mod Chain
-pub mod Links
-pub mod Nets
-pub mod Ports

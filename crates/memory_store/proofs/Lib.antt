@@ -1,3 +1,0 @@
-mod Added
-mod Loans
-mod Stable

@@ -1,8 +1,0 @@
-use Rattle.disk_trait.specs.MemDisk.{sync_fails}
-use Rattle.memory_store.proofs.Stable.{sync-images}
-use Rattle.memory_store.proofs.stored_disk.StoredDiskDisk.sync.Goals as goal
-
-pub returns-clause-images : goal.returns-clause-images
-returns-clause-images c =
-    let disk = c.args.self.now.disk in
-    λ honest. rw c.sync-answer.ensures.after (sync-images disk (sync_fails disk))

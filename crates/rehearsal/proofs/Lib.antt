@@ -1,3 +1,0 @@
-pub mod Sums
-pub mod Signers
-pub mod Rehearsing

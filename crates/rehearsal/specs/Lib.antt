@@ -1,2 +1,0 @@
-pub mod Rehearsal
-pub mod Signing

@@ -1,5 +1,0 @@
-mod Files
-pub mod Held
-mod Read
-mod Same
-mod Sure

@@ -1,5 +1,0 @@
-use Rattle.slot_cache.proofs.Held.{holds}
-use Rattle.slot_cache.proofs.cache.CachedSlots.end.Goals as goal
-
-pub returns-clause-holds : goal.returns-clause-holds
-returns-clause-holds g c = holds c.args.self

@@ -1,0 +1,90 @@
+use Rattle.std.proofs.Common.{◌≡◌, ◌<◌, ℕ, List, length, None, IsTrue, false, refl, sym, ◌∙◌, ap, subst, arith}
+use Rattle.std.proofs.lemmas.List.{length-replicate}
+use Rattle.slot_file.specs.Reading.{IsReadRefused}
+use Rattle.slot_file.specs.State.{HasSlots, slot_in}
+use Rattle.slot_file.specs.Loading.{no_memory}
+use Rattle.slot_file.specs.Copies.{is_damaged}
+use Rattle.slot_file.specs.Layout.{load_fault}
+use Rattle.slot_file.specs.Slots.{IsTold, disk_of, doubt_of, file_of, header_of, slot_now}
+use Rattle.slot_file.specs.declared.header.Header.{Header}
+use Rattle.slot_file.specs.declared.slot.Slot.TheVariants.{Free}
+use Rattle.slot_file.specs.declared.slots.Doubt.TheVariants.{Nowhere}
+use Rattle.slot_file.proofs.Unwritten.{unwritten-then}
+use Rattle.slot_file.proofs.Files.{doubt-none}
+use Rattle.slot_file.proofs.Read.{has-read, refused-file, refused-read}
+use Rattle.slot_file.proofs.Sure.{images-sure, reads-sure}
+use Rattle.slot_file.proofs.cache.CachedSlots.load.Goals as goal
+
+pub returns-in-Err-clause-refused : goal.returns-in-Err-clause-refused
+returns-in-Err-clause-refused g c = λ told. rw c.refused_by.ensures (refused-file _ _ _ c.in-Err.fault (c.in-Err.ensures.refuses told))
+
+pub returns-in-Err-free_slots-clause-refused : goal.returns-in-Err-free_slots-clause-refused
+returns-in-Err-free_slots-clause-refused g c = λ told. no_memory (c.in-Ok.ensures.opened.opens told)
+
+pub invariant_of-result : goal.invariant_of-result
+invariant_of-result g c =
+    let header = c.args.header.now in
+    let opened = c.in-Ok.ensures.opened in
+    let start = c.in-Ok.slots in
+    let new = c.read_slots.new.slots in
+    let list = c.read_slots.new.out.items in
+    let call = c.in-Ok-read_slots.ensures in
+    let free = ap length c.in-Ok-free_slots.ensures ∙ length-replicate c.args.count Free in
+    let size : length list ≡ c.args.count = call.size ∙ free in
+    let shows : IsTold start → (k : ℕ) → k < c.args.count → slot_now start k ≡ slot_in list k = λ told k below. call.shows told k (omega (arith, below, free)) in
+    let sound : IsTold start → (k : ℕ) → k < c.args.count → is_damaged (slot_now start k) ≡ false = λ told k below. ap is_damaged (shows told k below) ∙ call.whole k (omega (arith, below, size)) in
+    let names : header_of new ≡ header = call.looks.stays.header ∙ opened.named in
+    let nowhere : doubt_of new ≡ Nowhere = call.looks.doubt opened.doubt in
+    let has : IsTold new → HasSlots header list (file_of new) = λ told_new.
+    let told_start = sym call.looks.unwritten.stays.told ∙ told_new in
+    let told = sym opened.unwritten.stays.told ∙ told_start in
+    let same = call.looks.unwritten.same told_start in
+    let is = same ∙ opened.unwritten.same told in
+    has-read header (header_of start) list (file_of new) (file_of start) c.args.count opened.named same size
+    (ap (load_fault header c.args.count) is ∙ opened.opens told) (shows told_start) (sound told_start) in
+    record {
+      count = call.looks.stays.count ∙ opened.size ∙ sym size;
+      whole = call.whole;
+      in_doubt = doubt-none _ (doubt_of new) nowhere;
+      faulted = λ none. refl;
+      reads = reads-sure new header names list None refl has;
+      images = images-sure new header names list None refl has nowhere;
+    }
+
+pub returns-in-Ok-read_slots-clause-loaded : goal.returns-in-Ok-read_slots-clause-loaded
+returns-in-Ok-read_slots-clause-loaded g c =
+    let header = c.args.header.now in
+    let opened = c.in-Ok.ensures.opened in
+    let start = c.in-Ok.slots in
+    let new = c.read_slots.new.slots in
+    let list = c.read_slots.new.out.items in
+    let call = c.in-Ok-read_slots.ensures in
+    let free = ap length c.in-Ok-free_slots.ensures ∙ length-replicate c.args.count Free in
+    let size : length list ≡ c.args.count = call.size ∙ free in
+    let shows : IsTold start → (k : ℕ) → k < c.args.count → slot_now start k ≡ slot_in list k = λ told k below. call.shows told k (omega (arith, below, free)) in
+    let sound : IsTold start → (k : ℕ) → k < c.args.count → is_damaged (slot_now start k) ≡ false = λ told k below. ap is_damaged (shows told k below) ∙ call.whole k (omega (arith, below, size)) in
+    let file = g.D.Pages.reads c.args.disk in
+    let has : IsTrue (g.D.Pages.told c.args.disk) → HasSlots header list file = λ told.
+    let told_start = opened.unwritten.stays.told ∙ told in
+    has-read header (header_of start) list file (file_of start) c.args.count opened.named (sym (opened.unwritten.same told)) size
+    (opened.opens told) (shows told_start) (sound told_start) in
+    record {
+      file = has;
+      settled = refl;
+      named = call.looks.stays.header ∙ opened.named;
+      size = size;
+      unwritten = unwritten-then g.D.Pages g.D.Faults c.args.disk (disk_of start) (disk_of new) opened.unwritten call.looks.unwritten;
+      faults = call.cause.others (λ is. cc) ∙ opened.faults;
+    }
+
+pub returns-in-Err-read_slots-clause-refused : goal.returns-in-Err-read_slots-clause-refused
+returns-in-Err-read_slots-clause-refused g c = λ told.
+    let opened = c.in-Ok.ensures.opened in
+    let fault = c.in-Err-read_slots.fault in
+    let told_start = opened.unwritten.stays.told ∙ told in
+    let free = ap length c.in-Ok-free_slots.ensures ∙ length-replicate c.args.count Free in
+    let first = c.in-Err-read_slots.ensures.refused told_start in
+    refused-read _ _ _ fault (opened.opens told)
+    (subst (λ (l : List ℕ). IsReadRefused c.args.header.now.version c.args.count l fault) (opened.unwritten.same told)
+    (subst (λ (n : ℕ). IsReadRefused c.args.header.now.version n (file_of c.in-Ok.slots) fault) free
+    (subst (λ (h : Header). IsReadRefused h.version (length c.in-Ok-free_slots.cached.items) (file_of c.in-Ok.slots) fault) opened.named first)))

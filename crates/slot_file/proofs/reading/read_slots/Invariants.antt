@@ -1,0 +1,18 @@
+use Rattle.std.proofs.Common.{◌≡◌, ◌<◌, ℕ, length, false}
+use Rattle.slot_file.specs.State.{slot_in}
+use Rattle.slot_file.specs.Copies.{is_damaged}
+use Rattle.slot_file.specs.Disks.{Unwritten}
+use Rattle.slot_file.specs.Slots.{IsTold, Stays, disk_of, doubt_of, faults_of, slot_now}
+use Rattle.slot_file.specs.declared.slots.Doubt.TheVariants.{Nowhere}
+use Rattle.slot_file.proofs.reading.read_slots.Given as goal
+
+abbrev pub invariant-loop-slot : goal.invariant-loop-slot
+invariant-loop-slot g l = record {
+  shows : IsTold l.initial.slots → (slot : ℕ) → slot < l.slot → slot_now l.initial.slots slot ≡ slot_in l.out.items slot;
+  whole : (slot : ℕ) → slot < l.slot → is_damaged (slot_in l.out.items slot) ≡ false;
+  size : length l.out.items ≡ length l.initial.out.items;
+  unwritten : Unwritten g.D.Pages g.D.Faults (disk_of l.initial.slots) (disk_of l.slots);
+  doubt : doubt_of l.initial.slots ≡ Nowhere → doubt_of l.slots ≡ Nowhere;
+  count : faults_of l.slots ≡ faults_of l.initial.slots;
+  stays : Stays l.initial.slots l.slots;
+}

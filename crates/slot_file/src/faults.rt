@@ -1,0 +1,57 @@
+//! The answers of a cache of slots.
+
+use crate::LoadFault;
+use thiserror::Error;
+
+/// What settling has found.
+#[derive(Clone, Copy, Debug, PartialEq, Eq)]
+pub enum Settled {
+    /// No put was in doubt.
+    Nothing,
+    /// The put in doubt was made.
+    Made,
+    /// It was not made.
+    NotMade,
+}
+
+/// Why a put is still in doubt.
+#[derive(Clone, Copy, Debug, PartialEq, Eq, Error)]
+pub enum SettleFault {
+    /// The disk failed.
+    #[error("a call of the disk failed while a put was settled")]
+    Device,
+    /// The slot is neither as before the put nor as after it.
+    #[error("slot {slot} is neither as before its put nor as after it: its gates are {a:#04x} and {b:#04x}")]
+    Damaged {
+        /// The slot.
+        slot: u32,
+        /// The byte of gate A, 0 where it is closed and the slot is not damaged.
+        a: u8,
+        /// The byte of gate B, 0 where it is closed.
+        b: u8,
+    },
+}
+
+/// Why a file of slots was not loaded, in the order of the tests.
+#[derive(Clone, Copy, Debug, PartialEq, Eq, Error)]
+pub enum CacheLoad {
+    /// The file is no file of this header and these slots. The fault is not `LoadFault::Device`.
+    #[error("the file of slots does not open: {0}")]
+    Slots(LoadFault),
+    /// Want of memory.
+    #[error("out of memory")]
+    NoMemory,
+    /// The first slot whose gate B is open and whose gate A is closed.
+    #[error("slot {slot} is damaged: gate A is {a:#04x}, and gate B is open with {b:#04x}")]
+    Damaged {
+        /// The slot.
+        slot: u32,
+        /// The byte of gate A.
+        a: u8,
+        /// The byte of gate B.
+        b: u8,
+    },
+    /// The disk failed.
+    #[error("a call of the disk failed while its slots were loaded")]
+    Device,
+}

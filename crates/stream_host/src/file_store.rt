@@ -1,0 +1,183 @@
+//! The store of files.
+
+ghost use Rattle.std.specs.Prelude.{◌≡◌, ◌<◌, ◌≤◌, ℕ, Err, length, IfOk, IsFalse, false, refl};
+ghost use Rattle.stream_host.specs.Untold.{untold_store};
+ghost use Rattle.stream_io.specs.declared.store.ReadAllFault.{ReadAllFault};
+
+use crate::causes::{call_fault, new_fault, read_fault};
+use crate::fault_count::FaultCount;
+use crate::lockable::Lockable;
+use crate::new_file::{is_taken, write_new};
+use crate::open_file::{make_disk, open_disk, open_view};
+use disk_trait::{Faults, FileDisk};
+use std::alloc::Global;
+use std::fs::{File, OpenFile};
+use std::io::Read;
+use std::os::unix::fs::FileExt;
+use std::rt::Files;
+use stream_io::{CallFault, NewFault, ReadAllFault, Readers, Store};
+
+/// The store of a runtime's files. It tells nothing but its counts of faults.
+///
+/// An error of the system that says that memory was wanted is want of memory, and any other is a fault. What stands at
+/// a name takes it, a folder or a dangling link too.
+///
+/// A disk is a file that is open for reading and writing and whose advisory lock is held, so no other store hands the
+/// same file out as a disk meanwhile. That lock is a method of `std::fs::File` alone, so files say by `Lockable` that
+/// they have one.
+#[derive(Drop)]
+pub struct FileStore<R: Files + Drop> {
+    rt: R,
+    faults: FaultCount,
+    disk_faults: FaultCount,
+}
+
+impl<R: Files + Drop> FileStore<R>
+where
+    R::File: FileExt + Lockable + Send,
+{
+    /// The store of the files of this runtime.
+    pub fn new(rt: R) -> FileStore<R>
+        ensures told { IsFalse (⟦<FileStore<R> as Store>⟧.state result).told }
+        ensures steady { IsFalse (⟦<FileStore<R> as Store>⟧.state result).steady }
+        ensures count { (⟦<FileStore<R> as Store>⟧.state result).count ≡ 0 }
+        ensures disk_count { (⟦<FileStore<R> as Store>⟧.state result).disk_count ≡ 0 }
+    {
+        FileStore {
+            rt,
+            faults: FaultCount::new(),
+            disk_faults: FaultCount::new(),
+        }
+    }
+}
+
+/// Reads a file whole, if it has at most `limit` bytes. Memory is taken for its length, and one byte more for the
+/// read that finds its end; a file that grows meanwhile, or tells no length, takes what its bytes need.
+fn read_file<R: Files>(
+    rt: &R,
+    alloc: Global,
+    name: &str,
+    limit: u64,
+) -> Result<Vec<u8>, ReadAllFault>
+    ensures within { IfOk result (λ v. length v.items ≤ limit) }
+    ensures above { (got : ℕ) → result ≡ Err (ReadAllFault.TooLong got) → limit < got }
+{
+    let file = File::open(rt, name).map_err(read_fault)?;
+    let found = file.metadata().map_err(read_fault)?;
+    let got = found.len();
+    if found.is_file() && got > limit {
+        return Err(ReadAllFault::TooLong { got });
+    }
+    let room = got.min(limit).saturating_add(1);
+    let mut bytes = Vec::with_capacity(alloc, room as usize)?;
+    let read = file.take(limit.saturating_add(1)).read_to_end(&mut bytes);
+    read.map_err(read_fault)?;
+    let got = bytes.len() as u64;
+    if got > limit {
+        return Err(ReadAllFault::TooLong { got });
+    }
+    Ok(bytes)
+}
+
+impl<R: Files + Drop> Faults for FileStore<R> {
+    ghost count = { λ s. s.faults };
+
+    ghost steady = { λ _. false };
+
+    fn faults(&self) -> u64 {
+        self.faults.get()
+    }
+}
+
+impl<R: Files + Drop> Store for FileStore<R>
+where
+    R::File: FileExt + Lockable + Send,
+{
+    type Disk = FileDisk<R::File>;
+
+    type View = FileDisk<R::File>;
+
+    ghost state = { λ s. untold_store s.faults s.disk_faults };
+
+    fn disk_faults(&self) -> u64 {
+        self.disk_faults.get()
+    }
+
+    fn read_all(&mut self, alloc: Global, name: &str, limit: u64) -> Result<Vec<u8>, ReadAllFault> {
+        let read = read_file(&self.rt, alloc, name, limit);
+        self.faults.note(&read);
+        read
+    }
+
+    fn has(&mut self, name: &str) -> Result<bool, CallFault> {
+        let found = is_taken(&self.rt, name).map_err(call_fault);
+        self.faults.note(&found);
+        found
+    }
+
+    /// Writes a file so that it appears under its name whole or not at all, also where the program is killed or the
+    /// power fails: it is written as `name` with `.new` behind it and made stable, gets its name by a hard link, which
+    /// is refused where something stands there, loses the other name, and then its folder is made stable. It is made
+    /// with the permissions that its readers are to have, within those that the umask leaves. After a refusal what it
+    /// wrote is removed, as far as that can be done.
+    ///
+    /// Where something stands under the name with `.new`, the call fails and leaves it alone: a program that was killed
+    /// may have left it, and nobody can tell that no other is at work on it. Whoever runs the program removes it.
+    ///
+    /// Where the file system has no hard links, the file is written under its name at once, and a program that is
+    /// killed meanwhile leaves a part of it there.
+    fn write_new(
+        &mut self,
+        alloc: Global,
+        name: &str,
+        bytes: &[u8],
+        readers: Readers,
+    ) -> Result<(), NewFault> {
+        let written = write_new(&self.rt, alloc, name, bytes, readers).map_err(new_fault);
+        self.faults.note(&written);
+        written
+    }
+
+    /// Makes an empty file that its owner alone may read, locks it, and makes its name stable. A file grows as it is
+    /// written, so no room is set aside.
+    fn new_disk(
+        &mut self,
+        _alloc: Global,
+        name: &str,
+        _size: usize,
+    ) -> Result<Self::Disk, NewFault> {
+        let made = make_disk(&self.rt, name).map_err(new_fault);
+        self.faults.note(&made);
+        made
+    }
+
+    /// Opens a file for reading and writing, and locks it. It fails at what is no regular file, and where another has
+    /// the lock.
+    fn take_disk(&mut self, name: &str) -> Result<Self::Disk, CallFault> {
+        let taken = open_disk(&self.rt, name).map_err(call_fault);
+        self.faults.note(&taken);
+        taken
+    }
+
+    /// Closes the file, which gives up its lock.
+    fn return_disk(&mut self, _name: &str, disk: Self::Disk) {
+        self.disk_faults.add(disk.faults());
+    }
+
+    /// Opens a file for reading, and fails at what is no regular file. It takes no lock: many view a file at once, and
+    /// a file that is viewed was made by `write_new`, which no lock keeps out.
+    fn view(&mut self, _alloc: Global, name: &str) -> Result<Self::View, CallFault> {
+        let viewed = open_view(&self.rt, name).map_err(call_fault);
+        self.faults.note(&viewed);
+        viewed
+    }
+
+    /// Closes the file.
+    fn end_view(&mut self, view: Self::View) {
+        self.disk_faults.add(view.faults());
+    }
+
+    ghost counts = { λ _. refl };
+
+    ghost steadies = { λ _. refl };
+}

@@ -1,0 +1,7 @@
+pub mod Ports
+pub mod Removed
+pub mod Crosses
+mod Links
+mod Added
+mod Loans
+mod Stable

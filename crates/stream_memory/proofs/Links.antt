@@ -1,0 +1,47 @@
+-- The links of a port that wait: each is what the link is that it is made of.
+use Rattle.std.proofs.Common.{◌≡◌, ◌&&◌, ℕ, Bool, true, false, List, Option, refl, sym, subst, ◌∙◌}
+use Rattle.stream_io.specs.Net.{Accepts, Dials, IsNewLink, PortState}
+use Rattle.stream_io.specs.Talk.{Talk}
+use Rattle.stream_memory.specs.Waiting.{with_waits}
+
+first_true : (first last : Bool) → (first && last) ≡ true → first ≡ true
+first_true true last both = refl
+first_true false last both = both
+
+last_true : (first last : Bool) → (first && last) ≡ true → last ≡ true
+last_true true last both = both
+last_true false last both = let no : false ≡ true = both in cc
+
+both_true : (first last : Bool) → first ≡ true → last ≡ true → (first && last) ≡ true
+both_true true last one other = other
+both_true false last one other = one
+
+module _ (old new : PortState) (talk talk' : Talk) (steady steady' nothing : Bool) (same : talk' ≡ talk)
+    (as_steady : steady' ≡ (steady && nothing)) where
+  is_new : (place : Option (List ℕ)) → IsNewLink old place talk steady → IsNewLink (with_waits old nothing) place talk' steady'
+  is_new place it = subst (λ (t : Talk). IsNewLink (with_waits old nothing) place t steady') (sym same) (record {
+    told = it.told;
+    steady = λ is. as_steady ∙ both_true steady nothing (it.steady (first_true old.steady nothing is)) (last_true old.steady nothing is);
+    place = it.place;
+    taken = it.taken;
+    written = it.written;
+    count = it.count;
+  })
+
+  pub accepted : Accepts old talk steady new → Accepts (with_waits old nothing) talk' steady' (with_waits new nothing)
+  accepted it = record {
+    listens = it.listens;
+    link = is_new _ it.link;
+    waiting = it.waiting;
+    reaches = it.reaches;
+    talks = it.talks;
+  }
+
+  pub dialled : (place : List ℕ) → Dials old place talk steady new → Dials (with_waits old nothing) place talk' steady' (with_waits new nothing)
+  dialled place it = record {
+    there = it.there;
+    link = is_new _ it.link;
+    waiting = it.waiting;
+    reaches = it.reaches;
+    talks = it.talks;
+  }

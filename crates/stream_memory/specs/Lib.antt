@@ -1,0 +1,7 @@
+pub mod Calls
+pub mod Chain
+pub mod Links
+pub mod Nets
+pub mod Ports
+pub mod Waiting
+pub mod MemStore

@@ -1,0 +1,28 @@
+-- What links in memory stand for.
+use Rattle.std.specs.Prelude.{◌&&◌, Bool, true, take, drop, is_none, option_map, string_bytes}
+use Rattle.stream_memory.specs.Calls.{is_empty}
+use Rattle.stream_memory.specs.Chain.{own}
+use Rattle.stream_memory.specs.declared.conversation.Conversation.{Conversation}
+use Rattle.stream_memory.specs.declared.mem_link.MemLink.{MemLink}
+use Rattle.stream_io.specs.Talk.{Talk}
+
+-- what a link holds
+abbrev pub conversation_of : MemLink → Conversation
+conversation_of link = own link.node.value
+
+-- what has gone over the link, all of it told
+abbrev pub talk_of : Conversation → Talk
+talk_of link = record {
+  told = true;
+  place = option_map string_bytes link.place;
+  taken = take link.source.at link.source.bytes.items;
+  left = drop link.source.at link.source.bytes.items;
+  written = link.sink.written.items;
+  count = link.calls.faults;
+}
+
+-- no call is listed to fail, of the link or of its two ends, and nothing is held
+abbrev pub is_steady_link : Conversation → Bool
+is_steady_link link =
+    is_empty link.calls.failing.items && is_none link.gate
+    && is_empty link.source.calls.failing.items && is_empty link.sink.calls.failing.items

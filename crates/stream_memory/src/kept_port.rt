@@ -1,0 +1,124 @@
+//! What a port in memory has and keeps.
+
+ghost use Rattle.std.specs.Prelude.{◌≡◌, ◌≢◌, ◌↔◌, ◌<◌, ◌+◌, ◌&&◌, ℕ, List, length, false, None, Some, IsTrue, IfSome};
+ghost use Rattle.std.specs.Prelude.{IfNone, option_copied, option_map, position, string_bytes};
+ghost use Rattle.std.specs.List.{list_all, list_any, slice_get};
+ghost use Rattle.std.specs.Str.{bytes_eq};
+ghost use Rattle.stream_memory.specs.Links.{conversation_of, talk_of};
+ghost use Rattle.stream_memory.specs.Ports.{is_at, is_steady_entry, is_steady_waiting, port_state};
+ghost use Rattle.stream_io.specs.Net.{Accepts, PortOnward, SameLinks};
+ghost use Rattle.stream_io.specs.Store.{RisesWhere};
+ghost use Rattle.stream_io.specs.declared.port.Accepted.{Accepted};
+
+use crate::calls::Calls;
+use crate::chain::Chain;
+use crate::conversation::Conversation;
+use crate::mem_link::MemLink;
+use stream_io::Accepted;
+
+/// A port in memory: its place or none, the links that wait to be accepted and those that wait to be dialled, each with
+/// its place, and the conversations that were hung up.
+#[derive(Drop)]
+pub struct KeptPort {
+    pub(crate) place: Option<String>,
+    pub(crate) waiting: Vec<MemLink>,
+    pub(crate) dialled: Vec<(String, MemLink)>,
+    /// Whether each link that it gave was steady.
+    pub(crate) gave_steady: bool,
+    pub(crate) talks: Chain<Conversation>,
+    pub(crate) calls: Calls,
+    pub(crate) accept_faults: u64,
+}
+
+impl KeptPort {
+    /// The place that it listens at, or none.
+    pub fn place(&self) -> Option<&str>
+        ensures { option_copied result ≡ (port_state self.now).place }
+    {
+        self.place.as_ref().map(|place| place.as_str())
+    }
+
+    /// The conversation of this number; the first that was hung up has the number 0.
+    pub fn talk(&self, index: usize) -> Option<&Conversation>
+        ensures { option_map talk_of (option_copied result) ≡ slice_get (port_state self.now).talks index }
+    {
+        self.talks.get(index)
+    }
+
+    /// The count of faults.
+    pub fn faults(&self) -> u64
+        ensures { result ≡ (port_state self.now).count }
+    {
+        self.calls.faults
+    }
+
+    /// How often accepting has failed.
+    pub fn accept_faults(&self) -> u64
+        ensures { result ≡ (port_state self.now).accept_count }
+    {
+        self.accept_faults
+    }
+
+    /// Accepts the next link, as `Port` says.
+    pub(crate) fn accept(&mut self) -> Accepted<MemLink>
+        ensures link { (link : MemLink) → result ≡ Accepted.Link link
+            → Accepts (port_state self.old) (talk_of (conversation_of link)) (is_steady_waiting link)
+            (port_state self.new) }
+        ensures end { result ≡ Accepted.End ↔ (port_state self.old).waiting ≡ 0 }
+        ensures deaf { (port_state self.old).place ≡ None → result ≡ Accepted.End }
+        ensures refused { ((link : MemLink) → result ≢ Accepted.Link link)
+            → SameLinks (port_state self.old) (port_state self.new) }
+        ensures cause { RisesWhere (result ≡ Accepted.Failed) (port_state self.old).count (port_state self.new).count }
+        ensures accept_cause { RisesWhere (result ≡ Accepted.Failed)
+            (port_state self.old).accept_count (port_state self.new).accept_count }
+        ensures succeeds { IsTrue (port_state self.old).steady → result ≢ Accepted.Failed }
+        ensures onward { PortOnward (port_state self.old) (port_state self.new) }
+    {
+        if self.place.is_none() || self.waiting.is_empty() {
+            return Accepted::End;
+        }
+        if self.calls.make().is_err() {
+            self.accept_faults = self.accept_faults.saturating_add(1);
+            return Accepted::Failed;
+        }
+        let mut link = take_first(&mut self.waiting);
+        link.begin(None);
+        self.gave_steady &= link.is_steady();
+        Accepted::Link(link)
+    }
+}
+
+/// Takes the first link that waits to be accepted.
+pub(crate) fn take_first(waiting: &mut Vec<MemLink>) -> MemLink
+    requires { 0 < length waiting.old.items }
+    ensures many { length waiting.old.items ≡ length waiting.new.items + 1 }
+    ensures steady { list_all is_steady_waiting waiting.old.items
+        ≡ (is_steady_waiting result && list_all is_steady_waiting waiting.new.items) }
+{
+    waiting.remove(0)
+}
+
+/// The number of the first link that waits at a place.
+fn find(dialled: &[(String, MemLink)], place: &str) -> Option<usize>
+    ensures { result ≡ position (is_at place.now) dialled.now }
+{
+    dialled.iter().position(|entry| entry.0.as_str() == place)
+}
+
+/// Takes the first link that waits at a place, with the name of the place.
+pub(crate) fn take_at(
+    dialled: &mut Vec<(String, MemLink)>,
+    place: &str,
+) -> Option<(String, MemLink)>
+    ensures name { IfSome result (λ entry. string_bytes entry.0 ≡ place.now) }
+    ensures there { IfSome result (λ _. IsTrue (list_any (is_at place.now) dialled.old.items)) }
+    ensures others { (other : List ℕ) → bytes_eq other place.now ≡ false
+        → list_any (is_at other) dialled.new.items ≡ list_any (is_at other) dialled.old.items }
+    ensures steady { IfSome result (λ entry. list_all is_steady_entry dialled.old.items
+        ≡ (is_steady_entry entry && list_all is_steady_entry dialled.new.items)) }
+    ensures none { IfNone result (list_any (is_at place.now) dialled.old.items ≡ false) }
+    ensures same { IfNone result (dialled.new.items ≡ dialled.old.items) }
+{
+    let found = find(dialled, place)?;
+    Some(dialled.remove(found))
+}

@@ -1,0 +1,153 @@
+//! Tests of the store of files over the files of the machine.
+
+use crate::ends::{end_of_call, end_of_new};
+use disk_trait::{Disk, Faults, Pages};
+use std::alloc::Global;
+use std::os::unix::fs::{MetadataExt, symlink};
+use std::test::Fail;
+use std::{fs, io};
+use stream_host::FileStore;
+use stream_io::{NewFault, ReadAllFault, Readers, Store};
+
+/// Whether reading a name gives this text, or is refused so.
+fn gives<S: Store>(
+    store: &mut S,
+    alloc: Global,
+    name: &str,
+    limit: u64,
+    want: Result<&str, ReadAllFault>,
+) -> bool {
+    match (store.read_all(alloc, name, limit), want) {
+        (Ok(bytes), Ok(text)) => bytes.as_slice() == text.as_bytes(),
+        (Err(fault), Err(want)) => fault == want,
+        _ => false,
+    }
+}
+
+/// Whether a store takes a name as new only while it is not there, reads it back, and has raised no fault by that.
+fn takes_once<S: Store>(store: &mut S, alloc: Global, name: &str, readers: Readers) -> bool {
+    let faults = store.faults();
+    store.has(name) == Ok(false)
+        && store.write_new(alloc, name, b"first", readers) == Ok(())
+        && store.has(name) == Ok(true)
+        && store.write_new(alloc, name, b"second", readers) == Err(NewFault::Exists)
+        && gives(store, alloc, name, 9, Ok("first"))
+        && store.faults() == faults
+}
+
+/// The permissions of a file.
+fn mode(rt: &HostRuntime, name: &str) -> io::Result<u32> {
+    Ok(fs::metadata(rt, name)?.mode() & 0o777)
+}
+
+#[test]
+fn a_store_of_files_takes_a_new_file_once(rt: HostRuntime) -> io::Result<()> {
+    fs::write(&rt, "stream_host.any", "")?;
+    let rows = [
+        ("stream_host.own", Readers::OwnerAlone, 0o600),
+        (
+            "./stream_host.all",
+            Readers::Anyone,
+            mode(&rt, "stream_host.any")?,
+        ),
+    ];
+    let mut store = FileStore::new(rt);
+    for (name, readers, want) in rows {
+        assert!(rt; takes_once(&mut store, rt.alloc(), name, readers), "{name}");
+        assert_eq!(rt; mode(&rt, name)?, want, "{name}");
+        fs::remove_file(&rt, name)?;
+    }
+    assert_eq!(rt; store.has("stream_host.own.new"), Ok(false));
+    fs::remove_file(&rt, "stream_host.any")
+}
+
+/// Whether a store has a name or not, and making a file of that name comes to this.
+fn is_taken<S: Store>(store: &mut S, alloc: Global, name: &str, has: bool, end: &str) -> bool {
+    let has_name = store.has(name) == Ok(has);
+    has_name && end_of_new(store.write_new(alloc, name, b"first", Readers::Anyone)) == end
+}
+
+#[test]
+fn what_stands_at_a_name_takes_it(rt: HostRuntime) -> io::Result<()> {
+    let link = "stream_host.link";
+    symlink(&rt, "stream_host.none", link)?;
+    fs::write(&rt, "stream_host.left.new", "left")?;
+    let mut store = FileStore::new(rt);
+    let rows = [
+        (link, true, "exists", 0),
+        (".", true, "exists", 0),
+        ("stream_host.left", false, "failed", 1),
+        ("stream_host.none/new", false, "failed", 2),
+    ];
+    for (name, has, end, faults) in rows {
+        assert!(rt; is_taken(&mut store, rt.alloc(), name, has, end), "{name}");
+        assert_eq!(rt; store.faults(), faults, "{name}");
+    }
+    assert!(rt;
+        gives(
+            &mut store,
+            rt.alloc(),
+            "stream_host.left.new",
+            9,
+            Ok("left")
+        )
+    );
+    fs::remove_file(&rt, "stream_host.left.new")?;
+    fs::remove_file(&rt, link)
+}
+
+#[test]
+fn a_store_of_files_reads_them(rt: HostRuntime) -> io::Result<()> {
+    let name = "stream_host.test";
+    fs::write(&rt, name, "first")?;
+    let mut store = FileStore::new(rt);
+    let rows: [(&'static str, u64, Result<&'static str, ReadAllFault>, u64); 5] = [
+        ("stream_host.test", 5, Ok("first"), 0),
+        ("stream_host.test", u64::MAX, Ok("first"), 0),
+        (
+            "stream_host.test",
+            4,
+            Err(ReadAllFault::TooLong { got: 5 }),
+            0,
+        ),
+        ("stream_host.none", 4, Err(ReadAllFault::Failed), 1),
+        (".", 4096, Err(ReadAllFault::Failed), 2),
+    ];
+    for (name, limit, want, faults) in rows {
+        assert!(rt;
+            gives(&mut store, rt.alloc(), name, limit, want),
+            "{name} up to {limit}"
+        );
+        assert_eq!(rt; store.faults(), faults);
+    }
+    fs::remove_file(&rt, name)
+}
+
+#[test]
+fn a_disk_of_a_file_is_had_once_at_a_time(rt: HostRuntime) -> Result<(), Fail> {
+    let name = "stream_host.disk";
+    let mut store = FileStore::new(rt);
+    let mut disk = store.new_disk(rt.alloc(), name, 3)?;
+    assert_eq!(rt; mode(&rt, name)?, 0o600);
+    assert_eq!(rt; end_of_call(store.take_disk(name)), "failed");
+    assert_eq!(rt; end_of_new(store.new_disk(rt.alloc(), name, 3)), "exists");
+    disk.write_at(0, b"abc")?;
+    disk.sync()?;
+    store.return_disk(name, disk);
+
+    let mut disk = store.take_disk(name)?;
+    assert_eq!(rt; disk.len()?, 3);
+    store.return_disk(name, disk);
+    let mut one = store.view(rt.alloc(), name)?;
+    let mut two = store.view(rt.alloc(), name)?;
+    let mut out = [0; 2];
+    one.read_at(1, &mut out)?;
+    assert_eq!(rt; out, *b"bc");
+    two.read_at(0, &mut out)?;
+    assert_eq!(rt; out, *b"ab");
+    store.end_view(one);
+    store.end_view(two);
+    assert_eq!(rt; store.faults(), 1);
+    fs::remove_file(&rt, name)?;
+    Ok(())
+}

@@ -1,0 +1,62 @@
+use Rattle.std.proofs.Common.{◌≡◌, ◌++◌, ◌∙◌, map, refl, ap, arith}
+use Rattle.std.proofs.lemmas.List.{length-map}
+use Rattle.aggregator_session.specs.Signing.{desk_state}
+use Rattle.aggregator_session.specs.Tables.{table_seen}
+use Rattle.tool_base.proofs.Heard.{heard_none}
+use Rattle.tool_base.proofs.Nets.{net_back}
+use Rattle.tool_base.specs.Endings.{ending}
+use Rattle.tool_aggregate.specs.Serving.{no_memory, no_ports}
+use Rattle.tool_aggregate.proofs.Nets.{net_ends}
+use Rattle.tool_trustee.proofs.Serving.{not_true}
+use Rattle.tool_sign.specs.Ports.{over_net}
+use Rattle.tool_words.specs.Rows.{aggregate_words}
+use Rattle.tool_aggregate.proofs.serving.serve_net.Goals as goal
+
+pub returns-in-Err-Failed-clause-ends : goal.returns-in-Err-Failed-clause-ends
+returns-in-Err-Failed-clause-ends g c =
+    let found = c.in-Err-Failed.is in
+    let fault = c.in-Err-Failed.field-0-is in
+    let ports = c.in-Err-Failed.ensures in
+    no_ports (refl, refl) (heard_none _ _ _ ports.refused.kept) (ports.port_cause.rose (cc)) (λ told steady. not_true _ (ports.unoffered told steady (cc)))
+
+pub returns-in-Err-NoMemory-clause-ends : goal.returns-in-Err-NoMemory-clause-ends
+returns-in-Err-NoMemory-clause-ends g c = no_memory (refl, refl) (heard_none _ _ _ c.in-Err-NoMemory.ensures.refused.kept)
+
+pub returns-clause-ends : goal.returns-clause-ends
+returns-clause-ends g c =
+    let state = g.N.Port.Port.state in
+    let ports = c.in-Ok.ports in
+    let made = c.in-Ok.ensures.made in
+    let onward = c.in-Ok.ensures.onward in
+    let serves = c.serve_clients-table.ensures in
+    let gathers = c.gather.ensures.kept in
+    let after = c.serve_clients-table.new in
+    let many = made.many in
+    let sizes = length-map ports.items state in
+    let asked = c.requires.many in
+    let one = c.args.cells.now.ok.0 in
+    let two = ports.ok.0 in
+    let three = after.cells.ok.0 in
+    let four = after.ports.ok.0 in
+    let counts = serves.count in
+    net_ends g.X.Cells g.X.Faults state (aggregate_words c.args.words.now) (desk_state c.args.desk.now)
+    (c.serve_clients-table.result.0 ≡ c.args.table) (after.ports.items ≡ ports.items) (after.cells.items ≡ c.args.cells.now.items)
+    (table_seen c.args.table) (table_seen c.serve_clients-table.result.0)
+    (over_net (g.N.Net.state c.args.net.now) (g.N.Net.state c.gather.new.self)) ports.items after.ports.items c.args.cells.now.items after.cells.items
+    (omega (arith, many, sizes, asked, one)) (omega (arith, many, sizes, asked, one, two, three, four, counts.0, counts.1))
+    c.serve_clients-table.result.1 (ending c.end_of_service-end.result) many made.new_ports serves.served
+    (λ told. gathers.kept (rw onward.told told) ∙ ap (λ kept. kept ++ map state after.ports.items) made.kept)
+    (λ deaf. let rose = gathers.port_count.rose deaf in let later = onward.port_count in omega (arith, rose, later))
+    serves.refused (λ same. ap (map state) same) (rw (← c.deref.ensures.value) c.end_of_service-end.ensures.ends)
+
+pub returns-clause-net : goal.returns-clause-net
+returns-clause-net g c =
+    let state = g.N.Port.Port.state in
+    let ports = c.in-Ok.ports in
+    let after = c.serve_clients-table.new in
+    let one = length-map ports.items state in
+    let two = length-map after.ports.items state in
+    let counts = c.serve_clients-table.ensures.count in
+    let three = ports.ok.0 in
+    let four = after.ports.ok.0 in
+    net_back _ _ _ _ _ _ _ c.in-Ok.ensures.made c.in-Ok.ensures.onward (omega (arith, one, two, three, four, counts.0)) c.gather.ensures.kept c.gather.ensures.onward

@@ -1,0 +1,53 @@
+//! Faults of loading as ends.
+
+ghost use Rattle.std.specs.Prelude.{◌≡◌};
+ghost use Rattle.tool_base.specs.Endings.{ending};
+ghost use Rattle.tool_base.specs.Loads.{end_of_journal, end_of_slots, load_fault_number};
+
+use crate::Ending;
+use opening_journal::JournalLoad;
+use slot_file::{CacheLoad, LoadFault};
+
+/// The number that users see of a damaged slot.
+pub const DAMAGED: u8 = 6;
+
+/// The number that users see of a fault of a file's header or length.
+pub fn load_fault_number(fault: LoadFault) -> u8
+    ensures { result ≡ load_fault_number fault }
+{
+    match fault {
+        LoadFault::Length { .. } => 1,
+        LoadFault::NotReady { .. } => 2,
+        LoadFault::Version { .. } => 3,
+        LoadFault::Foreign { .. } => 4,
+        LoadFault::Device => 5,
+    }
+}
+
+/// The end where a journal or a leaf table is not loaded.
+pub fn end_of_journal(fault: JournalLoad) -> Ending
+    ensures { ending result ≡ end_of_journal fault }
+{
+    match fault {
+        JournalLoad::Slots(fault) => Ending::NotLoaded {
+            fault: load_fault_number(fault),
+        },
+        JournalLoad::Damaged { .. } => Ending::NotLoaded { fault: DAMAGED },
+        JournalLoad::Device => Ending::DeviceFailed,
+        JournalLoad::NoMemory => Ending::NoMemory,
+    }
+}
+
+/// The end where a book is not loaded.
+pub fn end_of_slots(fault: CacheLoad) -> Ending
+    ensures { ending result ≡ end_of_slots fault }
+{
+    match fault {
+        CacheLoad::Slots(fault) => Ending::NotLoaded {
+            fault: load_fault_number(fault),
+        },
+        CacheLoad::Damaged { .. } => Ending::NotLoaded { fault: DAMAGED },
+        CacheLoad::Device => Ending::DeviceFailed,
+        CacheLoad::NoMemory => Ending::NoMemory,
+    }
+}

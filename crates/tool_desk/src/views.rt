@@ -1,0 +1,130 @@
+//! Views of the reference of a dealing.
+
+ghost use Rattle.std.specs.Prelude.{◌≡◌, ◌≤◌, ◌+◌, ℕ, [], map, vec_capacity, vec_len, All, IfOk, IfErr, OnErr, OnOk};
+ghost use Rattle.std.specs.Prelude.{IsTrue};
+ghost use Rattle.reference_value.specs.Paged.{pages_of};
+ghost use Rattle.stream_io.specs.Store.{StoreOnward, pages_state};
+ghost use Rattle.tool_base.specs.Endings.{ending};
+ghost use Rattle.tool_base.specs.Touched.{Keeps};
+ghost use Rattle.tool_base.specs.World.{IsPart, from_to};
+ghost use Rattle.tool_desk.specs.Files.{AreOfOneKey, HaveSizesOf, reference_name};
+ghost use Rattle.tool_desk.specs.Reference.{IsReferenceOf, IsReferenceViewed};
+ghost use Rattle.tool_base.specs.Loads.{ReadsAs};
+ghost use Rattle.tool_desk.specs.Views.{AddsCells, CellsOut, FailsReferences, ViewsBack, ViewsOut};
+
+use crate::{KeyFiles, other_key, test_same_key, view_reference};
+use reference_value::{Cells, Paged};
+use share_files::RefHeader;
+use std::alloc::Global;
+use stream_io::Store;
+use tool_base::Ending;
+
+/// Takes views of the reference of a dealing, one after the other, and reads and tests the head of each as soon as it
+/// has it: it is of the key, and all heads are the same. Where one is refused, all are given back.
+pub fn view_cells<S: Store>(
+    alloc: Global,
+    store: &mut S,
+    prefix: &str,
+    files: &KeyFiles,
+    count: u32,
+) -> Result<(Vec<Paged<S::View>>, RefHeader), Ending>
+    requires some { 1 ≤ count }
+    ensures reference { (first last : S)
+        → IsPart (S.state first) (S.state store.old) (S.state store.new) (S.state last)
+        → IfOk result (λ got.
+        IsReferenceViewed (from_to (S.state first) (S.state last)) (reference_name prefix.now) got.1) }
+    ensures key { IfOk result (λ got. AreOfOneKey files.now got.1 × HaveSizesOf files.now got.1) }
+    ensures cells { IfOk result (λ got. CellsOut (S.state store.old) (reference_name prefix.now)
+        (pages_state S.View.told S.View.honest S.View.steady S.View.count S.View.room S.View.reads S.View.may_leave)
+        got.0.items (S.state store.new)) }
+    ensures fit { IfOk result (λ got. All (λ own. (⟦<Paged<S::View> as Cells>⟧.set own ≡ files.now.key.params)
+        × (⟦<Paged<S::View> as Cells>⟧.plan own ≡ got.1.plan)) got.0.items) }
+    ensures counts { IfOk result (λ got. (vec_len got.0 ≡ count)
+        × ((S.state store.new).disk_count ≡ (S.state store.old).disk_count)) }
+    ensures refused { (first last : S)
+        → IsPart (S.state first) (S.state store.old) (S.state store.new) (S.state last)
+        → IfErr result (λ end.
+        FailsReferences (from_to (S.state first) (S.state last)) prefix.now files.now (ending end)) }
+    ensures keeps { OnErr result (Keeps [] (S.state store.old) (S.state store.new)) }
+    ensures onward { StoreOnward (S.state store.old) (S.state store.new) }
+{
+    let Ok(mut cells) = Vec::with_capacity(alloc, count as usize) else {
+        return Err(Ending::NoMemory);
+    };
+    let (view, header) = match view_reference(alloc, store, prefix) {
+        Ok(viewed) => viewed,
+        Err(end) => {
+            cells.destroy_empty();
+            return Err(end);
+        }
+    };
+    if let Err(end) = test_same_key(alloc, prefix, files, &header) {
+        cells.destroy_empty();
+        store.end_view(view);
+        return Err(end);
+    }
+    cells.push_reserved(Paged::new(&files.key.params, &header.plan, view));
+    match view_others(alloc, store, prefix, files, &header, count - 1, &mut cells) {
+        Ok(()) => Ok((cells, header)),
+        Err(end) => {
+            end_cells(cells, store);
+            Err(end)
+        }
+    }
+}
+
+/// Takes so many views more, each with this head, and puts their cells behind the others into the room that there is.
+fn view_others<S: Store>(
+    alloc: Global,
+    store: &mut S,
+    prefix: &str,
+    files: &KeyFiles,
+    header: &RefHeader,
+    count: u32,
+    cells: &mut Vec<Paged<S::View>>,
+) -> Result<(), Ending>
+    requires room { vec_len cells.old + count ≤ vec_capacity cells.old }
+    requires sizes { HaveSizesOf files.now header.now }
+    requires fit { All (λ own. (⟦<Paged<S::View> as Cells>⟧.set own ≡ files.now.key.params)
+        × (⟦<Paged<S::View> as Cells>⟧.plan own ≡ header.now.plan)) cells.old.items }
+    ensures adds { AddsCells (S.state store.old) (reference_name prefix.now)
+        (pages_state S.View.told S.View.honest S.View.steady S.View.count S.View.room S.View.reads S.View.may_leave)
+        cells.old.items cells.new.items (S.state store.new) }
+    ensures fit { All (λ own. (⟦<Paged<S::View> as Cells>⟧.set own ≡ files.now.key.params)
+        × (⟦<Paged<S::View> as Cells>⟧.plan own ≡ header.now.plan)) cells.new.items }
+    ensures counts { OnOk result ((vec_len cells.new ≡ vec_len cells.old + count)
+        × ((S.state store.new).disk_count ≡ (S.state store.old).disk_count)) }
+    ensures refused { (first last : S) (out : ℕ) → ViewsOut (S.state first) out (S.state store.old)
+        → StoreOnward (S.state store.new) (S.state last)
+        → ReadsAs (from_to (S.state first) (S.state last)) (reference_name prefix.now) (IsReferenceOf header.now)
+        → IfErr result (λ end.
+        FailsReferences (from_to (S.state first) (S.state last)) prefix.now files.now (ending end)) }
+{
+    for _ in 0..count {
+        let (view, other) = view_reference(alloc, store, prefix)?;
+        if !is_same(header, &other) {
+            store.end_view(view);
+            return Err(other_key(alloc, prefix, ".ref", other.id));
+        }
+        cells.push_reserved(Paged::new(&files.key.params, &header.plan, view));
+    }
+    Ok(())
+}
+
+/// Whether two heads are the same.
+fn is_same(one: &RefHeader, other: &RefHeader) -> bool
+    ensures { one.now ≡ other.now → IsTrue result }
+{
+    one == other
+}
+
+/// Gives the views of cells back, the last one first.
+pub fn end_cells<S: Store>(mut cells: Vec<Paged<S::View>>, store: &mut S)
+    ensures { ViewsBack (S.state store.old) (map (λ own. S.View.count (pages_of own)) cells.items)
+        (S.state store.new) }
+{
+    while let Some(own) = cells.pop() {
+        store.end_view(own.end());
+    }
+    cells.destroy_empty();
+}

@@ -1,2 +1,0 @@
-pub mod Outs
-pub mod Takes

@@ -1,3 +1,0 @@
-pub mod Disks
-pub mod Headers
-pub mod Loads

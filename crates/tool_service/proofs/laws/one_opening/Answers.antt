@@ -1,5 +1,0 @@
-use Rattle.tool_service.proofs.Lives.{one_opening}
-use Rattle.tool_service.proofs.laws.one_opening.Goals as goal
-
-pub returns : goal.returns
-returns g c = λ share state passes. one_opening share g.S.Store.state state passes

@@ -1,0 +1,63 @@
+//! What follows from the definitions. No function here does anything.
+
+ghost use Rattle.std.specs.Prelude.{◌≡◌, ◌⊎◌, ℕ, List, Ok, Result};
+ghost use Rattle.aggregator_session.specs.Faults.{LostBy};
+ghost use Rattle.aggregator_session.specs.Runs.{CellsRead, HasRun};
+ghost use Rattle.aggregator_session.specs.declared.desk.Address.{Address};
+ghost use Rattle.aggregator_session.specs.declared.fault.SignFault.{SignFault};
+ghost use Rattle.aggregator_session.specs.declared.fault.Why.TheVariants.{DialFailed, ReadFailed, WriteFailed};
+ghost use Rattle.disk_trait.specs.Faults.{Rose};
+ghost use Rattle.aggregator_session.specs.Signing.{Signature};
+ghost use Rattle.aggregator_session.specs.Tables.{TableSeen};
+ghost use Rattle.lms_verify.specs.UndividedKey.{UndividedKey, rfc_signature};
+ghost use Rattle.merkle_path.specs.Tree.{TreeNodes};
+ghost use Rattle.reference_value.specs.Dealing.{Dealing, leaf_randomizer};
+ghost use Rattle.session_core.specs.State.{State};
+ghost use Rattle.stream_io.specs.Net.{PortState};
+ghost use Rattle.tool_base.specs.Ending as ending;
+ghost use Rattle.tool_base.specs.Touched.{DeviceRose};
+ghost use Rattle.tool_base.specs.World.{from_to};
+ghost use Rattle.tool_base.specs.declared.unsigned.Unsigned.TheVariants.{Missing};
+ghost use Rattle.tool_sign.specs.Dealt.{IsDealt};
+ghost use Rattle.tool_sign.specs.Ports.{NetRun, SignedOver, Signing};
+ghost use Rattle.tool_sign.specs.Lost.{LosesMember};
+ghost use Rattle.tool_sign.specs.Sign.{SigningRun, session_words};
+ghost use Rattle.tool_sign.specs.Tasks.{message_in};
+ghost use Rattle.tool_words.specs.Words.{SignWords};
+
+use stream_io::Store;
+
+/// The causes of four ends of `sign`: the store fails only where its count of faults rose, a device only where that of
+/// its disks and views rose, and the net only where its count of failed ports rose. A member is lost only where the
+/// net's count of faults rose, or since its link ended before a reply, what it sent is no frame of a reply, or no
+/// address names it (`lost`): of a session, that it could not be dialled, written to or read is the cause only where
+/// that count rose (`links`).
+pub fn causes<S: Store>(before: &S, after: &S)
+    ensures store { (words : SignWords) (net : NetRun)
+        → SigningRun words (from_to (S.state before.now) (S.state after.now)) net ending.StoreFailed
+        → Rose (S.state before.now).count (S.state after.now).count }
+    ensures device { (words : SignWords) (net : NetRun)
+        → SigningRun words (from_to (S.state before.now) (S.state after.now)) net ending.DeviceFailed
+        → DeviceRose (from_to (S.state before.now) (S.state after.now)) }
+    ensures net { (words : SignWords) (net : NetRun)
+        → SigningRun words (from_to (S.state before.now) (S.state after.now)) net ending.NetFailed
+        → Rose net.before.port_count net.after.port_count }
+    ensures lost { (words : SignWords) (net : NetRun) (member round : ℕ)
+        → let run = from_to (S.state before.now) (S.state after.now) in
+        SigningRun words run net (ending.NotSigned (Missing member round))
+        → Rose net.before.count net.after.count
+        ⊎ LosesMember (session_words words) run (message_in run words.message) net member round }
+    ensures links { (signing : Signing) (old new : TableSeen) (net : NetRun) (outcome : Result Signature SignFault)
+        → SignedOver signing old new net outcome
+        → LostBy DialFailed outcome ⊎ LostBy WriteFailed outcome ⊎ LostBy ReadFailed outcome
+        → Rose net.before.count net.after.count }
+{}
+
+/// A signature of a session over what a dealer made is that of the undivided key, for the session's leaf, the dealer's
+/// randomizer and the message.
+pub fn dealt_signature()
+    ensures { (d : Dealing) (key : UndividedKey) (addresses : List Address) (tree : TreeNodes) (reads : CellsRead)
+        (message : List ℕ) (before now : PortState) (s last : State) (bytes : List ℕ)
+        → HasRun addresses tree reads message before now s last (Ok bytes) → IsDealt d key reads tree message s last
+        → bytes ≡ rfc_signature key s.leaf (leaf_randomizer d s.leaf) message }
+{}

@@ -1,0 +1,118 @@
+-- How a service over ports ends.
+use Rattle.std.proofs.Common.{◌≡◌, ◌++◌, ◌||◌, ℕ, Bool, true, false, zero, suc, nat_lt, List, [], ◌∷◌, length, map, Option, Some, Result, Ok, Err, All, IsTrue, IfOk, OnErr, refl, sym, ap, ◌∙◌, subst, arith}
+use Rattle.std.proofs.lemmas.Bool.{false≢true, ltb-false}
+use Rattle.std.proofs.lemmas.List.{length-map}
+use Rattle.std.proofs.lemmas.List.Elements.{All-cons, All-head, All-nil, All-tail}
+use Rattle.std.specs.List.{list_any}
+use Rattle.disk_trait.specs.Faults.{Rose}
+use Rattle.memory.specs.declared.NoMemory.{NoMemory}
+use Rattle.share_files.specs.declared.share.Share.{Share}
+use Rattle.stream_io.specs.Net.{IsNewPort, NetState, PortState, SomeUnaccepted}
+use Rattle.tool_base.proofs.Heard.{heard_new}
+use Rattle.tool_base.specs.Ending.{Ending}
+use Rattle.tool_base.specs.World.{TimeState}
+use Rattle.tool_words.specs.Words.{TrusteeWords}
+use Rattle.trustee_node.specs.Workers.{ClockState, clock_state}
+use Rattle.opening_journal.specs.declared.entry.Entry.{Entry}
+use Rattle.trustee_node.specs.Ports.{IsPortRun, PortEnds, PortRun, ServedPorts, failed, full, none_waits}
+use Rattle.trustee_node.specs.Trustees.{TrusteeState}
+use Rattle.trustee_node.specs.declared.totals.Totals.{Totals}
+use Rattle.tool_trustee.specs.Nets.{HasAccepted, IsNewClock, NetEnds, ServiceEnds, no_memory, served}
+
+or_false : (a b : Bool) → (a || b) ≡ false → (a ≡ false) × (b ≡ false)
+or_false true b is = absurd (false≢true (sym is))
+or_false false b is = (refl, is)
+
+pub not_true : (b : Bool) → (IsTrue b → ⊥) → b ≡ false
+not_true true never = absurd (never refl)
+not_true false never = refl
+
+none_accepted : (n : ℕ) → nat_lt 0 n ≡ false → n ≡ 0
+none_accepted n is = let few = ltb-false 0 n is in omega (arith, few)
+
+some_accepted : (n : ℕ) → nat_lt 0 n ≡ true → n ≡ 0 → ⊥
+some_accepted zero is none = false≢true is
+some_accepted (suc n) is none = omega (arith, none)
+
+module _ {P : Type 0} (state : P → PortState) where
+  -- whether a port failed to accept
+  abbrev is_deaf : P → Bool
+  is_deaf port = nat_lt 0 (state port).accept_count
+
+  pub none_deaf : (ports : List P) → list_any is_deaf ports ≡ false → All HasAccepted (map state ports)
+  none_deaf [] is = All-nil HasAccepted
+  none_deaf (port ∷ ports) is =
+      let both = or_false (is_deaf port) (list_any is_deaf ports) is in
+      All-cons HasAccepted (state port) (map state ports) (none_accepted _ both.0) (none_deaf ports both.1)
+
+  deaf_or : (test : Bool) (port : P) (ports : List P) → test ≡ is_deaf port → (list_any is_deaf ports ≡ true → SomeUnaccepted (map state ports))
+      → (test || list_any is_deaf ports) ≡ true → SomeUnaccepted (map state (port ∷ ports))
+  deaf_or true port ports test rest is all = some_accepted _ (sym test) (All-head HasAccepted (state port) (map state ports) all)
+  deaf_or false port ports test rest is all = rest is (All-tail HasAccepted (state port) (map state ports) all)
+
+  pub some_deaf : (ports : List P) → list_any is_deaf ports ≡ true → SomeUnaccepted (map state ports)
+  some_deaf [] is all = false≢true is
+  some_deaf (port ∷ ports) is all = deaf_or (is_deaf port) port ports refl (some_deaf ports) is all
+
+module _ {C : Type 0} (told : C → Bool) (answers : C → ℕ → ℕ) (time : TimeState) where
+  pub dated_by : (clocks : List C) → (IsTrue time.told → All (λ clock. IsTrue (told clock)) clocks)
+      → (IsTrue time.told → (j : ℕ) → All (λ clock. answers clock j ≡ time.answers j) clocks)
+      → All (IsNewClock time) (map (clock_state told answers) clocks)
+  dated_by [] tells same = All-nil (IsNewClock time)
+  dated_by (clock ∷ clocks) tells same = All-cons (IsNewClock time) (clock_state told answers clock) (map (clock_state told answers) clocks)
+      (record {
+        told = λ is. All-head (λ clock. IsTrue (told clock)) clock clocks (tells is);
+        answers = λ is j. All-head (λ clock. answers clock j ≡ time.answers j) clock clocks (same is j);
+      })
+      (dated_by clocks (λ is. All-tail (λ clock. IsTrue (told clock)) clock clocks (tells is))
+      (λ is j. All-tail (λ clock. answers clock j ≡ time.answers j) clock clocks (same is j)))
+
+accepted-by : (asked done : ℕ) (before after : PortState) → PortEnds asked done before after → before.accept_count ≡ 0 → IsTrue after.steady → after.accept_count ≡ 0
+accepted-by asked done before after (full all same) none_yet is = same ∙ none_yet
+accepted-by asked done before after (none_waits empty same) none_yet is = same ∙ none_yet
+accepted-by asked done before after (failed rose unsteady) none_yet is = absurd (unsteady is)
+
+module _ (share : Share) (ids : Option (List (List ℕ))) (asked : ℕ) (log last : List Entry) (net : NetState) (place : Option (List ℕ)) (is_steady : IsTrue net.steady) where
+  all-accepted : (runs : List PortRun) → All (IsPortRun share ids asked log last) runs → All (IsNewPort net place) (map (λ (run : PortRun). run.before) runs)
+      → All HasAccepted (map (λ (run : PortRun). run.after) runs)
+  all-accepted [] are new = All-nil HasAccepted
+  all-accepted (run ∷ runs) are new =
+      let one = All-head (IsPortRun share ids asked log last) run runs are in
+      let made = All-head (IsNewPort net place) run.before (map (λ (run : PortRun). run.before) runs) new in
+      All-cons HasAccepted run.after (map (λ (run : PortRun). run.after) runs)
+      (accepted-by asked (length run.served) run.before run.after one.ends made.accept_count (rw one.onward.steady (made.steady is_steady)))
+      (all-accepted runs (All-tail (IsPortRun share ids asked log last) run runs are) (All-tail (IsNewPort net place) run.before (map (λ (run : PortRun). run.before) runs) new))
+
+module _ (words : TrusteeWords) (share : Share) (ids : Option (List (List ℕ))) (same : Type 0) (old new : TrusteeState)
+    (net_old net_new : NetState) (time : TimeState) where
+  pub net_ends : (ports_old ports_new : List PortState) (clocks : List ClockState) (totals : Result Totals NoMemory) (end : Ending)
+      → length ports_old ≡ words.workers → All (IsNewPort net_old (Some words.place)) ports_old → All (IsNewClock time) clocks
+      → IfOk totals (λ totals. ServedPorts share ids words.connections old new ports_old ports_new clocks totals)
+      → (IsTrue net_old.told → net_new.kept ≡ net_old.kept ++ ports_new)
+      → (SomeUnaccepted ports_new → Rose net_old.port_count net_new.port_count)
+      → (rest : Type 0) → OnErr totals (same × rest) → (rest → ports_new ≡ ports_old) → ServiceEnds ports_new totals end
+      → NetEnds words share ids same old new net_old net_new time end
+  net_ends ports_old ports_new clocks (Ok totals) end many made dated serves kept deaf rest refused back ends = served end (record {
+    ports_old = ports_old;
+    ports_new = ports_new;
+    clocks = clocks;
+    totals = totals;
+    many = many;
+    made = made;
+    dated = dated;
+    served = serves;
+    kept = kept;
+    ends = ends;
+    deaf = deaf;
+    hears = λ is. subst (All HasAccepted) serves.after (all-accepted share ids words.connections old.entries new.entries net_old (Some words.place) is serves.runs serves.are
+        (subst (All (IsNewPort net_old (Some words.place))) (sym serves.before) made));
+  })
+  net_ends ports_old ports_new clocks (Err none) end many made dated serves kept deaf rest refused back ends =
+      rw ends (no_memory refused.0 (heard_new net_old net_new words.place ports_old made (λ told. kept told ∙ ap (λ l. net_old.kept ++ l) (back refused.1))))
+
+  pub ports_many : {P : Type 0} (state : P → PortState) (ports_old ports_new : List P) (clocks : List ClockState) (totals : Result Totals NoMemory)
+      → IfOk totals (λ totals. ServedPorts share ids words.connections old new (map state ports_old) (map state ports_new) clocks totals)
+      → OnErr totals (same × (ports_new ≡ ports_old)) → length (map state ports_new) ≡ length (map state ports_old)
+  ports_many state ports_old ports_new clocks (Ok totals) serves refused =
+      ap length (sym serves.after) ∙ length-map serves.runs (λ (run : PortRun). run.after) ∙ sym (length-map serves.runs (λ (run : PortRun). run.before)) ∙ ap length serves.before
+  ports_many state ports_old ports_new clocks (Err none) serves refused = ap (λ l. length (map state l)) refused.1

@@ -1,0 +1,19 @@
+use Rattle.std.proofs.Common.{◌∙◌, IsTrue, inl, inr, ap}
+use Rattle.tool_trustee.proofs.Steady.{ports-granted}
+use Rattle.trustee_core.specs.declared.kept.TrusteeName.{TrusteeName}
+use Rattle.tool_trustee.proofs.laws.steady_trustee.Goals as goal
+
+pub returns-clause-grants : goal.returns-clause-grants
+returns-clause-grants g c = λ words net_old net_new time later end run told steady.
+    let served = run.net.served in
+    let name = run.name_is in
+    let tells : IsTrue run.new.name.told = ap (λ (n : TrusteeName). n.told) name ∙ run.told told in
+    let steadies : IsTrue run.new.name.steady = ap (λ (n : TrusteeName). n.steady) name ∙ run.steady steady in
+    ports-granted run.share run.ids words.connections run.old.entries run.new.entries served.runs served.are
+    (served.codes.steady steadies tells) (served.codes.told tells) served.codes.worn
+
+pub returns-clause-ends : goal.returns-clause-ends
+returns-clause-ends g c = λ words net_old net_new time later end run steady. elim run.net.ends [
+  | inl all ↦ all.1
+  | inr some ↦ absurd (some.0 (run.net.hears steady))
+]

@@ -1,0 +1,58 @@
+use Rattle.std.proofs.Common.{◌≡◌, ◌++◌, ◌∙◌, map, refl, ap, arith}
+use Rattle.std.specs.Option.{option_map}
+use Rattle.approval_book.specs.Approved.{ids_of}
+use Rattle.trustee_node.specs.Workers.{clock_state}
+use Rattle.trustee_node.specs.Trustees.{trustee_state}
+use Rattle.tool_words.specs.Rows.{trustee_words}
+use Rattle.tool_base.specs.Endings.{ending}
+use Rattle.tool_trustee.specs.Nets.{no_memory, no_ports}
+use Rattle.tool_base.proofs.Nets.{net_back}
+use Rattle.tool_base.proofs.Heard.{heard_new, heard_none}
+use Rattle.tool_trustee.proofs.Serving.{dated_by, net_ends, not_true, ports_many}
+use Rattle.tool_trustee.proofs.nets.serve_net.Goals as goal
+
+pub returns-in-Err-Failed-clause-ends : goal.returns-in-Err-Failed-clause-ends
+returns-in-Err-Failed-clause-ends g c =
+    let found = c.in-Err-Failed.is in
+    let fault = c.in-Err-Failed.field-0-is in
+    let ports = c.in-Err-Failed.ensures in
+    no_ports refl (heard_none _ _ _ ports.refused.kept) (ports.port_cause.rose (cc)) (λ told steady. not_true _ (ports.unoffered told steady (cc)))
+
+pub returns-in-Err-NoMemory-clause-ends : goal.returns-in-Err-NoMemory-clause-ends
+returns-in-Err-NoMemory-clause-ends g c = no_memory refl (heard_none _ _ _ c.in-Err-NoMemory.ensures.refused.kept)
+
+pub returns-in-Err-clause-ends : goal.returns-in-Err-clause-ends
+returns-in-Err-clause-ends g c =
+    let made = c.in-Ok.ensures.made in
+    let onward = c.in-Ok.ensures.onward in
+    no_memory refl (heard_new _ _ _ _ made.new_ports (λ told. c.gather.ensures.kept.kept (rw onward.told told) ∙ ap (λ kept. kept ++ map g.N.Port.Port.state c.in-Ok.ports.items) made.kept))
+
+pub returns-clause-ends : goal.returns-clause-ends
+returns-clause-ends g c =
+    let state = g.N.Port.Port.state in
+    let made = c.in-Ok.ensures.made in
+    let serves = c.serve_ports-trustee.ensures in
+    let gathers = c.gather-2.ensures.kept in
+    let onward = c.in-Ok.ensures.onward in
+    let clock = g.T.Clock.Clock in
+    net_ends (trustee_words c.args.words.now) c.args.share.now (option_map (λ b. ids_of b.now) c.args.book)
+    (c.serve_ports-trustee.result.0 ≡ c.args.trustee) (trustee_state c.args.trustee) (trustee_state c.serve_ports-trustee.result.0)
+    (g.N.Net.state c.args.net.now) (g.N.Net.state c.gather-2.new.self) (g.T.Clocks.state c.args.time.now)
+    (map state c.in-Ok.ports.items) (map state c.serve_ports-trustee.new.ports.items) (map (clock_state clock.told clock.answers) c.in-Ok-clocks.clocks.items)
+    c.serve_ports-trustee.result.1 (ending c.end_of_service-end.result)
+    made.many made.new_ports (dated_by clock.told clock.answers _ _ c.in-Ok-clocks.ensures.tell (λ told j. c.in-Ok-clocks.ensures.answers told j))
+    serves.served
+    (λ told. gathers.kept (rw onward.told told) ∙ ap (λ kept. kept ++ map state c.serve_ports-trustee.new.ports.items) made.kept)
+    (λ deaf. let rose = gathers.port_count.rose deaf in let later = onward.port_count in omega (arith, rose, later))
+    _ serves.refused (λ same. ap (map state) same) (rw (← c.deref.ensures.value) c.end_of_service-end.ensures.ends)
+
+pub returns-clause-net : goal.returns-clause-net
+returns-clause-net g c =
+    let state = g.N.Port.Port.state in
+    let made = c.in-Ok.ensures.made in
+    let serves = c.serve_ports-trustee.ensures in
+    let many = ports_many (trustee_words c.args.words.now) c.args.share.now (option_map (λ b. ids_of b.now) c.args.book)
+    (c.serve_ports-trustee.result.0 ≡ c.args.trustee) (trustee_state c.args.trustee) (trustee_state c.serve_ports-trustee.result.0)
+    (g.N.Net.state c.args.net.now) (g.N.Net.state c.gather-2.new.self) (g.T.Clocks.state c.args.time.now)
+    state c.in-Ok.ports.items c.serve_ports-trustee.new.ports.items _ c.serve_ports-trustee.result.1 serves.served serves.refused in
+    net_back _ _ _ _ _ _ _ made c.in-Ok.ensures.onward many c.gather-2.ensures.kept c.gather-2.ensures.onward

@@ -1,0 +1,94 @@
+use Rattle.std.proofs.Common.{◌≡◌, IsTrue, refl, sym, ap, subst}
+use Rattle.std.specs.Option.{option_map}
+use Rattle.approval_book.specs.Approved.{ids_of}
+use Rattle.approval_book.specs.Book.{state_of}
+use Rattle.slot_file.specs.Loading.{LoadRefused}
+use Rattle.slot_file.specs.State.{HasSlots}
+use Rattle.slot_file.specs.Disks.{Unwritten}
+use Rattle.stream_io.specs.Store.{pages_state}
+use Rattle.tool_base.specs.Endings.{ending}
+use Rattle.tool_base.specs.World.{IsCalm, from_to}
+use Rattle.tool_base.specs.Loads.{FailsToLoad}
+use Rattle.tool_base.proofs.Takes.{back, reads_as, slots_not_loaded, stays}
+use Rattle.tool_base.specs.Headers.{book_header}
+use Rattle.tool_trustee.specs.Journals.{IsBook}
+use Rattle.tool_base.proofs.Heard.{heard_none}
+use Rattle.tool_trustee.proofs.Booking.{run_absent, run_refused, run_with, run_without}
+use Rattle.tool_words.specs.Rows.{trustee_words}
+use Rattle.trustee_node.specs.Trustees.{trustee_state}
+use Rattle.tool_trustee.proofs.trustee.serve_with_book.Goals as goal
+
+pub returns-in_default-clause-ended : goal.returns-in_default-clause-ended
+returns-in_default-clause-ended g c =
+    run_without (trustee_words c.args.words.now) c.args.share.now (c.serve_net.result.0 ≡ c.args.trustee) (trustee_state c.args.trustee) (trustee_state c.serve_net.result.0)
+    _ _ _ _ _ _ (ap (option_map (λ b. b.now)) c.in_default.is) c.serve_net.ensures.ends
+
+pub returns-in-Err-clause-ended : goal.returns-in-Err-clause-ended
+returns-in-Err-clause-ended g c =
+    let take = c.in-Err.ensures in
+    let is = c.in-Err.is in
+    let calm : IsCalm (g.S.Store.state c.args.store.now) (g.S.Store.state c.take_disk.new.self) = record { same = take.refused; onward = take.onward } in
+    run_absent (trustee_words c.args.words.now) c.args.share.now (c.args.trustee ≡ c.args.trustee) (trustee_state c.args.trustee) (trustee_state c.args.trustee)
+    _ _ _ _ _ _ c.in-Some.name.now (ap (option_map (λ b. b.now)) c.in-Some.is) (heard_none _ _ _ refl) c.in-Err.fault _ c.end_of_call.ensures refl calm
+    (λ failed. take.cause.rose (cc)) (λ failed told steady. take.absent told steady (cc))
+
+pub returns-in-Err-load-clause-ended : goal.returns-in-Err-load-clause-ended
+returns-in-Err-load-clause-ended g c =
+    let state = g.S.Store.state in
+    let disks = g.S.Disk in
+    let pages = pages_state disks.Pages.told disks.Pages.honest disks.Faults.steady disks.Faults.count disks.Pages.room disks.Pages.reads disks.Pages.may_leave in
+    let first = state c.args.store.now in
+    let last = state c.return_disk.new.self in
+    let name = c.in-Some.name.now in
+    let disk = pages c.in-Ok.disk in
+    let now = pages c.in-Err-load.disk in
+    let load = c.in-Err-load.ensures in
+    let taken = c.in-Ok.ensures.taken in
+    let goes = c.in-Ok.ensures.onward in
+    let step = c.return_disk.ensures.returned in
+    let comes = c.return_disk.ensures.onward in
+    let kind = load.unwritten.stays in
+    let refused : IsTrue disk.told → LoadRefused (book_header c.args.share.now) 1024 disk.reads c.in-Err-load.fault =
+    λ told. subst (λ h. LoadRefused h 1024 disk.reads c.in-Err-load.fault) c.header_of.ensures (load.refused told) in
+    let fails : FailsToLoad (book_header c.args.share.now) 1024 (from_to first last) name (ending c.end_of_slots.result) =
+    subst (FailsToLoad (book_header c.args.share.now) 1024 (from_to first last) name) (sym c.end_of_slots.ensures)
+    (slots_not_loaded first _ last name disk now taken goes step comes kind.told kind.honest kind.steady (book_header c.args.share.now) 1024 c.in-Err-load.fault refused load.succeeds load.cause) in
+    run_refused (trustee_words c.args.words.now) c.args.share.now (c.args.trustee ≡ c.args.trustee) (trustee_state c.args.trustee) (trustee_state c.args.trustee)
+    _ _ _ _ _ _ name (ap (option_map (λ b. b.now)) c.in-Some.is) (heard_none _ _ _ refl) now _ refl
+    (back first _ last name disk now taken goes step comes kind.told kind.honest kind.steady)
+    (record { file = disk.reads; was = taken.reads; stays = stays first _ last name disk now taken goes step comes kind.told kind.honest kind.steady load.unwritten.same load.unwritten.images })
+    fails
+
+pub returns-clause-ended : goal.returns-clause-ended
+returns-clause-ended g c =
+    let state = g.S.Store.state in
+    let disks = g.S.Disk in
+    let pages = pages_state disks.Pages.told disks.Pages.honest disks.Faults.steady disks.Faults.count disks.Pages.room disks.Pages.reads disks.Pages.may_leave in
+    let first = state c.args.store.now in
+    let last = state c.return_disk-2.new.self in
+    let name = c.in-Some.name.now in
+    let share = c.args.share.now in
+    let disk = pages c.in-Ok.disk in
+    let now = pages c.end.result in
+    let load = c.in-Ok-load.ensures.loaded in
+    let ids = ids_of c.approved.result.now in
+    let slots = (state_of c.in-Ok-load.book).slots in
+    let taken = c.in-Ok.ensures.taken in
+    let goes = c.in-Ok.ensures.onward in
+    let step = c.return_disk-2.ensures.returned in
+    let comes = c.return_disk-2.ensures.onward in
+    let unwritten : Unwritten disks.Pages disks.Faults c.in-Ok.disk c.end.result =
+    subst (λ d. Unwritten disks.Pages disks.Faults c.in-Ok.disk d) (sym c.end.ensures.disk) load.unwritten in
+    let kind = unwritten.stays in
+    let is_book : IsTrue disk.told → IsBook share ids disk.reads = λ told. record {
+      slots = slots;
+      has = subst (λ h. HasSlots h slots disk.reads) c.header_of.ensures (load.file told);
+      many = load.size;
+      lists = c.approved.ensures;
+    } in
+    run_with (trustee_words c.args.words.now) share (c.serve_net-trustee.result.0 ≡ c.args.trustee) (trustee_state c.args.trustee) (trustee_state c.serve_net-trustee.result.0)
+    first last _ _ _ _ name (ap (option_map (λ b. b.now)) c.in-Some.is) now ids _
+    (back first _ last name disk now taken goes step comes kind.told kind.honest kind.steady)
+    (record { file = disk.reads; was = taken.reads; stays = stays first _ last name disk now taken goes step comes kind.told kind.honest kind.steady unwritten.same unwritten.images })
+    (reads_as first _ last name disk now taken goes step comes kind.told kind.honest kind.steady (IsBook share ids) is_book)
+    c.serve_net-trustee.ensures.ends

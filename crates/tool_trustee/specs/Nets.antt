@@ -1,0 +1,59 @@
+-- What a trustee did over the ports of a net.
+use Rattle.std.specs.Prelude.{◌≡◌, ◌⊎◌, ◌++◌, ℕ, List, All, length, Option, Some, IsTrue, false}
+use Rattle.std.specs.Prelude.{Result, Ok, Err}
+use Rattle.memory.specs.declared.NoMemory.{NoMemory}
+use Rattle.disk_trait.specs.Faults.{Rose}
+use Rattle.share_files.specs.declared.share.Share.{Share}
+use Rattle.stream_io.specs.Net.{IsNewPort, NetState, PortState, SomeUnaccepted}
+use Rattle.tool_base.specs.Ending as ending
+use Rattle.tool_base.specs.Ending.{Ending}
+use Rattle.tool_base.specs.Heard.{HeardNobody}
+use Rattle.tool_base.specs.World.{TimeState}
+use Rattle.tool_words.specs.Words.{TrusteeWords}
+use Rattle.trustee_node.specs.Workers.{ClockState}
+use Rattle.trustee_node.specs.Ports.{ServedPorts}
+use Rattle.trustee_node.specs.Trustees.{TrusteeState}
+use Rattle.trustee_node.specs.declared.totals.Totals.{Totals}
+
+-- a clock that was made here tells what all clocks of this time answer, from the first answer on
+pub record IsNewClock (time : TimeState) (clock : ClockState) : Type 0 where
+  pub told : IsTrue time.told → IsTrue clock.told
+  pub answers : IsTrue time.told → (j : ℕ) → clock.answers j ≡ time.answers j
+
+-- a port that did not fail to accept
+abbrev pub HasAccepted : PortState → Type 0
+HasAccepted port = port.accept_count ≡ 0
+
+-- how a service over these ports ends, by what came of serving them
+abbrev pub ServiceEnds : List PortState → Result Totals NoMemory → Ending → Type 0
+ServiceEnds ports (Ok totals) end = (All HasAccepted ports × (end ≡ ending.Served totals.connections totals.frames))
+    ⊎ (SomeUnaccepted ports × (end ≡ ending.NetFailed))
+ServiceEnds ports (Err none) end = end ≡ ending.NoMemory
+
+-- Ports were made at the place of the words, one for each worker, and the trustee was served over them; then all were
+-- given back, and the net keeps them. The end says what was served, or that accepting failed.
+pub record ServedNet (words : TrusteeWords) (share : Share) (ids : Option (List (List ℕ))) (old new : TrusteeState)
+    (net_old net_new : NetState) (time : TimeState) (end : Ending) : Type 0 where
+  pub ports_old : List PortState
+  pub ports_new : List PortState
+  pub clocks : List ClockState
+  pub totals : Totals
+  pub many : length ports_old ≡ words.workers
+  pub made : All (IsNewPort net_old (Some words.place)) ports_old
+  pub dated : All (IsNewClock time) clocks
+  pub served : ServedPorts share ids words.connections old new ports_old ports_new clocks totals
+  pub kept : IsTrue net_old.told → net_new.kept ≡ net_old.kept ++ ports_new
+  pub ends : ServiceEnds ports_new (Ok totals) end
+  pub deaf : SomeUnaccepted ports_new → Rose net_old.port_count net_new.port_count
+  pub hears : IsTrue net_old.steady → All HasAccepted ports_new
+
+-- How service over a net ends: the trustee was served, or no ports were had and it is as it was.
+pub data NetEnds (words : TrusteeWords) (share : Share) (ids : Option (List (List ℕ))) (same : Type 0)
+    (old new : TrusteeState) (net_old net_new : NetState) (time : TimeState) : Ending → Type 0 where
+  no_memory : same → HeardNobody words.place net_old net_new
+      → NetEnds words share ids same old new net_old net_new time ending.NoMemory
+  no_ports : same → HeardNobody words.place net_old net_new → Rose net_old.port_count net_new.port_count
+      → (IsTrue net_old.told → IsTrue net_old.steady → net_old.offers words.place ≡ false)
+      → NetEnds words share ids same old new net_old net_new time ending.NetFailed
+  served : (end : Ending) → ServedNet words share ids old new net_old net_new time end
+      → NetEnds words share ids same old new net_old net_new time end

@@ -1,0 +1,41 @@
+//! What follows from the definitions. No function here does anything.
+
+ghost use Rattle.std.specs.Prelude.{◌≡◌, IsTrue, List};
+ghost use Rattle.opening_journal.specs.Entries.{JournalState};
+ghost use Rattle.share_files.specs.declared.share.Share.{Share};
+ghost use Rattle.stream_io.specs.Net.{NetState};
+ghost use Rattle.tool_base.specs.Ending as ending;
+ghost use Rattle.tool_base.specs.Ending.{Ending};
+ghost use Rattle.tool_base.specs.World.{TimeState};
+ghost use Rattle.tool_trustee.specs.Lives.{ServedRuns};
+ghost use Rattle.tool_trustee.specs.Steady.{GrantsAll};
+ghost use Rattle.tool_trustee.specs.Trustee.{ServedTrustee};
+ghost use Rattle.tool_words.specs.Words.{TrusteeWords};
+ghost use Rattle.trustee_core.specs.Lives.{OneOpening};
+ghost use Rattle.trustee_node.specs.Places.{IsLegal, granted_by};
+ghost use Rattle.trustee_node.specs.Turns.{Turn};
+ghost use Rattle.trustee_node.specs.Ports.{turns_in};
+
+use stream_io::Store;
+
+/// All that was granted at all ports by all runs of `trustee` over one journal is of one opening: for each leaf one
+/// message id, and in round two one randomizer and one digest.
+pub fn one_opening<S: Store>()
+    ensures { (share : Share) (state : JournalState) (passes : List (List Turn)) → IsLegal state
+        → ServedRuns share S.state state passes → OneOpening share (granted_by passes) }
+{}
+
+/// Where the store tells its content and no call of it fails but for its arguments, each ask that the trustee grants on
+/// the entries that its turn met is granted, so it is answered with its masks. Where the net is steady too, the command
+/// ends with the numbers of what was served.
+pub fn steady_trustee<S: Store>(before: &S, after: &S)
+    ensures grants { (words : TrusteeWords) (net_old net_new : NetState) (time later : TimeState) (end : Ending)
+        (run : ServedTrustee words (record { store = S.state before.now; net = net_old; time = time })
+        (record { store = S.state after.now; net = net_new; time = later }) end)
+        → IsTrue (S.state before.now).told → IsTrue (S.state before.now).steady
+        → GrantsAll run.share run.ids (turns_in run.net.served.runs) }
+    ensures ends { (words : TrusteeWords) (net_old net_new : NetState) (time later : TimeState) (end : Ending)
+        (run : ServedTrustee words (record { store = S.state before.now; net = net_old; time = time })
+        (record { store = S.state after.now; net = net_new; time = later }) end)
+        → IsTrue net_old.steady → end ≡ ending.Served run.net.totals.connections run.net.totals.frames }
+{}

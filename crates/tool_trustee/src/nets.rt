@@ -1,0 +1,94 @@
+//! Service over the ports of a net.
+
+ghost use Rattle.std.specs.Prelude.{◌≡◌, ◌≤◌, map, nat_lt};
+ghost use Rattle.std.specs.List.{list_any};
+ghost use Rattle.std.specs.Option.{option_map};
+ghost use Rattle.approval_book.specs.Approved.{ids_of};
+ghost use Rattle.tool_base.specs.Endings.{ending};
+ghost use Rattle.tool_base.specs.World.{IsNetBack};
+ghost use Rattle.tool_trustee.specs.Nets.{NetEnds, ServiceEnds};
+ghost use Rattle.tool_words.specs.Rows.{trustee_words};
+ghost use Rattle.trustee_core.specs.Trustee.{share_of};
+ghost use Rattle.trustee_node.specs.Trustees.{trustee_state};
+
+use approval_book::Approved;
+use disk_trait::Disk;
+use memory::NoMemory;
+use share_files::Share;
+use std::alloc::Global;
+use std::sync::Wait;
+use std::thread::Threads;
+use stream_io::{CallFault, Net, Port};
+use tool_base::{Clocks, Ending};
+use tool_words::TrusteeWords;
+use trustee_core::Trustee;
+use trustee_node::{Totals, serve_ports};
+
+/// Makes ports, serves a trustee over them, and gives them back.
+pub(crate) fn serve_net<R: Threads + Wait + Sync, D: Disk + Send, N: Net, T: Clocks>(
+    rt: &R,
+    alloc: Global,
+    words: &TrusteeWords,
+    trustee: Trustee<D>,
+    share: &Share,
+    book: Option<&Approved>,
+    net: &mut N,
+    time: &mut T,
+) -> (Trustee<D>, Ending)
+    requires { share_of trustee ≡ share.now }
+    ensures ends { NetEnds (trustee_words words.now) share.now (option_map (λ b. ids_of b.now) book.entry)
+        (result.0 ≡ trustee) (trustee_state trustee) (trustee_state result.0) (N.state net.old) (N.state net.new)
+        (T.state time.old) (ending result.1) }
+    ensures name { (trustee_state result.0).name ≡ (trustee_state trustee).name }
+    ensures faults { (trustee_state trustee).faults ≤ (trustee_state result.0).faults }
+    ensures net { IsNetBack (N.state net.old) (N.state net.new) }
+    ensures time { T.state time.new ≡ T.state time.old }
+{
+    let mut ports = match net.ports(alloc, Some(words.place), words.workers) {
+        Ok(ports) => ports,
+        Err(CallFault::Failed) => return (trustee, Ending::NetFailed),
+        Err(CallFault::NoMemory) => return (trustee, Ending::NoMemory),
+    };
+    let clocks = match time.clocks(alloc, words.workers) {
+        Ok(clocks) => clocks,
+        Err(NoMemory) => {
+            net.gather(ports);
+            return (trustee, Ending::NoMemory);
+        }
+    };
+    let connections = words.connections;
+    let (trustee, totals) = serve_ports(
+        rt,
+        alloc,
+        trustee,
+        share,
+        book,
+        &mut ports,
+        clocks,
+        connections,
+    );
+    let end = end_of_service(&ports, totals);
+    net.gather(ports);
+    (trustee, end)
+}
+
+/// The end of a service over these ports.
+pub fn end_of_service<P: Port>(ports: &[P], totals: Result<Totals, NoMemory>) -> Ending
+    ensures ends { ServiceEnds (map P.state ports.now) totals (ending result) }
+{
+    match totals {
+        Ok(_) if some_unaccepted(ports) => Ending::NetFailed,
+        Ok(totals) => Ending::Served {
+            connections: totals.connections,
+            frames: totals.frames,
+        },
+        Err(NoMemory) => Ending::NoMemory,
+    }
+}
+
+/// Whether some port failed to accept.
+fn some_unaccepted<P: Port>(ports: &[P]) -> bool
+    ensures { result ≡ list_any (λ port. nat_lt 0 (P.state port).accept_count) ports.now }
+{
+    ports.iter().any(|port| port.accept_faults() > 0)
+}

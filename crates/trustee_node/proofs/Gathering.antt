@@ -1,0 +1,234 @@
+-- Passes that are joined.
+use Rattle.std.proofs.Common.{◌≡◌, ◌+◌, ◌-◌, ◌*◌, ◌^◌, ◌≤◌, ◌<◌, ◌⊎◌, ℕ, Bool, true, false, true≢false, max, min, cond, nat_lt, List, [], ◌∷◌, ◌++◌, Option, All, length, inl, inr, refl, sym, ap, ◌∙◌, subst, arith, append-nil, length-append}
+use Rattle.std.proofs.lemmas.List.{map-append}
+use Rattle.std.proofs.lemmas.List.Elements.{All-cons, All-head, All-nil, All-push, All-tail}
+use Rattle.std.proofs.lemmas.Grind.{flat_map-append}
+use Rattle.std.proofs.lemmas.List.Sums.{sum_by-append}
+use mathlib.Core.List.{IsPrefix}
+use Rattle.opening_journal.specs.declared.entry.Entry.{Entry}
+use Rattle.share_files.specs.declared.share.Share.{Share}
+use Rattle.stream_io.specs.Net.{PortState}
+use Rattle.trustee_core.specs.declared.kept.TrusteeName.{TrusteeName}
+use Rattle.trustee_node.specs.Turns.{Draws, Faults, HasSteadyDisk, ServedTurns, TellsDisk, Turn, added_by, ended}
+use Rattle.trustee_node.specs.Workers.{ClockState, Connection, IsConnection, WorkEnds, WorkerState, Worked, accept_failed, frames_of, no_further, pass_worn, served_all, turns_of}
+use Rattle.trustee_node.proofs.Standing.{begins-length}
+use Rattle.trustee_node.proofs.Serving.{served-then, with_code-append}
+use Rattle.trustee_node.specs.Gathered.{Gathered, IsDone}
+use Rattle.trustee_node.specs.Ports.{IsPortRun, PortEnds, PortRun, failed, full, none_waits, turns_in}
+use Rattle.trustee_node.specs.declared.totals.Totals.{Totals}
+use Rattle.turn_lock.specs.Lock.{Lock}
+use Rattle.turn_lock.specs.Pass.{Joins, Seen, first_pass, longer_of}
+use Rattle.turn_lock.proofs.Prefixes.{prefix_all, prefix_whole}
+
+-- each of two logs that met begins the longer one
+pub begins-left : {A : Type 0} (xs ys : List A) → IsPrefix xs ys ⊎ IsPrefix ys xs → IsPrefix xs (longer_of xs ys)
+begins-left xs ys one =
+    let Is : Bool → Type 0 = λ b. (nat_lt (length xs) (length ys) ≡ b) → IsPrefix xs (cond b ys xs) in
+    let all = elim (nat_lt (length xs) (length ys)) as Is [
+      | true ↦ λ is. elim one [ inl p ↦ p | inr q ↦ absurd (let le = begins-length ys xs q in let lt : length xs < length ys = grind (arith, is) in omega arith) ]
+      | false ↦ λ is. prefix_all xs xs refl
+    ] in all refl
+
+pub begins-right : {A : Type 0} (xs ys : List A) → IsPrefix xs ys ⊎ IsPrefix ys xs → IsPrefix ys (longer_of xs ys)
+begins-right xs ys one =
+    let Is : Bool → Type 0 = λ b. (nat_lt (length xs) (length ys) ≡ b) → IsPrefix ys (cond b ys xs) in
+    let all = elim (nat_lt (length xs) (length ys)) as Is [
+      | true ↦ λ is. prefix_all ys ys refl
+      | false ↦ λ is. elim one [ inl p ↦ prefix_all ys xs (sym (prefix_whole xs ys p (let le : length ys ≤ length xs = grind (arith, is) in omega arith))) | inr q ↦ q ]
+    ] in all refl
+
+-- the turns of connections
+few-turns : (share : Share) (told : Bool) (served : List Connection) → All (IsConnection share told) served → length (turns_of served) ≤ 65536 * length served
+few-turns share told [] are = omega arith
+few-turns share told (one ∷ served) are =
+    let first = (All-head (IsConnection share told) one served are).most in
+    let rest = few-turns share told served (All-tail (IsConnection share told) one served are) in
+    omega (arith, first, rest, length-append one.turns (turns_of served))
+
+turns-more : (runs : List PortRun) (run : PortRun) → turns_in (runs ++ run ∷ []) ≡ turns_in runs ++ turns_of run.served
+turns-more runs run =
+    flat_map-append (λ (r : PortRun). turns_of r.served) runs (run ∷ []) ∙ ap (λ (l : List Turn). turns_in runs ++ l) (append-nil (turns_of run.served))
+
+module _ (start old other new : Seen Entry TrusteeName) (turns more : List Turn) where
+  draws-join : start.draws ≡ 0 → start.greatest ≡ 0 → new.draws ≡ old.draws + other.draws → new.greatest ≡ max old.greatest other.greatest
+      → Draws start old turns → Draws start other more → Draws start new (turns ++ more)
+  draws-join none first sum most a b = record {
+    most = (let p = a.most in let q = b.most in omega (arith, none, sum, length-append turns more));
+    least = (let p = a.least in let q = b.least in omega (arith, none, sum, length-append turns more, with_code-append 11 turns more));
+    greatest = (let p = a.greatest in omega (arith, first));
+    fresh = λ small.
+        (let p = a.fresh (omega (arith, most)) in let q = b.fresh (omega (arith, most)) in omega (arith, p, q, with_code-append 11 turns more));
+    worn = λ large. absurd (omega (arith, first));
+  }
+
+  faults-join : start.rises ≡ 0 → new.rises ≡ old.rises + other.rises → new.floor ≡ max old.floor other.floor → new.name ≡ old.name → new.name ≡ other.name
+      → Faults start old turns → Faults start other more → Faults start new (turns ++ more)
+  faults-join none sum floor same same_other a b = record {
+    rises = λ small.
+        (let p = a.rises (omega (arith, floor)) in let q = b.rises (omega (arith, floor)) in omega (arith, p, q, none, sum, with_code-append 6 turns more));
+    steady = λ is.
+        (let p = a.steady (subst HasSteadyDisk same is) in let q = b.steady (subst HasSteadyDisk same_other is) in omega (arith, p, q, with_code-append 6 turns more));
+    first = λ zero. (let p = a.first (omega (arith, floor)) in let q = b.first (omega (arith, floor)) in omega (arith, p, q, with_code-append 7 turns more));
+    told = λ is.
+        (let p = a.told (subst TellsDisk same is) in let q = b.told (subst TellsDisk same_other is) in omega (arith, p, q, with_code-append 7 turns more));
+  }
+
+module _ (share : Share) (ids : Option (List (List ℕ))) where
+  served-longer : (log mid last : List Entry) (turns : List Turn) → ServedTurns share ids log turns mid → IsPrefix mid last → ServedTurns share ids log turns last
+  served-longer log mid last turns served p = subst (λ (t : List Turn). ServedTurns share ids log t last) (append-nil turns) (served-then share ids log mid last turns [] served (ended mid last p))
+
+  module _ (asked : ℕ) where
+    run-longer : (log mid last : List Entry) (run : PortRun) → IsPrefix mid last → IsPortRun share ids asked log mid run → IsPortRun share ids asked log last run
+    run-longer log mid last run p is = record {
+      are = is.are;
+      turns = served-longer log mid last (turns_of run.served) is.turns p;
+      dated = is.dated;
+      talks = is.talks;
+      waiting = is.waiting;
+      onward = is.onward;
+      most = is.most;
+      ends = is.ends;
+    }
+
+    runs-longer : (log mid last : List Entry) (runs : List PortRun) → IsPrefix mid last → All (IsPortRun share ids asked log mid) runs → All (IsPortRun share ids asked log last) runs
+    runs-longer log mid last [] p are = All-nil (IsPortRun share ids asked log last)
+    runs-longer log mid last (run ∷ runs) p are =
+        All-cons (IsPortRun share ids asked log last) run runs (run-longer log mid last run p (All-head (IsPortRun share ids asked log mid) run runs are))
+        (runs-longer log mid last runs p (All-tail (IsPortRun share ids asked log mid) run runs are))
+
+    module _ (lock : Lock Entry TrusteeName) (port : PortState) (clock : ClockState) (worker : WorkerState) (done : IsDone share ids asked (first_pass lock) port clock worker) where
+      abbrev base : WorkerState
+      base = record {
+        port = port;
+        pass = first_pass lock;
+        clock = clock;
+        connections = done.first.connections;
+        frames = done.first.frames;
+        worn = done.first.worn;
+        failed = done.first.failed;
+      }
+
+      from-base : done.first ≡ base
+      from-base = λ i. record {
+        port = done.begun.port_is i;
+        pass = done.begun.pass_is i;
+        clock = done.begun.clock_is i;
+        connections = done.first.connections;
+        frames = done.first.frames;
+        worn = done.first.worn;
+        failed = done.first.failed;
+      }
+
+      abbrev worked : Worked share ids base worker
+      worked = subst (λ (w : WorkerState). Worked share ids w worker) from-base done.worked
+
+      abbrev run : PortRun
+      run = record { before = port; after = worker.port; clock = clock; served = worked.served }
+
+      few : length (turns_of worked.served) ≤ 2 ^ 48
+      few =
+          let turns = few-turns share port.told worked.served worked.are in
+          let count = worked.connections in
+          let most = done.most in
+          let small = done.small in
+          omega (arith, turns, count, most, small)
+
+      sound-same : worker.failed ≡ false → worker.port.accept_count ≡ port.accept_count
+      sound-same sound = worked.accepts.same (λ is. absurd (true≢false (sym is ∙ sound)))
+
+      ends-by : worker.pass.greatest < 2 ^ 62 → WorkEnds asked worker → PortEnds asked (length worked.served) port worker.port
+      ends-by small (served_all all sound) = full (sym worked.connections ∙ all) (sound-same sound)
+      ends-by small (no_further waits sound) = none_waits (λ told. waits (worked.onward.told ∙ told)) (sound-same sound)
+      ends-by small (accept_failed is unsteady) = failed (worked.accepts.rose is) unsteady
+      ends-by small (pass_worn is sound) = absurd (let some = worked.worn is in let never = worked.serves.draws.fresh small in omega (arith, some, never))
+
+      port-run : worker.pass.greatest < 2 ^ 62 → IsPortRun share ids asked lock.opening_log worker.pass.log run
+      port-run small = record {
+        are = worked.are;
+        turns = worked.serves.served;
+        dated = λ told. (worked.dated told).moments;
+        talks = worked.talks;
+        waiting = worked.waiting;
+        onward = worked.onward;
+        most = (let count = worked.connections in let most = done.most in omega (arith, count, most));
+        ends = ends-by small done.ends;
+      }
+
+    -- the first worker
+    pub gathered-one : (lock : Lock Entry TrusteeName) (port : PortState) (clock : ClockState) (worker : WorkerState) (totals : Totals)
+        → IsDone share ids asked (first_pass lock) port clock worker → totals.connections ≡ worker.connections → totals.frames ≡ worker.frames
+        → Gathered share ids asked lock worker.pass (port ∷ []) (worker.port ∷ []) (clock ∷ []) totals
+    gathered-one lock port clock worker totals done connections frames =
+        let w = worked lock port clock worker done in
+        let one = run lock port clock worker done in
+        let turns : turns_of w.served ≡ turns_in (one ∷ []) = sym (append-nil (turns_of w.served)) in
+        record {
+          runs = one ∷ [];
+          before = refl;
+          after = refl;
+          by_clocks = refl;
+          are = λ small. All-cons (IsPortRun share ids asked lock.opening_log worker.pass.log) one [] (port-run lock port clock worker done small) (All-nil (IsPortRun share ids asked lock.opening_log worker.pass.log));
+          same = w.serves.same;
+          draws = subst (Draws (first_pass lock) worker.pass) turns w.serves.draws;
+          faults = subst (Faults (first_pass lock) worker.pass) turns w.serves.faults;
+          own = λ zero. w.serves.own zero ∙ ap added_by turns;
+          most = (let short = few lock port clock worker done in let all = ap length turns in omega (arith, short, all));
+          joined = w.serves.joined;
+          totals_are = record {
+            connections = (let count = w.connections in let most = done.most in let small = done.small in omega (arith, connections, count, most, small));
+            frames = (let count = w.frames in omega (arith, frames, count));
+          };
+        }
+
+    -- one more worker
+    pub gathered-more : (lock : Lock Entry TrusteeName) (old new : Seen Entry TrusteeName) (olds news : List PortState) (clocks : List ClockState) (totals sums : Totals)
+        (port : PortState) (clock : ClockState) (worker : WorkerState)
+        → Gathered share ids asked lock old olds news clocks totals → IsDone share ids asked (first_pass lock) port clock worker → Joins old worker.pass new
+        → sums.connections ≡ min (totals.connections + worker.connections) (2 ^ 32 - 1) → sums.frames ≡ min (totals.frames + worker.frames) (2 ^ 32 - 1)
+        → Gathered share ids asked lock new (olds ++ port ∷ []) (news ++ worker.port ∷ []) (clocks ++ clock ∷ []) sums
+    gathered-more lock old new olds news clocks totals sums port clock worker a done met connections frames =
+        let w = worked lock port clock worker done in
+        let one = run lock port clock worker done in
+        let start = first_pass lock in
+        let served = turns_of w.served in
+        let turns : turns_in a.runs ++ served ≡ turns_in (a.runs ++ one ∷ []) = sym (turns-more a.runs one) in
+        let left = subst (IsPrefix old.log) (sym met.log) (begins-left old.log worker.pass.log met.one_log) in
+        let right = subst (IsPrefix worker.pass.log) (sym met.log) (begins-right old.log worker.pass.log met.one_log) in
+        let floor = met.floor in
+        let greatest = met.greatest in
+        let name : new.name ≡ worker.pass.name = met.same.name ∙ a.same.name ∙ sym w.serves.same.name in
+        record {
+          runs = a.runs ++ one ∷ [];
+          before = map-append (λ (r : PortRun). r.before) a.runs (one ∷ []) ∙ ap (λ (l : List PortState). l ++ port ∷ []) a.before;
+          after = map-append (λ (r : PortRun). r.after) a.runs (one ∷ []) ∙ ap (λ (l : List PortState). l ++ worker.port ∷ []) a.after;
+          by_clocks = map-append (λ (r : PortRun). r.clock) a.runs (one ∷ []) ∙ ap (λ (l : List ClockState). l ++ clock ∷ []) a.by_clocks;
+          are = λ small.
+              All-push (IsPortRun share ids asked lock.opening_log new.log) a.runs one (runs-longer lock.opening_log old.log new.log a.runs left (a.are (omega (arith, small, greatest))))
+              (run-longer lock.opening_log worker.pass.log new.log one right (port-run lock port clock worker done (omega (arith, small, greatest))));
+          same = record { lock = met.same.lock ∙ a.same.lock; name = met.same.name ∙ a.same.name };
+          draws = subst (Draws start new) turns (draws-join start old worker.pass new (turns_in a.runs) served refl refl met.draws met.greatest a.draws w.serves.draws);
+          faults = subst (Faults start new) turns (faults-join start old worker.pass new (turns_in a.runs) served refl met.rises met.floor met.same.name name a.faults w.serves.faults);
+          own = λ zero.
+              let before : old.own ≡ added_by (turns_in a.runs) = a.own (omega (arith, zero, floor)) in
+              let here : worker.pass.own ≡ added_by served = w.serves.own (omega (arith, zero, floor)) in
+              met.own ∙ (λ i. before i ++ here i) ∙ sym (flat_map-append (λ (t : Turn). t.added) (turns_in a.runs) served) ∙ ap added_by turns;
+          most = (
+              let short = few lock port clock worker done in
+              let before = a.most in
+              let all = ap length turns in
+              omega (arith, short, before, all, length-append (turns_in a.runs) served, length-append a.runs (one ∷ []))
+              );
+          joined = (let p = met.joined in let q = a.joined in let r = w.serves.joined in omega (arith, p, q, r, length-append a.runs (one ∷ [])));
+          totals_are = record {
+            connections = (
+                let before = a.totals_are.connections in
+                let count = w.connections in
+                omega (arith, connections, before, count, sum_by-append (λ (r : PortRun). length r.served) a.runs (one ∷ []))
+                );
+            frames = (
+                let before = a.totals_are.frames in
+                let count = w.frames in
+                omega (arith, frames, before, count, sum_by-append (λ (r : PortRun). frames_of r.served) a.runs (one ∷ []))
+                );
+          };
+        }

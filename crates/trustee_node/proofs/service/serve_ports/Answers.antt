@@ -1,0 +1,70 @@
+use Rattle.std.proofs.Common.{map, arith}
+use Rattle.std.proofs.lemmas.List.{length-map}
+use Rattle.std.specs.Option.{option_map}
+use Rattle.approval_book.specs.Approved.{ids_of}
+use Rattle.trustee_node.specs.Workers.{clock_state, worker_state}
+use Rattle.trustee_node.specs.Trustees.{name_of, trustee_state}
+use Rattle.trustee_node.proofs.Finishing.{ends-served}
+use Rattle.trustee_node.proofs.Running.{done-after, idle-after, idle-begun, joined-all}
+use Rattle.trustee_node.proofs.service.serve_ports.Goals as goal
+
+pub serve-requires-after_bounds : goal.serve-requires-after_bounds
+serve-requires-after_bounds g c κs within =
+    let clock = g.C.Clock in
+    let port = g.P.Port.state in
+    idle-begun (worker_state port clock.told clock.answers) c.args.share.now c.in-Ok-new.made.0 c.start-workers.result.items c.as_mut_slice.result.now c.as_mut_slice.ensures.value
+    (name_of c.args.trustee) (map port c.args.ports.now.items) (map (clock_state clock.told clock.answers) c.args.clocks.items)
+    c.in-Ok-new.ensures.opening.2 c.requires.share c.start-workers.ensures.begun
+
+pub gather-pass-requires-clause-idle : goal.gather-pass-requires-clause-idle
+gather-pass-requires-clause-idle g c κs within =
+    let clock = g.C.Clock in
+    let workers = c.start-workers.result in
+    idle-after (worker_state g.P.Port.state clock.told clock.answers) c.args.share.now c.in-Ok-new.made.0 workers.items c.as_mut_slice.result.now c.as_mut_slice.ensures.value
+    c.serve.new.workers workers.len c.serve.auto.workers workers.ok.0 c.serve.ensures.pass
+
+pub close-requires-clause-all : goal.close-requires-clause-all
+close-requires-clause-all g c =
+    let clock = g.C.Clock in
+    let port = g.P.Port.state in
+    let own = clock_state clock.told clock.answers in
+    let workers = c.start-workers.result in
+    let share = c.args.share.now in
+    let ids = option_map (λ b. ids_of b.now) c.args.book in
+    let lock = c.in-Ok-new.made.0 in
+    let asked = c.args.connections in
+    let olds = map port c.args.ports.now.items in
+    let clocks = map own c.args.clocks.items in
+    let e = c.serve.ensures in
+    let done = done-after (worker_state port clock.told clock.answers) share lock workers.items c.as_mut_slice.result.now c.as_mut_slice.ensures.value
+    c.serve.new.workers workers.len c.serve.auto.workers workers.ok.0 ids asked olds clocks c.ranges.connections.fits c.start-workers.ensures.begun e.worked e.most e.ends in
+    let all = c.gather-pass.ensures.gathered share ids asked olds clocks done in
+    let joined = joined-all share ids asked lock c.gather-pass.result.0 olds (map port c.gather-pass.new.ports.items) clocks c.gather-pass.result.1 all in
+    let many = length-map c.args.ports.now.items port in
+    let made = c.in-Ok-new.ensures.numbers.1 in
+    let count = c.len-count.ensures in
+    let n = c.args.ports.now.ok.0 in
+    omega (arith, joined, many, made, count, n)
+
+pub returns-clause-served : goal.returns-clause-served
+returns-clause-served g c =
+    let clock = g.C.Clock in
+    let port = g.P.Port.state in
+    let own = clock_state clock.told clock.answers in
+    let workers = c.start-workers.result in
+    let share = c.args.share.now in
+    let ids = option_map (λ b. ids_of b.now) c.args.book in
+    let lock = c.in-Ok-new.made.0 in
+    let asked = c.args.connections in
+    let olds = map port c.args.ports.now.items in
+    let clocks = map own c.args.clocks.items in
+    let e = c.serve.ensures in
+    let done = done-after (worker_state port clock.told clock.answers) share lock workers.items c.as_mut_slice.result.now c.as_mut_slice.ensures.value
+    c.serve.new.workers workers.len c.serve.auto.workers workers.ok.0 ids asked olds clocks c.ranges.connections.fits c.start-workers.ensures.begun e.worked e.most e.ends in
+    let all = c.gather-pass.ensures.gathered share ids asked olds clocks done in
+    let opening = c.in-Ok-new.ensures.opening in
+    let end = c.close.ensures in
+    ends-served share ids asked lock (trustee_state c.args.trustee) (trustee_state c.close.result) c.gather-pass.result.0 olds (map port c.gather-pass.new.ports.items) clocks c.gather-pass.result.1
+    record { log = opening.0; number = opening.1; name = opening.2; first = c.in-Ok-new.ensures.numbers.0 }
+    record { log = end.log; number = end.number; name = end.named; whole = end.whole }
+    all (let many = length-map c.args.ports.now.items port in let n = c.args.ports.now.ok.0 in let few = c.requires.ports.1 in omega (arith, many, n, few))

@@ -1,0 +1,75 @@
+-- Ports that one trustee served, all beside each other.
+use Rattle.std.specs.Prelude.{◌≡◌, ◌≤◌, ◌<◌, ◌+◌, ◌-◌, ◌^◌, ◌++◌, ℕ, Bool, List, All, length, map, min, count_by}
+use Rattle.std.specs.Prelude.{Option, IsTrue}
+use Rattle.std.specs.List.{flat_map, sum_by}
+use Rattle.disk_trait.specs.Faults.{Rose}
+use Rattle.opening_journal.specs.declared.entry.Entry.{Entry}
+use Rattle.share_files.specs.declared.share.Share.{Share}
+use Rattle.stream_io.specs.Net.{PortOnward, PortState}
+use Rattle.trustee_node.specs.Connections.{HaveMoments}
+use Rattle.trustee_node.specs.Turns.{ServedTurns, Turn, added_by, with_code}
+use Rattle.trustee_node.specs.Workers.{ClockState, Connection, IsConnection, frames_of, turns_of}
+use Rattle.trustee_node.specs.Trustees.{TrusteeState}
+use Rattle.trustee_node.specs.declared.totals.Totals.{Totals}
+
+-- a port before and after, the clock by which its asks were dated, and the connections that were served at it
+pub record PortRun : Type 0 where
+  pub before : PortState
+  pub after : PortState
+  pub clock : ClockState
+  pub served : List Connection
+
+-- why a port was left: it had as many connections as it was to have, no further link waits, or accepting failed
+pub data PortEnds (asked served : ℕ) (before after : PortState) : Type 0 where
+  full : served ≡ asked → after.accept_count ≡ before.accept_count → PortEnds asked served before after
+  none_waits : (IsTrue before.told → after.waiting ≡ 0) → after.accept_count ≡ before.accept_count
+      → PortEnds asked served before after
+  failed : Rose before.accept_count after.accept_count → (IsTrue after.steady → ⊥) → PortEnds asked served before after
+
+-- A port was served: its connections had their turns one after the other, between these two logs, each was of a link
+-- that waited, and the port's talks grew by just theirs
+pub record IsPortRun (share : Share) (ids : Option (List (List ℕ))) (asked : ℕ) (log last : List Entry) (run : PortRun)
+    : Type 0 where
+  pub are : All (IsConnection share run.before.told) run.served
+  pub turns : ServedTurns share ids log (turns_of run.served) last
+  pub dated : IsTrue run.clock.told → HaveMoments run.clock.answers 0 (turns_of run.served)
+  pub talks : IsTrue run.before.told
+      → run.after.talks ≡ run.before.talks ++ map (λ (one : Connection). one.talk) run.served
+  pub waiting : IsTrue run.before.told → run.before.waiting ≡ run.after.waiting + length run.served
+  pub onward : PortOnward run.before run.after
+  pub most : length run.served ≤ asked
+  pub ends : PortEnds asked (length run.served) run.before run.after
+
+-- all turns of these runs
+abbrev pub turns_in : List PortRun → List Turn
+turns_in runs = flat_map (λ (run : PortRun). turns_of run.served) runs
+
+-- What the codes of the replies say of the disk: code 6 stands in no more replies than its count of faults rose, and
+-- in none where it is steady and tells its content; code 7 in none before the first fault, and in none where it tells
+-- its content. No pass is worn.
+pub record HasCodes (old new : TrusteeState) (turns : List Turn) : Type 0 where
+  pub rises : new.faults < 2 ^ 64 - 1 → old.faults + with_code 6 turns ≤ new.faults
+  pub steady : IsTrue new.name.steady → IsTrue new.name.told → with_code 6 turns ≡ 0
+  pub first : new.faults ≡ 0 → with_code 7 turns ≡ 0
+  pub told : IsTrue new.name.told → with_code 7 turns ≡ 0
+  pub worn : with_code 11 turns ≡ 0
+
+-- how many connections these runs had, and how many replies were written whole in them, each at most 2^32 - 1
+pub record HasTotals (runs : List PortRun) (totals : Totals) : Type 0 where
+  pub connections :
+      totals.connections ≡ min (sum_by (λ (run : PortRun). length run.served) runs) (2 ^ 32 - 1)
+  pub frames : totals.frames ≡ min (sum_by (λ (run : PortRun). frames_of run.served) runs) (2 ^ 32 - 1)
+
+-- What serving these ports made of a trustee and of them, in their order. Where there was no fault, each entry stands
+-- in the last log as often as in the first one and in what the turns added together.
+pub record ServedPorts (share : Share) (ids : Option (List (List ℕ))) (asked : ℕ) (old new : TrusteeState)
+    (ports_old ports_new : List PortState) (clocks : List ClockState) (totals : Totals) : Type 0 where
+  pub runs : List PortRun
+  pub before : map (λ (run : PortRun). run.before) runs ≡ ports_old
+  pub after : map (λ (run : PortRun). run.after) runs ≡ ports_new
+  pub by_clocks : map (λ (run : PortRun). run.clock) runs ≡ clocks
+  pub are : All (IsPortRun share ids asked old.entries new.entries) runs
+  pub codes : HasCodes old new (turns_in runs)
+  pub adds : new.faults ≡ 0 → (test : Entry → Bool)
+      → count_by test new.entries ≡ count_by test old.entries + count_by test (added_by (turns_in runs))
+  pub totals_are : HasTotals runs totals

@@ -1,0 +1,21 @@
+//! What follows from the definitions. No function here does anything.
+
+ghost use Rattle.std.specs.Prelude.{ℕ, List, Option};
+ghost use Rattle.opening_journal.specs.Entries.{IsLegalList};
+ghost use Rattle.share_files.specs.declared.share.Share.{Share};
+ghost use Rattle.stream_io.specs.Net.{PortState};
+ghost use Rattle.trustee_core.specs.Lives.{OneOpening};
+ghost use Rattle.trustee_node.specs.Places.{granted_in};
+ghost use Rattle.trustee_node.specs.Workers.{ClockState};
+ghost use Rattle.trustee_node.specs.Ports.{ServedPorts, turns_in};
+ghost use Rattle.trustee_node.specs.Trustees.{TrusteeState};
+ghost use Rattle.trustee_node.specs.declared.totals.Totals.{Totals};
+
+/// All that was granted at all ports is of one opening, where each entry of the trustee may follow those before it, as
+/// `Trustee::end` says.
+pub fn one_opening()
+    ensures { (share : Share) (ids : Option (List (List ℕ))) (asked : ℕ) (old new : TrusteeState)
+        (before after : List PortState) (clocks : List ClockState) (totals : Totals)
+        → (all : ServedPorts share ids asked old new before after clocks totals) → IsLegalList new.entries
+        → OneOpening share (granted_in (turns_in all.runs)) }
+{}

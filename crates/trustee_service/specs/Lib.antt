@@ -1,3 +1,0 @@
-pub mod Trustees
-pub mod Ports
-pub mod Gathered
