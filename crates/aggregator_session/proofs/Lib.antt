@@ -1,5 +1,6 @@
 pub mod Addressing
 pub mod Counting
+pub mod Digests
 pub mod Frames
 pub mod Hearing
 pub mod Reaching

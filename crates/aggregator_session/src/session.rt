@@ -158,7 +158,7 @@ fn ask_all<R: Cells, P: Port>(
     session.turn(cells)?;
     let digest = digest_of(task.desk.key, session, task.message);
     ask_again(task, &digest, cells, session, links, room)?;
-    Ok(session.finish(alloc, cells, task.desk.tree, task.message)?)
+    Ok(session.finish_with(alloc, cells, task.desk.tree, &digest)?)
 }
 
 /// Round one, until a member refuses.

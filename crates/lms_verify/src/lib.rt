@@ -4,4 +4,4 @@
 pub mod laws;
 mod verification;
 
-pub use verification::{Verdict, verify};
+pub use verification::{Verdict, verify, verify_digest};

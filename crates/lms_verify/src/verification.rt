@@ -1,10 +1,11 @@
 //! RFC 8554's Algorithm 6.
 
-ghost use Rattle.std.specs.Prelude.{◌≡◌, ◌*◌, ◌^◌, ◌<◌, ℕ, Some, length};
+ghost use Rattle.std.specs.Prelude.{◌≡◌, ◌*◌, ◌^◌, ◌<◌, ℕ, List, Some, length};
 ghost use Rattle.lms_bytes.specs.Signature.{signature_fault};
 ghost use Rattle.lms_bytes.specs.declared.faults.SigFault.{SigFault};
-ghost use Rattle.lms_verify.specs.Accepts.{AcceptsAt, root_of_parts};
-ghost use Rattle.lms_verify.specs.Verdict.{IsVerdict};
+ghost use Rattle.lms_verify.specs.Accepts.{AcceptsAt, IsDigestOf, root_of_digest};
+ghost use Rattle.lms_verify.specs.Verdict.{IsVerdict, verdict_by};
+ghost use Rattle.ots_chain.specs.MessageHash.{message_digest};
 
 use lms_bytes::{PublicKey, SigFault, SigView, Val, read_signature};
 use merkle_path::root_from;
@@ -42,11 +43,46 @@ pub fn verify(key: &PublicKey, message: &[u8], sig: &[u8]) -> Verdict
     ensures malformed { (fault : SigFault)
         → signature_fault key.now.params sig.now ≡ Some fault → result ≡ Verdict.Malformed fault }
 {
-    let view = match read_signature(&key.params, sig) {
-        Ok(view) => view,
-        Err(fault) => return Verdict::Malformed(fault),
-    };
-    let got = candidate_root_of(key, message, &view);
+    match read_signature(&key.params, sig) {
+        Ok(view) => verdict_of(key, &digest_of(key, message, &view), &view),
+        Err(fault) => Verdict::Malformed(fault),
+    }
+}
+
+/// Verifies a signature that is all of `sig` by the digest Q of its message, of `n` bytes: what `verify` says of every
+/// message that has this digest under the signature's leaf and randomizer. It takes no memory.
+pub fn verify_digest(key: &PublicKey, digest: &Val, sig: &[u8]) -> Verdict
+    requires digest { length digest.now ≡ key.now.params.n }
+    ensures verdict { (message : List ℕ) → IsDigestOf key.now message sig.now digest.now
+        → IsVerdict key.now message sig.now result }
+    ensures malformed { (fault : SigFault)
+        → signature_fault key.now.params sig.now ≡ Some fault → result ≡ Verdict.Malformed fault }
+{
+    match read_signature(&key.params, sig) {
+        Ok(view) => verdict_of(key, digest, &view),
+        Err(fault) => Verdict::Malformed(fault),
+    }
+}
+
+/// The digest of a message under the leaf and the randomizer of a signature.
+fn digest_of(key: &PublicKey, message: &[u8], view: &SigView) -> Val
+    requires { length view.now.c.now ≡ key.now.params.n }
+    ensures digest { result ≡ message_digest key.now.params key.now.id view.now.leaf view.now.c.now message.now }
+    ensures length { length result ≡ key.now.params.n }
+{
+    MessageHash::of(&key.params, &key.id, view.leaf, &Val::of(view.c), message)
+}
+
+/// What the candidate root of a digest and a signature says.
+fn verdict_of(key: &PublicKey, digest: &Val, view: &SigView) -> Verdict
+    requires digest { length digest.now ≡ key.now.params.n }
+    requires leaf { view.now.leaf < 2 ^ key.now.params.h }
+    requires chains { length view.now.chains.now ≡ key.now.params.n * key.now.params.p }
+    requires path { length view.now.path.now ≡ key.now.params.n * key.now.params.h }
+    ensures { result ≡ verdict_by key.now view.now.leaf
+        (root_of_digest key.now digest.now view.now.leaf view.now.chains.now view.now.path.now) }
+{
+    let got = candidate_root_of(key, digest, view);
     if got == key.root {
         Verdict::Accepted { leaf: view.leaf }
     } else {
@@ -57,17 +93,15 @@ pub fn verify(key: &PublicKey, message: &[u8], sig: &[u8]) -> Verdict
     }
 }
 
-/// The candidate root that a signature leads to (RFC 8554 section 5.4.2, Algorithm 6a, steps 3 and 4).
-fn candidate_root_of(key: &PublicKey, message: &[u8], view: &SigView) -> Val
+/// The candidate root that a digest and a signature lead to (RFC 8554 section 5.4.2, Algorithm 6a, steps 3 and 4).
+fn candidate_root_of(key: &PublicKey, digest: &Val, view: &SigView) -> Val
+    requires digest { length digest.now ≡ key.now.params.n }
     requires leaf { view.now.leaf < 2 ^ key.now.params.h }
-    requires c { length view.now.c.now ≡ key.now.params.n }
     requires chains { length view.now.chains.now ≡ key.now.params.n * key.now.params.p }
     requires path { length view.now.path.now ≡ key.now.params.n * key.now.params.h }
-    ensures { result ≡ root_of_parts key.now message.now
-        view.now.leaf view.now.c.now view.now.chains.now view.now.path.now }
+    ensures { result ≡ root_of_digest key.now digest.now
+        view.now.leaf view.now.chains.now view.now.path.now }
 {
-    let c = Val::of(view.c);
-    let digest = MessageHash::of(&key.params, &key.id, view.leaf, &c, message);
-    let leaf_key = leaf_key_from(&key.params, &key.id, view.leaf, &digest, view.chains);
+    let leaf_key = leaf_key_from(&key.params, &key.id, view.leaf, digest, view.chains);
     root_from(&key.params, &key.id, view.leaf, &leaf_key, view.path)
 }

@@ -2,6 +2,7 @@ pub mod Adding
 pub mod Dealt
 pub mod Delivered
 pub mod Delivering
+pub mod Digests
 pub mod Judged
 pub mod Judgement
 pub mod Keeping

@@ -36,6 +36,10 @@ joined_c s leaves =
 abbrev pub digest_of : State → List ℕ → List ℕ
 digest_of s message = message_digest s.key.params s.key.id s.leaf (asked_c s) message
 
+-- the digest of some message under the session's randomizer
+abbrev pub IsDigest : State → List ℕ → Type 0
+IsDigest s digest = (message : List ℕ) × (digest ≡ digest_of s message)
+
 -- the values of the chains: the cells of the reference, XOR the masks of all members
 abbrev pub joined_values : State → List ℕ → List ℕ → List ℕ
 joined_values s leaves digest =
@@ -75,9 +79,8 @@ pub record Astray (s : State) (message : List ℕ) (told : Bool) (bytes : List �
   pub other : got ≢ s.key.root
   pub leads : IsTrue told → LeadsTo s.key message bytes s.leaf got
 
--- internal: the bytes are a signature's layout
-pub record LaysOut (params : Params) (bytes : List ℕ) (q : ℕ) : Type 0 where
-  pub c : List ℕ
+-- internal: the bytes are the layout of a signature of leaf q with the randomizer c
+pub record LaysOut (params : Params) (bytes : List ℕ) (q : ℕ) (c : List ℕ) : Type 0 where
   pub y : List ℕ
   pub path : List ℕ
   pub layout : HasLayout params bytes q c y path

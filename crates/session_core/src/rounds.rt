@@ -1,6 +1,6 @@
 //! The ends of the rounds.
 
-ghost use Rattle.std.specs.Prelude.{◌≡◌, ◌≢◌, ◌⊎◌, [], ◌+◌, ◌*◌, ◌<◌, None, Some};
+ghost use Rattle.std.specs.Prelude.{◌≡◌, ◌≢◌, ◌⊎◌, ℕ, List, [], ◌+◌, ◌*◌, ◌<◌, None, Some};
 ghost use Rattle.std.specs.Prelude.{Err, IfErr, IfOk, IsOk, IsSome, IsTrue, MatchResult, OnErr, OnOk, length};
 ghost use Rattle.disk_trait.specs.Faults.{Rose};
 ghost use Rattle.lms_bytes.specs.MessageId.{message_id};
@@ -13,7 +13,7 @@ ghost use Rattle.reference_value.specs.Stay.{CellsOnward};
 ghost use Rattle.session_core.specs.Dealing.{FirstMasks, IsAnswered, IsOfDealing};
 ghost use Rattle.session_core.specs.Judging.{round_fault};
 ghost use Rattle.session_core.specs.State.{IsSession, asked_c, turned};
-ghost use Rattle.session_core.specs.Verdicts.{AreMasks, FinishFails, JoinFails, LaysOut, LeadsAstray, Turned};
+ghost use Rattle.session_core.specs.Verdicts.{AreMasks, FinishFails, IsDigest, JoinFails, LaysOut, LeadsAstray, Turned};
 ghost use Rattle.session_core.specs.Verdicts.{Unread, digest_of, joined_bytes, joined_c, joined_values};
 ghost use Rattle.session_core.specs.declared.faults.SessionFault.{SessionFault};
 ghost use Rattle.session_core.specs.declared.faults.SessionFault.TheVariants.{NoMemory};
@@ -23,7 +23,7 @@ use crate::faults::SessionFault;
 use crate::joining::{add_bodies, sum_of_values};
 use crate::session::Session;
 use lms_bytes::{Val, write_layout};
-use lms_verify::{Verdict, verify};
+use lms_verify::{Verdict, verify_digest};
 use merkle_path::Tree;
 use ots_chain::MessageHash;
 use reference_value::{Cells, join_chains, join_randomizer};
@@ -109,44 +109,90 @@ impl Session {
             (λ bytes. bytes.items ≡ rfc_signature key self.now.leaf (leaf_randomizer d self.now.leaf) message.now)
             (JoinFails (R.count cells.old) (R.count cells.new)) }
     {
-        self.join_signature(alloc, cells, tree, message)
+        let digest = self.digest_of(message);
+        self.finish_with(alloc, cells, tree, &digest)
     }
 
-    /// Joins round two, as `finish` does.
+    /// The digest of a message under the session's randomizer.
+    fn digest_of(&self, message: &[u8]) -> Val
+        ensures { result ≡ digest_of self.now message.now }
+    {
+        let c = self.asked_c();
+        MessageHash::of(&self.key.params, &self.key.id, self.leaf, &c, message)
+    }
+
+    /// Joins round two to a signature by the digest of its message, which is not hashed again: what `finish` does for
+    /// each message that has this digest under the session's randomizer.
+    pub fn finish_with<R: Cells>(
+        &self,
+        alloc: Global,
+        cells: &mut R,
+        tree: &Tree,
+        digest: &Val,
+    ) -> Result<Vec<u8>, SessionFault>
+        requires round { IsSome self.now.c }
+        requires digest { IsDigest self.now digest.now }
+        requires cells { (R.set cells.old ≡ self.now.key.params) × (R.plan cells.old ≡ self.now.plan) }
+        requires tree { (tree.now.n ≡ self.now.key.params.n) × (tree.now.h ≡ self.now.key.params.h) }
+        ensures accepted { (message : List ℕ) → digest.now ≡ digest_of self.now message
+            → IfOk result (λ bytes. AcceptsAt self.now.key message bytes.items self.now.leaf) }
+        ensures joined { (message : List ℕ) → digest.now ≡ digest_of self.now message → IsTrue (R.told cells.old)
+            → IfOk result (λ bytes. bytes.items ≡ joined_bytes self.now (R.leaves cells.old) tree.now message) }
+        ensures fault { (fault : SessionFault) → round_fault self.now digest.now ≡ Some fault → result ≡ Err fault }
+        ensures cause { (message : List ℕ) → digest.now ≡ digest_of self.now message
+            → IfErr result (FinishFails self.now message (R.told cells.old)
+            (joined_bytes self.now (R.leaves cells.old) tree.now message)
+            (R.count cells.old) (R.count cells.new)) }
+        ensures read { IsTrue (R.steady cells.old) → IsTrue (R.told cells.old)
+            → length (R.leaves cells.old) ≡ leaves_length self.now.key.params self.now.plan
+            → round_fault self.now digest.now ≡ None
+            → IfErr result (λ fault. fault ≢ SessionFault.Reference) }
+        ensures onward { CellsOnward R.Cells.own R.Faults cells.old cells.new }
+        ensures dealt { (message : List ℕ) → digest.now ≡ digest_of self.now message
+            → (d : Dealing) (key : UndividedKey) → IsTrue (R.told cells.old)
+            → IsAnswered d key self.now digest.now (R.leaves cells.old) tree.now
+            → MatchResult result
+            (λ bytes. bytes.items ≡ rfc_signature key self.now.leaf (leaf_randomizer d self.now.leaf) message)
+            (JoinFails (R.count cells.old) (R.count cells.new)) }
+    {
+        self.join_signature(alloc, cells, tree, digest)
+    }
+
+    /// Joins round two, as `finish_with` does.
     fn join_signature<R: Cells>(
         &self,
         alloc: Global,
         cells: &mut R,
         tree: &Tree,
-        message: &[u8],
+        digest: &Val,
     ) -> Result<Vec<u8>, SessionFault>
         requires round { IsSome self.now.c }
-        requires message { message_id message.now ≡ self.now.message }
+        requires digest { IsDigest self.now digest.now }
         requires cells { (R.set cells.old ≡ self.now.key.params) × (R.plan cells.old ≡ self.now.plan) }
         requires tree { (tree.now.n ≡ self.now.key.params.n) × (tree.now.h ≡ self.now.key.params.h) }
         ensures session { IsSession self.now }
-        ensures accepted { IfOk result (λ bytes. AcceptsAt self.now.key message.now bytes.items self.now.leaf) }
-        ensures joined { IsTrue (R.told cells.old) → IfOk result (λ bytes. bytes.items
-            ≡ joined_bytes self.now (R.leaves cells.old) tree.now message.now) }
-        ensures fault { (fault : SessionFault)
-            → round_fault self.now (digest_of self.now message.now) ≡ Some fault → result ≡ Err fault }
-        ensures cause { IfErr result (FinishFails self.now message.now (R.told cells.old)
-            (joined_bytes self.now (R.leaves cells.old) tree.now message.now)
+        ensures accepted { (message : List ℕ) → digest.now ≡ digest_of self.now message
+            → IfOk result (λ bytes. AcceptsAt self.now.key message bytes.items self.now.leaf) }
+        ensures joined { (message : List ℕ) → digest.now ≡ digest_of self.now message → IsTrue (R.told cells.old)
+            → IfOk result (λ bytes. bytes.items ≡ joined_bytes self.now (R.leaves cells.old) tree.now message) }
+        ensures fault { (fault : SessionFault) → round_fault self.now digest.now ≡ Some fault → result ≡ Err fault }
+        ensures cause { (message : List ℕ) → digest.now ≡ digest_of self.now message
+            → IfErr result (FinishFails self.now message (R.told cells.old)
+            (joined_bytes self.now (R.leaves cells.old) tree.now message)
             (R.count cells.old) (R.count cells.new)) }
         ensures read { IsTrue (R.steady cells.old) → IsTrue (R.told cells.old)
             → length (R.leaves cells.old) ≡ leaves_length self.now.key.params self.now.plan
-            → round_fault self.now (digest_of self.now message.now) ≡ None
+            → round_fault self.now digest.now ≡ None
             → IfErr result (λ fault. fault ≢ SessionFault.Reference) }
         ensures onward { CellsOnward R.Cells.own R.Faults cells.old cells.new }
     {
         let c = self.asked_c();
-        let digest = MessageHash::of(&self.key.params, &self.key.id, self.leaf, &c, message);
-        if let Some(fault) = self.round_fault(&digest) {
+        if let Some(fault) = self.round_fault(digest) {
             return Err(fault);
         }
-        let values = self.join_values(alloc, cells, &digest)?;
+        let values = self.join_values(alloc, cells, digest)?;
         let bytes = self.lay_out(alloc, tree, &c, &values)?;
-        self.if_accepted(message, bytes)
+        self.if_accepted(digest, bytes)
     }
 
     /// The values of the chains that the masks of round two lay open, `p` values of `n` bytes.
@@ -190,7 +236,7 @@ impl Session {
         requires values { length values.now ≡ self.now.key.params.n * self.now.key.params.p }
         ensures bytes { IfOk result (λ bytes. bytes.items
             ≡ signature_bytes self.now.key.params self.now.leaf c.now values.now (path_at tree.now self.now.leaf)) }
-        ensures layout { IfOk result (λ bytes. LaysOut self.now.key.params bytes.items self.now.leaf) }
+        ensures layout { IfOk result (λ bytes. LaysOut self.now.key.params bytes.items self.now.leaf c.now) }
         ensures cause { IfErr result (λ fault. fault ≡ SessionFault.NoMemory) }
     {
         let params = &self.key.params;
@@ -201,14 +247,17 @@ impl Session {
         Ok(bytes)
     }
 
-    /// The bytes of a signature where it is accepted under the key.
-    fn if_accepted(&self, message: &[u8], bytes: Vec<u8>) -> Result<Vec<u8>, SessionFault>
-        requires { LaysOut self.now.key.params bytes.items self.now.leaf }
+    /// The bytes of a signature where it is accepted under the key, for each message with this digest.
+    fn if_accepted(&self, digest: &Val, bytes: Vec<u8>) -> Result<Vec<u8>, SessionFault>
+        requires digest { IsDigest self.now digest.now }
+        requires laid { LaysOut self.now.key.params bytes.items self.now.leaf (asked_c self.now) }
         ensures same { IfOk result (λ same. same.items ≡ bytes.items) }
-        ensures accepted { IfOk result (λ same. AcceptsAt self.now.key message.now same.items self.now.leaf) }
-        ensures refused { IfErr result (LeadsAstray self.now message.now bytes.items) }
+        ensures accepted { (message : List ℕ) → digest.now ≡ digest_of self.now message
+            → IfOk result (λ same. AcceptsAt self.now.key message same.items self.now.leaf) }
+        ensures refused { (message : List ℕ) → digest.now ≡ digest_of self.now message
+            → IfErr result (LeadsAstray self.now message bytes.items) }
     {
-        match verify(&self.key, message, &bytes) {
+        match verify_digest(&self.key, digest, &bytes) {
             Verdict::Accepted { .. } => Ok(bytes),
             Verdict::OtherRoot { got, want } => Err(SessionFault::WrongRoot {
                 leaf: self.leaf,

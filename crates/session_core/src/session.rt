@@ -211,6 +211,7 @@ impl Session {
     pub(crate) fn asked_c(&self) -> Val
         ensures c { result ≡ asked_c self.now }
         ensures length { length result ≡ self.now.key.params.n }
+        ensures session { IsSession self.now }
     {
         match self.c {
             None => Val::cut(&[0; 32], self.key.params.n),

@@ -6,6 +6,7 @@ mod Parts
 mod PutA
 mod PutB
 mod Puts
+mod Runs
 mod Shown
 mod Shut
 pub mod Unwritten
@@ -14,3 +15,4 @@ pub mod Held
 mod Read
 mod Same
 mod Sure
+mod CachedRuns

@@ -1,12 +1,13 @@
 -- Why a file is not loaded.
-use Rattle.std.proofs.Common.{◌≡◌, ◌⊎◌, ◌<◌, ℕ, List, length, None, Some, false, inl, inr, sym, ◌∙◌, ap, arith}
+use Rattle.std.proofs.Common.{◌≡◌, ◌⊎◌, ◌<◌, ◌+◌, ◌-◌, ℕ, List, length, None, Some, false, inl, inr, sym, ◌∙◌, ap, arith}
 use Rattle.slot_file.specs.Loading.{LoadRefused, damaged, device, other_file}
-use Rattle.slot_file.specs.Reading.{IsReadRefused, refused_by}
+use Rattle.slot_file.specs.Reading.{IsReadRefused, IsRunRefused, refused_by}
 use Rattle.slot_file.specs.declared.faults.CacheLoad.{CacheLoad}
 use Rattle.slot_file.specs.declared.faults.CacheLoad.TheVariants as load
 use Rattle.slot_file.specs.State.{HasSlots, slot_in}
 use Rattle.slot_file.specs.Copies.{is_damaged}
 use Rattle.slot_file.specs.Layout.{load_fault, slot_at}
+use Rattle.slot_file.specs.Runs.{IsRun}
 use Rattle.slot_file.specs.declared.slot.Slot.{Slot}
 use Rattle.slot_file.specs.declared.header.Header.{Header}
 use Rattle.slot_file.specs.declared.header.LoadFault.{LoadFault}
@@ -20,11 +21,32 @@ module _ (header : Header) (count : ℕ) (file : List ℕ) where
   refused-file (Version got) why = elim why [ inl is ↦ absurd (cc) | inr is ↦ other_file _ is ]
   refused-file (Foreign kept) why = elim why [ inl is ↦ absurd (cc) | inr is ↦ other_file _ is ]
 
-  pub refused-read : (fault : CacheLoad) → load_fault header count file ≡ None → IsReadRefused header.version count file fault → LoadRefused header count file fault
-  refused-read (load.Damaged slot a b) opens first = damaged slot a b opens first
+  pub refused-read : (fault : CacheLoad) → load_fault header count file ≡ None → IsReadRefused header.version 0 count file fault → LoadRefused header count file fault
+  refused-read (load.Damaged slot a b) opens first =
+      damaged slot a b opens (record { within = omega (arith, first.within); here = first.here; before = λ earlier below. first.before earlier (omega arith) below })
   refused-read load.Device opens first = device
   refused-read (load.Slots fault) opens first = absurd first
   refused-read load.NoMemory opens first = absurd first
+
+-- the first damaged slot of a run that was read
+pub refused-run : (version first : ℕ) (file : List ℕ) (run : List Slot) (count : ℕ) (fault : CacheLoad) → length run ≡ count → IsRun version first file run
+    → IsRunRefused first run fault → IsReadRefused version first count file fault
+refused-run version first file run count (load.Damaged slot a b) size shows found =
+    let place = found.place in
+    let at : first + place ≡ slot = sym found.slot_is in
+    record {
+      behind = omega arith;
+      within = omega (arith, found.within);
+      here = ap (λ (k : ℕ). slot_at version k file) (sym at) ∙ sym (shows place found.within) ∙ found.here;
+      before = λ earlier low below.
+          let k = earlier - first in
+          let is : first + k ≡ earlier = omega arith in
+          let small : k < place = omega arith in
+          ap (λ (j : ℕ). is_damaged (slot_at version j file)) (sym is) ∙ ap is_damaged (sym (shows k (omega (arith, found.within)))) ∙ found.before k small;
+    }
+refused-run version first file run count load.Device size shows found = tt
+refused-run version first file run count (load.Slots fault) size shows found = absurd found
+refused-run version first file run count load.NoMemory size shows found = absurd found
 
 -- a file whose slots were all read
 pub has-read : (header was : Header) (list : List Slot) (file old : List ℕ) (count : ℕ) → was ≡ header → file ≡ old → length list ≡ count

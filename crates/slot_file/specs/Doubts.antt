@@ -1,5 +1,5 @@
 -- The slot that is in doubt: a put on it was refused, and since then it was not looked at after a settle.
-use Rattle.std.specs.Prelude.{◌==◌, if◌then◌else◌, ℕ}
+use Rattle.std.specs.Prelude.{◌==◌, ◌+◌, ◌&&◌, nat_le, nat_lt, if◌then◌else◌, ℕ}
 use Rattle.slot_file.specs.declared.slots.Doubt.{Doubt}
 use Rattle.slot_file.specs.declared.slots.Doubt.TheVariants.{Nowhere, Refused, Settled}
 
@@ -16,3 +16,9 @@ settled doubt = doubt
 abbrev pub looked : ℕ → Doubt → Doubt
 looked slot (Settled doubted) = if doubted == slot then Nowhere else Settled doubted
 looked slot doubt = doubt
+
+-- the doubt after a look at so many slots from one on
+abbrev pub looked_run : ℕ → ℕ → Doubt → Doubt
+looked_run first count (Settled doubted) =
+    if nat_le first doubted && nat_lt doubted (first + count) then Nowhere else Settled doubted
+looked_run first count doubt = doubt

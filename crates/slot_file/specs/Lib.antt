@@ -7,6 +7,7 @@ pub mod Fresh
 pub mod Gated
 pub mod Layout
 pub mod Opened
+pub mod Runs
 pub mod Slots
 pub mod SlotsLaws
 pub mod Cache

@@ -1,11 +1,13 @@
 -- What reading the slots of a file gives. Only contracts inside the crate speak of it.
-use Rattle.std.specs.Prelude.{◌≡◌, ℕ, List}
+use Rattle.std.specs.Prelude.{◌≡◌, ◌≤◌, ◌<◌, ◌+◌, ℕ, List, length, false}
 use Rattle.disk_trait.specs.declared.disk.Pages as pages
 use Rattle.disk_trait.specs.declared.faults.Faults as faults
 use Rattle.slot_file.specs.declared.faults.CacheLoad.{CacheLoad}
 use Rattle.slot_file.specs.declared.faults.CacheLoad.TheVariants as load
-use Rattle.slot_file.specs.Copies.{IsFirstDamaged}
+use Rattle.slot_file.specs.State.{slot_in}
+use Rattle.slot_file.specs.Copies.{is_damaged}
 use Rattle.slot_file.specs.Disks.{Unwritten}
+use Rattle.slot_file.specs.Layout.{slot_at}
 use Rattle.slot_file.specs.Slots.{Stays, disk_of, doubt_of}
 use Rattle.slot_file.specs.declared.header.LoadFault.{LoadFault}
 use Rattle.slot_file.specs.declared.header.LoadFault.TheVariants.{Device}
@@ -19,19 +21,34 @@ abbrev pub refused_by : LoadFault → CacheLoad
 refused_by Device = load.Device
 refused_by fault = load.Slots fault
 
--- a slot is not read: it is damaged, or the disk failed
-abbrev pub IsSlotRefused : ℕ → Slot → CacheLoad → Type 0
-IsSlotRefused place slot (load.Damaged torn a b) = (torn ≡ place) × (slot ≡ Damaged a b)
-IsSlotRefused place slot load.Device = Unit {0}
-IsSlotRefused place slot (load.Slots fault) = ⊥
-IsSlotRefused place slot load.NoMemory = ⊥
+-- the first damaged slot of a run, whose slots are those from this one on
+pub record IsFirstInRun (first : ℕ) (run : List Slot) (slot a b : ℕ) : Type 0 where
+  pub place : ℕ
+  pub within : place < length run
+  pub slot_is : slot ≡ first + place
+  pub here : slot_in run place ≡ Damaged a b
+  pub before : (earlier : ℕ) → earlier < place → is_damaged (slot_in run earlier) ≡ false
 
--- of all slots it is the first
-abbrev pub IsReadRefused : ℕ → ℕ → List ℕ → CacheLoad → Type 0
-IsReadRefused version count file (load.Damaged torn a b) = IsFirstDamaged version count file torn a b
-IsReadRefused version count file load.Device = Unit {0}
-IsReadRefused version count file (load.Slots fault) = ⊥
-IsReadRefused version count file load.NoMemory = ⊥
+-- the first damaged slot of so many of a file, from this one on
+pub record IsFirstFrom (version first count : ℕ) (file : List ℕ) (slot a b : ℕ) : Type 0 where
+  pub behind : first ≤ slot
+  pub within : slot < first + count
+  pub here : slot_at version slot file ≡ Damaged a b
+  pub before : (earlier : ℕ) → first ≤ earlier → earlier < slot → is_damaged (slot_at version earlier file) ≡ false
+
+-- a run is refused for its first damaged slot
+abbrev pub IsRunRefused : ℕ → List Slot → CacheLoad → Type 0
+IsRunRefused first run (load.Damaged slot a b) = IsFirstInRun first run slot a b
+IsRunRefused first run load.Device = ⊥
+IsRunRefused first run (load.Slots fault) = ⊥
+IsRunRefused first run load.NoMemory = ⊥
+
+-- so many slots of a file are not read: one is damaged, the first one, or the disk failed
+abbrev pub IsReadRefused : ℕ → ℕ → ℕ → List ℕ → CacheLoad → Type 0
+IsReadRefused version first count file (load.Damaged slot a b) = IsFirstFrom version first count file slot a b
+IsReadRefused version first count file load.Device = Unit {0}
+IsReadRefused version first count file (load.Slots fault) = ⊥
+IsReadRefused version first count file load.NoMemory = ⊥
 
 -- Slots were looked at: nothing is written, and where nothing was in doubt nothing is now.
 pub record LooksOnly {D : Type 0} {p : pages.Ghosts D} {f : faults.Ghosts D} (old new : Slots D p f) : Type 0 where

@@ -50,8 +50,8 @@ impl<D: Disk> CachedSlots<D> {
     ghost use Rattle.slot_file.specs.Cache.{Holds, IsSteady, IsTold, Stays, count_of, disk_of};
     ghost use Rattle.slot_file.specs.Cache.{faults_of, header_of, state_of};
 
-    /// Loads a file of `count` slots: reads each slot, and takes all the memory that is wanted. A refusal gives the
-    /// disk back.
+    /// Loads a file of `count` slots: reads the slots, 32 by each read of the disk, and takes all the memory that is
+    /// wanted. A refusal gives the disk back.
     pub fn load(
         alloc: Global,
         disk: D,

@@ -20,4 +20,4 @@ pub use faults::{CacheLoad, SettleFault, Settled};
 pub use header::{Header, LoadFault};
 pub use prepared::{PrepareFault, prepare};
 pub use slot::Slot;
-pub use slots::{Doubt, Slots};
+pub use slots::{Doubt, MOST_IN_RUN, Slots};

@@ -1,19 +1,18 @@
 //! Reading the slots of a file.
 
-ghost use Rattle.std.specs.Prelude.{◌≡◌, ◌≢◌, ◌<◌, ℕ, length, replicate, false, Err, IsOk, IfOk, IfErr};
-ghost use Rattle.std.specs.Prelude.{OnOk};
+ghost use Rattle.std.specs.Prelude.{◌≡◌, ◌≢◌, ◌≤◌, ◌<◌, ◌+◌, ◌^◌, ℕ, length, replicate, Err, IsOk, IfOk, IfErr, OnOk};
 ghost use Rattle.disk_trait.specs.Faults.{HasCause};
-ghost use Rattle.slot_file.specs.Reading.{IsReadRefused, IsSlotRefused, LooksOnly, refused_by};
+ghost use Rattle.slot_file.specs.Reading.{IsReadRefused, IsRunRefused, LooksOnly, refused_by};
 ghost use Rattle.slot_file.specs.State.{IsWhole, slot_in};
-ghost use Rattle.slot_file.specs.Copies.{is_damaged};
 ghost use Rattle.slot_file.specs.Disks.{RisesAt, Unwritten};
 ghost use Rattle.slot_file.specs.Doubts.{looked, settled};
 ghost use Rattle.slot_file.specs.Layout.{IsShown};
+ghost use Rattle.slot_file.specs.Runs.{IsRun};
 ghost use Rattle.slot_file.specs.Slots.{IsSteady, IsTold, Stays, count_of, disk_of, doubt_of, faults_of, file_of};
 ghost use Rattle.slot_file.specs.Slots.{header_of, slot_now};
 
 use crate::faults::CacheLoad;
-use crate::{Doubt, LoadFault, Slot, Slots};
+use crate::{Doubt, LoadFault, MOST_IN_RUN, Slot, Slots};
 use disk_trait::{Disk, DiskFault};
 use memory::NoMemory;
 use std::alloc::Global;
@@ -38,45 +37,63 @@ pub(crate) fn free_slots(alloc: Global, count: u32) -> Result<Vec<Slot>, NoMemor
     Ok(vec![in alloc; Slot::Free; count as usize]?)
 }
 
-// Reads a slot, which is refused where it is damaged.
-fn read_slot<D: Disk>(slots: &mut Slots<D>, slot: u32) -> Result<Slot, CacheLoad>
-    requires { slot < count_of slots.old }
-    ensures shows { IsTold slots.old → IfOk result (λ found. found ≡ slot_now slots.old slot) }
-    ensures sound { IfOk result (λ found. is_damaged found ≡ false) }
-    ensures refused { IsTold slots.old → IfErr result (IsSlotRefused slot (slot_now slots.old slot)) }
+/// Refuses the first damaged slot of a run, whose slots are those from one on.
+fn check_run(first: u32, run: &[Slot]) -> Result<(), CacheLoad>
+    requires { first + length run.now < 2 ^ 32 }
+    ensures whole { OnOk result (IsWhole run.now) }
+    ensures refused { IfErr result (IsRunRefused first run.now) }
+{
+    for place in 0..run.len() {
+        if let Slot::Damaged { a, b } = run[place] {
+            return Err(CacheLoad::Damaged {
+                slot: first + place as u32,
+                a,
+                b,
+            });
+        }
+    }
+    Ok(())
+}
+
+/// Reads the slots from one on by one read, at most 32 of them. The first that is damaged is refused.
+fn read_run<D: Disk>(slots: &mut Slots<D>, first: u32, out: &mut [Slot]) -> Result<(), CacheLoad>
+    requires within { first + length out.old ≤ count_of slots.old }
+    requires few { length out.old ≤ MOST_IN_RUN }
+    requires small { first + length out.old < 2 ^ 32 }
+    ensures shows { IsTold slots.old
+        → OnOk result (IsRun (header_of slots.old).version first (file_of slots.old) out.new) }
+    ensures whole { OnOk result (IsWhole out.new) }
+    ensures refused { IsTold slots.old → IfErr result
+        (IsReadRefused (header_of slots.old).version first (length out.old) (file_of slots.old)) }
     ensures looks { LooksOnly slots.old slots.new }
     ensures succeeds { IsSteady slots.old → IsTold slots.old → result ≢ Err CacheLoad.Device }
     ensures cause { RisesAt (faults_of slots.old) (faults_of slots.new) result (Err CacheLoad.Device) }
 {
-    match slots.look(slot) {
-        Ok(Slot::Damaged { a, b }) => Err(CacheLoad::Damaged { slot, a, b }),
-        Ok(found) => Ok(found),
+    match slots.look_run(first, out) {
+        Ok(()) => check_run(first, out),
         Err(DiskFault) => Err(CacheLoad::Device),
     }
 }
 
-/// Reads all slots.
-pub(crate) fn read_slots<D: Disk>(
-    slots: &mut Slots<D>,
-    out: &mut Vec<Slot>,
-) -> Result<(), CacheLoad>
-    requires { count_of slots.old ≡ length out.old.items }
+/// Reads all slots, a run of them by each read.
+pub(crate) fn read_slots<D: Disk>(slots: &mut Slots<D>, out: &mut [Slot]) -> Result<(), CacheLoad>
+    requires count { count_of slots.old ≡ length out.old }
+    requires small { length out.old < 2 ^ 32 }
     ensures shows { IsTold slots.old
-        → OnOk result ((slot : ℕ) → slot < length out.old.items
-        → slot_now slots.old slot ≡ slot_in out.new.items slot) }
-    ensures whole { OnOk result (IsWhole out.new.items) }
+        → OnOk result ((slot : ℕ) → slot < length out.old → slot_now slots.old slot ≡ slot_in out.new slot) }
+    ensures whole { OnOk result (IsWhole out.new) }
     ensures refused { IsTold slots.old
-        → IfErr result (IsReadRefused (header_of slots.old).version (length out.old.items) (file_of slots.old)) }
-    ensures size { length out.new.items ≡ length out.old.items }
+        → IfErr result (IsReadRefused (header_of slots.old).version 0 (length out.old) (file_of slots.old)) }
+    ensures size { length out.new ≡ length out.old }
     ensures looks { LooksOnly slots.old slots.new }
     ensures succeeds { IsSteady slots.old → IsTold slots.old → result ≢ Err CacheLoad.Device }
     ensures cause { RisesAt (faults_of slots.old) (faults_of slots.new) result (Err CacheLoad.Device) }
 {
-    for slot in 0..slots.count() {
-        match read_slot(slots, slot) {
-            Ok(found) => out[slot as usize] = found,
-            Err(fault) => return Err(fault),
-        }
+    let mut first = 0;
+    'runs: while first < out.len() {
+        let end = out.len().min(first + MOST_IN_RUN);
+        read_run(slots, first as u32, &mut out[first..end])?;
+        first = end;
     }
     Ok(())
 }

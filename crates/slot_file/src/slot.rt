@@ -1,9 +1,10 @@
 //! What a slot is.
 
-ghost use Rattle.std.specs.Prelude.{◌≡◌, ◌≤◌, ◌<◌, ◌↔◌, ◌+◌, ◌^◌, length, IsTrue};
+ghost use Rattle.std.specs.Prelude.{◌≡◌, ◌≤◌, ◌<◌, ◌↔◌, ◌+◌, ◌*◌, ◌^◌, length, IsTrue};
 ghost use Rattle.disk_trait.specs.Images.{written};
 ghost use Rattle.slot_file.specs.Copies.{with_part};
 ghost use Rattle.slot_file.specs.Layout.{slot_size, slot_start, file_size, moment_bytes};
+ghost use Rattle.slot_file.specs.Runs.{IsInBlock};
 
 use byteorder::{BigEndian, ByteOrder};
 
@@ -135,6 +136,19 @@ impl Slot {
             0
         };
         Slot::Full(body_a, body_b, moment)
+    }
+}
+
+/// Reads the slots that stand one after another in a block.
+pub(crate) fn read_block(version: u8, block: &[u8], out: &mut [Slot])
+    requires { length block.now ≡ slot_size version * length out.old }
+    ensures slots { IsInBlock version block.now out.new }
+    ensures count { length out.new ≡ length out.old }
+{
+    let size = slot_len(version);
+    for place in 0..out.len() {
+        let start = size * place;
+        out[place] = Slot::of_bytes(version, &block[start..start + size]);
     }
 }
 

@@ -1,9 +1,9 @@
 //! A file of slots that is open.
 
 ghost use Rattle.std.specs.Prelude.{◌≡◌, ◌≢◌, ◌⊎◌, ◌≤◌, ◌<◌, ◌↔◌, ◌+◌, ℕ, List, length, take, IsTrue, None, Some};
-ghost use Rattle.std.specs.Prelude.{IsOk, IfOk, IfErr, OnOk, Ok, Err, if◌then◌else◌, is_ok};
+ghost use Rattle.std.specs.Prelude.{IsOk, IfOk, IfErr, OnOk, OnErr, Ok, Err, if◌then◌else◌, is_ok};
 ghost use Rattle.disk_trait.specs.Faults.{HasCause};
-ghost use Rattle.slot_file.specs.Doubts.{IsSure};
+ghost use Rattle.slot_file.specs.Doubts.{IsSure, looked_run};
 ghost use Rattle.disk_trait.specs.Images.{Only, Follows};
 ghost use Rattle.slot_file.specs.Disks.{RisesAt, Unwritten};
 ghost use Rattle.slot_file.specs.Gated.{Gated, gated, second_body};
@@ -12,9 +12,12 @@ ghost use Rattle.slot_file.specs.Files.{IsFile, IsHalf, IsPut, with_b};
 
 use crate::gated::write_gated;
 use crate::header::BLOCK;
-use crate::slot::{A_OPEN, B_OPEN, file_len, moment_bytes, slot_len, slot_start};
+use crate::slot::{A_OPEN, B_OPEN, file_len, moment_bytes, read_block, slot_len, slot_start};
 use crate::{Header, LoadFault, Slot};
 use disk_trait::{Disk, DiskFault};
+
+/// The most slots that are looked at by one read.
+pub const MOST_IN_RUN: usize = 32;
 
 /// A slot whose put was refused: it may be as before or have what was put.
 #[derive(Clone, Copy, Debug, PartialEq, Eq)]
@@ -35,6 +38,17 @@ impl Doubt {
         match done {
             Ok(()) => self,
             Err(DiskFault) => Doubt::Refused(slot),
+        }
+    }
+
+    /// The doubt after a look at so many slots from one on.
+    fn after_look(self, first: u32, count: usize) -> Doubt
+        ensures { result ≡ looked_run first count self }
+    {
+        match self {
+            Doubt::Settled(slot) if first <= slot && ((slot - first) as usize) < count =>
+                Doubt::Nowhere,
+            Doubt::Nowhere | Doubt::Refused(_) | Doubt::Settled(_) => self,
         }
     }
 }
@@ -101,7 +115,8 @@ fn check_file<D: Disk>(disk: &mut D, header: &Header, count: u32) -> Result<(), 
 impl<D: Disk> Slots<D> {
     ghost use Rattle.slot_file.specs.Opened.{IsOpened};
     ghost use Rattle.slot_file.specs.Slots.{disk_of, header_of, count_of, doubt_of, faults_of, file_of, slot_now};
-    ghost use Rattle.slot_file.specs.Slots.{IsTold, IsHonest, IsSteady, MayLeave, IsStable, Stays};
+    ghost use Rattle.slot_file.specs.Slots.{IsTold, IsHonest, IsSteady, MayLeave, IsStable, OnlyLooked, Stays};
+    ghost use Rattle.slot_file.specs.Runs.{AreShown, IsRun};
     ghost use Rattle.slot_file.specs.Doubts.{settled, looked};
 
     /// Opens a file: syncs, and tests its length and its header. A refusal gives the disk back.
@@ -164,6 +179,29 @@ impl<D: Disk> Slots<D> {
             self.doubt = Doubt::Nowhere;
         }
         Ok(Slot::of_bytes(version, bytes))
+    }
+
+    /// The slots from one on, as many as `out` has, as one read gives them. After a refusal `out` is as it was.
+    pub fn look_run(&mut self, first: u32, out: &mut [Slot]) -> Result<(), DiskFault>
+        requires within { first + length out.old ≤ count_of self.old }
+        requires few { length out.old ≤ MOST_IN_RUN }
+        ensures slots { IsTold self.old
+            → OnOk result (IsRun (header_of self.old).version first (file_of self.old) out.new) }
+        ensures shown { OnOk result (AreShown (header_of self.old).version out.new) }
+        ensures unread { OnErr result (out.new ≡ out.old) }
+        ensures looked { OnlyLooked self.old self.new }
+        ensures doubt { doubt_of self.new
+            ≡ (if is_ok result then looked_run first (length out.old) (doubt_of self.old) else doubt_of self.old) }
+        ensures succeeds { IsSteady self.old → IsTold self.old → IsOk result }
+        ensures cause { HasCause (faults_of self.old) (faults_of self.new) result }
+    {
+        let version = self.header.version;
+        let mut block = [0; MOST_IN_RUN * 160];
+        let bytes = &mut block[..slot_len(version) * out.len()];
+        self.disk.read_at(slot_start(version, first), bytes)?;
+        self.doubt = self.doubt.after_look(first, out.len());
+        read_block(version, bytes, out);
+        Ok(())
     }
 
     /// Puts body A into a free slot, by four calls of the disk. In each image that a crash may

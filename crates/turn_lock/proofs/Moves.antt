@@ -308,19 +308,19 @@ module _ {T E N : Type 0} (entries : T → List E) (number : T → ℕ) (name : 
         },
       ))
 
-  -- calling
-  called : (slots id k : ℕ) (me : Me (Option T) K) (st : Step (Option T)) → Allows Rule slots id me (suc (suc k)) (λ n. (n + 1) % 2 ^ 64) (Called st me)
-  called slots id k me st s r _ at _ = subst (Goes entries number name o s (suc (suc k)) id me (λ n. (n + 1) % 2 ^ 64) (Called st me)) (sym r.words) (
+  -- calling, and sleeping: a word to park on may become anything
+  called : (slots id k : ℕ) (f : ℕ → ℕ) (me : Me (Option T) K) (st : Step (Option T)) → Allows Rule slots id me (suc (suc k)) f (Called st me)
+  called slots id k f me st s r _ at _ = subst (Goes entries number name o s (suc (suc k)) id me f (Called st me)) (sym r.words) (
     me.0,
     keeps,
     tt,
-    stirred entries number name o s r id me.0 at (set r.parked k ((get_or r.parked k 0 + 1) % 2 ^ 64)) (length-set r.parked k ((get_or r.parked k 0 + 1) % 2 ^ 64) ∙ r.parks),
+    stirred entries number name o s r id me.0 at (set r.parked k (f (get_or r.parked k 0))) (length-set r.parked k (f (get_or r.parked k 0)) ∙ r.parks),
     refl,
   )
 
-  pub calls : (slots id i k : ℕ) (me : Me (Option T) K) (st : Step (Option T)) → i ≡ 2 + k → Allows Rule slots id me i (λ n. (n + 1) % 2 ^ 64) (Called st me)
-  calls slots id i k me st is = let e : suc (suc k) ≡ i = omega (arith, is) in
-      subst (λ (i : ℕ). Allows Rule slots id me i (λ n. (n + 1) % 2 ^ 64) (Called st me)) e (called slots id k me st)
+  pub calls : (slots id i k : ℕ) (f : ℕ → ℕ) (me : Me (Option T) K) (st : Step (Option T)) → i ≡ 2 + k → Allows Rule slots id me i f (Called st me)
+  calls slots id i k f me st is = let e : suc (suc k) ≡ i = omega (arith, is) in
+      subst (λ (i : ℕ). Allows Rule slots id me i f (Called st me)) e (called slots id k f me st)
 
   -- passing on
   pub passes_on : (slots id t : ℕ) (me : Me (Option T) K) (st : Step (Option T)) (v : T) → me.0.stage ≡ Holding t → me.1 ≡ (0, Some v) ∷ [] → 0 < me.0.parts → IsPrefix me.0.log (entries v) → me.0.floor ≤ number v

@@ -36,13 +36,20 @@ pub record Compared {T E N : Type 0} (st : Step (Option T)) (m : Me (Option T) (
   pub few : m.0.parts ≤ 4096
   pub all : m.0.parts ≡ m.0.opening.passes → KnowsAll m.0
 
--- where the ticket is served, the seat has the value, which goes on from what it knew
-abbrev pub Looked : {T E N : Type 0} → (T → List E) → (T → ℕ) → (T → N) → Step (Option T) → Me (Option T) (Known E N)
-    → ℕ → Me (Option T) (Known E N) → Type 0
-Looked {T} entries number name st m found m' = (t : ℕ) → m.0.stage ≡ Waiting t →
+-- of a seat that waits for a ticket: where that one is found served, the seat has the value, which goes on from what it
+-- knew
+abbrev pub Finds : {T E N : Type 0} → (T → List E) → (T → ℕ) → (T → N) → ℕ → Me (Option T) (Known E N) → ℕ
+    → Me (Option T) (Known E N) → Type 0
+Finds {T} entries number name t m found m' =
     (found ≡ t → (v : T) × (m'.1 ≡ (0, Some v) ∷ m.1) × (m'.0 ≡ holding m.0 t (entries v) (number v))
     × IsPrefix m.0.log (entries v) × (m.0.floor ≤ number v) × (Some (name v) ≡ m.0.opening.name))
     × (found ≢ t → m' ≡ m)
+
+-- so it is found by whoever looks
+abbrev pub Looked : {T E N : Type 0} → (T → List E) → (T → ℕ) → (T → N) → Step (Option T) → Me (Option T) (Known E N)
+    → ℕ → Me (Option T) (Known E N) → Type 0
+Looked entries number name st m found m' =
+    (t : ℕ) → m.0.stage ≡ Waiting t → Finds entries number name t m found m'
 
 -- the value that the seat gave back is the log's
 abbrev pub PassedOn : {T E N : Type 0} → (T → List E) → (T → ℕ) → Step (Option T) → Me (Option T) (Known E N) → ℕ

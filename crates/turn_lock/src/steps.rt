@@ -5,7 +5,7 @@ ghost use Rattle.std.specs.Prelude.{◌≡◌, ◌≢◌, ℕ, ◌+◌, ◌%◌,
 ghost use mathlib.Core.List.{IsPrefix};
 ghost use Rattle.turn_lock.specs.Known.{opening_of, starting, holding, given, rest_of, one_of, both_of, compared};
 ghost use Rattle.turn_lock.specs.Known.{drawn_by};
-ghost use Rattle.turn_lock.specs.Plays.{KnowsAll};
+ghost use Rattle.turn_lock.specs.Plays.{Finds, KnowsAll};
 ghost use Rattle.turn_lock.specs.declared.view.Stage.TheVariants.{Idle, Waiting, Holding};
 
 use crate::kept::Kept;
@@ -13,6 +13,7 @@ use crate::plays::{Call, Compare, Draw, Look, PassOn, SplitOff, TakeIn, Turns};
 use crate::view::{Known, Start};
 use atomic_table::{Seat, Shared, Table};
 use std::alloc::Global;
+use std::hint::spin_loop;
 use std::sync::Wait;
 
 /// The word of the next ticket.
@@ -26,6 +27,13 @@ const PARKING: usize = 2;
 
 /// How many these words are.
 const PARKED: usize = 64;
+
+/// What each sleeper adds to its word, above the bits that a sleep compares. A word that starts there, or whose turns
+/// reach it, costs wakes of nobody.
+const SLEEPER: u64 = 1 << 32;
+
+/// How often the waiter of the next ticket looks before it sleeps: for about as long as a sleeper takes to wake.
+const LOOKS: u32 = 2_000;
 
 /// All words of a lock.
 const WORDS: usize = PARKING + PARKED;
@@ -116,32 +124,72 @@ pub fn wait<T: Kept>(rt: &impl Wait, words: &Words<T>, seat: &mut Place<T>, tick
     ensures reached { seat.old.me.0.floor ≤ T.number result }
     ensures named { Some (T.name result) ≡ seat.old.me.0.opening.name }
 {
-    let parking = parking_of(ticket);
-    'waits: for _ in rt.forever() {
-        // The parking word is read before the turn is looked at: whoever makes it this ticket's turn later changes the
-        // word after that, so that no wake is lost.
-        let parked = words.peek(parking);
-        if look(words, seat, ticket) == ticket {
-            let taken = words.exchange(seat, VALUE, None);
-            let Some(value) = taken else { unreachable!() };
-            return value;
+    await_turn(rt, words, seat, ticket);
+    let taken = words.exchange(seat, VALUE, None);
+    let Some(value) = taken else { unreachable!() };
+    value
+}
+
+/// Waits until the ticket is served: awake while it is the next one and for a short time, and else asleep.
+fn await_turn<T: Kept>(rt: &impl Wait, words: &Words<T>, seat: &mut Place<T>, ticket: u64)
+    requires table { (seat.old.table_id ≡ words.now.table_id) × (words.now.table_id.words ≡ 66) }
+    requires waits { (seat.old.me.0.stage ≡ Waiting ticket) × (seat.old.me.1 ≡ []) }
+    ensures table { seat.new.table_id ≡ seat.old.table_id }
+    ensures finds { Finds T.entries T.number T.name ticket seat.old.me ticket seat.new.me }
+{
+    if watch(words, seat, ticket) != ticket {
+        sleep(rt, words, seat, ticket);
+    }
+}
+
+/// Looks again and again, while the ticket is the next one, and tells which was served at the last look. Whoever has a
+/// later ticket looks once, since it would only keep a processor from those who come before.
+fn watch<T: Kept>(words: &Words<T>, seat: &mut Place<T>, ticket: u64) -> u64
+    requires table { (seat.old.table_id ≡ words.now.table_id) × (words.now.table_id.words ≡ 66) }
+    requires waits { (seat.old.me.0.stage ≡ Waiting ticket) × (seat.old.me.1 ≡ []) }
+    ensures table { seat.new.table_id ≡ seat.old.table_id }
+    ensures finds { Finds T.entries T.number T.name ticket seat.old.me result seat.new.me }
+{
+    'looks: for _ in 0..LOOKS {
+        let served = look(words, seat, ticket);
+        if served == ticket || served.wrapping_add(1) != ticket {
+            return served;
         }
-        words.park(rt, parking, (parked % (1 << 32)) as u32);
+        spin_loop();
+    }
+    look(words, seat, ticket)
+}
+
+/// Sleeps until the ticket is served.
+fn sleep<T: Kept>(rt: &impl Wait, words: &Words<T>, seat: &mut Place<T>, ticket: u64)
+    requires table { (seat.old.table_id ≡ words.now.table_id) × (words.now.table_id.words ≡ 66) }
+    requires waits { (seat.old.me.0.stage ≡ Waiting ticket) × (seat.old.me.1 ≡ []) }
+    ensures table { seat.new.table_id ≡ seat.old.table_id }
+    ensures finds { Finds T.entries T.number T.name ticket seat.old.me ticket seat.new.me }
+{
+    let parking = parking_of(ticket);
+    'sleeps: for _ in rt.forever() {
+        // The sleeper is counted before the turn is looked at, and whoever makes it this ticket's turn raises the word
+        // after that: so it sees a sleeper and wakes it, or the sleep finds another word and ends at once.
+        let parked = words.fetch_add::<Call>(seat, parking, SLEEPER);
+        let served = look(words, seat, ticket);
+        if served != ticket {
+            words.park(rt, parking, (parked % SLEEPER) as u32);
+        }
+        words.fetch_sub::<Call>(seat, parking, SLEEPER);
+        if served == ticket {
+            return;
+        }
     }
     unreachable!()
 }
 
-// Which ticket is served. Where it is this one, the slot is out with the seat.
+/// Which ticket is served. Where it is this one, the slot is out with the seat.
 fn look<T: Kept>(words: &Words<T>, seat: &mut Place<T>, ticket: u64) -> u64
     requires table { (seat.old.table_id ≡ words.now.table_id) × (words.now.table_id.words ≡ 66) }
     requires waits { (seat.old.me.0.stage ≡ Waiting ticket) × (seat.old.me.1 ≡ []) }
     ensures table { seat.new.table_id ≡ seat.old.table_id }
-    ensures served { result ≡ ticket
-        → (v : T) × (seat.new.me.1 ≡ (0, Some v) ∷ [])
-        × (seat.new.me.0 ≡ holding seat.old.me.0 ticket (T.entries v) (T.number v))
-        × IsPrefix seat.old.me.0.log (T.entries v) × (seat.old.me.0.floor ≤ T.number v)
-        × (Some (T.name v) ≡ seat.old.me.0.opening.name) }
-    ensures not_yet { result ≢ ticket → seat.new.me ≡ seat.old.me }
+    ensures finds { Finds T.entries T.number T.name ticket seat.old.me result seat.new.me }
 {
     words.load::<Look<T>>(seat, SERVING)
 }
@@ -163,15 +211,17 @@ pub fn pass_on<T: Kept>(words: &Words<T>, seat: &mut Place<T>, value: T)
     call(words, seat, served.wrapping_add(1));
 }
 
-/// Wakes the waiter of this ticket, and those whose tickets have the same word.
+/// Wakes the waiter of this ticket, and those whose tickets have the same word, where one of them sleeps.
 fn call<T: Kept>(words: &Words<T>, seat: &mut Place<T>, ticket: u64)
     requires table { (seat.old.table_id ≡ words.now.table_id) × (words.now.table_id.words ≡ 66) }
     ensures table { seat.new.table_id ≡ seat.old.table_id }
     ensures seat { seat.new.me ≡ seat.old.me }
 {
     let parking = parking_of(ticket);
-    words.fetch_add::<Call>(seat, parking, 1);
-    words.wake_all(parking);
+    let parked = words.fetch_add::<Call>(seat, parking, 1);
+    if parked >= SLEEPER {
+        words.wake_all(parking);
+    }
 }
 
 /// Splits a pass off.

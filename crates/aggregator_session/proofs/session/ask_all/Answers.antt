@@ -10,6 +10,10 @@ use Rattle.reference_value.proofs.Staying.{stays-as, stays-then}
 use Rattle.lms_bytes.specs.declared.public_key.PublicKey.{PublicKey}
 use Rattle.session_core.specs.Verdicts.{digest_of, joined_bytes}
 use Rattle.session_core.specs.Dealing.{IsAnswered}
+use Rattle.aggregator_session.proofs.Digests.{same-digest}
+use Rattle.lms_verify.specs.UndividedKey.{UndividedKey}
+use Rattle.reference_value.specs.Dealing.{Dealing}
+use Rattle.session_core.specs.Judging.{round_fault}
 use Rattle.aggregator_session.proofs.session.ask_all.Goals as goal
 
 pub returns-in_err-dial_all-clause-run : goal.returns-in_err-dial_all-clause-run
@@ -71,9 +75,15 @@ returns-in_err-ask_again-clause-run g c =
     (dealt-as g.R.Cells.told g.R.Cells.leaves _ _ c.dial_all.new.session c.turn.new.self d.cells t.dealt))
     (second-end _ _ _ _ _ _ _ _ stays.told stays.leaves c.requires.task.all c.in_err-ask_again.was c.ask_again.ensures.run))
 
-pub returns-in_err-finish-clause-run : goal.returns-in_err-finish-clause-run
-returns-in_err-finish-clause-run g c =
-    let p = err_from_is_err_and c.from_residual-in_err-finish.result c.from_residual-in_err-finish.ensures.1 in
+pub finish_with-requires-clause-digest : goal.finish_with-requires-clause-digest
+finish_with-requires-clause-digest g c =
+    let a = c.ask_again.ensures in
+    let digest = c.digest_of-digest.ensures ∙ same-digest c.turn.new.self c.ask_again.new.session c.args.task.now.message.now a.same in
+    (c.args.task.now.message.now, digest)
+
+pub returns-in_err-finish_with-clause-run : goal.returns-in_err-finish_with-clause-run
+returns-in_err-finish_with-clause-run g c =
+    let p = err_from_is_err_and c.from_residual-in_err-finish_with.result c.from_residual-in_err-finish_with.ensures.1 in
     let d = c.dial_all.ensures in
     let t = c.in_ok-turn.ensures in
     let a = c.ask_again.ensures in
@@ -82,28 +92,30 @@ returns-in_err-finish-clause-run g c =
     let later = stays-then stays a.onward.stays in
     let count = g.R.Faults.count in
     let le : count c.args.cells.now ≤ count c.ask_again.new.cells = (let x = ap count d.cells in let y = t.onward.count in let z = a.onward.count in omega arith) in
-    rw (p.1, p.2) (judged_in_two _ _ c.turn.new.self c.ask_again.new.session c.in_err-finish.field-0.0
+    let digest = c.digest_of-digest.ensures ∙ same-digest c.turn.new.self c.ask_again.new.session c.args.task.now.message.now a.same in
+    rw (p.1, p.2) (judged_in_two _ _ c.turn.new.self c.ask_again.new.session c.in_err-finish_with.field-0.0
     (opens _ _ _ c.args.session.now c.dial_all.new.session c.turn.new.self _ _ _ _ c.requires.task.all d.run c.in_ok-dial_all.was c.in_ok-dial_all.ensures.whole (search rules) t.turned
     (joined-as g.R.Cells.told g.R.Cells.leaves _ _ c.dial_all.new.session c.turn.new.self d.cells t.joined)
     (dealt-as g.R.Cells.told g.R.Cells.leaves _ _ c.dial_all.new.session c.turn.new.self d.cells t.dealt))
     (second-end _ _ _ _ _ _ _ _ stays.told stays.leaves c.requires.task.all c.in_ok-ask_again.was a.run)
-    (fails-as _ c.args.task.now.message.now c.args.task.now.desk.now.tree.now _ _ _ _ _ _ _ _ later.told later.leaves le c.in_err-finish.ensures.cause))
+    (fails-as _ c.args.task.now.message.now c.args.task.now.desk.now.tree.now _ _ _ _ _ _ _ _ later.told later.leaves le (c.in_err-finish_with.ensures.cause c.args.task.now.message.now digest)))
 
-pub returns-in_err-finish-clause-reference : goal.returns-in_err-finish-clause-reference
-returns-in_err-finish-clause-reference g c is =
-    let p = err_from_is_err_and c.from_residual-in_err-finish.result c.from_residual-in_err-finish.ensures.1 in
+pub returns-in_err-finish_with-clause-reference : goal.returns-in_err-finish_with-clause-reference
+returns-in_err-finish_with-clause-reference g c is =
+    let p = err_from_is_err_and c.from_residual-in_err-finish_with.result c.from_residual-in_err-finish_with.ensures.1 in
     let d = c.dial_all.ensures in
     let t = c.in_ok-turn.ensures in
     let a = c.ask_again.ensures in
     let count = g.R.Faults.count in
     let le : count c.args.cells.now ≤ count c.ask_again.new.cells = (let x = ap count d.cells in let y = t.onward.count in let z = a.onward.count in omega arith) in
-    let both = fails-reference _ c.args.task.now.message.now _ _ _ _ _ c.in_err-finish.ensures.cause (same-err _ _ _ _ p.1 p.2 is) in
+    let digest = c.digest_of-digest.ensures ∙ same-digest c.turn.new.self c.ask_again.new.session c.args.task.now.message.now a.same in
+    let both = fails-reference _ c.args.task.now.message.now _ _ _ _ _ (c.in_err-finish_with.ensures.cause c.args.task.now.message.now digest) (same-err _ _ _ _ p.1 p.2 is) in
     let rose = both.1 in
     omega arith
 
-pub returns-in_err-finish-clause-succeeds : goal.returns-in_err-finish-clause-succeeds
-returns-in_err-finish-clause-succeeds g c exact is =
-    let p = err_from_is_err_and c.from_residual-in_err-finish.result c.from_residual-in_err-finish.ensures.1 in
+pub returns-in_err-finish_with-clause-succeeds : goal.returns-in_err-finish_with-clause-succeeds
+returns-in_err-finish_with-clause-succeeds g c exact is =
+    let p = err_from_is_err_and c.from_residual-in_err-finish_with.result c.from_residual-in_err-finish_with.ensures.1 in
     let d = c.dial_all.ensures in
     let t = c.in_ok-turn.ensures in
     let a = c.ask_again.ensures in
@@ -114,31 +126,36 @@ returns-in_err-finish-clause-succeeds g c exact is =
     let set = stays.set ∙ (c.requires.cells.0 ∙ ap (λ (k : PublicKey). k.params) (sym key)) in
     let plan = stays.plan ∙ (c.requires.cells.1 ∙ sym plans) in
     let reference = same-err _ _ _ _ p.1 p.2 is in
-    let both = fails-reference _ c.args.task.now.message.now _ _ _ _ _ c.in_err-finish.ensures.cause reference in
-    c.in_err-finish.ensures.read e.steady e.told (whole-as _ _ _ _ _ e.whole set plan) both.0 (sign-reference _ reference)
+    let digest = c.digest_of-digest.ensures ∙ same-digest c.turn.new.self c.ask_again.new.session c.args.task.now.message.now a.same in
+    let both = fails-reference _ c.args.task.now.message.now _ _ _ _ _ (c.in_err-finish_with.ensures.cause c.args.task.now.message.now digest) reference in
+    c.in_err-finish_with.ensures.read e.steady e.told (whole-as _ _ _ _ _ e.whole set plan) (ap (round_fault c.ask_again.new.session) digest ∙ both.0) (sign-reference _ reference)
 
 pub returns-clause-run : goal.returns-clause-run
 returns-clause-run g c =
     let d = c.dial_all.ensures in
     let t = c.in_ok-turn.ensures in
     let a = c.ask_again.ensures in
-    let f = c.in_ok-finish.ensures in
+    let f = c.in_ok-finish_with.ensures in
     let many = length-map c.dial_all.new.links.items g.P.Link.Stream.talk in
     let stays = stays-as d.cells t.onward.stays in
     let later = stays-then stays a.onward.stays in
     let message = c.args.task.now.message.now in
     let tree = c.args.task.now.desk.now.tree.now in
     let kept = c.ask_again.new.session in
+    let digest = c.digest_of-digest.ensures ∙ same-digest c.turn.new.self c.ask_again.new.session c.args.task.now.message.now a.same in
+    let answered_by = λ (d : Dealing) (key : UndividedKey) (answered : IsAnswered d key kept (digest_of kept message) (g.R.Cells.leaves c.args.cells.now) tree).
+    subst (λ (q : List ℕ). IsAnswered d key kept q (g.R.Cells.leaves c.args.cells.now) tree) (sym digest) answered in
     signed _ _ c.turn.new.self kept _
     (opens _ _ _ c.args.session.now c.dial_all.new.session c.turn.new.self _ _ _ _ c.requires.task.all d.run c.in_ok-dial_all.was c.in_ok-dial_all.ensures.whole (search rules) t.turned
     (joined-as g.R.Cells.told g.R.Cells.leaves _ _ c.dial_all.new.session c.turn.new.self d.cells t.joined)
     (dealt-as g.R.Cells.told g.R.Cells.leaves _ _ c.dial_all.new.session c.turn.new.self d.cells t.dealt))
     (second-end _ _ _ _ _ _ _ _ stays.told stays.leaves c.requires.task.all c.in_ok-ask_again.was a.run)
     (record {
-      faultless = none-of _ (λ fault some. let no = c.finish.ensures.fault fault some in let was = c.in_ok-finish.was in absurd (cc));
-      accepted = f.accepted;
-      joined = λ told. f.joined (later.told ∙ told) ∙ ap (λ (l : List ℕ). joined_bytes kept l tree message) (later.leaves told);
-      dealt = λ told d key answered. f.dealt d key (later.told ∙ told) (subst (λ (l : List ℕ). IsAnswered d key kept (digest_of kept message) l tree) (sym (later.leaves told)) answered);
+      faultless = none-of _ (λ fault some. let no = c.finish_with.ensures.fault fault (ap (round_fault kept) digest ∙ some) in let was = c.in_ok-finish_with.was in absurd (cc));
+      accepted = f.accepted message digest;
+      joined = λ told. f.joined message digest (later.told ∙ told) ∙ ap (λ (l : List ℕ). joined_bytes kept l tree message) (later.leaves told);
+      dealt = λ told d key answered. f.dealt message digest d key (later.told ∙ told)
+          (subst (λ (l : List ℕ). IsAnswered d key kept c.digest_of-digest.result l tree) (sym (later.leaves told)) (answered_by d key answered));
     })
 
 pub returns-clause-onward : goal.returns-clause-onward
@@ -146,7 +163,7 @@ returns-clause-onward g c =
     let d = c.dial_all.ensures in
     let t = c.in_ok-turn.ensures.onward in
     let a = c.ask_again.ensures.onward in
-    let f = c.in_ok-finish.ensures.onward in
+    let f = c.in_ok-finish_with.ensures.onward in
     let count = g.R.Faults.count in
     record {
       stays = stays-then (stays-then (stays-as d.cells t.stays) a.stays) f.stays;
@@ -164,8 +181,8 @@ returns-in_err-turn-clause-once g c = once-of _ _ _ _ _ c.in_ok-dial_all.was c.d
 pub returns-in_err-ask_again-clause-once : goal.returns-in_err-ask_again-clause-once
 returns-in_err-ask_again-clause-once g c = once-of _ _ _ _ _ c.in_ok-dial_all.was c.dial_all.ensures.once
 
-pub returns-in_err-finish-clause-once : goal.returns-in_err-finish-clause-once
-returns-in_err-finish-clause-once g c = once-of _ _ _ _ _ c.in_ok-dial_all.was c.dial_all.ensures.once
+pub returns-in_err-finish_with-clause-once : goal.returns-in_err-finish_with-clause-once
+returns-in_err-finish_with-clause-once g c = once-of _ _ _ _ _ c.in_ok-dial_all.was c.dial_all.ensures.once
 
 pub returns-clause-once : goal.returns-clause-once
 returns-clause-once g c = once-of _ _ _ _ _ c.in_ok-dial_all.was c.dial_all.ensures.once

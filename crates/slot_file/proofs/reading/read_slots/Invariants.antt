@@ -1,4 +1,4 @@
-use Rattle.std.proofs.Common.{◌≡◌, ◌<◌, ℕ, length, false}
+use Rattle.std.proofs.Common.{◌≡◌, ◌<◌, ◌≤◌, ◌-◌, ℕ, length, false}
 use Rattle.slot_file.specs.State.{slot_in}
 use Rattle.slot_file.specs.Copies.{is_damaged}
 use Rattle.slot_file.specs.Disks.{Unwritten}
@@ -6,13 +6,17 @@ use Rattle.slot_file.specs.Slots.{IsTold, Stays, disk_of, doubt_of, faults_of, s
 use Rattle.slot_file.specs.declared.slots.Doubt.TheVariants.{Nowhere}
 use Rattle.slot_file.proofs.reading.read_slots.Given as goal
 
-abbrev pub invariant-loop-slot : goal.invariant-loop-slot
-invariant-loop-slot g l = record {
-  shows : IsTold l.initial.slots → (slot : ℕ) → slot < l.slot → slot_now l.initial.slots slot ≡ slot_in l.out.items slot;
-  whole : (slot : ℕ) → slot < l.slot → is_damaged (slot_in l.out.items slot) ≡ false;
-  size : length l.out.items ≡ length l.initial.out.items;
+abbrev pub invariant-runs : goal.invariant-runs
+invariant-runs g l = record {
+  within : l.first ≤ length l.initial.out;
+  shows : IsTold l.initial.slots → (slot : ℕ) → slot < l.first → slot_now l.initial.slots slot ≡ slot_in l.out slot;
+  whole : (slot : ℕ) → slot < l.first → is_damaged (slot_in l.out slot) ≡ false;
+  size : length l.out ≡ length l.initial.out;
   unwritten : Unwritten g.D.Pages g.D.Faults (disk_of l.initial.slots) (disk_of l.slots);
   doubt : doubt_of l.initial.slots ≡ Nowhere → doubt_of l.slots ≡ Nowhere;
   count : faults_of l.slots ≡ faults_of l.initial.slots;
   stays : Stays l.initial.slots l.slots;
 }
+
+abbrev pub decreases-runs : goal.decreases-runs
+decreases-runs g l = length l.initial.out - l.first

@@ -1,12 +1,14 @@
 use Rattle.std.proofs.Common.{◌≡◌, ◌<◌, ℕ, List, length, None, IsTrue, false, refl, sym, ◌∙◌, ap, subst, arith}
-use Rattle.std.proofs.lemmas.List.{length-replicate}
+use Rattle.std.proofs.lemmas.List.{length-replicate, with_items_is}
+use Rattle.std.specs.Vec.{with_items}
 use Rattle.slot_file.specs.Reading.{IsReadRefused}
-use Rattle.slot_file.specs.State.{HasSlots, slot_in}
+use Rattle.slot_file.specs.State.{HasSlots, IsWhole, slot_in}
 use Rattle.slot_file.specs.Loading.{no_memory}
 use Rattle.slot_file.specs.Copies.{is_damaged}
 use Rattle.slot_file.specs.Layout.{load_fault}
 use Rattle.slot_file.specs.Slots.{IsTold, disk_of, doubt_of, file_of, header_of, slot_now}
 use Rattle.slot_file.specs.declared.header.Header.{Header}
+use Rattle.slot_file.specs.declared.slot.Slot.{Slot}
 use Rattle.slot_file.specs.declared.slot.Slot.TheVariants.{Free}
 use Rattle.slot_file.specs.declared.slots.Doubt.TheVariants.{Nowhere}
 use Rattle.slot_file.proofs.Unwritten.{unwritten-then}
@@ -27,12 +29,17 @@ invariant_of-result g c =
     let opened = c.in-Ok.ensures.opened in
     let start = c.in-Ok.slots in
     let new = c.read_slots.new.slots in
-    let list = c.read_slots.new.out.items in
+    let read = c.read_slots.new.out in
+    let cached = c.in-Ok-free_slots.cached in
+    let list = (with_items cached read).items in
     let call = c.in-Ok-read_slots.ensures in
-    let free = ap length c.in-Ok-free_slots.ensures ∙ length-replicate c.args.count Free in
-    let size : length list ≡ c.args.count = call.size ∙ free in
-    let shows : IsTold start → (k : ℕ) → k < c.args.count → slot_now start k ≡ slot_in list k = λ told k below. call.shows told k (omega (arith, below, free)) in
-    let sound : IsTold start → (k : ℕ) → k < c.args.count → is_damaged (slot_now start k) ≡ false = λ told k below. ap is_damaged (shows told k below) ∙ call.whole k (omega (arith, below, size)) in
+    let free = ap length c.deref_mut.ensures.value ∙ ap length c.in-Ok-free_slots.ensures ∙ length-replicate c.args.count Free in
+    let is_list : list ≡ read = with_items_is cached read (call.size ∙ ap length c.deref_mut.ensures.value ∙ sym cached.ok.0) in
+    let size : length list ≡ c.args.count = ap length is_list ∙ call.size ∙ free in
+    let whole : IsWhole list = subst IsWhole (sym is_list) call.whole in
+    let shows : IsTold start → (k : ℕ) → k < c.args.count → slot_now start k ≡ slot_in list k = λ told k below.
+    call.shows told k (omega (arith, below, free)) ∙ ap (λ (l : List Slot). slot_in l k) (sym is_list) in
+    let sound : IsTold start → (k : ℕ) → k < c.args.count → is_damaged (slot_now start k) ≡ false = λ told k below. ap is_damaged (shows told k below) ∙ whole k (omega (arith, below, size)) in
     let names : header_of new ≡ header = call.looks.stays.header ∙ opened.named in
     let nowhere : doubt_of new ≡ Nowhere = call.looks.doubt opened.doubt in
     let has : IsTold new → HasSlots header list (file_of new) = λ told_new.
@@ -44,7 +51,7 @@ invariant_of-result g c =
     (ap (load_fault header c.args.count) is ∙ opened.opens told) (shows told_start) (sound told_start) in
     record {
       count = call.looks.stays.count ∙ opened.size ∙ sym size;
-      whole = call.whole;
+      whole = whole;
       in_doubt = doubt-none _ (doubt_of new) nowhere;
       faulted = λ none. refl;
       reads = reads-sure new header names list None refl has;
@@ -57,12 +64,17 @@ returns-in-Ok-read_slots-clause-loaded g c =
     let opened = c.in-Ok.ensures.opened in
     let start = c.in-Ok.slots in
     let new = c.read_slots.new.slots in
-    let list = c.read_slots.new.out.items in
+    let read = c.read_slots.new.out in
+    let cached = c.in-Ok-free_slots.cached in
+    let list = (with_items cached read).items in
     let call = c.in-Ok-read_slots.ensures in
-    let free = ap length c.in-Ok-free_slots.ensures ∙ length-replicate c.args.count Free in
-    let size : length list ≡ c.args.count = call.size ∙ free in
-    let shows : IsTold start → (k : ℕ) → k < c.args.count → slot_now start k ≡ slot_in list k = λ told k below. call.shows told k (omega (arith, below, free)) in
-    let sound : IsTold start → (k : ℕ) → k < c.args.count → is_damaged (slot_now start k) ≡ false = λ told k below. ap is_damaged (shows told k below) ∙ call.whole k (omega (arith, below, size)) in
+    let free = ap length c.deref_mut.ensures.value ∙ ap length c.in-Ok-free_slots.ensures ∙ length-replicate c.args.count Free in
+    let is_list : list ≡ read = with_items_is cached read (call.size ∙ ap length c.deref_mut.ensures.value ∙ sym cached.ok.0) in
+    let size : length list ≡ c.args.count = ap length is_list ∙ call.size ∙ free in
+    let whole : IsWhole list = subst IsWhole (sym is_list) call.whole in
+    let shows : IsTold start → (k : ℕ) → k < c.args.count → slot_now start k ≡ slot_in list k = λ told k below.
+    call.shows told k (omega (arith, below, free)) ∙ ap (λ (l : List Slot). slot_in l k) (sym is_list) in
+    let sound : IsTold start → (k : ℕ) → k < c.args.count → is_damaged (slot_now start k) ≡ false = λ told k below. ap is_damaged (shows told k below) ∙ whole k (omega (arith, below, size)) in
     let file = g.D.Pages.reads c.args.disk in
     let has : IsTrue (g.D.Pages.told c.args.disk) → HasSlots header list file = λ told.
     let told_start = opened.unwritten.stays.told ∙ told in
@@ -82,9 +94,9 @@ returns-in-Err-read_slots-clause-refused g c = λ told.
     let opened = c.in-Ok.ensures.opened in
     let fault = c.in-Err-read_slots.fault in
     let told_start = opened.unwritten.stays.told ∙ told in
-    let free = ap length c.in-Ok-free_slots.ensures ∙ length-replicate c.args.count Free in
+    let free = ap length c.deref_mut.ensures.value ∙ ap length c.in-Ok-free_slots.ensures ∙ length-replicate c.args.count Free in
     let first = c.in-Err-read_slots.ensures.refused told_start in
     refused-read _ _ _ fault (opened.opens told)
-    (subst (λ (l : List ℕ). IsReadRefused c.args.header.now.version c.args.count l fault) (opened.unwritten.same told)
-    (subst (λ (n : ℕ). IsReadRefused c.args.header.now.version n (file_of c.in-Ok.slots) fault) free
-    (subst (λ (h : Header). IsReadRefused h.version (length c.in-Ok-free_slots.cached.items) (file_of c.in-Ok.slots) fault) opened.named first)))
+    (subst (λ (l : List ℕ). IsReadRefused c.args.header.now.version 0 c.args.count l fault) (opened.unwritten.same told)
+    (subst (λ (n : ℕ). IsReadRefused c.args.header.now.version 0 n (file_of c.in-Ok.slots) fault) free
+    (subst (λ (h : Header). IsReadRefused h.version 0 (length c.deref_mut.result.now) (file_of c.in-Ok.slots) fault) opened.named first)))
