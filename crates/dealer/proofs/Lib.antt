@@ -2,6 +2,7 @@ pub mod Built
 pub mod Exclusive
 pub mod FilesOf
 pub mod FirstShares
+pub mod Joins
 pub mod Mapped
 pub mod SameTree
 pub mod Undivided

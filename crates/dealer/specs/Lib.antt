@@ -3,6 +3,7 @@ pub mod Dealt
 pub mod Entropy
 pub mod Faults
 pub mod Files
+pub mod Runs
 pub mod Secrets
 pub mod Rehearsal
 pub mod Signing

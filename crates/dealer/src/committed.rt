@@ -1,32 +1,35 @@
 //! A dealing whose masks are committed to as they are made.
 
-ghost use Rattle.std.specs.Prelude.{◌≡◌, ◌<◌, ◌≤◌, Err, IfErr, IfOk, OnOk, length};
+ghost use Rattle.std.specs.Prelude.{◌≡◌, ◌+◌, ◌*◌, ◌^◌, ◌<◌, ◌≤◌, Err, IfErr, IfOk, OnOk, length};
 ghost use Rattle.coalition_map.specs.Coalitions.{IsPlan};
-ghost use Rattle.reference_value.specs.Commitments.{commitments};
 ghost use Rattle.reference_value.specs.Dealing.{reference};
-ghost use Rattle.share_files.specs.Commits.{all_commits_length, commits_head_of, commits_length};
-ghost use Rattle.share_files.specs.Reference.{leaves_length};
+ghost use Rattle.share_files.specs.Commits.{commits_head_of, commits_length, leaf_commits_length};
+ghost use Rattle.share_files.specs.Reference.{leaf_length, leaves_length};
 ghost use Rattle.dealer.specs.Committed.{FailsCommitted, commits_file};
 ghost use Rattle.dealer.specs.Dealt.{IsDealt};
 ghost use Rattle.dealer.specs.Entropy.{dealing_of, entropy_length};
 ghost use Rattle.dealer.specs.Faults.{HasFault, IsDealable};
+ghost use Rattle.dealer.specs.Runs.{run_commitments, run_leaves};
 ghost use Rattle.dealer.specs.Secrets.{dealing_with};
 ghost use Rattle.dealer.specs.declared.committed.CommittedFault.TheVariants.{Deal, TooLarge};
 ghost use Rattle.dealer.specs.declared.faults.DealFault.{DealFault};
 
+use crate::building::finish;
 use crate::checks::check;
+use crate::committed_beside::build_committed_beside;
 use crate::dealing::Dealt;
 use crate::entropy::{Secrets, read_entropy};
 use crate::faults::DealFault;
-use crate::leaves::build_tree;
-use crate::shares::build_shares;
+use crate::leaves::{build_tree, room_for_leaves};
+use crate::runs::Run;
 use coalition_map::Plan;
-use lms_bytes::{KeyId, Params, PublicKey};
+use lms_bytes::{KeyId, Params};
 use mask_prf::MacKey;
 use memory::NoMemory;
 use reference_value::{build_committed_leaf, leaf_bytes};
 use share_files::{HEAD, RefHeader, leaf_commits_bytes, length_of_commits, write_commits_head};
 use std::alloc::Global;
+use std::thread::Threads;
 use thiserror::Error;
 
 /// The most bytes that a commitment file has which is made.
@@ -63,6 +66,51 @@ pub fn deal_committed(
         → result ≡ Err (TooLarge (commits_length params.now plan.now)) }
     ensures cause { IfErr result (FailsCommitted params.now plan.now entropy.now) }
 {
+    test_committed(params, plan, entropy)?;
+    match build_committed(alloc, params, plan, entropy) {
+        Ok(both) => Ok(both),
+        Err(NoMemory) => Err(CommittedFault::Deal(DealFault::NoMemory)),
+    }
+}
+
+/// Deals the key that the entropy stands for, as `deal_committed` does, with its leaves and their commitments built
+/// beside each other by as many threads as there are processors. Where no thread can be had this one builds them.
+pub fn deal_committed_beside<R: Threads + Sync>(
+    rt: &R,
+    alloc: Global,
+    params: &Params,
+    plan: &Plan,
+    entropy: &[u8],
+) -> Result<(Dealt, Vec<u8>), CommittedFault>
+    requires { plan.now.h ≡ params.now.h }
+    ensures dealt { IfOk result (λ both. IsDealt (dealing_of params.now plan.now entropy.now) both.0) }
+    ensures commitments { IfOk result (λ both. both.1.items
+        ≡ commits_file (dealing_of params.now plan.now entropy.now)) }
+    ensures dealable { OnOk result (IsDealable params.now plan.now entropy.now) }
+    ensures small { OnOk result (commits_length params.now plan.now ≤ 67108864) }
+    ensures shares { IfOk result (λ both. 0 < length both.0.shares.items) }
+    ensures refused { (fault : DealFault) → HasFault params.now plan.now entropy.now fault → result ≡ Err (Deal fault) }
+    ensures too_large { IsDealable params.now plan.now entropy.now → 67108864 < commits_length params.now plan.now
+        → result ≡ Err (TooLarge (commits_length params.now plan.now)) }
+    ensures cause { IfErr result (FailsCommitted params.now plan.now entropy.now) }
+{
+    test_committed(params, plan, entropy)?;
+    match build_committed_beside(rt, alloc, params, plan, entropy) {
+        Ok(both) => Ok(both),
+        Err(NoMemory) => Err(CommittedFault::Deal(DealFault::NoMemory)),
+    }
+}
+
+/// Tests whether the dealing that the entropy stands for is dealt with commitments. It takes no memory.
+fn test_committed(params: &Params, plan: &Plan, entropy: &[u8]) -> Result<(), CommittedFault>
+    requires { plan.now.h ≡ params.now.h }
+    ensures dealable { OnOk result (IsDealable params.now plan.now entropy.now) }
+    ensures small { OnOk result (commits_length params.now plan.now ≤ 67108864) }
+    ensures refused { (fault : DealFault) → HasFault params.now plan.now entropy.now fault → result ≡ Err (Deal fault) }
+    ensures too_large { IsDealable params.now plan.now entropy.now → 67108864 < commits_length params.now plan.now
+        → result ≡ Err (TooLarge (commits_length params.now plan.now)) }
+    ensures cause { IfErr result (FailsCommitted params.now plan.now entropy.now) }
+{
     if let Err(fault) = check(params, plan, entropy) {
         return Err(CommittedFault::Deal(fault));
     }
@@ -70,10 +118,7 @@ pub fn deal_committed(
     if bytes > COMMITS_LIMIT {
         return Err(CommittedFault::TooLarge { bytes });
     }
-    match build_committed(alloc, params, plan, entropy) {
-        Ok(both) => Ok(both),
-        Err(NoMemory) => Err(CommittedFault::Deal(DealFault::NoMemory)),
-    }
+    Ok(())
 }
 
 /// Deals the key that the entropy stands for, which has been tested, and commits to the masks.
@@ -92,20 +137,9 @@ fn build_committed(
     ensures shares { IfOk result (λ both. 0 < length both.0.shares.items) }
 {
     let secrets = read_entropy(alloc, params, plan, entropy)?;
+    let (leaves, commits) = build_leaves(alloc, params, plan, &secrets)?;
     let tree = build_tree(alloc, params, &secrets.id, &secrets.seed)?;
-    let public = PublicKey {
-        params: *params,
-        id: secrets.id,
-        root: tree.root(),
-    };
-    let (reference, commits) = build_leaves(alloc, params, plan, &secrets)?;
-    let shares = build_shares(alloc, params, plan, &secrets)?;
-    let dealt = Dealt {
-        public,
-        tree,
-        reference,
-        shares,
-    };
+    let dealt = finish(alloc, params, plan, &secrets, tree, leaves)?;
     Ok((dealt, commits))
 }
 
@@ -124,9 +158,7 @@ fn build_leaves(
         ≡ commits_file (dealing_with params.now plan.now secrets.now)) }
 {
     let keys = mac_keys(alloc, &secrets.keys)?;
-    let length = leaf_bytes(params, plan.k()) * params.leaves() as usize;
-    let mut leaves = Vec::with_capacity(alloc, length + HEAD)?;
-    leaves.resize(length, 0)?;
+    let mut leaves = room_for_leaves(alloc, params, plan)?;
     let mut file = vec![in alloc; 0; length_of_commits(params, plan.k()) as usize]?;
     write_committed(params, plan, secrets, &keys, &mut leaves, &mut file);
     Ok((leaves, file))
@@ -153,11 +185,19 @@ fn write_committed(
 {
     let (head, commits) = file.split_at_mut(HEAD);
     head.copy_from_slice(&head_of_commits(params, plan, &secrets.id));
-    write_committed_leaves(params, plan, secrets, keys, out, commits);
+    write_committed_run(
+        params,
+        plan,
+        secrets,
+        keys,
+        Run::whole(params),
+        out,
+        commits,
+    );
 }
 
 /// The head of the commitment file of a set, a plan and an identifier.
-fn head_of_commits(params: &Params, plan: &Plan, id: &KeyId) -> [u8; HEAD]
+pub(crate) fn head_of_commits(params: &Params, plan: &Plan, id: &KeyId) -> [u8; HEAD]
     requires height { plan.now.h ≡ params.now.h }
     requires plan { IsPlan plan.now }
     ensures { result ≡ commits_head_of params.now plan.now id.now }
@@ -172,13 +212,13 @@ fn head_of_commits(params: &Params, plan: &Plan, id: &KeyId) -> [u8; HEAD]
     head
 }
 
-/// Writes the leaves of the masked reference value, and the commitments to the masks.
-#[tactic(auto, unfolding(reference_value::specs::Dealing::reference, reference_value::specs::Commitments::commitments))]
-fn write_committed_leaves(
+/// Writes the leaves of a run, one behind the other, and the commitments to their masks.
+pub(crate) fn write_committed_run(
     params: &Params,
     plan: &Plan,
     secrets: &Secrets,
     keys: &[MacKey],
+    run: Run,
     out: &mut [u8],
     commits: &mut [u8],
 )
@@ -186,10 +226,11 @@ fn write_committed_leaves(
     requires seed { length secrets.now.seed ≡ params.now.n }
     requires trustees { length secrets.now.keys.items ≡ plan.now.n }
     requires keys { keys.now ≡ secrets.now.keys.items }
-    requires leaves { length out.old ≡ leaves_length params.now plan.now }
-    requires commits { length commits.old ≡ all_commits_length params.now plan.now }
-    ensures leaves { out.new ≡ reference (dealing_with params.now plan.now secrets.now) }
-    ensures commitments { commits.new ≡ commitments (dealing_with params.now plan.now secrets.now) }
+    requires within { run.first + run.count ≤ 2 ^ params.now.h }
+    requires leaves { length out.old ≡ leaf_length params.now plan.now.k * run.count }
+    requires commits { length commits.old ≡ leaf_commits_length params.now plan.now.k * run.count }
+    ensures leaves { out.new ≡ run_leaves (dealing_with params.now plan.now secrets.now) run }
+    ensures commitments { commits.new ≡ run_commitments (dealing_with params.now plan.now secrets.now) run }
 {
     let Secrets {
         id,
@@ -199,17 +240,18 @@ fn write_committed_leaves(
     } = secrets;
     let size = leaf_bytes(params, plan.k());
     let row = leaf_commits_bytes(params, plan.k());
-    'leaves: for q in 0..params.leaves() {
-        let place = size * q as usize;
+    'leaves: for i in 0..run.count {
+        let q = run.first + i;
+        let place = size * i as usize;
         let leaf = &mut out[place..place + size];
-        let start = row * q as usize;
+        let start = row * i as usize;
         let part = &mut commits[start..start + row];
         build_committed_leaf(params, id, plan, q, seed, random_key, keys, leaf, part);
     }
 }
 
 /// The keys of the trustees, each with its blocks hashed once.
-fn mac_keys(alloc: Global, keys: &[[u8; 32]]) -> Result<Vec<MacKey>, NoMemory>
+pub(crate) fn mac_keys(alloc: Global, keys: &[[u8; 32]]) -> Result<Vec<MacKey>, NoMemory>
     ensures { IfOk result (λ macs. macs.items ≡ keys.now) }
 {
     let mut macs = Vec::with_capacity(alloc, keys.len())?;

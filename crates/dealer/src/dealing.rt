@@ -7,6 +7,7 @@ ghost use Rattle.dealer.specs.Faults.{HasFault, IsDealable};
 ghost use Rattle.dealer.specs.declared.faults.DealFault.{DealFault};
 ghost use Rattle.dealer.specs.declared.faults.DealFault.TheVariants.{NoMemory};
 
+use crate::beside::build_beside;
 use crate::building::build;
 use crate::checks::check;
 use crate::faults::DealFault;
@@ -15,6 +16,7 @@ use lms_bytes::{Params, PublicKey};
 use merkle_path::Tree;
 use share_files::Share;
 use std::alloc::Global;
+use std::thread::Threads;
 
 /// What a dealing gives.
 #[derive(Drop)]
@@ -41,6 +43,30 @@ pub fn deal(alloc: Global, params: &Params, plan: &Plan, entropy: &[u8]) -> Resu
 {
     check(params, plan, entropy)?;
     match build(alloc, params, plan, entropy) {
+        Ok(dealt) => Ok(dealt),
+        Err(_) => Err(DealFault::NoMemory),
+    }
+}
+
+/// Deals the key that the entropy stands for, as `deal` does, with its leaves built beside each other by as many
+/// threads as there are processors. Where no thread can be had this one builds them.
+pub fn deal_beside<R: Threads + Sync>(
+    rt: &R,
+    alloc: Global,
+    params: &Params,
+    plan: &Plan,
+    entropy: &[u8],
+) -> Result<Dealt, DealFault>
+    requires { plan.now.h ≡ params.now.h }
+    ensures dealt { IfOk result (IsDealt (dealing_of params.now plan.now entropy.now)) }
+    ensures dealable { OnOk result (IsDealable params.now plan.now entropy.now) }
+    ensures refused { (fault : DealFault) → HasFault params.now plan.now entropy.now fault → result ≡ Err fault }
+    ensures cause { IfErr result (λ fault. (fault ≡ NoMemory × IsDealable params.now plan.now entropy.now)
+        ⊎ HasFault params.now plan.now entropy.now fault) }
+    ensures shares { IfOk result (λ dealt. 0 < length dealt.shares.items) }
+{
+    check(params, plan, entropy)?;
+    match build_beside(rt, alloc, params, plan, entropy) {
         Ok(dealt) => Ok(dealt),
         Err(_) => Err(DealFault::NoMemory),
     }

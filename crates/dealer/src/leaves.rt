@@ -1,14 +1,16 @@
 //! What is made of all leaves: the tree and the masked reference value.
 
-ghost use Rattle.std.specs.Prelude.{◌≡◌, ◌+◌, ◌^◌, ◌≤◌, All, IfOk, length, map, vec_capacity};
+ghost use Rattle.std.specs.Prelude.{◌≡◌, ◌+◌, ◌*◌, ◌^◌, ◌≤◌, All, IfOk, length, map, vec_capacity};
 ghost use Rattle.std.specs.List.{range_with_len};
 ghost use Rattle.merkle_path.specs.Tree.{tree_of};
 ghost use Rattle.ots_chain.specs.LeafKey.{seed_leaf_key};
 ghost use Rattle.reference_value.specs.Dealing.{reference};
-ghost use Rattle.share_files.specs.Reference.{leaves_length};
+ghost use Rattle.share_files.specs.Reference.{leaf_length, leaves_length};
+ghost use Rattle.dealer.specs.Runs.{run_leaves};
 ghost use Rattle.dealer.specs.Secrets.{dealing_with};
 
 use crate::entropy::Secrets;
+use crate::runs::Run;
 use coalition_map::Plan;
 use lms_bytes::{KeyId, Params, Val};
 use memory::NoMemory;
@@ -60,21 +62,46 @@ pub(crate) fn build_reference(
     ensures leaves { IfOk result (λ leaves. leaves.items ≡ reference (dealing_with params.now plan.now secrets.now)) }
     ensures room { IfOk result (λ leaves. length leaves.items + 32 ≤ vec_capacity leaves) }
 {
-    let length = leaf_bytes(params, plan.k()) * params.leaves() as usize;
-    let mut leaves = Vec::with_capacity(alloc, length + HEAD)?;
-    leaves.resize(length, 0)?;
+    let mut leaves = room_for_leaves(alloc, params, plan)?;
     write_leaves(params, plan, secrets, &mut leaves);
     Ok(leaves)
 }
 
+/// Room for the leaves of the masked reference value, with more for the head of their file.
+pub(crate) fn room_for_leaves(
+    alloc: Global,
+    params: &Params,
+    plan: &Plan,
+) -> Result<Vec<u8>, NoMemory>
+    requires { plan.now.h ≡ params.now.h }
+    ensures length { IfOk result (λ leaves. length leaves.items ≡ leaves_length params.now plan.now) }
+    ensures room { IfOk result (λ leaves. length leaves.items + 32 ≤ vec_capacity leaves) }
+{
+    let length = leaf_bytes(params, plan.k()) * params.leaves() as usize;
+    let mut leaves = Vec::with_capacity(alloc, length + HEAD)?;
+    leaves.resize(length, 0)?;
+    Ok(leaves)
+}
+
 /// Writes the leaves of the masked reference value.
-#[tactic(auto, unfolding(reference_value::specs::Dealing::reference))]
 fn write_leaves(params: &Params, plan: &Plan, secrets: &Secrets, out: &mut [u8])
     requires height { plan.now.h ≡ params.now.h }
     requires seed { length secrets.now.seed ≡ params.now.n }
     requires keys { length secrets.now.keys.items ≡ plan.now.n }
     requires room { length out.old ≡ leaves_length params.now plan.now }
     ensures { out.new ≡ reference (dealing_with params.now plan.now secrets.now) }
+{
+    write_run(params, plan, secrets, Run::whole(params), out);
+}
+
+/// Writes the leaves of a run, one behind the other.
+pub(crate) fn write_run(params: &Params, plan: &Plan, secrets: &Secrets, run: Run, out: &mut [u8])
+    requires height { plan.now.h ≡ params.now.h }
+    requires seed { length secrets.now.seed ≡ params.now.n }
+    requires keys { length secrets.now.keys.items ≡ plan.now.n }
+    requires within { run.first + run.count ≤ 2 ^ params.now.h }
+    requires room { length out.old ≡ leaf_length params.now plan.now.k * run.count }
+    ensures { out.new ≡ run_leaves (dealing_with params.now plan.now secrets.now) run }
 {
     let Secrets {
         id,
@@ -83,9 +110,18 @@ fn write_leaves(params: &Params, plan: &Plan, secrets: &Secrets, out: &mut [u8])
         keys,
     } = secrets;
     let size = leaf_bytes(params, plan.k());
-    'leaves: for q in 0..params.leaves() {
-        let place = size * q as usize;
+    'leaves: for i in 0..run.count {
+        let place = size * i as usize;
         let leaf = &mut out[place..place + size];
-        build_leaf(params, id, plan, q, seed, random_key, keys, leaf);
+        build_leaf(
+            params,
+            id,
+            plan,
+            run.first + i,
+            seed,
+            random_key,
+            keys,
+            leaf,
+        );
     }
 }

@@ -2,9 +2,11 @@
 //! and a rehearsal of signing with a key that is dealt, in memory.
 #![tactic(auto)]
 
+mod beside;
 mod building;
 mod checks;
 mod committed;
+mod committed_beside;
 mod dealing;
 mod entropy;
 mod faults;
@@ -13,11 +15,12 @@ pub mod laws;
 mod leaves;
 mod masks;
 mod rehearsed;
+mod runs;
 mod shares;
 mod signing;
 
-pub use committed::{CommittedFault, deal_committed};
-pub use dealing::{Dealt, deal};
+pub use committed::{CommittedFault, deal_committed, deal_committed_beside};
+pub use dealing::{Dealt, deal, deal_beside};
 pub use faults::DealFault;
 pub use files::{DealingFiles, public_file};
 pub use rehearsed::{Rehearsed, rehearse};

@@ -1,9 +1,18 @@
-//! Tests of what no contract says: that the files are those of another implementation, and each refusal once.
+//! Tests of what no contract says: that the files are those of another implementation, that several threads give them
+//! as one does, and each refusal once.
+
+ghost use Rattle.std.specs.Prelude.{◌<◌, length};
 
 use crate::dealings::{count_up, deal_count, deal_to, digest_of, head_of};
-use dealer::{DealFault, Dealt};
+use crate::values::set_of;
+use coalition_map::Plan;
+use dealer::{
+    DealFault, DealingFiles, Dealt, deal, deal_beside, deal_committed, deal_committed_beside,
+};
 use lms_bytes::write_public;
+use memory::NoMemory;
 use share_files::{Share, write_share, write_tree_head};
+use std::alloc::Global;
 use std::test::Fail;
 
 /// Typecodes of dealings to coalitions of three of five trustees, with SHA-256 of the files of the public key, of the
@@ -78,6 +87,40 @@ fn files_are_those_of_another_implementation(rt: HostRuntime) -> Result<(), Fail
             "the last share of {codes:?}"
         );
     }
+    Ok(())
+}
+
+/// Whether two dealings have the same files, each of them.
+fn have_same_files(alloc: Global, one: Dealt, other: Dealt) -> Result<bool, NoMemory>
+    requires { (0 < length one.shares.items) × (0 < length other.shares.items) }
+{
+    let one: DealingFiles = one.into_files(alloc)?;
+    let other: DealingFiles = other.into_files(alloc)?;
+    Ok(
+        one.public == other.public
+            && one.tree == other.tree
+            && one.reference == other.reference
+            && one.shares == other.shares,
+    )
+}
+
+#[test]
+fn several_threads_deal_as_one_does(rt: HostRuntime) -> Result<(), Fail> {
+    let alloc = rt.alloc();
+    let entropy = count_up();
+    let params = set_of(&rt, 5, 3);
+    let plan = Plan::new(5, 3, params.h).expect(&rt, "a plan");
+    assert!(rt; plan.h() == params.h);
+    let one = deal(alloc, &params, &plan, &entropy)?;
+    let beside = deal_beside(&rt, alloc, &params, &plan, &entropy)?;
+    assert!(rt; have_same_files(alloc, one, beside)?, "the files");
+    let (one, commits) = deal_committed(alloc, &params, &plan, &entropy)?;
+    let (beside, others) = deal_committed_beside(&rt, alloc, &params, &plan, &entropy)?;
+    assert!(rt; commits == others, "the commitments");
+    assert!(rt;
+        have_same_files(alloc, one, beside)?,
+        "the files beside them"
+    );
     Ok(())
 }
 

@@ -17,30 +17,41 @@ ghost use Rattle.tool_words.specs.Rows.{deal_words};
 ghost use Rattle.tool_base.specs.World.{IsBack, from_to};
 
 use coalition_map::{Plan, PlanFault};
-use dealer::{CommittedFault, DealingFiles, Dealt, deal, deal_committed};
+use dealer::{CommittedFault, DealingFiles, Dealt, deal_beside, deal_committed_beside};
 use lms_bytes::Params;
 use memory::NoMemory;
 use std::alloc::{AllocError, Global};
+use std::thread::Threads;
 use stream_io::{Readers, Store};
 use tool_base::{
     Ending, FILE_LIMIT, Output, Undealt, end_of_fault, read_file, test_all_new, write_all,
 };
 use tool_words::DealWords;
 
-/// Deals a key, and writes its files.
-pub(crate) fn deal_files<S: Store>(alloc: Global, store: &mut S, words: &DealWords) -> Ending
+/// Deals a key, and writes its files. The leaves are built by as many threads as there are processors.
+pub(crate) fn deal_files<R: Threads + Sync, S: Store>(
+    rt: &R,
+    alloc: Global,
+    store: &mut S,
+    words: &DealWords,
+) -> Ending
     ensures ended { let run = from_to (S.state store.old) (S.state store.new) in
         EndsWith (DealEnds run (deal_words words.now)) run (ending result) }
     ensures back { IsBack (S.state store.old) (S.state store.new) }
 {
-    match try_deal(alloc, store, words) {
+    match try_deal(rt, alloc, store, words) {
         Ok(done) => done,
         Err(end) => end,
     }
 }
 
 /// Reads the entropy, deals, tests the names of the outputs, and writes them. It answers the end once all are written.
-fn try_deal<S: Store>(alloc: Global, store: &mut S, words: &DealWords) -> Result<Ending, Ending>
+fn try_deal<R: Threads + Sync, S: Store>(
+    rt: &R,
+    alloc: Global,
+    store: &mut S,
+    words: &DealWords,
+) -> Result<Ending, Ending>
     ensures dealt { let run = from_to (S.state store.old) (S.state store.new) in
         IfOk result (λ done. EndsWith (DealEnds run (deal_words words.now)) run (ending done)) }
     ensures refused { let run = from_to (S.state store.old) (S.state store.new) in
@@ -48,14 +59,15 @@ fn try_deal<S: Store>(alloc: Global, store: &mut S, words: &DealWords) -> Result
     ensures back { IsBack (S.state store.old) (S.state store.new) }
 {
     let entropy = read_file(alloc, store, words.entropy, FILE_LIMIT)?;
-    let (outputs, done) = dealt_outputs(alloc, words, &entropy)?;
+    let (outputs, done) = dealt_outputs(rt, alloc, words, &entropy)?;
     test_all_new(alloc, store, &outputs)?;
     write_all(alloc, store, &outputs)?;
     Ok(done)
 }
 
 /// The files of the dealing that the words ask for, and the end once they are written.
-fn dealt_outputs(
+fn dealt_outputs<R: Threads + Sync>(
+    rt: &R,
     alloc: Global,
     words: &DealWords,
     entropy: &[u8],
@@ -66,7 +78,7 @@ fn dealt_outputs(
 {
     let params = set_of(words)?;
     let plan = plan_of(words, &params)?;
-    let (files, commits) = dealt_files(alloc, words, &params, &plan, entropy)?;
+    let (files, commits) = dealt_files(rt, alloc, words, &params, &plan, entropy)?;
     let outputs = name_files(alloc, words.prefix, files, commits)?;
     let done = Ending::Dealt {
         leaves: params.leaves(),
@@ -76,7 +88,8 @@ fn dealt_outputs(
 }
 
 /// The files of the dealing of this set, plan and entropy, and its commitment file where the words ask for it.
-fn dealt_files(
+fn dealt_files<R: Threads + Sync>(
+    rt: &R,
     alloc: Global,
     words: &DealWords,
     params: &Params,
@@ -92,7 +105,7 @@ fn dealt_files(
     ensures dealt { OnOk result (IsDealableBy (deal_words words.now) params.now plan.now entropy.now) }
     ensures refused { IfErr result (λ end. IsNotDealt (deal_words words.now) entropy.now (ending end)) }
 {
-    let (dealt, commits) = deal_as_asked(alloc, words, params, plan, entropy)?;
+    let (dealt, commits) = deal_as_asked(rt, alloc, words, params, plan, entropy)?;
     match dealt.into_files(alloc) {
         Ok(files) => Ok((files, commits)),
         Err(NoMemory) => Err(Ending::NoMemory),
@@ -100,7 +113,8 @@ fn dealt_files(
 }
 
 /// The dealing of this set, plan and entropy, and its commitment file where the words ask for it.
-fn deal_as_asked(
+fn deal_as_asked<R: Threads + Sync>(
+    rt: &R,
     alloc: Global,
     words: &DealWords,
     params: &Params,
@@ -118,7 +132,7 @@ fn deal_as_asked(
     ensures refused { IfErr result (λ end. IsNotDealt (deal_words words.now) entropy.now (ending end)) }
 {
     if words.commit {
-        match deal_committed(alloc, params, plan, entropy) {
+        match deal_committed_beside(rt, alloc, params, plan, entropy) {
             Ok((dealt, commits)) => Ok((dealt, Some(commits))),
             Err(CommittedFault::Deal(fault)) => Err(end_of_fault(fault)),
             Err(CommittedFault::TooLarge { bytes }) => {
@@ -126,7 +140,7 @@ fn deal_as_asked(
             }
         }
     } else {
-        match deal(alloc, params, plan, entropy) {
+        match deal_beside(rt, alloc, params, plan, entropy) {
             Ok(dealt) => Ok((dealt, None)),
             Err(fault) => Err(end_of_fault(fault)),
         }

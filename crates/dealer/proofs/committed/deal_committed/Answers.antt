@@ -1,22 +1,5 @@
-use Rattle.std.proofs.Common.{◌≡◌, ◌∙◌, arith, refl}
-use Rattle.share_files.specs.Commits.{commits_length}
-use Rattle.dealer.specs.Committed.{no_memory, not_dealt, too_large}
-use Rattle.dealer.proofs.Exclusive.{none_dealable}
+use Rattle.dealer.specs.Committed.{no_memory}
 use Rattle.dealer.proofs.committed.deal_committed.Goals as goal
 
-pub returns-in-Err-clause-too_large : goal.returns-in-Err-clause-too_large
-returns-in-Err-clause-too_large c = λ dealable large. absurd (none_dealable _ _ _ c.in-Err.fault dealable c.in-Err.ensures.cause)
-
 pub returns-in-Err-clause-cause : goal.returns-in-Err-clause-cause
-returns-in-Err-clause-cause c = not_dealt c.in-Err.fault c.in-Err.ensures.cause
-
-pub returns-then-bytes-gt-COMMITS_LIMIT-clause-cause : goal.returns-then-bytes-gt-COMMITS_LIMIT-clause-cause
-returns-then-bytes-gt-COMMITS_LIMIT-clause-cause c =
-    let bytes : c.length_of_commits-bytes.result ≡ commits_length c.args.params.now c.args.plan.now = c.length_of_commits-bytes.ensures ∙ rw c.k.ensures.value refl in
-    rw bytes (too_large c.in_default.ensures.dealable (rw bytes at c.if-bytes-gt-COMMITS_LIMIT.true))
-
-pub returns-in-Err-build_committed-clause-cause : goal.returns-in-Err-build_committed-clause-cause
-returns-in-Err-build_committed-clause-cause c =
-    let bytes : c.length_of_commits-bytes.result ≡ commits_length c.args.params.now c.args.plan.now = c.length_of_commits-bytes.ensures ∙ rw c.k.ensures.value refl in
-    let most = c.if-bytes-gt-COMMITS_LIMIT.false in
-    no_memory c.in_default.ensures.dealable (omega (arith, bytes))
+returns-in-Err-clause-cause c = no_memory c.in_ok-test_committed.ensures.dealable c.in_ok-test_committed.ensures.small

@@ -1,24 +1,8 @@
-use Rattle.std.proofs.Common.{◌≡◌, ◌*◌, ◌^◌, ◌∙◌, length, refl, arith, mul-zero}
-use Rattle.reference_value.specs.Dealing.{leaf_part}
-use Rattle.share_files.specs.Reference.{leaf_length}
-use Rattle.lms_bytes.proofs.Joined.{joined-none, front-more, row-fits}
-use Rattle.reference_value.proofs.Parts.{put-part}
+use Rattle.std.proofs.Common.{◌∙◌}
 use Rattle.dealer.specs.Secrets.{dealing_with}
+use Rattle.dealer.proofs.Joins.{whole-leaves}
 use Rattle.dealer.proofs.leaves.write_leaves.Goals as goal
 
-pub leaves-init : goal.leaves-init
-leaves-init c =
-    let none : c.leaf_bytes-size.result * 0 ≡ 0 = mul-zero _ in
-    rw (none, joined-none (leaf_part (dealing_with c.args.params.now c.args.plan.now c.args.secrets.now))) refl
-
-pub leaves-preserved : goal.leaves-preserved
-leaves-preserved c =
-    let params = c.args.params.now in
-    let d = dealing_with params c.args.plan.now c.args.secrets.now in
-    let size = c.leaf_bytes-size.result in
-    let same : size ≡ leaf_length params c.args.plan.now.k = rw c.k.ensures.value at c.leaf_bytes-size.ensures in
-    let room : length c.leaves.out ≡ size * 2 ^ params.h = rw same (c.leaves.auto.out ∙ c.requires.room) in
-    let within = row-fits size c.leaves.q (2 ^ params.h) (omega arith) in
-    let put = put-part (size * c.leaves.q) size c.leaves.out c.build_leaf.new.out (omega arith) c.build_leaf.auto.out in
-    front-more (leaf_part d) size c.leaves.q c.leaves.out _ c.build_leaf.new.out (rw c.deref.ensures.value at c.build_leaf.ensures)
-    put.size c.leaves.invariant (rw put.size put.front)
+pub returns : goal.returns
+returns c =
+    c.write_run.ensures ∙ whole-leaves (dealing_with c.args.params.now c.args.plan.now c.args.secrets.now) _ c.whole.ensures.first c.whole.ensures.count

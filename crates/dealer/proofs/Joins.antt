@@ -1,0 +1,48 @@
+-- Leaves that several threads build, each a run of them.
+use Rattle.std.proofs.Common.{◌≡◌, ℕ, zero, suc, ◌+◌, ◌^◌, ◌<◌, List, [], ◌++◌, length, map, get_or, refl, sym, ap, ◌∙◌, arith, append-nil, append_assoc}
+use Rattle.std.specs.List.{range_with_len}
+use Rattle.std.proofs.lemmas.List.{ext_get_or}
+use Rattle.std.proofs.lemmas.List.FromFn.{get_or-map-range_with_len, length-map-range_with_len}
+use Rattle.lms_bytes.specs.Bytes.{joined}
+use Rattle.lms_bytes.proofs.Joined.{joined-none, joined-same, joined-suc}
+use Rattle.reference_value.specs.Commitments.{commitments, leaf_commitments}
+use Rattle.reference_value.specs.Dealing.{Dealing, leaf_part, reference}
+use Rattle.dealer.specs.Runs.{run_commitments, run_leaves}
+use Rattle.dealer.specs.declared.runs.Run.{Run}
+
+-- a list whose every element is known
+pub mapped-all : (f : ℕ → List ℕ) (n : ℕ) (xs : List (List ℕ)) → length xs ≡ n → ((q : ℕ) → q < n → get_or xs q [] ≡ f q)
+    → xs ≡ map f (range_with_len 0 n)
+mapped-all f n xs size each =
+    ext_get_or [] xs (map f (range_with_len 0 n)) (size ∙ sym (length-map-range_with_len f 0 n))
+    (λ q inside. each q (omega (arith, size)) ∙ sym (get_or-map-range_with_len f 0 n q q [] (omega (arith, size)) (omega arith)))
+
+-- the strings of one run and those of the run behind it, joined
+pub runs-joined : (f : ℕ → List ℕ) (first next m n count : ℕ) → next ≡ first + m → m + n ≡ count
+    → joined (λ i. f (first + i)) m ++ joined (λ i. f (next + i)) n ≡ joined (λ i. f (first + i)) count
+runs-joined f first next m zero count behind all =
+    let whole : m ≡ count = omega arith in
+    rw (joined-none (λ i. f (next + i)), append-nil (joined (λ i. f (first + i)) m), whole) refl
+runs-joined f first next m (suc n) count behind all =
+    let before = runs-joined f first next m n (m + n) behind refl in
+    let last : next + n ≡ first + (m + n) = omega arith in
+    let whole : suc (m + n) ≡ count = omega arith in
+    rw (← whole, joined-suc (λ i. f (next + i)) n, joined-suc (λ i. f (first + i)) (m + n), ← before, last)
+    (sym (append_assoc (joined (λ i. f (first + i)) m) (joined (λ i. f (next + i)) n) (f (first + (m + n)))))
+
+-- a run of all leaves is the reference value, and so are their commitments
+pub whole-leaves : (d : Dealing) (run : Run) → run.first ≡ 0 → run.count ≡ 2 ^ d.params.h → run_leaves d run ≡ reference d
+unfolding reference
+whole-leaves d run first count =
+    rw (first, count) (joined-same (λ i. leaf_part d (0 + i)) (leaf_part d) (2 ^ d.params.h) (λ i _. ap (leaf_part d) (omega arith)))
+
+pub whole-commitments : (d : Dealing) (run : Run) → run.first ≡ 0 → run.count ≡ 2 ^ d.params.h → run_commitments d run ≡ commitments d
+unfolding commitments
+whole-commitments d run first count =
+    rw (first, count) (joined-same (λ i. leaf_commitments d (0 + i)) (leaf_commitments d) (2 ^ d.params.h) (λ i _. ap (leaf_commitments d) (omega arith)))
+
+-- what two threads wrote, each a run, is the run that was cut
+pub runs-written : (f : ℕ → List ℕ) (a b : List ℕ) (first front back m n count : ℕ) → front ≡ first → back ≡ first + m → m + n ≡ count
+    → a ≡ joined (λ i. f (front + i)) m → b ≡ joined (λ i. f (back + i)) n → a ++ b ≡ joined (λ i. f (first + i)) count
+runs-written f a b first front back m n count here behind all one other =
+    rw (one, other, here) (runs-joined f first back m n count behind all)

@@ -1,0 +1,18 @@
+use Rattle.std.proofs.Common.{◌∙◌, refl}
+use Rattle.ots_chain.specs.LeafKey.{seed_leaf_key}
+use Rattle.dealer.specs.Secrets.{dealing_with}
+use Rattle.dealer.proofs.Built.{first_node}
+use Rattle.dealer.proofs.building.finish.Goals as goal
+
+pub returns-clause-dealt : goal.returns-clause-dealt
+returns-clause-dealt c =
+    let d = dealing_with c.args.params.now c.args.plan.now c.args.secrets.now in
+    let node = rw c.requires.tree at c.root.ensures.node in
+    record {
+      params = refl;
+      id = refl;
+      root_is = node ∙ first_node d.params d.id (λ q. seed_leaf_key d.params d.id q d.seed);
+      tree = c.requires.tree;
+      reference_is = c.requires.leaves;
+      shares = c.in_ok-build_shares.ensures.shares;
+    }

@@ -1,8 +1,0 @@
-use Rattle.std.proofs.Common.{◌≡◌, ◌*◌, take}
-use Rattle.lms_bytes.specs.Bytes.{joined}
-use Rattle.reference_value.specs.Dealing.{leaf_part}
-use Rattle.dealer.specs.Secrets.{dealing_with}
-use Rattle.dealer.proofs.leaves.write_leaves.Given as goal
-
-abbrev pub invariant-leaves : goal.invariant-leaves
-invariant-leaves l = take (l.size * l.q) l.out ≡ joined (leaf_part (dealing_with l.params l.plan l.secrets)) l.q

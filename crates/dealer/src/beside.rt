@@ -1,0 +1,183 @@
+//! The dealing with its leaves built by several threads.
+
+ghost use Rattle.std.specs.Prelude.{◌≡◌, ◌+◌, ◌*◌, ◌^◌, ◌<◌, ◌≤◌, All, IfOk, length, map, vec_capacity};
+ghost use Rattle.std.specs.List.{range_with_len};
+ghost use Rattle.std.specs.Thread.{IsSync};
+ghost use Rattle.merkle_path.specs.Tree.{tree_of};
+ghost use Rattle.ots_chain.specs.LeafKey.{seed_leaf_key};
+ghost use Rattle.reference_value.specs.Dealing.{reference};
+ghost use Rattle.share_files.specs.Reference.{leaf_length, leaves_length};
+ghost use Rattle.dealer.specs.Dealt.{IsDealt};
+ghost use Rattle.dealer.specs.Entropy.{dealing_of, entropy_length};
+ghost use Rattle.dealer.specs.Runs.{run_leaves};
+ghost use Rattle.dealer.specs.Secrets.{dealing_with};
+
+use crate::building::finish;
+use crate::dealing::Dealt;
+use crate::entropy::{Secrets, read_entropy};
+use crate::leaves::{room_for_leaves, write_run};
+use crate::runs::{Run, thread_count};
+use coalition_map::Plan;
+use lms_bytes::{KeyId, Params, Val};
+use memory::NoMemory;
+use merkle_path::Tree;
+use ots_chain::leaf_key_of;
+use reference_value::leaf_bytes;
+use std::alloc::Global;
+use std::thread;
+use std::thread::{Threads, join_mut};
+
+/// Deals the key that the entropy stands for, which has been tested. The greatest memory is taken before the first
+/// thread is made, since the C library keeps the room of the stacks.
+pub(crate) fn build_beside<R: Threads + Sync>(
+    rt: &R,
+    alloc: Global,
+    params: &Params,
+    plan: &Plan,
+    entropy: &[u8],
+) -> Result<Dealt, NoMemory>
+    requires height { plan.now.h ≡ params.now.h }
+    requires low { params.now.h ≤ 10 }
+    requires size { length entropy.now ≡ entropy_length plan.now.n }
+    ensures dealt { IfOk result (IsDealt (dealing_of params.now plan.now entropy.now)) }
+    ensures shares { IfOk result (λ dealt. 0 < length dealt.shares.items) }
+{
+    let secrets = read_entropy(alloc, params, plan, entropy)?;
+    let leaves = reference_beside(rt, alloc, params, plan, &secrets)?;
+    let tree = tree_beside(rt, alloc, params, &secrets.id, &secrets.seed)?;
+    finish(alloc, params, plan, &secrets, tree, leaves)
+}
+
+/// The leaves of the masked reference value, with room for the head of their file.
+fn reference_beside<R: Threads + Sync>(
+    rt: &R,
+    alloc: Global,
+    params: &Params,
+    plan: &Plan,
+    secrets: &Secrets,
+) -> Result<Vec<u8>, NoMemory>
+    requires height { plan.now.h ≡ params.now.h }
+    requires seed { length secrets.now.seed ≡ params.now.n }
+    requires keys { length secrets.now.keys.items ≡ plan.now.n }
+    ensures leaves { IfOk result (λ leaves. leaves.items ≡ reference (dealing_with params.now plan.now secrets.now)) }
+    ensures room { IfOk result (λ leaves. length leaves.items + 32 ≤ vec_capacity leaves) }
+{
+    let mut leaves = room_for_leaves(alloc, params, plan)?;
+    write_leaves_beside(rt, params, plan, secrets, &mut leaves);
+    Ok(leaves)
+}
+
+/// Writes the leaves of the masked reference value.
+fn write_leaves_beside<R: Threads + Sync>(
+    rt: &R,
+    params: &Params,
+    plan: &Plan,
+    secrets: &Secrets,
+    out: &mut [u8],
+)
+    requires height { plan.now.h ≡ params.now.h }
+    requires seed { length secrets.now.seed ≡ params.now.n }
+    requires keys { length secrets.now.keys.items ≡ plan.now.n }
+    requires room { length out.old ≡ leaves_length params.now plan.now }
+    ensures { out.new ≡ reference (dealing_with params.now plan.now secrets.now) }
+{
+    let (run, threads) = (Run::whole(params), thread_count(rt));
+    write_beside(rt, params, plan, secrets, run, threads, out);
+}
+
+/// Writes the leaves of a run, one behind the other, by at most so many threads.
+fn write_beside<R: Threads + Sync>(
+    rt: &R,
+    params: &Params,
+    plan: &Plan,
+    secrets: &Secrets,
+    run: Run,
+    threads: usize,
+    out: &mut [u8],
+)
+    requires height { plan.now.h ≡ params.now.h }
+    requires seed { length secrets.now.seed ≡ params.now.n }
+    requires keys { length secrets.now.keys.items ≡ plan.now.n }
+    requires within { run.first + run.count ≤ 2 ^ params.now.h }
+    requires room { length out.old ≡ leaf_length params.now plan.now.k * run.count }
+    ensures { out.new ≡ run_leaves (dealing_with params.now plan.now secrets.now) run }
+{
+    if threads < 2 || run.count < 2 {
+        write_run(params, plan, secrets, run, out);
+        return;
+    }
+    let some = threads / 2;
+    let others = threads - some;
+    let (first, next) = run.cut(some, threads);
+    let (front, back) = out.split_at_mut(leaf_bytes(params, plan.k()) * first.count as usize);
+    join_mut(
+        rt,
+        &mut ||
+            requires { IsSync R.row × (plan.now.h ≡ params.now.h) × (length secrets.now.seed ≡ params.now.n)
+                × (length secrets.now.keys.items ≡ plan.now.n) × (first.first + first.count ≤ 2 ^ params.now.h)
+                × (length front.now ≡ leaf_length params.now plan.now.k * first.count) }
+            ensures { front.exit.now
+                ≡ run_leaves (dealing_with params.entry.now plan.entry.now secrets.entry.now) first }
+        { write_beside(rt, params, plan, secrets, first, some, front) },
+        &mut ||
+            requires { IsSync R.row × (plan.now.h ≡ params.now.h) × (length secrets.now.seed ≡ params.now.n)
+                × (length secrets.now.keys.items ≡ plan.now.n) × (next.first + next.count ≤ 2 ^ params.now.h)
+                × (length back.now ≡ leaf_length params.now plan.now.k * next.count) }
+            ensures { back.exit.now
+                ≡ run_leaves (dealing_with params.entry.now plan.entry.now secrets.entry.now) next }
+        { write_beside(rt, params, plan, secrets, next, others, back) },
+    );
+}
+
+/// The tree over the public values of the leaves.
+pub(crate) fn tree_beside<R: Threads + Sync>(
+    rt: &R,
+    alloc: Global,
+    params: &Params,
+    id: &KeyId,
+    seed: &Val,
+) -> Result<Tree, NoMemory>
+    requires height { params.now.h ≤ 10 }
+    requires seed { length seed.now ≡ params.now.n }
+    ensures { IfOk result (λ tree. tree ≡ tree_of params.now id.now (λ q. seed_leaf_key params.now id.now q seed.now)) }
+{
+    let keys = keys_beside(rt, alloc, params, id, seed)?;
+    Tree::build(alloc, params, id, &keys)
+}
+
+/// The public values of the leaves.
+fn keys_beside<R: Threads + Sync>(
+    rt: &R,
+    alloc: Global,
+    params: &Params,
+    id: &KeyId,
+    seed: &Val,
+) -> Result<Vec<Val>, NoMemory>
+    requires { length seed.now ≡ params.now.n }
+    ensures keys { IfOk result (λ keys. keys.items
+        ≡ map (λ q. seed_leaf_key params.now id.now q seed.now) (range_with_len 0 (2 ^ params.now.h))) }
+    ensures length { IfOk result (λ keys. All (λ key. length key ≡ params.now.n) keys.items) }
+{
+    let count = params.leaves() as usize;
+    let mut keys = Vec::with_capacity(alloc, count)?;
+    keys.resize(count, *seed)?;
+    write_keys(rt, params, id, seed, &mut keys);
+    Ok(keys)
+}
+
+/// Writes the public values of the leaves.
+fn write_keys<R: Threads + Sync>(rt: &R, params: &Params, id: &KeyId, seed: &Val, out: &mut [Val])
+    requires seed { length seed.now ≡ params.now.n }
+    requires room { length out.old ≡ 2 ^ params.now.h }
+    ensures keys { out.new
+        ≡ map (λ q. seed_leaf_key params.now id.now q seed.now) (range_with_len 0 (2 ^ params.now.h)) }
+    ensures length { All (λ key. length key ≡ params.now.n) out.new }
+{
+    let threads = thread_count(rt);
+    let write = |q: usize, key: &mut Val|
+        requires { (q < 2 ^ params.now.h) × (length seed.now ≡ params.now.n) }
+        ensures { (key.exit.now ≡ seed_leaf_key params.entry.now id.entry.now q seed.entry.now)
+            × (length key.exit.now ≡ params.entry.now.n) }
+    { *key = leaf_key_of(params, id, q as u32, seed) };
+    thread::for_each_mut(rt, out, threads, &write);
+}

@@ -1,0 +1,160 @@
+//! A dealing with commitments whose leaves several threads build.
+
+ghost use Rattle.std.specs.Prelude.{◌≡◌, ◌+◌, ◌*◌, ◌^◌, ◌<◌, ◌≤◌, IfOk, length};
+ghost use Rattle.std.specs.Thread.{IsSync};
+ghost use Rattle.coalition_map.specs.Coalitions.{IsPlan};
+ghost use Rattle.reference_value.specs.Dealing.{reference};
+ghost use Rattle.share_files.specs.Commits.{commits_length, leaf_commits_length};
+ghost use Rattle.share_files.specs.Reference.{leaf_length, leaves_length};
+ghost use Rattle.dealer.specs.Committed.{commits_file};
+ghost use Rattle.dealer.specs.Dealt.{IsDealt};
+ghost use Rattle.dealer.specs.Entropy.{dealing_of, entropy_length};
+ghost use Rattle.dealer.specs.Runs.{run_commitments, run_leaves};
+ghost use Rattle.dealer.specs.Secrets.{dealing_with};
+
+use crate::beside::tree_beside;
+use crate::building::finish;
+use crate::committed::{head_of_commits, mac_keys, write_committed_run};
+use crate::dealing::Dealt;
+use crate::entropy::{Secrets, read_entropy};
+use crate::leaves::room_for_leaves;
+use crate::runs::{Run, thread_count};
+use coalition_map::Plan;
+use lms_bytes::Params;
+use mask_prf::MacKey;
+use memory::NoMemory;
+use reference_value::leaf_bytes;
+use share_files::{HEAD, leaf_commits_bytes, length_of_commits};
+use std::alloc::Global;
+use std::thread::{Threads, join_mut};
+
+/// Deals the key that the entropy stands for, which has been tested, and commits to the masks. The greatest memory is
+/// taken before the first thread is made, since the C library keeps the room of the stacks.
+pub(crate) fn build_committed_beside<R: Threads + Sync>(
+    rt: &R,
+    alloc: Global,
+    params: &Params,
+    plan: &Plan,
+    entropy: &[u8],
+) -> Result<(Dealt, Vec<u8>), NoMemory>
+    requires height { plan.now.h ≡ params.now.h }
+    requires low { params.now.h ≤ 10 }
+    requires size { length entropy.now ≡ entropy_length plan.now.n }
+    ensures dealt { IfOk result (λ both. IsDealt (dealing_of params.now plan.now entropy.now) both.0) }
+    ensures commitments { IfOk result (λ both. both.1.items
+        ≡ commits_file (dealing_of params.now plan.now entropy.now)) }
+    ensures shares { IfOk result (λ both. 0 < length both.0.shares.items) }
+{
+    let secrets = read_entropy(alloc, params, plan, entropy)?;
+    let (leaves, commits) = leaves_beside(rt, alloc, params, plan, &secrets)?;
+    let tree = tree_beside(rt, alloc, params, &secrets.id, &secrets.seed)?;
+    let dealt = finish(alloc, params, plan, &secrets, tree, leaves)?;
+    Ok((dealt, commits))
+}
+
+/// The leaves of the masked reference value, with room for the head of their file, and the commitment file.
+fn leaves_beside<R: Threads + Sync>(
+    rt: &R,
+    alloc: Global,
+    params: &Params,
+    plan: &Plan,
+    secrets: &Secrets,
+) -> Result<(Vec<u8>, Vec<u8>), NoMemory>
+    requires height { plan.now.h ≡ params.now.h }
+    requires seed { length secrets.now.seed ≡ params.now.n }
+    requires keys { length secrets.now.keys.items ≡ plan.now.n }
+    ensures leaves { IfOk result (λ both. both.0.items ≡ reference (dealing_with params.now plan.now secrets.now)) }
+    ensures commitments { IfOk result (λ both. both.1.items
+        ≡ commits_file (dealing_with params.now plan.now secrets.now)) }
+{
+    let keys = mac_keys(alloc, &secrets.keys)?;
+    let mut leaves = room_for_leaves(alloc, params, plan)?;
+    let mut file = vec![in alloc; 0; length_of_commits(params, plan.k()) as usize]?;
+    write_file_beside(rt, params, plan, secrets, &keys, &mut leaves, &mut file);
+    Ok((leaves, file))
+}
+
+/// Writes the leaves of the masked reference value, and the commitment file.
+fn write_file_beside<R: Threads + Sync>(
+    rt: &R,
+    params: &Params,
+    plan: &Plan,
+    secrets: &Secrets,
+    keys: &[MacKey],
+    out: &mut [u8],
+    file: &mut [u8],
+)
+    requires height { plan.now.h ≡ params.now.h }
+    requires plan { IsPlan plan.now }
+    requires seed { length secrets.now.seed ≡ params.now.n }
+    requires trustees { length secrets.now.keys.items ≡ plan.now.n }
+    requires keys { keys.now ≡ secrets.now.keys.items }
+    requires leaves { length out.old ≡ leaves_length params.now plan.now }
+    requires file { length file.old ≡ commits_length params.now plan.now }
+    ensures leaves { out.new ≡ reference (dealing_with params.now plan.now secrets.now) }
+    ensures file { file.new ≡ commits_file (dealing_with params.now plan.now secrets.now) }
+{
+    let (head, commits) = file.split_at_mut(HEAD);
+    head.copy_from_slice(&head_of_commits(params, plan, &secrets.id));
+    let (run, threads) = (Run::whole(params), thread_count(rt));
+    write_committed_beside(rt, params, plan, secrets, keys, run, threads, out, commits);
+}
+
+/// Writes the leaves of a run, one behind the other, and the commitments to their masks, by at most so many threads.
+fn write_committed_beside<R: Threads + Sync>(
+    rt: &R,
+    params: &Params,
+    plan: &Plan,
+    secrets: &Secrets,
+    keys: &[MacKey],
+    run: Run,
+    threads: usize,
+    out: &mut [u8],
+    commits: &mut [u8],
+)
+    requires height { plan.now.h ≡ params.now.h }
+    requires seed { length secrets.now.seed ≡ params.now.n }
+    requires trustees { length secrets.now.keys.items ≡ plan.now.n }
+    requires keys { keys.now ≡ secrets.now.keys.items }
+    requires within { run.first + run.count ≤ 2 ^ params.now.h }
+    requires leaves { length out.old ≡ leaf_length params.now plan.now.k * run.count }
+    requires commits { length commits.old ≡ leaf_commits_length params.now plan.now.k * run.count }
+    ensures leaves { out.new ≡ run_leaves (dealing_with params.now plan.now secrets.now) run }
+    ensures commitments { commits.new ≡ run_commitments (dealing_with params.now plan.now secrets.now) run }
+{
+    if threads < 2 || run.count < 2 {
+        write_committed_run(params, plan, secrets, keys, run, out, commits);
+        return;
+    }
+    let some = threads / 2;
+    let others = threads - some;
+    let (first, next) = run.cut(some, threads);
+    let (front, back) = out.split_at_mut(leaf_bytes(params, plan.k()) * first.count as usize);
+    let row = leaf_commits_bytes(params, plan.k());
+    let (ahead, behind) = commits.split_at_mut(row * first.count as usize);
+    join_mut(
+        rt,
+        &mut ||
+            requires { IsSync R.row × (plan.now.h ≡ params.now.h) × (length secrets.now.seed ≡ params.now.n)
+                × (length secrets.now.keys.items ≡ plan.now.n) × (keys.now ≡ secrets.now.keys.items)
+                × (first.first + first.count ≤ 2 ^ params.now.h)
+                × (length front.now ≡ leaf_length params.now plan.now.k * first.count)
+                × (length ahead.now ≡ leaf_commits_length params.now plan.now.k * first.count) }
+            ensures { (front.exit.now
+                ≡ run_leaves (dealing_with params.entry.now plan.entry.now secrets.entry.now) first)
+                × (ahead.exit.now
+                ≡ run_commitments (dealing_with params.entry.now plan.entry.now secrets.entry.now) first) }
+        { write_committed_beside(rt, params, plan, secrets, keys, first, some, front, ahead) },
+        &mut ||
+            requires { IsSync R.row × (plan.now.h ≡ params.now.h) × (length secrets.now.seed ≡ params.now.n)
+                × (length secrets.now.keys.items ≡ plan.now.n) × (keys.now ≡ secrets.now.keys.items)
+                × (next.first + next.count ≤ 2 ^ params.now.h)
+                × (length back.now ≡ leaf_length params.now plan.now.k * next.count)
+                × (length behind.now ≡ leaf_commits_length params.now plan.now.k * next.count) }
+            ensures { (back.exit.now
+                ≡ run_leaves (dealing_with params.entry.now plan.entry.now secrets.entry.now) next)
+                × (behind.exit.now
+                ≡ run_commitments (dealing_with params.entry.now plan.entry.now secrets.entry.now) next) }
+        { write_committed_beside(rt, params, plan, secrets, keys, next, others, back, behind) },
+    );
+}
