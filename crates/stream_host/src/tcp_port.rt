@@ -77,10 +77,13 @@ impl<R: Sockets + Copy> TcpPort<R> {
     }
 }
 
+/// How many connections in a row that broke off are passed over: an error that lasts ends the port, and does not spin.
+const MOST_BROKEN: u32 = 65_536;
+
 /// The next connection at a socket. One that broke off before it was accepted is passed over: it is not the fault of
 /// the socket, and nobody else's.
 pub fn next_stream<L: OpenListener>(socket: &L) -> io::Result<L::Stream> {
-    for _ in 0..u64::MAX {
+    for _ in 0..MOST_BROKEN {
         match socket.accept() {
             Ok((stream, _)) => return Ok(stream),
             Err(error) if is_of_connection(error.kind()) => {}
@@ -99,6 +102,7 @@ fn is_of_connection(kind: ErrorKind) -> bool {
             | ErrorKind::NetworkDown
             | ErrorKind::NetworkUnreachable
             | ErrorKind::HostUnreachable
+            | ErrorKind::Unsupported
     )
 }
 

@@ -8,7 +8,7 @@ use disk_trait::Faults;
 use std::alloc::Global;
 use std::io::ErrorKind::{
     ConnectionAborted, ConnectionReset, HostUnreachable, Interrupted, NetworkDown,
-    NetworkUnreachable, OutOfMemory,
+    NetworkUnreachable, OutOfMemory, Unsupported,
 };
 use std::sync::Arc;
 use std::test::Fail;
@@ -255,12 +255,13 @@ fn accepted(port: &mut TcpPort<FakeNet<'_>>) -> &'static str {
     }
 }
 
-const ACCEPTS: [Step; 7] = [
+const ACCEPTS: [Step; 8] = [
     Accept(Err(Interrupted)),
     Accept(Err(ConnectionAborted)),
     Accept(Err(NetworkDown)),
     Accept(Err(NetworkUnreachable)),
     Accept(Err(HostUnreachable)),
+    Accept(Err(Unsupported)),
     Accept(Ok(())),
     Accept(Err(OutOfMemory)),
 ];

@@ -1,5 +1,5 @@
-//! Tests of the outside: disks, the links, nets and stores in memory, links that wait, and the adapters over the system,
-//! over files, sockets and outputs that are made up and over the machine's own.
+//! Tests of the outside: disks, the links, nets and stores in memory, links that wait, and the adapters over the
+//! system, over files, sockets and outputs that are made up and over the machine's own.
 #![tactic(auto)]
 
 #[cfg(test)]
