@@ -1,5 +1,5 @@
-//! Tests of the sessions: of the frames, of a session alone, of the services, of the tool's base and words, and of a
-//! summary.
+//! Tests of the sessions: of the frames, of a session alone, of the services, of the tool's base, words and `show`, and
+//! of a summary.
 #![tactic(auto)]
 
 #[cfg(test)]
@@ -18,6 +18,8 @@ mod meeting;
 mod ports;
 #[cfg(test)]
 mod sessions;
+#[cfg(test)]
+mod show;
 #[cfg(test)]
 mod summary;
 #[cfg(test)]

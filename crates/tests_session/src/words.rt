@@ -49,6 +49,8 @@ fn clap_splits_the_words_of_each_command(rt: HostRuntime) {
         "aggregate p t q 64 4294967295 1=a",
         "aggregate p t q 064 1 2=b 1=a 3=c 4=d 5=e 6=f 07=h:7 8=h 9=i 10=j 11=k 12=l",
         "drill 1 10000 100000",
+        "show f",
+        "show f leaves",
     ];
     for line in lines {
         assert!(rt; is_split(rt.alloc(), line) == Some(true), "{line}");
@@ -69,6 +71,8 @@ fn clap_refuses_other_words(rt: HostRuntime) {
         "hss",
         "sign p t m o",
         "aggregate p t q 1 1",
+        "show",
+        "show f leaves leaves",
         "sign p t m o 1=a 2=b 3=c 4=d 5=e 6=f 7=g 8=h 9=i 10=j 11=k 12=l 13=m",
     ];
     for line in lines {

@@ -13,8 +13,8 @@ use std::alloc::Global;
 use std::process::Abort;
 use trustee_core::Trustee;
 
-/// How many calls of the disk a load makes: one sync, the length, the header, and each slot.
-const LOAD_CALLS: u64 = 1027;
+/// How many calls of the disk a load makes: one sync, the length, the header, and 32 reads of 32 slots each.
+const LOAD_CALLS: u64 = 35;
 
 /// Loads the book of a disk.
 fn loaded(rt: &impl Abort, alloc: Global, disk: MemDisk) -> Book<MemDisk> {

@@ -116,19 +116,19 @@ fn is_settled(rt: &impl Abort, alloc: Global, call: u64, found: Settled, kept: S
     refused & doubted & settled & cache.is_sure() & cache.has(1, kept)
 }
 
-// Loading makes 11 calls, and a put the next four.
+// Loading makes four calls, of which one reads all slots, and a put the next four.
 #[test]
 fn a_refused_put_is_settled(rt: HostRuntime) {
-    for call in 11..14 {
+    for call in 4..7 {
         assert!(rt; is_settled(&rt, rt.alloc(), call, Settled::NotMade, Slot::Free));
     }
-    assert!(rt; is_settled(&rt, rt.alloc(), 14, Settled::Made, Slot::Half(A)));
+    assert!(rt; is_settled(&rt, rt.alloc(), 7, Settled::Made, Slot::Half(A)));
 }
 
 // The last call of a put fails, and those of settling.
 #[test]
 fn a_doubt_stays_where_the_disk_fails(rt: HostRuntime) {
-    let disk = stopping_file(&rt, rt.alloc(), &header(1, 3), 8, 14);
+    let disk = stopping_file(&rt, rt.alloc(), &header(1, 3), 8, 7);
     let mut cache = Cache::open(&rt, rt.alloc(), disk);
     let refused = cache.put_first().is_err();
     let fails = cache.settles(Err(SettleFault::Device));
@@ -145,7 +145,7 @@ fn is_refused(alloc: Global, disk: MemDisk, why: CacheLoad) -> bool {
 
 #[test]
 fn a_file_that_is_not_read_is_refused(rt: HostRuntime) {
-    for call in 0..11 {
+    for call in 0..4 {
         let disk = failing_file(&rt, rt.alloc(), &header(1, 3), 8, call);
         assert!(rt; is_refused(rt.alloc(), disk, CacheLoad::Device));
     }

@@ -7,8 +7,8 @@ use slot_file::{Header, prepare};
 use std::alloc::Global;
 use std::process::Abort;
 
-/// How many calls of the disk a load of 32 slots makes.
-pub(crate) const LOAD_CALLS: u64 = 35;
+/// How many calls of the disk a load of 32 slots makes: one sync, the length, the header, and all slots by one read.
+pub(crate) const LOAD_CALLS: u64 = 4;
 
 /// The header of a file of typecodes 5 and 3.
 pub(crate) fn header(version: u8, number: u8) -> Header

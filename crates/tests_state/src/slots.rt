@@ -85,6 +85,12 @@ impl File {
         self.slots.look(slot) == Ok(want)
     }
 
+    /// Whether a look at the last two slots at once gives these.
+    fn has_last(&mut self, want: [Slot; 2]) -> bool {
+        let mut found = [Slot::Free; 2];
+        self.slots.look_run(30, &mut found).is_ok() & (found == want)
+    }
+
     /// Whether slot 1 is this, and the slots beside it are free.
     fn has_alone(&mut self, want: Slot) -> bool {
         let before = self.has(0, Slot::Free);
@@ -255,6 +261,16 @@ fn filled(rt: &impl Abort, alloc: Global, version: u8) -> File {
     let second = file.put_both().is_ok();
     assert!(rt; first & second);
     file
+}
+
+#[test]
+fn a_run_is_looked_at(rt: HostRuntime) {
+    for version in [1, 2] {
+        let disk = free_file(&rt, rt.alloc(), &header(version, 3), 32);
+        let mut file = File::open(&rt, disk, version);
+        assert!(rt; file.put_first(31).is_ok());
+        assert!(rt; file.has_last([Slot::Free, Slot::Half(A)]));
+    }
 }
 
 /// Whether a disk holds a copy of a filled file.

@@ -30,6 +30,7 @@ pub data Ending : Type 0 where
   SignedLevels : (leaf : ℕ) → Ending
   Served : (connections frames : ℕ) → Ending
   Drilled : (summary : Summary) → Ending
+  Shown : (text : List ℕ) → Ending
   Usage : Ending
   StoreFailed : Ending
   Unreadable : (name : List ℕ) → (fault : ℕ) → Ending
@@ -71,6 +72,7 @@ status_of (Signed leaf) = 0
 status_of (SignedLevels leaf) = 0
 status_of (Served connections frames) = 0
 status_of (Drilled summary) = 0
+status_of (Shown text) = 0
 status_of Usage = 2
 status_of StoreFailed = 3
 status_of (Unreadable name fault) = 4
@@ -178,6 +180,7 @@ line_of (Served connections frames) =
     codes "served " ++ (decimal connections
     ++ (codes " connections " ++ (decimal frames ++ (codes " frames" ++ end_of_line))))
 line_of (Drilled summary) = drilled_sessions summary ++ (drilled_asks summary ++ end_of_line)
+line_of (Shown text) = text
 line_of Usage = codes "error 2 usage" ++ end_of_line
 line_of StoreFailed = codes "error 3 store" ++ end_of_line
 line_of (Unreadable name fault) = codes "error 4 file " ++ (name ++ (codes " fault " ++ (decimal fault ++ end_of_line)))

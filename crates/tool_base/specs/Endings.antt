@@ -3,8 +3,8 @@ use Rattle.std.specs.Prelude.{string_bytes}
 use Rattle.tool_base.specs.Ending as spec
 use Rattle.tool_base.specs.declared.ending.Ending.{Ending}
 use Rattle.tool_base.specs.declared.ending.Ending.TheVariants.{Verified, Rehearsed, Dealt, Enrolled, Migrated, Approved}
-use Rattle.tool_base.specs.declared.ending.Ending.TheVariants.{Checked, Signed, SignedLevels, Served, Drilled, Usage}
-use Rattle.tool_base.specs.declared.ending.Ending.TheVariants.{StoreFailed, Unreadable, NotDealt, NotSigned}
+use Rattle.tool_base.specs.declared.ending.Ending.TheVariants.{Checked, Signed, SignedLevels, Served, Drilled, Shown}
+use Rattle.tool_base.specs.declared.ending.Ending.TheVariants.{Usage, StoreFailed, Unreadable, NotDealt, NotSigned}
 use Rattle.tool_base.specs.declared.ending.Ending.TheVariants.{DeviceFailed, TooLong, NotLoaded, NoMemory, Exists}
 use Rattle.tool_base.specs.declared.ending.Ending.TheVariants.{NetFailed, BookFull}
 
@@ -21,6 +21,7 @@ ending (Signed leaf) = spec.Signed leaf
 ending (SignedLevels leaf) = spec.SignedLevels leaf
 ending (Served connections frames) = spec.Served connections frames
 ending (Drilled summary) = spec.Drilled summary
+ending (Shown text) = spec.Shown (string_bytes text)
 ending Usage = spec.Usage
 ending StoreFailed = spec.StoreFailed
 ending (Unreadable name fault) = spec.Unreadable (string_bytes name) fault

@@ -42,6 +42,8 @@ pub enum Ending {
     Served { connections: u32, frames: u32 },
     /// A drill was run.
     Drilled(Summary),
+    /// What a file holds was told by these lines, each ended by a line feed.
+    Shown { text: String },
     /// The words are no command.
     Usage,
     /// A call of the store failed, or a name is not in it.
@@ -83,7 +85,7 @@ impl Ending {
             Ending::Rehearsed | Ending::Dealt { .. } | Ending::Enrolled { .. } => 0,
             Ending::Migrated { .. } | Ending::Approved { .. } => 0,
             Ending::Signed { .. } | Ending::SignedLevels { .. } => 0,
-            Ending::Served { .. } | Ending::Drilled(_) => 0,
+            Ending::Served { .. } | Ending::Drilled(_) | Ending::Shown { .. } => 0,
             Ending::Usage => 2,
             Ending::StoreFailed => 3,
             Ending::Unreadable { .. } => 4,
@@ -118,6 +120,7 @@ impl Ending {
                 frames,
             } => served_line(alloc, *connections, *frames),
             Ending::Drilled(summary) => drill_line(alloc, summary),
+            Ending::Shown { text } => String::from_str(alloc, text.as_str()),
             Ending::Usage => format!(in alloc; "error 2 usage\n"),
             Ending::StoreFailed => format!(in alloc; "error 3 store\n"),
             Ending::Unreadable { name, fault } => file_line(alloc, name.as_str(), *fault),

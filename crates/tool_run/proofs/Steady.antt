@@ -1,5 +1,5 @@
 -- How a call ends over objects that do not fail but for their arguments.
-use Rattle.std.proofs.Common.{◌≡◌, ◌≢◌, ◌⊎◌, ◌≤◌, ◌<◌, ℕ, suc, List, [], ◌∷◌, ◌==◌, Contains, Option, None, Some, IsTrue, false, true, length, inl, inr, refl, sym, ap, ◌∙◌, subst, arith, if◌then◌else◌}
+use Rattle.std.proofs.Common.{◌≡◌, ◌≢◌, ◌⊎◌, ◌≤◌, ◌<◌, Bool, ℕ, suc, List, [], ◌∷◌, ◌==◌, Contains, Option, None, Some, IsTrue, false, true, length, inl, inr, refl, sym, ap, ◌∙◌, subst, arith, if◌then◌else◌}
 use Rattle.dealer.specs.declared.faults.DealFault.{DealFault}
 use Rattle.dealer.specs.declared.faults.DealFault.TheVariants.{BadEntropy, NoMemory, SameKeys, TooHigh, TooWide}
 use Rattle.hss_levels.specs.declared.verification.HssVerdict.TheVariants as levels
@@ -45,10 +45,12 @@ use Rattle.tool_run.specs.Steady.{HasCauses, IsSteadyWorld, IsUnoffered, Lacks, 
 use Rattle.tool_run.specs.ToolRun.{CommandRun, IsAnswered, ToolRun, WordsRun}
 use Rattle.tool_run.specs.Verify.{VerifyEnds}
 use Rattle.tool_run.specs.Verify as verify
+use Rattle.tool_show.specs.Show.{IsNotShown, ShowEnds}
+use Rattle.tool_show.specs.Show as show
 use Rattle.tool_trustee.specs.Trustee.{ServedTrustee, TrusteeEnds, store_of}
 use Rattle.tool_trustee.specs.Trustee as trustee
 use Rattle.tool_sign.proofs.Steady.{EndsSteady, grammar-steady, lacking, load-steady, new-steady, plain, sign-steady, unheard, unwritten-steady, upto-steady}
-use Rattle.tool_words.specs.Words.{Row, Verify, Rehearse, Deal, Enrol, Migrate, Approve, Trustee, Sign, Aggregate, Drill, HssCheck, HssSign, Blame, DealWords, SignWords, TrusteeWords, command_of}
+use Rattle.tool_words.specs.Words.{Row, Verify, Rehearse, Deal, Enrol, Migrate, Approve, Trustee, Sign, Aggregate, Drill, HssCheck, HssSign, Blame, Show, DealWords, SignWords, TrusteeWords, command_of}
 
 -- a name by its place in a list of names
 first : (x : List ℕ) (xs : List (List ℕ)) → Contains (x ∷ xs) x
@@ -216,6 +218,16 @@ module _ (store : StoreRun) (net : NetState) (told : IsTrue store.before.told) (
   check-ends key message signature _ k m s (check.no_signature of text end read had fails) = upto-ends _ signature end s fails
   check-ends key message signature _ k m s (check.checked of text bytes says read had got is) = other _ (λ is. cc) (λ is. cc) (λ is. cc)
 
+  unshown-ends : (file bytes : List ℕ) (end : Ending) → IsNotShown file bytes end → Ends end
+  unshown-ends file bytes _ (show.unreadable fault has) = other _ (λ is. cc) (λ is. cc) (λ is. cc)
+  unshown-ends file bytes _ (show.not_loaded fault kind why) = other _ (λ is. cc) (λ is. cc) (λ is. cc)
+
+  show-ends : (file : List ℕ) (leaves : Bool) (end : Ending) → Named file → ShowEnds store file leaves end → Ends end
+  show-ends file leaves _ f (show.not_read end fails) = upto-ends _ file end f fails
+  show-ends file leaves _ f show.no_memory = other _ (λ is. cc) (λ is. cc) (λ is. cc)
+  show-ends file leaves _ f (show.not_shown bytes end read fails) = unshown-ends file bytes end fails
+  show-ends file leaves _ f (show.shown bytes text read is) = other _ (λ is. cc) (λ is. cc) (λ is. cc)
+
   drill-ends : (number sessions events : ℕ) (end : Ending) → DrillEnds number sessions events end → Ends end
   drill-ends number sessions events _ no_memory = other _ (λ is. cc) (λ is. cc) (λ is. cc)
   drill-ends number sessions events _ (drilled summary is) = other _ (λ is. cc) (λ is. cc) (λ is. cc)
@@ -305,6 +317,7 @@ module _ (before after : Outside) (told : IsTrue before.store.told) (steady : Is
       (lack store before.net told steady row words.table (fourth (key_name words.prefix) (tree_name words.prefix) (reference_name words.prefix) words.table []))
       (λ none. record { place = words.place; is = refl; none = none }) end ran)
   command-steady (Drill number sessions events) end ran = of-row (Drill number sessions events) end (drill-ends store before.net told steady (Drill number sessions events) number sessions events end ran.run.cause.0)
+  command-steady (Show file leaves) end ran = of-row (Show file leaves) end (show-ends store before.net told steady (Show file leaves) file leaves end (first file []) ran.run.cause.0)
   command-steady (Blame words) end ran =
       let row = Blame words in
       of-row row end (blame-steady (Lacks before.store row) (IsUnoffered before.net row) words store _ told steady net_told net_steady
@@ -341,6 +354,7 @@ one_of (ending.Signed leaf) = none_of _ 0 refl (λ is. omega (arith, is)) (λ is
 one_of (ending.SignedLevels leaf) = none_of _ 0 refl (λ is. omega (arith, is)) (λ is. omega (arith, is)) (λ is. omega (arith, is))
 one_of (ending.Served connections frames) = none_of _ 0 refl (λ is. omega (arith, is)) (λ is. omega (arith, is)) (λ is. omega (arith, is))
 one_of (ending.Drilled summary) = none_of _ 0 refl (λ is. omega (arith, is)) (λ is. omega (arith, is)) (λ is. omega (arith, is))
+one_of (ending.Shown text) = none_of _ 0 refl (λ is. omega (arith, is)) (λ is. omega (arith, is)) (λ is. omega (arith, is))
 one_of ending.Usage = none_of _ 2 refl (λ is. omega (arith, is)) (λ is. omega (arith, is)) (λ is. omega (arith, is))
 one_of ending.StoreFailed = record { store = λ is. refl; device = λ is. absurd (omega (arith, is)); net = λ is. absurd (omega (arith, is)) }
 one_of (ending.Unreadable name fault) = none_of _ 4 refl (λ is. omega (arith, is)) (λ is. omega (arith, is)) (λ is. omega (arith, is))

@@ -10,7 +10,7 @@ use Rattle.tool_blame.specs.Commits.{commits_name}
 use Rattle.tool_desk.specs.Files.{key_name, reference_name, tree_name}
 use Rattle.tool_run.specs.ToolRun.{WordsRun}
 use Rattle.tool_words.specs.Words.{Row, Verify, Rehearse, Deal, Enrol, Migrate, Approve, Trustee, Sign, Aggregate}
-use Rattle.tool_words.specs.Words.{Blame, Drill, HssCheck, HssSign, TrusteeWords, command_of}
+use Rattle.tool_words.specs.Words.{Blame, Drill, HssCheck, HssSign, Show, TrusteeWords, command_of}
 
 -- the book of a trustee, if there is one
 abbrev pub book_of : Option (List ℕ) → List (List ℕ)
@@ -38,6 +38,7 @@ names_read (HssSign words) = words.low_key ∷ words.low_signature ∷ words.mes
     ∷ dealing_names words.prefix (words.table ∷ [])
 names_read (Aggregate words) = dealing_names words.prefix (words.table ∷ [])
 names_read (Drill number sessions events) = []
+names_read (Show file leaves) = file ∷ []
 
 -- the place that a command listens at
 abbrev pub place_of : Row → Option (List ℕ)
@@ -54,6 +55,7 @@ place_of (HssCheck key message signature) = None
 place_of (HssSign words) = None
 place_of (Aggregate words) = Some words.place
 place_of (Drill number sessions events) = None
+place_of (Show file leaves) = None
 
 -- Nothing is read under a name that the command reads, takes or views. For a trustee this is so too where its book is
 -- to be its journal, whose disk is out by then.

@@ -17,11 +17,13 @@ use Rattle.tool_run.specs.Drill.{DrillEnds}
 use Rattle.tool_run.specs.HssCheck.{HssCheckEnds}
 use Rattle.tool_run.specs.Rehearse.{RehearseEnds}
 use Rattle.tool_run.specs.Verify.{VerifyEnds}
+use Rattle.tool_show.specs.Show.{ShowEnds}
 use Rattle.tool_trustee.specs.Trustee.{TrusteeRun}
 use Rattle.tool_sign.specs.Ports.{over_net}
 use Rattle.tool_sign.specs.Sign.{SigningRun}
 use Rattle.tool_words.specs.Words.{Row, Verify, Rehearse, Deal, Enrol, Migrate, Approve, Trustee, Sign, Aggregate}
-use Rattle.tool_words.specs.Words.{AggregateWords, Blame, Drill, HssCheck, HssSign, HssSignWords, SignWords, command_of}
+use Rattle.tool_words.specs.Words.{AggregateWords, Blame, Drill, HssCheck, HssSign, HssSignWords, Show, SignWords}
+use Rattle.tool_words.specs.Words.{command_of}
 use Rattle.tool_base.specs.World.{AllBack, Onward, Outside, OutputRun, StoreRun, World, from_to}
 
 -- a command that works on the store alone: the net is as it was
@@ -69,6 +71,8 @@ CommandRun (HssSign words) = SignsLevels words
 CommandRun (Aggregate words) = Aggregates words
 CommandRun (Drill number sessions events) =
     OnStore (λ store. EndsWith (λ end written. DrillEnds number sessions events end × (written ≡ [])) store)
+CommandRun (Show file leaves) =
+    OnStore (λ store. EndsWith (λ end written. ShowEnds store file leaves end × (written ≡ [])) store)
 
 -- what words do: other words than a command's are a faulty command line, and change nothing
 abbrev pub WordsRun : Option Row → Outside → Outside → Ending → Type 0

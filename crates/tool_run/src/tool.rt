@@ -21,6 +21,7 @@ use tool_base::{Clocks, Ending};
 use tool_blame::blame;
 use tool_journals::{approve_message, enrol_file, migrate_journal};
 use tool_levels::hss_sign;
+use tool_show::show_file;
 use tool_sign::sign;
 use tool_trustee::serve_trustee;
 use tool_words::{Command, command_of};
@@ -100,7 +101,7 @@ fn run_command<R: Threads + Wait + Sync, S: Store, N: Net, T: Clocks>(
             key_out,
             signature_out,
         } => rehearse_files(alloc, store, entropy, message, key_out, signature_out),
-        Command::Deal(words) => deal_files(alloc, store, words),
+        Command::Deal(words) => deal_files(rt, alloc, store, words),
         Command::Enrol { file, journal } => enrol_file(alloc, store, file, journal),
         Command::Migrate {
             share,
@@ -123,6 +124,7 @@ fn run_command<R: Threads + Wait + Sync, S: Store, N: Net, T: Clocks>(
         } => hss_check_files(alloc, store, key, message, signature),
         Command::Aggregate(words) => aggregate(rt, alloc, words, store, net),
         Command::Drill(words) => drill_sessions(alloc, words),
+        Command::Show { file, leaves } => show_file(alloc, store, file, *leaves),
     }
 }
 

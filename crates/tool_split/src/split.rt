@@ -4,7 +4,7 @@ use clap::{Arg, ArgAction, ArgMatches, Command as Parser, Error};
 use std::alloc::{AllocError, Global};
 
 /// The commands, each with the names of the words that have to come after it, in their order.
-const COMMANDS: [&str; 12] = [
+const COMMANDS: [&str; 13] = [
     "verify key message signature",
     "rehearse entropy message key-out signature-out",
     "deal entropy lms ots n k prefix",
@@ -17,6 +17,7 @@ const COMMANDS: [&str; 12] = [
     "hss what",
     "aggregate prefix table place workers connections",
     "drill number sessions events",
+    "show file",
 ];
 
 /// The name of a command and its words, in the order in which `clap` splits them off, or why they are no command by its
@@ -64,6 +65,7 @@ fn command<'a>(alloc: Global, names: &'a str) -> Result<Parser<'a>, AllocError> 
     match name {
         "deal" => command.arg(word(alloc, "commit")),
         "trustee" => command.arg(word(alloc, "book")),
+        "show" => command.arg(word(alloc, "leaves")),
         "sign" | "blame" | "aggregate" => command.arg(several(alloc, "addresses", 12)),
         "hss" => command.arg(several(alloc, "words", 19)),
         _ => Ok(command),

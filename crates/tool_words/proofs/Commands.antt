@@ -8,7 +8,7 @@ use Rattle.std.proofs.lemmas.Slice.Eq.{bytes_eq-Decides}
 use Rattle.tool_words.specs.Words.{Aggregate, AggregateWords, Approve, Blame, Deal, DealWords, Drill, Enrol, HssCheck, HssSign, HssSignWords, Migrate}
 use Rattle.tool_words.specs.Words.{OutputsDiffer, Rehearse, Row, Sign, SignWords, Trustee, TrusteeWords, Verify, aggregate_of, approve_of, command_of, deal_of}
 use Rattle.tool_words.specs.Words.{deal_with, drill_of, enrol_of, hss_check_of, hss_of, hss_sign_of, is_option, migrate_of, number_of, number_within, places_of}
-use Rattle.tool_words.specs.Words.{rehearse_of, row_of, sign_words_of, trustee_of, verify_of}
+use Rattle.tool_words.specs.Words.{Show, rehearse_of, row_of, show_of, sign_words_of, trustee_of, verify_of}
 
 -- of two rows the one that the test takes
 taken : (test : Bool) (a b : Option Row) (row : Row) → ((r : Row) → a ≡ Some r → OutputsDiffer r) → ((r : Row) → b ≡ Some r → OutputsDiffer r)
@@ -249,6 +249,14 @@ drill_differ (a ∷ b ∷ []) row is = absurd (cc)
 drill_differ (a ∷ b ∷ c ∷ []) row is = with_drill (number_of a) (number_within 0 10000 b) (number_within 0 100000 c) row is
 drill_differ (a ∷ b ∷ c ∷ d ∷ more) row is = absurd (cc)
 
+show_differ : (words : List (List ℕ)) (row : Row) → show_of words ≡ Some row → OutputsDiffer row
+show_differ [] row is = absurd (cc)
+show_differ (a ∷ []) row is = let same : Show a false ≡ row = cc in subst OutputsDiffer same tt
+show_differ (a ∷ b ∷ []) row is =
+    taken (bytes_eq b (codes "leaves")) (Some (Show a true)) None row
+    (λ row is. let same : Show a true ≡ row = cc in subst OutputsDiffer same tt) none is
+show_differ (a ∷ b ∷ c ∷ more) row is = absurd (cc)
+
 row_differs : (words : List (List ℕ)) (row : Row) → row_of words ≡ Some row → OutputsDiffer row
 row_differs [] row is = absurd (cc)
 row_differs (name ∷ words) row is =
@@ -263,7 +271,8 @@ row_differs (name ∷ words) row is =
     (λ row is. taken (bytes_eq name (codes "blame")) (option_map Blame (sign_words_of words)) _ row (with_words Blame (λ words. tt) (sign_words_of words))
     (λ row is. taken (bytes_eq name (codes "hss")) (hss_of words) _ row (hss_differ words)
     (λ row is. taken (bytes_eq name (codes "aggregate")) (aggregate_of words) _ row (aggregate_differ words)
-    (λ row is. taken (bytes_eq name (codes "drill")) (drill_of words) None row (drill_differ words) none is) is) is) is) is) is) is) is) is) is) is) is
+    (λ row is. taken (bytes_eq name (codes "drill")) (drill_of words) _ row (drill_differ words)
+    (λ row is. taken (bytes_eq name (codes "show")) (show_of words) None row (show_differ words) none is) is) is) is) is) is) is) is) is) is) is) is) is
 
 pub outputs_differ : (words : List (List ℕ)) (row : Row) → command_of words ≡ Some row → OutputsDiffer row
 unfolding command_of

@@ -6,7 +6,7 @@ use Rattle.tool_words.specs.Words as words
 use Rattle.tool_words.specs.declared.command.Command.{Command}
 use Rattle.tool_words.specs.declared.command.Command.TheVariants.{Verify, Rehearse, Deal, Enrol, Migrate, Approve}
 use Rattle.tool_words.specs.declared.command.Command.TheVariants.{Trustee, Sign, Blame, HssCheck, HssSign}
-use Rattle.tool_words.specs.declared.command.Command.TheVariants.{Aggregate, Drill}
+use Rattle.tool_words.specs.declared.command.Command.TheVariants.{Aggregate, Drill, Show}
 use Rattle.tool_words.specs.declared.aggregate_words.AggregateWords.{AggregateWords}
 use Rattle.tool_words.specs.declared.deal_words.DealWords.{DealWords}
 use Rattle.tool_words.specs.declared.hss_sign_words.HssSignWords.{HssSignWords}
@@ -86,3 +86,4 @@ row (HssCheck key message signature) = words.HssCheck key.now message.now signat
 row (HssSign sign) = words.HssSign (hss_sign_words sign)
 row (Aggregate aggregate) = words.Aggregate (aggregate_words aggregate)
 row (Drill drill) = words.Drill drill.number drill.sessions drill.events
+row (Show file leaves) = words.Show file.now leaves

@@ -70,6 +70,7 @@ pub data Row : Type 0 where
   HssSign : (words : HssSignWords) → Row
   Aggregate : (words : AggregateWords) → Row
   Drill : (number sessions events : ℕ) → Row
+  Show : (file : List ℕ) → (leaves : Bool) → Row
 
 -- the byte of `-`
 abbrev pub dash : ℕ
@@ -296,6 +297,12 @@ drill_of (number ∷ sessions ∷ events ∷ []) =
     ]
 drill_of words = None
 
+-- the words after `show`: a file, and `leaves` or nothing
+abbrev pub show_of : List (List ℕ) → Option Row
+show_of (file ∷ []) = Some (Show file false)
+show_of (file ∷ last ∷ []) = if bytes_eq last (codes "leaves") then Some (Show file true) else None
+show_of words = None
+
 -- the words of a command, its name first
 abbrev pub row_of : List (List ℕ) → Option Row
 row_of [] = None
@@ -311,7 +318,8 @@ row_of (name ∷ words) =
     if bytes_eq name (codes "blame") then option_map Blame (sign_words_of words) else
     if bytes_eq name (codes "hss") then hss_of words else
     if bytes_eq name (codes "aggregate") then aggregate_of words else
-    if bytes_eq name (codes "drill") then drill_of words else None
+    if bytes_eq name (codes "drill") then drill_of words else
+    if bytes_eq name (codes "show") then show_of words else None
 
 -- the command that the words are, if they are one: none where a word begins with `-`
 unfoldable pub command_of : List (List ℕ) → Option Row
@@ -332,3 +340,4 @@ OutputsDiffer (HssCheck key message signature) = ⊤
 OutputsDiffer (HssSign words) = words.key_out ≢ words.signature_out
 OutputsDiffer (Aggregate words) = ⊤
 OutputsDiffer (Drill number sessions events) = ⊤
+OutputsDiffer (Show file leaves) = ⊤

@@ -78,4 +78,11 @@ pub enum Command<'a> {
     Aggregate(AggregateWords<'a>),
     /// Runs sessions in memory under a schedule of events.
     Drill(DrillWords),
+    /// Says what a file holds.
+    Show {
+        /// The name of the file.
+        file: &'a str,
+        /// Whether each slot that is not free has a line.
+        leaves: bool,
+    },
 }

@@ -4,7 +4,7 @@ ghost use Rattle.std.specs.Prelude.{◌≡◌, map, option_map, string_bytes};
 ghost use Rattle.std.specs.List.{list_any};
 ghost use Rattle.tool_words.specs.Words.{aggregate_of, approve_of, command_of, deal_of, deal_with, drill_of, enrol_of};
 ghost use Rattle.tool_words.specs.Words.{hss_check_of, hss_of, hss_sign_of, is_option, migrate_of, rehearse_of, row_of};
-ghost use Rattle.tool_words.specs.Words.{sign_words_of, trustee_of, trustee_with, verify_of};
+ghost use Rattle.tool_words.specs.Words.{show_of, sign_words_of, trustee_of, trustee_with, verify_of};
 ghost use Rattle.tool_words.specs.Rows.{row, sign_words};
 
 use crate::aggregate_words::AggregateWords;
@@ -65,6 +65,7 @@ fn row_of<'a>(words: &'a [String], split: &[&'a str]) -> Option<Command<'a>>
         "hss" => hss_of(rest, split),
         "aggregate" => aggregate_of(rest, split),
         "drill" => drill_of(rest),
+        "show" => show_of(rest, split),
         _ => None,
     }
 }
@@ -358,6 +359,23 @@ fn drill_of(words: &[String]) -> Option<Command<'_>>
         sessions: number_within(sessions.as_str(), 0, 10_000)?,
         events: number_within(events.as_str(), 0, 100_000)?,
     }))
+}
+
+/// The words after `show`: a file, and `leaves` or nothing.
+fn show_of<'a>(words: &'a [String], split: &[&'a str]) -> Option<Command<'a>>
+    ensures { option_map row result ≡ show_of (map string_bytes words.now) }
+{
+    match words {
+        [file] => Some(Command::Show {
+            file: word_at(split, 1, file.as_str()),
+            leaves: false,
+        }),
+        [file, last] if last.as_str() == "leaves" => Some(Command::Show {
+            file: word_at(split, 1, file.as_str()),
+            leaves: true,
+        }),
+        _ => None,
+    }
 }
 
 /// The word of the split at this place, where it is this word; else the word itself.

@@ -33,7 +33,7 @@ const MESSAGES: [(&str, &str); 6] = [
 /// More calls than `aggregate` makes here of a view, and of the table.
 const VIEW_CALLS: u64 = 90;
 
-const TABLE_CALLS: u64 = 45;
+const TABLE_CALLS: u64 = 12;
 
 /// The store of the files of a session, and of the messages.
 fn first_store(rt: HostRuntime) -> io::Result<MemStore> {

@@ -1,14 +1,14 @@
-//! Runs of `verify`, `rehearse`, `deal` and `drill` over files: on keys, signatures, rehearsals and dealings that
-//! another implementation made, and on words and files that the tool has to refuse. Behind each status are the length
-//! and the SHA-256 of files that the command wrote or had to leave alone. Then the same commands run over files in
-//! memory, whose calls can fail.
+//! Runs of `verify`, `rehearse`, `deal`, `drill` and `show` over files: on keys, signatures, rehearsals and dealings
+//! that another implementation made, and on words and files that the tool has to refuse. Behind each status are the
+//! length and the SHA-256 of files that the command wrote or had to leave alone. Then the same commands run over
+//! files in memory, whose calls can fail.
 
 mod dealing;
 mod rows;
 mod verifying;
 
 use crate::scene::{Files, print_ran, read, run, store_of, words_of};
-use rows::{COMMITMENTS, DEALINGS, DRILLS, FAULTY, REFUSED, REHEARSALS, VECTORS};
+use rows::{COMMITMENTS, DEALINGS, DRILLS, FAULTY, REFUSED, REHEARSALS, SHOWN, VECTORS};
 use sha2::{Digest, Sha256};
 use share_files::{read_reference, read_share, read_tree};
 use std::io;
@@ -101,6 +101,7 @@ pub(crate) fn print_runs<R: Threads + Wait + Sync, N: Net>(
         REFUSED,
         DRILLS,
         COMMITMENTS,
+        SHOWN,
     ] {
         for (command, files) in rows {
             print_status(threads, rt, net, command)?;

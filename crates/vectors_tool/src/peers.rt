@@ -16,6 +16,8 @@ pub(crate) enum Sent {
     Changed(&'static str, usize),
     /// A request for the signature of a file by trustees, of whom trustee t is bit t - 1.
     Request(u16, &'static str),
+    /// A refusal of trustee 1 in round one of the session: the leaf, the code, and what the trustee has kept.
+    Refusal(u32, u8, &'static [u8]),
     /// These bytes.
     Bytes(&'static [u8]),
 }
@@ -91,8 +93,8 @@ const RANDOMIZER_MASK: usize = FIRST_REPLY - 32;
 
 const CHAIN_MASK: usize = FIRST_REPLY + 8 + 89;
 
-/// Trustees 2 and 3, who change a byte of their mask, one of chain 0 and one of chain 1: equal changes of one chain would
-/// cancel each other, and the signature would be accepted.
+/// Trustees 2 and 3, who change a byte of their mask, one of chain 0 and one of chain 1: equal changes of one chain
+/// would cancel each other, and the signature would be accepted.
 pub(crate) const LIAR: Member = Member {
     place: "two",
     sent: &[Sent::Changed("replies2", CHAIN_MASK)],
@@ -118,6 +120,36 @@ pub(crate) const CHECKING: Member = Member {
 pub(crate) const LOST: Member = Member {
     place: "two",
     sent: &[Sent::Start("replies2", FIRST_REPLY)],
+};
+
+/// Another message's id: of no bytes, with a hash of zeros.
+const OTHER_MESSAGE: &[u8] = &[0; 36];
+
+/// Trustee 1, who has bound leaf 0, 10, 20 or 30 to another message.
+pub(crate) const BOUND_0: Member = Member {
+    place: "one",
+    sent: &[Sent::Refusal(0, 9, OTHER_MESSAGE)],
+};
+
+pub(crate) const BOUND_10: Member = Member {
+    place: "one",
+    sent: &[Sent::Refusal(10, 9, OTHER_MESSAGE)],
+};
+
+pub(crate) const BOUND_20: Member = Member {
+    place: "one",
+    sent: &[Sent::Refusal(20, 9, OTHER_MESSAGE)],
+};
+
+pub(crate) const BOUND_30: Member = Member {
+    place: "one",
+    sent: &[Sent::Refusal(30, 9, OTHER_MESSAGE)],
+};
+
+/// Trustee 1, whose book does not list the message.
+pub(crate) const UNLISTED: Member = Member {
+    place: "one",
+    sent: &[Sent::Refusal(0, 12, &[])],
 };
 
 /// Trustee 1, who sends a frame of no kind.
@@ -172,6 +204,27 @@ pub(crate) fn push_request(
     Ok(())
 }
 
+/// Adds a refusal of trustee 1 in round one. Key and message are those that a reply of the session names.
+fn push_refusal(
+    bytes: &mut Vec<u8>,
+    reply: &[u8],
+    leaf: u32,
+    code: u8,
+    kept: &[u8],
+) -> Result<(), NoMemory> {
+    let length = u32::try_from(kept.len()).unwrap_or(0).saturating_add(91);
+    bytes.extend_from_slice(b"TL\x01\x05")?;
+    bytes.extend_from_slice(&length.to_be_bytes())?;
+    bytes.extend_from_slice(reply.get(8..24).unwrap_or_default())?;
+    bytes.extend_from_slice(&leaf.to_be_bytes())?;
+    bytes.push(1)?;
+    bytes.extend_from_slice(reply.get(29..65).unwrap_or_default())?;
+    bytes.extend_from_slice(&[0; 32])?;
+    bytes.extend_from_slice(&[1, code])?;
+    bytes.extend_from_slice(kept)?;
+    Ok(())
+}
+
 /// What a peer sends.
 pub(crate) fn bytes_of(
     alloc: Global,
@@ -194,6 +247,9 @@ pub(crate) fn bytes_of(
                 }
             }
             Sent::Request(members, name) => push_request(&mut bytes, members, file(store, name))?,
+            Sent::Refusal(leaf, code, kept) => {
+                push_refusal(&mut bytes, file(store, "replies1"), leaf, code, kept)?
+            }
             Sent::Bytes(these) => bytes.extend_from_slice(these)?,
         }
     }

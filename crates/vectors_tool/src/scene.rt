@@ -19,8 +19,8 @@ const FILE_LIMIT: u64 = 1 << 24;
 /// The moment at which each clock begins.
 const START: u64 = 1000;
 
-/// Room for any line of the tool.
-pub(crate) const LINE: usize = 200;
+/// Room for any lines of the tool that are printed here.
+pub(crate) const LINE: usize = 1000;
 
 /// More conversations than a port here has.
 pub(crate) const TALKS: usize = 32;

@@ -56,6 +56,7 @@ pub(crate) fn print_runs<R: Threads + Wait + Sync>(threads: &R, rt: HostRuntime)
         (steps::IN_PIECES_TOO, false),
         (steps::FULL, false),
         (steps::DEAF, true),
+        (steps::SHOWN, false),
     ] {
         for step in steps {
             let mut net = made(net_of(alloc, &store, step.talks, deaf))?;

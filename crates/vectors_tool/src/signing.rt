@@ -25,7 +25,7 @@ const VIEW_CALLS: u64 = 90;
 /// More calls than `sign` makes of the store and of the table's disk.
 const STORE_CALLS: u64 = 8;
 
-const DISK_CALLS: u64 = 80;
+const DISK_CALLS: u64 = 16;
 
 /// A command over the store, or over the one whose files were changed, with a fault of a link or of a view. Where many
 /// are run in turn, a line is printed where it is another one than the one before.
@@ -100,6 +100,7 @@ fn all_runs(alloc: Global) -> Result<Vec<Run>, NoMemory> {
     push_steps(&mut runs, steps::SIGN, false)?;
     push_steps(&mut runs, steps::SIGN_24, false)?;
     push_steps(&mut runs, steps::LOSE, false)?;
+    push_steps(&mut runs, steps::REFUSED, false)?;
     push_steps(&mut runs, steps::LEVELS, false)?;
     push_steps(&mut runs, steps::BLAME, false)?;
     push_faults(&mut runs)?;

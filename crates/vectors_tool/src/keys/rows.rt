@@ -24,7 +24,7 @@ pub(crate) const VECTORS: Rows = &[
 ];
 
 /// Words that are no command: no word, a word too few or too many, an option, no name of a command, outputs of one
-/// name, numbers that are none or too great or too long, an empty prefix, and words after `hss` and `commit`.
+/// name, numbers that are none or too great or too long, an empty prefix, and words after `hss`, `commit` and `show`.
 pub(crate) const FAULTY: Rows = &[
     ("", ""),
     ("verify 10-8.key 10-8.message", ""),
@@ -46,6 +46,9 @@ pub(crate) const FAULTY: Rows = &[
     ("hss sign a t l s m o o 1=x", ""),
     ("hss sign  t l s m k s 1=x", ""),
     ("deal e 5 3 3 2 a commit b", ""),
+    ("show", ""),
+    ("show a more", ""),
+    ("show a leaves b", ""),
 ];
 
 /// Rehearsals, each with the files that are printed behind it. A file of entropy is named by its length, and its bytes
@@ -139,4 +142,16 @@ pub(crate) const COMMITMENTS: Rows = &[
     ("deal 240 6 3 5 3 there commit", "there.share5"),
     ("deal 240 5 3 5 3 taken commit", "taken.commit"),
     ("verify taken.pub empty empty.signature", ""),
+];
+
+/// Files of these dealings and a key of three levels; and one that is of no kind, and one that is not there.
+pub(crate) const SHOWN: Rows = &[
+    ("show a.share3", ""),
+    ("show a.tree", ""),
+    ("show a.ref leaves", ""),
+    ("show p.commit", ""),
+    ("show a.pub", ""),
+    ("show hss.3.KEY", ""),
+    ("show abc", ""),
+    ("show none", ""),
 ];

@@ -345,3 +345,33 @@ pub(crate) const DEAF: &[Step] = &[
         files: &[],
     },
 ];
+
+/// What these files hold: a journal just made, one with a leaf that was opened, one of version 1, and a book; and one
+/// with a damaged slot.
+pub(crate) const SHOWN: &[Step] = &[
+    Step {
+        words: "show new3",
+        talks: &[],
+        files: &[],
+    },
+    Step {
+        words: "show new1 leaves",
+        talks: &[],
+        files: &["new1"],
+    },
+    Step {
+        words: "show old leaves",
+        talks: &[],
+        files: &[],
+    },
+    Step {
+        words: "show book leaves",
+        talks: &[],
+        files: &[],
+    },
+    Step {
+        words: "show damaged",
+        talks: &[],
+        files: &[],
+    },
+];

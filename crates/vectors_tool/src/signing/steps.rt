@@ -2,8 +2,8 @@
 //! store.
 
 use crate::peers::{
-    CHECKING, EIGHT, FIRST_LIAR, GARBLED, LIAR, LOST, Member, ONE, OTHER_LIAR, SESSION, SESSION_24,
-    SESSION_LOW, SEVEN, THREE, TWO,
+    BOUND_0, BOUND_10, BOUND_20, BOUND_30, CHECKING, EIGHT, FIRST_LIAR, GARBLED, LIAR, LOST,
+    Member, ONE, OTHER_LIAR, SESSION, SESSION_24, SESSION_LOW, SEVEN, THREE, TWO, UNLISTED,
 };
 
 /// A command; the trustees who can be dialled; the places of those of whom all that they are asked is known, each with
@@ -37,8 +37,9 @@ const ASKS_24: &[(&str, &str)] = &[
     ("three", "asks3.24"),
 ];
 
-/// A key of 32-byte hashes: signed, and signed again; then outputs that are there, members that are no coalition, files
-/// that are not there or no table, a message that is too long, and words that are no command.
+/// A key of 32-byte hashes: signed, and signed again, and what the table then holds; then outputs that are there, members
+/// that are no coalition, files that are not there or no table, a message that is too long, and words that are no
+/// command.
 pub(crate) const SIGN: &[Step] = &[
     Step {
         words: "deal entropy 5 3 5 3 A",
@@ -64,6 +65,10 @@ pub(crate) const SIGN: &[Step] = &[
         members: SESSION,
         asks: ASKS,
         out: Some(("again", "signature")),
+        ..PLAIN
+    },
+    Step {
+        words: "show table leaves",
         ..PLAIN
     },
     Step {
@@ -182,6 +187,56 @@ pub(crate) const LOSE: &[Step] = &[
         members: &[SEVEN, TWO, THREE],
         asks: ASKS,
         out: Some(("lost.out", "signature")),
+        ..PLAIN
+    },
+];
+
+/// A trustee that has bound each leaf of the coalition to another message, so that all of them are burnt and none is
+/// left; and one whose book does not list the message.
+pub(crate) const REFUSED: &[Step] = &[
+    Step {
+        words: "enrol A.ref spent",
+        ..PLAIN
+    },
+    Step {
+        words: "sign A spent message spent.out 1=one 2=two 3=three",
+        members: &[BOUND_0, TWO, THREE],
+        asks: LATER_ASKS,
+        out: Some(("spent.out", "none")),
+    },
+    Step {
+        words: "sign A spent message spent.out 1=one 2=two 3=three",
+        members: &[BOUND_10],
+        ..PLAIN
+    },
+    Step {
+        words: "sign A spent message spent.out 1=one 2=two 3=three",
+        members: &[BOUND_20],
+        ..PLAIN
+    },
+    Step {
+        words: "sign A spent message spent.out 1=one 2=two 3=three",
+        members: &[BOUND_30],
+        ..PLAIN
+    },
+    Step {
+        words: "sign A spent message spent.out 1=one 2=two 3=three",
+        members: SESSION,
+        out: Some(("spent.out", "none")),
+        ..PLAIN
+    },
+    Step {
+        words: "show spent",
+        ..PLAIN
+    },
+    Step {
+        words: "enrol A.ref unlisted",
+        ..PLAIN
+    },
+    Step {
+        words: "sign A unlisted message unlisted.out 1=one 2=two 3=three",
+        members: &[UNLISTED],
+        out: Some(("unlisted.out", "none")),
         ..PLAIN
     },
 ];

@@ -6,6 +6,7 @@ use Rattle.tool_base.proofs.Runs.{calm_none}
 use Rattle.tool_run.specs.Drill.{DrillEnds}
 use Rattle.tool_run.specs.HssCheck.{HssCheckEnds}
 use Rattle.tool_run.specs.Verify.{VerifyEnds}
+use Rattle.tool_show.specs.Show.{ShowEnds}
 use Rattle.tool_run.proofs.tool.run_command.Goals as goal
 
 pub returns-in-Verify-clause-ended : goal.returns-in-Verify-clause-ended
@@ -65,5 +66,15 @@ returns-in-Drill-clause-ended g c =
     rw c.in-Drill.is (record {
       run = ends_untouched _ _ (calm_none _) (λ end written. DrillEnds c.in-Drill.words.number c.in-Drill.words.sessions c.in-Drill.words.events end × (written ≡ [])) _
           (c.drill_sessions.ensures, refl);
+      net = refl;
+    })
+
+pub returns-in-Show-clause-ended : goal.returns-in-Show-clause-ended
+returns-in-Show-clause-ended g c =
+    let run = from_to (g.S.Store.state c.args.store.now) (g.S.Store.state c.show_file.new.store) in
+    let show = c.in-Show in
+    rw c.in-Show.is (record {
+      run = ends_untouched _ _ c.show_file.ensures.calm (λ end written. ShowEnds run show.file.now show.leaves end × (written ≡ [])) _
+          (c.show_file.ensures.ended, refl);
       net = refl;
     })

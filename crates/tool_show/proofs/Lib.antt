@@ -1,0 +1,4 @@
+pub mod Calendar
+pub mod Loaded
+pub mod Ends
+pub mod Showing

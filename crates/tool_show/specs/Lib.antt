@@ -1,0 +1,11 @@
+pub mod Heads
+pub mod SlotKinds
+pub mod SlotLines
+pub mod Listing
+pub mod Loading
+pub mod Moments
+pub mod Keys
+pub mod Kinds
+pub mod Lines
+pub mod Show
+pub mod Shown
