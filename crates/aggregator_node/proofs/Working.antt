@@ -80,7 +80,7 @@ module _ (desk : DeskState) where
       → frames ≡ min (mid.frames + served.frames) (2 ^ 32 - 1)
       → Working desk old (record { post = post; reference = reference; connections = mid.connections + 1; frames = frames; worn = worn; failed = mid.failed })
   working-more old mid port post reference link steady served frames worn a accepts onward quiet b same sum =
-      let one : Connection = record { link = link; talk = b.talk; requests = b.requests; served = served } in
+      let one : Connection = record { link = link; talk = b.talk; last = b.hung_up.last; requests = b.requests; served = served } in
       let dialled = serves-port desk mid.reference _ _ _ _ _ b.serves in
       let serves : ServesLink desk old.reference mid.post post one = record {
         steady = steady;
@@ -91,7 +91,8 @@ module _ (desk : DeskState) where
         most = b.most;
         full = b.full;
         answers = b.answers;
-        hung_up = b.hung_up;
+        ended = b.hung_up.ended;
+        kept = b.hung_up.kept;
       } in
       record {
         served = a.served ++ one ∷ [];
@@ -106,7 +107,7 @@ module _ (desk : DeskState) where
         same = same-then old.reference mid.reference reference a.same same;
         onward = onward-then old.post.port mid.post.port post.port a.onward
             (onward-then mid.post.port port post.port onward (onward-then port b.done post.port dialled.onward b.onward));
-        accepting = b.hung_up.accept_count ∙ dialled.accepting ∙ quiet ∙ a.accepting;
+        accepting = b.hung_up.kept.accept_count ∙ dialled.accepting ∙ quiet ∙ a.accepting;
         connections = (let c = a.connections in omega (arith, c, length-append a.served (one ∷ [])));
         frames = (let t = a.frames in omega (arith, t, sum, sum_by-append (λ (c : Connection). c.served.frames) a.served (one ∷ [])));
       }

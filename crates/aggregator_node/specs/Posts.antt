@@ -8,8 +8,8 @@ use Rattle.leaf_table.specs.declared.lease.Lease.{Lease}
 use Rattle.leaf_table.specs.declared.table.TableName.{TableName}
 use Rattle.aggregator_session.specs.Signing.{DeskState, Signature}
 use Rattle.round_frames.specs.declared.fault.FrameFault.TheVariants.{ReadFault}
-use Rattle.stream_io.specs.Net.{Accepts, HangsUp, PortOnward, PortState, SameLinks}
-use Rattle.stream_io.specs.Talk.{Talk}
+use Rattle.stream_io.specs.Net.{Accepts, KeepsTalk, PortOnward, PortState, SameLinks}
+use Rattle.stream_io.specs.Talk.{Ended, Talk}
 use Rattle.trustee_node.specs.declared.served.Served.{Served}
 use Rattle.trustee_node.specs.declared.served.ServedEnd.TheVariants.{Frame, Full}
 use Rattle.turn_lock.specs.Pass.{Seen}
@@ -20,10 +20,12 @@ pub record Post : Type 0 where
   pub port : PortState
   pub faults : ℕ
 
--- a client's connection: its link as it was accepted and as it was hung up, its requests, and how it ended
+-- a client's connection: its link as it was accepted, as it was hung up and as it then ended, its requests, and how
+-- serving it ended
 pub record Connection : Type 0 where
   pub link : Talk
   pub talk : Talk
+  pub last : Talk
   pub requests : List Request
   pub served : Served
 
@@ -42,7 +44,8 @@ pub record ServesLink (desk : DeskState) (reference : ReferenceState) (old new :
   pub most : one.served.frames ≤ 65536
   pub full : one.served.ended ≡ Full → one.served.frames ≡ 65536
   pub answers : IsTrue steady → one.served.ended ≢ Frame ReadFault
-  pub hung_up : HangsUp done one.talk new.port
+  pub ended : Ended one.talk one.last
+  pub kept : KeepsTalk done one.last new.port
 
 -- no link was accepted, and no further one was asked for
 pub record Leaves (old new : PortState) : Type 0 where

@@ -7,7 +7,6 @@ ghost use Rattle.disk_trait.specs.Faults.{HasCause};
 ghost use Rattle.aggregator_session.specs.Signing.{desk_state, signature_in};
 ghost use Rattle.reference_value.specs.Stay.{CellsStay};
 ghost use Rattle.stream_io.specs.Talk.{OnlyWrote, WrotePart};
-ghost use Rattle.trustee_node.specs.Connections.{end_by};
 
 use crate::failure::failure_of;
 use crate::sign::sign_one;
@@ -20,7 +19,7 @@ use session_core::SessionFault;
 use std::alloc::Global;
 use std::sync::Wait;
 use stream_io::{Failed, Port, Sink, Source, Stream};
-use trustee_node::{Served, ServedEnd};
+use trustee_node::{Served, ServedEnd, end_by};
 use turn_lock::{Pass, TurnLock};
 
 /// The most frames of one connection.
@@ -170,21 +169,5 @@ fn write_outcome<K: Sink>(outcome: &Result<Signed, SignFault>, sink: &mut K) -> 
     match outcome {
         Ok(signed) => write_signature(&signed.bytes, sink),
         Err(fault) => write_failure(&failure_of(fault), sink),
-    }
-}
-
-/// The end of a connection whose next frame has this fault.
-fn end_by(fault: FrameFault) -> ServedEnd
-    ensures { result ≡ end_by fault }
-{
-    match fault {
-        FrameFault::End => ServedEnd::Closed,
-        FrameFault::Cut
-        | FrameFault::Magic
-        | FrameFault::Kind { .. }
-        | FrameFault::TooLong { .. }
-        | FrameFault::Shape
-        | FrameFault::ReadFault
-        | FrameFault::NoMemory => ServedEnd::Frame(fault),
     }
 }

@@ -6,7 +6,7 @@ use Rattle.std.proofs.lemmas.List.Sums.{sum_by-append, sum_by-cons}
 use Rattle.aggregator_session.specs.Faults.{IsLostBy, LostBy, sign_fault}
 use Rattle.aggregator_session.specs.Hearing.{Asked, IsLoss, awaited, kept_in, unread, unwritten}
 use Rattle.aggregator_session.specs.Runs.{Calls, CellsRead, First, Second, SignRun, bytes_in, dialled, first_all, first_answered, first_lost, first_refused, judged_in_one, judged_in_two, lost_in_one, lost_in_two, no_memory, nowhere, second_all, second_answered, second_lost, second_refused, second_unread, signed, undialled}
-use Rattle.aggregator_session.specs.Tasks.{counts_of}
+use Rattle.aggregator_session.proofs.Lasts.{counts_of}
 use Rattle.aggregator_session.specs.declared.desk.Address.{Address}
 use Rattle.aggregator_session.specs.declared.fault.SignFault.{SignFault}
 use Rattle.aggregator_session.specs.declared.fault.SignFault.TheVariants as fault

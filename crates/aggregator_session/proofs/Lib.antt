@@ -3,11 +3,13 @@ pub mod Counting
 pub mod Digests
 pub mod Frames
 pub mod Hearing
+pub mod Lasts
 pub mod Reaching
 pub mod Refusing
 pub mod Rounds
 pub mod Sessions
 pub mod Tasks
+pub mod Telling
 pub mod Writing
 pub mod Answering
 pub mod Ending

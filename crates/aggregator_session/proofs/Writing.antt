@@ -2,6 +2,8 @@
 use Rattle.std.proofs.Common.{◌≡◌, ◌≤◌, ◌+◌, ◌-◌, ◌++◌, ◌^◌, Bool, ℕ, zero, suc, List, [], ◌∷◌, length, min, take, IsTrue, Result, Ok, refl, sym, ap, ◌∙◌, arith, inl, inr, take_all}
 use Rattle.aggregator_session.specs.Hearing.{Asked, awaited, kept_in, unwritten}
 use Rattle.aggregator_session.specs.Runs.{Calls, CellsRead, First, IsSecondFrame, Opens, Second, SignRun, dialled, first_all, first_answered, first_frame, first_lost, first_refused, judged_in_one, judged_in_two, lost_in_one, lost_in_two, no_memory, nowhere, second_all, second_answered, second_lost, second_refused, second_unread, signed, undialled}
+use Rattle.aggregator_session.proofs.Telling.{AllTell, asked-told, sign-tell}
+use Rattle.aggregator_session.specs.Tasks.{AllEnded}
 use Rattle.aggregator_session.specs.Written.{Written, Wrote, WroteBoth, Wrotes}
 use Rattle.aggregator_session.specs.declared.desk.Address.{Address}
 use Rattle.aggregator_session.specs.declared.fault.SignFault.{SignFault}
@@ -10,7 +12,7 @@ use Rattle.merkle_path.specs.Tree.{TreeNodes}
 use Rattle.round_frames.specs.Replies.{Reply}
 use Rattle.session_core.specs.State.{State}
 use Rattle.stream_io.specs.Net.{PortState}
-use Rattle.stream_io.specs.Talk.{Talk}
+use Rattle.stream_io.specs.Talk.{Ended, Talk}
 
 all-wrote : (talk : Talk) (bytes : List ℕ) → talk.written ≡ bytes → Wrote talk bytes
 all-wrote talk bytes is = record { size = length bytes; begins = is ∙ sym (take_all (length bytes) bytes (omega arith)); whole = λ _. is }
@@ -41,10 +43,6 @@ asked-whole : (s : State) (member : ℕ) (frame : List ℕ) (old new : Talk) (an
     → answer ≡ Ok reply → Asked s member frame old new answer → IsTrue old.told → old.written ≡ before → new.written ≡ before ++ frame
 asked-whole s member frame old new answer reply before is (unwritten only part rose) told was = absurd (cc)
 asked-whole s member frame old new answer reply before is (awaited mid a only quiet wrote h) told was = h.only.written ∙ (wrote told ∙ ap (λ (l : List ℕ). l ++ frame) was)
-
-asked-told : (s : State) (member : ℕ) (frame : List ℕ) (old new : Talk) (answer : Result Reply SignFault) → Asked s member frame old new answer → new.told ≡ old.told
-asked-told s member frame old new answer (unwritten only part rose) = only.told
-asked-told s member frame old new answer (awaited mid a only quiet wrote h) = h.only.told ∙ only.told
 
 -- on each link the ask of round one was written whole
 abbrev Wholes : List ℕ → List ℕ → List Talk → Type 0
@@ -158,11 +156,58 @@ module _ (addresses : List Address) (tree : TreeNodes) (reads : CellsRead) (mess
       let r = second-reached reads.told reads.leaves turned message (first_frame s) turned (leaf_members s.plan s.leaf) mids talks last end w run in
       record { turned = turned; reach = r.reach; most = r.most; opened = inr (record { mids = mids; opens = opens }); wrotes = r.wrotes }
 
-pub sign-written : (addresses : List Address) (tree : TreeNodes) (reads : CellsRead) (message : List ℕ) (port : PortState) (s last : State) (talks : List Talk) (result : Result (List ℕ) SignFault)
+talks-written : (addresses : List Address) (tree : TreeNodes) (reads : CellsRead) (message : List ℕ) (port : PortState) (s last : State) (talks : List Talk) (result : Result (List ℕ) SignFault)
     → SignRun addresses tree reads message port s talks last result → IsTrue port.told → Written addresses reads message port s talks
-sign-written addresses tree reads message port s last talks result no_memory tells = record { turned = s; reach = 0; most = omega arith; opened = inl refl; wrotes = tt }
-sign-written addresses tree reads message port s last talks result (lost_in_one t kept fault first) tells = in-one addresses tree reads message port s t kept _ first tells
-sign-written addresses tree reads message port s last talks result (judged_in_one t kept fault first stops) tells = in-one addresses tree reads message port s t kept _ first tells
-sign-written addresses tree reads message port s last talks result (lost_in_two mids t turned kept fault opens second) tells = in-two addresses tree reads message port s mids t turned kept _ opens second tells
-sign-written addresses tree reads message port s last talks result (judged_in_two mids t turned kept fault opens second fails) tells = in-two addresses tree reads message port s mids t turned kept _ opens second tells
-sign-written addresses tree reads message port s last talks result (signed mids t turned kept bytes opens second signs) tells = in-two addresses tree reads message port s mids t turned kept _ opens second tells
+talks-written addresses tree reads message port s last talks result no_memory tells = record { turned = s; reach = 0; most = omega arith; opened = inl refl; wrotes = tt }
+talks-written addresses tree reads message port s last talks result (lost_in_one t kept fault first) tells = in-one addresses tree reads message port s t kept _ first tells
+talks-written addresses tree reads message port s last talks result (judged_in_one t kept fault first stops) tells = in-one addresses tree reads message port s t kept _ first tells
+talks-written addresses tree reads message port s last talks result (lost_in_two mids t turned kept fault opens second) tells = in-two addresses tree reads message port s mids t turned kept _ opens second tells
+talks-written addresses tree reads message port s last talks result (judged_in_two mids t turned kept fault opens second fails) tells = in-two addresses tree reads message port s mids t turned kept _ opens second tells
+talks-written addresses tree reads message port s last talks result (signed mids t turned kept bytes opens second signs) tells = in-two addresses tree reads message port s mids t turned kept _ opens second tells
+
+-- as the links ended
+
+begins : (bytes behind : List ℕ) (size : ℕ) (all : List ℕ) → bytes ++ behind ≡ take size all → bytes ≡ take (length bytes) all
+begins [] behind size all is = refl
+begins (x ∷ bytes) behind zero all is = absurd (cc)
+begins (x ∷ bytes) behind (suc size) [] is = absurd (cc)
+begins (x ∷ bytes) behind (suc size) (y ∷ all) is =
+    let head : x ≡ y = cc in
+    let tail : bytes ++ behind ≡ take size all = cc in
+    let more = begins bytes behind size all tail in
+    λ i. head i ∷ more i
+
+last-wrote : (talk last : Talk) (bytes : List ℕ) → IsTrue talk.told → Ended talk last → Wrote talk bytes → Wrote last bytes
+last-wrote talk last bytes told ended wrote = record {
+  size = length last.written;
+  begins = begins last.written ended.lost wrote.size bytes (ended.written told ∙ wrote.begins);
+  whole = λ none. ended.whole told none ∙ wrote.whole (let le = ended.count in omega (arith, le, none));
+}
+
+module _ (told : Bool) (leaves : List ℕ) (turned : State) (message first : List ℕ) where
+  lasts-wrote : (reach : ℕ) (members : List ℕ) (talks lasts : List Talk) → AllTell talks → AllEnded talks lasts
+      → Wrotes told leaves turned message first reach members talks → Wrotes told leaves turned message first reach members lasts
+  lasts-wrote reach members [] [] tell all w = tt
+  lasts-wrote reach members [] (last ∷ lasts) tell all w = absurd all
+  lasts-wrote reach members (talk ∷ talks) [] tell all w = absurd all
+  lasts-wrote reach [] (talk ∷ talks) (last ∷ lasts) tell all w = absurd w
+  lasts-wrote zero (member ∷ members) (talk ∷ talks) (last ∷ lasts) tell all w =
+      (last-wrote talk last first tell.0 all.0 w.0, lasts-wrote zero members talks lasts tell.1 all.1 w.1)
+  lasts-wrote (suc reach) (member ∷ members) (talk ∷ talks) (last ∷ lasts) tell all w =
+      let one = w.0 in (
+        record { second = one.second; framed = one.framed; wrote = last-wrote talk last (first ++ one.second) tell.0 all.0 one.wrote },
+        lasts-wrote reach members talks lasts tell.1 all.1 w.1,
+      )
+
+pub sign-written : (addresses : List Address) (tree : TreeNodes) (reads : CellsRead) (message : List ℕ) (port : PortState) (s last : State) (talks lasts : List Talk) (result : Result (List ℕ) SignFault)
+    → SignRun addresses tree reads message port s talks last result → AllEnded talks lasts → IsTrue port.told → Written addresses reads message port s lasts
+sign-written addresses tree reads message port s last talks lasts result run ended tells =
+    let w = talks-written addresses tree reads message port s last talks result run tells in
+    let tell = sign-tell addresses tree reads message port s last talks result run tells in
+    record {
+      turned = w.turned;
+      reach = w.reach;
+      most = w.most;
+      opened = w.opened;
+      wrotes = lasts-wrote reads.told reads.leaves w.turned message (first_frame s) w.reach (leaf_members s.plan s.leaf) talks lasts tell ended w.wrotes;
+    }

@@ -1,12 +1,12 @@
 -- A session over links: the members are dialled and asked one after the other, and then asked again over these links.
-use Rattle.std.specs.Prelude.{◌≡◌, ◌⊎◌, ◌+◌, ◌≤◌, ◌++◌, ℕ, Bool, true, false, List, [], ◌∷◌, length, IsTrue}
+use Rattle.std.specs.Prelude.{◌≡◌, ◌≢◌, ◌⊎◌, ◌+◌, ◌≤◌, ◌++◌, ℕ, Bool, true, false, List, [], ◌∷◌, length, IsTrue}
 use Rattle.std.specs.Prelude.{Some, None, Result, Ok, Err}
 use Rattle.std.specs.declared.alloc.Global.{Global}
 use Rattle.std.specs.declared.vec.Vec.{Vec}
 use Rattle.aggregator_session.specs.Addresses.{place_of}
 use Rattle.aggregator_session.specs.Faults.{LostBy, sign_fault}
 use Rattle.aggregator_session.specs.Hearing.{Asked, HasAsked, granted, is_masks, kept_in}
-use Rattle.aggregator_session.specs.Tasks.{RisesOnce, faulty_links}
+use Rattle.aggregator_session.specs.Tasks.{AllEnded, RisesOnce, faulty_links}
 use Rattle.aggregator_session.specs.declared.desk.Address.{Address}
 use Rattle.aggregator_session.specs.declared.fault.SignFault.{SignFault}
 use Rattle.aggregator_session.specs.declared.fault.SignFault.TheVariants.{Lost, NoMemory, Session}
@@ -199,17 +199,21 @@ pub data SignRun (addresses : List Address) (tree : TreeNodes) (reads : CellsRea
       → Signs reads tree kept message bytes
       → SignRun addresses tree reads message port s talks kept (Ok bytes)
 
--- All of a session's call: the talks that were hung up, in their order, and what came of them. Of the session it is
--- the replies that are kept, and the randomizer in round two, that may be other than before. The port counts each link
--- that has a fault, and beside these a dial that failed, which is the last: so no member is dialled twice.
+-- All of a session's call: the talks that were hung up, in their order, what came of them, and how each then ended. Of
+-- the session it is the replies that are kept, and the randomizer in round two, that may be other than before. The port
+-- counts each link that ended with a fault, and beside these a dial that failed, which is the last: so no member is
+-- dialled twice.
 pub record HasRun (addresses : List Address) (tree : TreeNodes) (reads : CellsRead) (message : List ℕ)
     (before now : PortState) (old new : State) (result : Result (List ℕ) SignFault) : Type 0 where
   pub talks : List Talk
-  pub hung_up : IsTrue before.told → now.talks ≡ before.talks ++ talks
+  pub lasts : List Talk
+  pub ended : AllEnded talks lasts
+  pub hung_up : IsTrue before.told → now.talks ≡ before.talks ++ lasts
   pub run : SignRun addresses tree reads message before old talks new result
   pub same : SameSession old new
   pub later : reads.before ≤ reads.now
-  pub counts : RisesOnce (LostBy DialFailed result) (before.count + faulty_links talks) now.count
+  pub rises : faulty_links lasts ≢ 0 → Rose before.count now.count
+  pub counts : RisesOnce (LostBy DialFailed result) (before.count + faulty_links lasts) now.count
 
 -- the bytes of an answer
 abbrev pub bytes_in : Result (Vec ℕ Global) SignFault → Result (List ℕ) SignFault

@@ -1,7 +1,8 @@
 -- What a session is run with.
-use Rattle.std.specs.Prelude.{◌≡◌, ◌+◌, ◌≤◌, ℕ, List, length, min, None, IfSome, IsTrue}
+use Rattle.std.specs.Prelude.{◌≡◌, ◌≢◌, ◌+◌, ◌≤◌, ◌++◌, ℕ, List, [], ◌∷◌, length, min, None, IfSome, IsTrue}
 use Rattle.std.specs.List.{sum_by}
 use Rattle.coalition_map.specs.Coalitions.{PlanNumbers, leaf_members}
+use Rattle.disk_trait.specs.Faults.{Rose}
 use Rattle.disk_trait.specs.declared.faults.Faults as faults
 use Rattle.lms_bytes.specs.MessageId.{message_id}
 use Rattle.lms_bytes.specs.declared.public_key.PublicKey.{PublicKey}
@@ -9,7 +10,7 @@ use Rattle.reference_value.specs.declared.cells.Cells as cells
 use Rattle.session_core.specs.State.{State}
 use Rattle.share_files.specs.Reference.{leaves_length}
 use Rattle.stream_io.specs.Net.{PortOnward, PortState}
-use Rattle.stream_io.specs.Talk.{Talk}
+use Rattle.stream_io.specs.Talk.{Ended, Talk}
 
 -- a session that may run: of this key, plan and message, and in round one. The message has at most 2^24 bytes.
 pub record MayRun (key : PublicKey) (plan : PlanNumbers) (message : List ℕ) (s : State) : Type 0 where
@@ -40,13 +41,26 @@ pub record OnlyDials (old new : PortState) : Type 0 where
   pub talks : new.talks ≡ old.talks
   pub accepting : new.accept_count ≡ old.accept_count
 
--- internal: the counts of faults of links together
-abbrev pub counts_of : List Talk → ℕ
-counts_of talks = sum_by (λ (talk : Talk). talk.count) talks
-
 -- how many of these links have counted a fault
 abbrev pub faulty_links : List Talk → ℕ
 faulty_links talks = sum_by (λ (talk : Talk). min talk.count 1) talks
+
+-- each of these links ended so, in their order
+abbrev pub AllEnded : List Talk → List Talk → Type 0
+AllEnded [] [] = Unit {0}
+AllEnded [] (last ∷ lasts) = ⊥
+AllEnded (talk ∷ talks) [] = ⊥
+AllEnded (talk ∷ talks) (last ∷ lasts) = Ended talk last × AllEnded talks lasts
+
+-- internal: these links were hung up, the first one first, and each conversation is kept as it then ended
+pub record HangsUpAll (old : PortState) (talks : List Talk) (new : PortState) : Type 0 where
+  pub lasts : List Talk
+  pub ended : AllEnded talks lasts
+  pub kept : IsTrue old.told → new.talks ≡ old.talks ++ lasts
+  pub rises : faulty_links lasts ≢ 0 → Rose old.count new.count
+  pub most : new.count ≤ old.count + faulty_links lasts
+  pub onward : PortOnward old new
+  pub accepting : new.accept_count ≡ old.accept_count
 
 -- a count is at most this, and at most one more where a dial failed
 pub record RisesOnce (failed : Type 0) (before now : ℕ) : Type 0 where

@@ -35,7 +35,8 @@ pub record HasOpened (addresses : List Address) (reads : CellsRead) (port : Port
   pub mids : List Talk
   pub opens : Opens addresses reads port s turned mids
 
--- What was written on the links of a session. Nobody is asked twice unless all answered round one with masks.
+-- What was written on the links of a session, as they ended. Nobody is asked twice unless all answered round one with
+-- masks.
 pub record Written (addresses : List Address) (reads : CellsRead) (message : List ℕ) (port : PortState) (s : State)
     (talks : List Talk) : Type 0 where
   pub turned : State

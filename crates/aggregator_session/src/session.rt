@@ -6,8 +6,7 @@ ghost use Rattle.std.specs.Vec.{vec_capacity, vec_len};
 ghost use Rattle.aggregator_session.specs.Faults.{LostBy};
 ghost use Rattle.aggregator_session.specs.Runs.{AskedAgain, First, HasCalled, HasRun, SameSession, Second, SignRun};
 ghost use Rattle.aggregator_session.specs.Runs.{bytes_in, first_frame, reads_of};
-ghost use Rattle.aggregator_session.specs.Tasks.{IsExact, IsTask, MayRun, OnlyDials, RisesOnce, counts_of};
-ghost use Rattle.aggregator_session.specs.Tasks.{faulty_links};
+ghost use Rattle.aggregator_session.specs.Tasks.{HangsUpAll, IsExact, IsTask, MayRun, OnlyDials, RisesOnce};
 ghost use Rattle.coalition_map.specs.Coalitions.{leaf_members};
 ghost use Rattle.disk_trait.specs.Faults.{Rose};
 ghost use Rattle.reference_value.specs.Stay.{CellsOnward, CellsStay};
@@ -108,14 +107,7 @@ fn digest_of(key: &PublicKey, session: &Session, message: &[u8]) -> Val
 
 /// Hangs all links up, the first one first.
 fn hang_up_all<P: Port>(port: &mut P, mut links: Vec<P::Link>)
-    ensures kept { IsTrue (P.state port.old).told → (P.state port.new).talks
-        ≡ (P.state port.old).talks ++ map (λ link. P.Link.talk link) links.items }
-    ensures count { counts_of (map (λ link. P.Link.talk link) links.items) ≢ 0
-        → Rose (P.state port.old).count (P.state port.new).count }
-    ensures most { (P.state port.new).count ≤ (P.state port.old).count
-        + faulty_links (map (λ link. P.Link.talk link) links.items) }
-    ensures onward { PortOnward (P.state port.old) (P.state port.new) }
-    ensures accepting { (P.state port.new).accept_count ≡ (P.state port.old).accept_count }
+    ensures { HangsUpAll (P.state port.old) (map (λ link. P.Link.talk link) links.items) (P.state port.new) }
 {
     for _ in 0..links.len() {
         port.hang_up(links.remove(0));

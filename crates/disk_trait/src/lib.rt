@@ -3,12 +3,10 @@
 
 mod disk;
 mod faults;
-mod file_disk;
 mod generator;
 mod mem_disk;
 
 pub use disk::{Disk, DiskFault, Pages};
 pub use faults::Faults;
-pub use file_disk::FileDisk;
 pub use generator::Generator;
 pub use mem_disk::MemDisk;

@@ -1,5 +1,6 @@
 -- A request for which all is well comes to the undivided key's signature, or to want of memory, or the pass is worn.
 use Rattle.std.proofs.Common.{◌≡◌, ◌^◌, ◌≤◌, ◌<◌, ◌++◌, ℕ, List, All, None, Result, Ok, Err, IsTrue, IsSomeAnd, length, inl, inr, refl, sym, ap, subst, ◌∙◌, arith}
+use Rattle.aggregator_session.proofs.Telling.{sign-tell}
 use Rattle.aggregator_session.specs.Addresses.{place_of}
 use Rattle.aggregator_session.specs.Faults.{LostBy}
 use Rattle.aggregator_session.specs.Runs.{CellsRead}
@@ -7,6 +8,7 @@ use Rattle.aggregator_session.specs.declared.fault.SignFault.{SignFault}
 use Rattle.aggregator_session.specs.declared.fault.SignFault.TheVariants as sign
 use Rattle.aggregator_session.specs.declared.fault.Why.TheVariants.{DialFailed}
 use Rattle.laws_signing.specs.Requests.{IsComplete, IsDealtDesk, IsDealtTable, IsWell, RanWith, answer, no_memory, signed, worn}
+use Rattle.laws_signing.proofs.Ended.{all-gave-before}
 use Rattle.laws_signing.proofs.Desks.{key-is, leaves-are, places, plan-is, tree-same}
 use Rattle.laws_signing.proofs.LeaseTurns.{TurnFinds, turn-finds, turn_bare, turn_failed, turn_found, turn_worn}
 use Rattle.aggregator_node.specs.Clients.{IsExact, IsSigned, Request, Stand}
@@ -95,8 +97,10 @@ module _ (words : AggregateWords) (store : StoreRun) (d : Dealing) (key : Undivi
     runs-complete leaf new port now result own tells (sessions.not_started unread) dials read gave = answer no_memory
     runs-complete leaf new port now result own tells (sessions.ran after last r has ends) dials read gave =
         let begins : State = started desk.key desk.plan leaf id in
-        let all : AllGave d (started public d.plan leaf id) message (leaf_members d.plan leaf) has.talks =
-        subst (λ (l : List ℕ). AllGave d (started public d.plan leaf id) message l has.talks) (sym (own-members leaf own)) (gave has.talks (has.hung_up tells)) in
+        let lasts : AllGave d (started public d.plan leaf id) message (leaf_members d.plan leaf) has.lasts =
+        subst (λ (l : List ℕ). AllGave d (started public d.plan leaf id) message l has.lasts) (sym (own-members leaf own)) (gave has.lasts (has.hung_up tells)) in
+        let tell = sign-tell desk.addresses desk.tree reads message port begins last has.talks result has.run tells in
+        let all = all-gave-before d (started public d.plan leaf id) message (leaf_members d.plan leaf) has.talks has.lasts tell has.ended lasts in
         let there = subst (λ (l : List ℕ). All (λ t. place_of desk.addresses t ≡ None → ⊥) l) (sym (own-members leaf own)) placed in
         let goes = session-goes d key public leaf message reads desk.tree (is-ready leaf own) desk.addresses port tells there begins last has.talks result has.run (start-is leaf) dials read all in
         elim goes [

@@ -1,5 +1,6 @@
 -- What signing with the table comes to where all is well: the undivided key's signature, or want of memory.
 use Rattle.std.proofs.Common.{◌≡◌, ◌≢◌, ◌⊎◌, ◌++◌, ◌+◌, ◌-◌, ◌^◌, ◌<◌, ◌≤◌, min, ℕ, zero, suc, true, false, List, All, IsTrue, Some, None, Result, Ok, Err, length, refl, sym, ap, subst, ◌∙◌, inl, inr, arith}
+use Rattle.aggregator_session.proofs.Telling.{sign-tell}
 use Rattle.aggregator_session.specs.Addresses.{place_of}
 use Rattle.aggregator_session.specs.Faults.{LostBy}
 use Rattle.aggregator_session.specs.Runs.{SignRun}
@@ -39,6 +40,7 @@ use Rattle.tool_sign.specs.Tasks.{IsTask, message_in}
 use Rattle.tool_words.specs.Words.{SignWords}
 use Rattle.laws_signing.specs.AllIsWell.{AllIsWell, IsQuiet}
 use Rattle.laws_signing.specs.Answering.{AllGave}
+use Rattle.laws_signing.proofs.Ended.{all-gave-before}
 use Rattle.laws_signing.proofs.Dialling.{all-placed}
 use Rattle.laws_signing.proofs.FilesRead.{device-not, read-not, same-file}
 use Rattle.laws_signing.proofs.Leaves.{lease-own, leases-well, one-table}
@@ -172,12 +174,14 @@ module _ (words : SignWords) (store : StoreRun) (net : NetRun) (d : Dealing) (ke
     runs-well result now is same (not_started idle) = inl refl
     runs-well result now is same (ran after last r has ends) =
         let port_told = over.made.told well.fails.net_told in
-        let talks : over.done.talks ≡ has.talks = ap (λ (p : PortState). p.talks) is ∙ (has.hung_up port_told ∙ ap (λ (l : List Talk). l ++ has.talks) over.made.talks) in
+        let lasts : over.done.talks ≡ has.lasts = ap (λ (p : PortState). p.talks) is ∙ (has.hung_up port_told ∙ ap (λ (l : List Talk). l ++ has.lasts) over.made.talks) in
         let begins : State = started signing.desk.key signing.desk.plan leaf (message_id signing.message) in
         let run = subst (λ (m : List ℕ). SignRun signing.desk.addresses signing.desk.tree signing.reads m over.port begins has.talks last result) message-is has.run in
+        let tell = sign-tell signing.desk.addresses signing.desk.tree signing.reads message over.port begins last has.talks result run port_told in
+        let answers = all-gave-before d (started public d.plan leaf (message_id message)) message (leaf_members d.plan leaf) has.talks has.lasts tell has.ended (gave has.lasts lasts) in
         let goes = session-goes d key public leaf message signing.reads signing.desk.tree is-ready signing.desk.addresses over.port port_told places begins last has.talks result run start-is
         (λ lost. dials-not (subst (λ (o : Result Signature SignFault). LostBy DialFailed o) (sym same) (lost-in leaf result lost)))
-        (λ unread. reads-not (same ∙ unread-in leaf result unread)) (gave has.talks talks) in
+        (λ unread. reads-not (same ∙ unread-in leaf result unread)) answers in
         elim goes [
           | inl none ↦ inl (ap (signed_with leaf) none)
           | inr signed ↦ inr (ap (signed_with leaf) signed)

@@ -1,5 +1,6 @@
 pub mod Completeness
 pub mod Dialling
+pub mod Ended
 pub mod Ends
 pub mod FilesRead
 pub mod Grants

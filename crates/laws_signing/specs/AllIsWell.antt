@@ -43,8 +43,8 @@ StoreHolds store =
 abbrev pub PortsHold : NetRun → Type 0
 PortsHold net = IsTrue net.before.steady ⊎ IsQuiet net.before.port_count net.after.port_count
 
--- Store and net tell their content, and nothing outside fails. No dial and no link failed, so that the net's count of
--- faults did not rise.
+-- Store and net tell their content, and nothing outside fails. No dial failed and no link, up to its end, so that the
+-- net's count of faults did not rise.
 pub record NothingFails (store : StoreRun) (net : NetRun) : Type 0 where
   pub store_told : IsTrue store.before.told
   pub net_told : IsTrue net.before.told

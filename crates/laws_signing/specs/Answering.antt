@@ -31,7 +31,7 @@ abbrev pub message_masks : Dealing → State → List ℕ → ℕ → List ℕ
 message_masks d s message member = digit_masks d s.leaf (digest_of (second_round d s) message) member
 
 -- A member's link gave its mask of the randomizer for the ask of round one, and behind it its masks at the message's
--- digits for that of round two. No call of the link failed.
+-- digits for that of round two. No call of the link failed, and nothing that was written was lost at its end.
 pub record Gave (d : Dealing) (s : State) (message : List ℕ) (member : ℕ) (talk : Talk) : Type 0 where
   pub rest : List ℕ
   pub last : List ℕ

@@ -6,10 +6,11 @@ ghost use Rattle.stream_io.specs.declared.store.ReadAllFault.{ReadAllFault};
 
 use crate::causes::{call_fault, new_fault, read_fault};
 use crate::fault_count::FaultCount;
+use crate::file_disk::FileDisk;
 use crate::lockable::Lockable;
 use crate::new_file::{is_taken, write_new};
 use crate::open_file::{make_disk, open_disk, open_view};
-use disk_trait::{Faults, FileDisk};
+use disk_trait::Faults;
 use std::alloc::Global;
 use std::fs::{File, OpenFile};
 use std::io::Read;

@@ -3,6 +3,7 @@
 
 mod causes;
 mod fault_count;
+mod file_disk;
 mod file_store;
 mod lockable;
 mod new_file;
@@ -14,6 +15,7 @@ mod tcp_net;
 mod tcp_port;
 mod write_behind;
 
+pub use file_disk::FileDisk;
 pub use file_store::FileStore;
 pub use lockable::Lockable;
 pub use stdout_sink::StdoutSink;

@@ -2,9 +2,9 @@
 
 ghost use Rattle.std.specs.Prelude.{◌≡◌, IfOk};
 
+use crate::file_disk::FileDisk;
 use crate::lockable::Lockable;
 use crate::new_file::{keep_name, make};
-use disk_trait::FileDisk;
 use std::fs::{Metadata, OpenFile, OpenOptions};
 use std::io::ErrorKind;
 use std::os::unix::fs::FileExt;

@@ -3,7 +3,8 @@
 ghost use Rattle.std.specs.Prelude.{◌≡◌, ◌≢◌, ◌↔◌, IsTrue, false, option_map, refl, string_bytes};
 ghost use Rattle.std.specs.Arc.{arc_value};
 ghost use Rattle.stream_host.specs.TcpPort.{port_state};
-ghost use Rattle.stream_host.specs.Untold.{untold_port};
+ghost use Rattle.stream_host.specs.Untold.{untold_port, untold_talk};
+ghost use Rattle.stream_io.specs.Net.{KeepsTalk, PortOnward};
 
 use crate::fault_count::FaultCount;
 use crate::tcp_link::TcpLink;
@@ -74,6 +75,14 @@ impl<R: Sockets + Copy> TcpPort<R> {
         ensures { IsTrue result ↔ (port_state self.now).accept_count ≢ 0 }
     {
         self.accept_faults.get() != 0
+    }
+
+    /// Counts a fault where a link that is hung up has counted some.
+    fn count_link(&mut self, faults: u64)
+        ensures kept { KeepsTalk (port_state self.old) (untold_talk faults) (port_state self.new) }
+        ensures onward { PortOnward (port_state self.old) (port_state self.new) }
+    {
+        self.faults.add_where(faults != 0);
     }
 }
 
@@ -152,7 +161,7 @@ where
 
     /// Closes a link, behind what it still holds.
     fn hang_up(&mut self, link: Self::Link) {
-        self.faults.add_where(link.faults() != 0);
+        self.count_link(link.faults());
         link.end();
     }
 

@@ -1,3 +1,4 @@
 pub mod Net
+pub mod RawFiles
 pub mod Store
 pub mod Talk

@@ -3,7 +3,7 @@ use Rattle.std.specs.Prelude.{◌≡◌, ◌≢◌, ◌+◌, ◌-◌, ◌++◌, 
 use Rattle.std.specs.Prelude.{IsTrue, All, min, ⊤}
 use Rattle.std.specs.Str.{bytes_eq}
 use Rattle.stream_io.specs.Store.{RisesWhere}
-use Rattle.stream_io.specs.Talk.{Talk}
+use Rattle.stream_io.specs.Talk.{Ended, Talk}
 
 -- A port in one state. What is said of links, of who is there to be dialled and of conversations means something only
 -- where the port tells its content.
@@ -20,7 +20,7 @@ pub record PortState : Type 0 where
   pub waiting : ℕ
   -- at which places somebody is there to be dialled
   pub reaches : List ℕ → Bool
-  -- the conversations that were hung up, each as its link's talk was then, the oldest first
+  -- the conversations that were hung up, each as it had ended then, the oldest first
   pub talks : List Talk
 
 -- what no call changes, and counts that no call lowers
@@ -63,14 +63,20 @@ pub record Dials (old : PortState) (place : List ℕ) (talk : Talk) (steady : Bo
       → new.reaches other ≡ old.reaches other
   pub talks : new.talks ≡ old.talks
 
--- A link was hung up, and its conversation is kept. The count rises where the link's is not 0, by one.
-pub record HangsUp (old : PortState) (talk : Talk) (new : PortState) : Type 0 where
-  pub count : RisesWhere (talk.count ≢ 0) old.count new.count
-  pub once : new.count ≤ old.count + min talk.count 1
+-- A conversation is kept. The count rises where its count is not 0, by one.
+pub record KeepsTalk (old : PortState) (last : Talk) (new : PortState) : Type 0 where
+  pub count : RisesWhere (last.count ≢ 0) old.count new.count
+  pub once : new.count ≤ old.count + min last.count 1
   pub accept_count : new.accept_count ≡ old.accept_count
   pub waiting : new.waiting ≡ old.waiting
   pub reaches : new.reaches ≡ old.reaches
-  pub talks : IsTrue old.told → new.talks ≡ old.talks ++ (talk ∷ [])
+  pub talks : IsTrue old.told → new.talks ≡ old.talks ++ (last ∷ [])
+
+-- a link was hung up, and its conversation is kept as it then ended
+pub record HangsUp (old : PortState) (talk : Talk) (new : PortState) : Type 0 where
+  pub last : Talk
+  pub ended : Ended talk last
+  pub kept : KeepsTalk old last new
 
 -- A net in one state. What is said of places and of ports means something only where the net tells its content.
 pub record NetState : Type 0 where

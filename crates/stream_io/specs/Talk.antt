@@ -1,5 +1,5 @@
 -- What has gone over a stream, and what a call on it changes.
-use Rattle.std.specs.Prelude.{◌≡◌, ◌<◌, ◌≤◌, ◌++◌, ℕ, Bool, List, Option, length, take, drop}
+use Rattle.std.specs.Prelude.{◌≡◌, ◌<◌, ◌≤◌, ◌++◌, ℕ, Bool, List, Option, IsTrue, length, take, drop}
 
 -- A stream in one state: whether it tells its bytes, the place that was dialled or none, the bytes that were read of it
 -- and those that a peer has given and nobody has read, the bytes that were written to it, the oldest byte first each,
@@ -44,3 +44,16 @@ pub record WrotePart (old new : Talk) (bytes : List ℕ) : Type 0 where
   pub size : ℕ
   pub short : size < length bytes
   pub written : new.written ≡ old.written ++ take size bytes
+
+-- What is kept of a link that was ended. Bytes that were read ahead of its reads count as read. All that was written
+-- went out, or a beginning of it, and then a fault was counted.
+pub record Ended (talk last : Talk) : Type 0 where
+  pub told : last.told ≡ talk.told
+  pub place : last.place ≡ talk.place
+  pub count : talk.count ≤ last.count
+  pub unread : List ℕ
+  pub taken : IsTrue talk.told → last.taken ≡ talk.taken ++ unread
+  pub left : IsTrue talk.told → talk.left ≡ unread ++ last.left
+  pub lost : List ℕ
+  pub written : IsTrue talk.told → last.written ++ lost ≡ talk.written
+  pub whole : IsTrue talk.told → last.count ≡ 0 → last.written ≡ talk.written

@@ -5,3 +5,4 @@ mod Links
 mod Added
 mod Loans
 mod Stable
+mod MemFiles

@@ -4,4 +4,5 @@ pub mod Links
 pub mod Nets
 pub mod Ports
 pub mod Waiting
+pub mod MemFiles
 pub mod MemStore

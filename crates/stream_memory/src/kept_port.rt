@@ -4,14 +4,15 @@ ghost use Rattle.std.specs.Prelude.{◌≡◌, ◌≢◌, ◌↔◌, ◌<◌, �
 ghost use Rattle.std.specs.Prelude.{IfNone, option_copied, option_map, position, string_bytes};
 ghost use Rattle.std.specs.List.{list_all, list_any, slice_get};
 ghost use Rattle.std.specs.Str.{bytes_eq};
+ghost use Rattle.stream_memory.specs.Chain.{own};
 ghost use Rattle.stream_memory.specs.Links.{conversation_of, talk_of};
 ghost use Rattle.stream_memory.specs.Ports.{is_at, is_steady_entry, is_steady_waiting, port_state};
-ghost use Rattle.stream_io.specs.Net.{Accepts, PortOnward, SameLinks};
+ghost use Rattle.stream_io.specs.Net.{Accepts, HangsUp, KeepsTalk, PortOnward, SameLinks};
 ghost use Rattle.stream_io.specs.Store.{RisesWhere};
 ghost use Rattle.stream_io.specs.declared.port.Accepted.{Accepted};
 
 use crate::calls::Calls;
-use crate::chain::Chain;
+use crate::chain::{Chain, Node};
 use crate::conversation::Conversation;
 use crate::mem_link::MemLink;
 use stream_io::Accepted;
@@ -85,6 +86,25 @@ impl KeptPort {
         link.begin(None);
         self.gave_steady &= link.is_steady();
         Accepted::Link(link)
+    }
+
+    /// Ends a link of which this was said, as `Port` says. Nothing was read ahead, and nothing held back.
+    pub(crate) fn hang_up(&mut self, node: Box<Node<Conversation>>)
+        ensures kept { HangsUp (port_state self.old) (talk_of (own node.value)) (port_state self.new) }
+        ensures onward { PortOnward (port_state self.old) (port_state self.new) }
+    {
+        self.keep(node);
+    }
+
+    /// Keeps a conversation, and counts a fault where it has some.
+    fn keep(&mut self, node: Box<Node<Conversation>>)
+        ensures kept { KeepsTalk (port_state self.old) (talk_of (own node.value)) (port_state self.new) }
+        ensures onward { PortOnward (port_state self.old) (port_state self.new) }
+    {
+        if node.value.faults() > 0 {
+            self.calls.fail();
+        }
+        self.talks.push(node);
     }
 }
 

@@ -95,11 +95,7 @@ impl Port for MemPort {
     }
 
     fn hang_up(&mut self, link: MemLink) {
-        let port = &mut self.node.value;
-        if link.faults() > 0 {
-            port.calls.fail();
-        }
-        port.talks.push(link.node);
+        self.node.value.hang_up(link.node);
     }
 
     ghost counts = { λ _. refl };

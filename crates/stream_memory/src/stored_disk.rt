@@ -16,7 +16,7 @@ pub struct StoredDisk {
 }
 
 /// Counts the fault of a call that failed.
-fn count<T>(faults: &mut u64, answer: Result<T, DiskFault>) -> Result<T, DiskFault>
+pub(crate) fn count<T>(faults: &mut u64, answer: Result<T, DiskFault>) -> Result<T, DiskFault>
     ensures same { result ≡ answer }
     ensures cause { HasCause faults.old faults.new result }
 {

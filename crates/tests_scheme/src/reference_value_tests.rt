@@ -5,7 +5,7 @@ ghost use Rattle.std.specs.Prelude.{◌≤◌, [], false};
 
 use crate::dealings::{count_up, deal_count, digest_of, head_of};
 use dealer::Dealt;
-use disk_trait::{Disk, DiskFault, Faults, FileDisk, MemDisk, Pages};
+use disk_trait::{DiskFault, Faults, MemDisk, Pages};
 use lms_bytes::bytes::put;
 use lms_bytes::{MessageId, Val, digit};
 use mask_prf::{chain_mask, check_tag, random_mask, randomizer};
@@ -14,7 +14,6 @@ use reference_value::{
 };
 use share_files::Share;
 use std::alloc::{AllocError, Global};
-use std::fs::{OpenOptions, remove_file};
 use std::process::Abort;
 use std::test::Fail;
 
@@ -298,19 +297,5 @@ fn a_read_that_fails_is_a_fault(rt: HostRuntime) -> Result<(), Fail> {
     let (joined, disk) = join_pages(&rt, &case, disk);
     assert!(rt; joined == Err(RefFault));
     assert!(rt; disk.faults() == 1);
-    Ok(())
-}
-
-#[test]
-fn a_file_gives_what_memory_gives(rt: HostRuntime) -> Result<(), Fail> {
-    let case = case_of(&rt, rt.alloc())?;
-    let name = "a_file_gives_what_memory_gives.ref";
-    let mut how = OpenOptions::new();
-    how.read(true).write(true).create(true);
-    let mut file = FileDisk::unlocked(how.open(&rt, name)?);
-    assert!(rt; file.write_at(0, &case.file) == Ok(()));
-    let (joined, _) = join_pages(&rt, &case, file);
-    assert!(rt; joined == Ok(true));
-    remove_file(&rt, name)?;
     Ok(())
 }

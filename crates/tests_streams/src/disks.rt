@@ -2,7 +2,7 @@
 //! for, and what a crash leaves.
 
 use crate::disk_calls::{crashed, plays};
-use disk_trait::{Disk, FileDisk, MemDisk};
+use disk_trait::{Disk, MemDisk};
 use memory::NoMemory;
 use std::alloc::Global;
 use std::cell::Cell;
@@ -12,6 +12,7 @@ use std::io::ErrorKind;
 use std::ops::Range;
 use std::os::unix::fs::FileExt;
 use std::test::Fail;
+use stream_host::FileDisk;
 
 /// Writes `abcdef`, makes it stable, and writes `XYZ` at 4.
 const TWICE: &str = "write 0 abcdef, sync, write 4 XYZ";

@@ -1,12 +1,12 @@
 -- Grants that stand in one legal log.
-use Rattle.std.proofs.Common.{◌≡◌, ◌<◌, ◌^◌, ℕ, List, [], ◌∷◌, ◌++◌, Option, All, length, get_or, take, None, Some, inl, inr, refl, sym, ap, ◌∙◌, subst, arith, append_assoc, append-nil, length-append, take_at}
+use Rattle.std.proofs.Common.{◌≡◌, ◌<◌, ◌^◌, ℕ, List, [], ◌∷◌, ◌++◌, Option, All, length, get_or, take, inl, inr, refl, sym, ap, ◌∙◌, subst, arith, append_assoc, append-nil, length-append, take_at}
 use Rattle.std.proofs.Math.Seq.{get_or-append_seam}
 use Rattle.std.proofs.lemmas.List.Elements.{All-append, All-cons, All-head, All-nil, All-tail, All-weaker}
 use mathlib.Core.List.{IsPrefix}
 use Rattle.approval_book.specs.Decisions.{BookAnswer, BookDecides, Decided, Denied, decided, denied}
 use Rattle.lms_bytes.specs.declared.ask.Ask.{Ask}
 use Rattle.opening_journal.specs.Entries.{Adds, IsLegalList, JournalState, leaf_of, map_of}
-use Rattle.opening_journal.specs.Opening.{SettlesTo, settled_with}
+use Rattle.opening_journal.specs.Opening.{settled_with}
 use Rattle.opening_journal.specs.declared.entry.Entry.{Entry}
 use Rattle.share_files.specs.declared.share.Share.{Share}
 use Rattle.trustee_core.specs.Decisions.{Granted, Refused}

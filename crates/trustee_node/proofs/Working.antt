@@ -113,7 +113,7 @@ module _ (share : Share) (ids : Option (List (List ℕ))) where
       → Worked share ids old (record { port = port; pass = pass; clock = clock; connections = mid.connections + 1; frames = frames; worn = worn; failed = mid.failed })
   worked-more old mid port_in port pass clock link steady served frames worn a sound accepts onward_in quiet b onward told sum ended =
       let conversation = b.conversation in
-      let one : Connection = record { link = link; talk = b.talk; turns = conversation.turns; served = served } in
+      let one : Connection = record { link = link; talk = b.talk; last = b.hung.last; turns = conversation.turns; served = served } in
       let turns = turns-more a.served one in
       let before : mid.port.told ≡ old.port.told = a.onward.told in
       let before_clock : mid.clock.told ≡ old.clock.told = a.clock_told in
@@ -128,6 +128,8 @@ module _ (share : Share) (ids : Option (List (List ℕ))) where
         most = conversation.most;
         cause = conversation.cause;
         told = conversation.told;
+        place = conversation.place;
+        ended = b.hung.ended;
       } in
       record {
         served = a.served ++ one ∷ [];
@@ -137,17 +139,17 @@ module _ (share : Share) (ids : Option (List (List ℕ))) where
             subst (IsDated old.clock.answers clock.answers) (sym turns)
             (dated-then old.clock.answers mid.clock.answers clock.answers (turns_of a.served) conversation.turns (a.dated is_told) (conversation.dated (before_clock ∙ is_told)));
         talks = λ is_told.
-            b.hung.talks (onward_in.told ∙ before ∙ is_told) ∙ ap (λ (l : List Talk). l ++ b.talk ∷ []) (accepts.talks ∙ a.talks is_told)
-            ∙ append_assoc old.port.talks (map (λ (c : Connection). c.talk) a.served) (b.talk ∷ [])
-            ∙ ap (λ (l : List Talk). old.port.talks ++ l) (sym (map-append (λ (c : Connection). c.talk) a.served (one ∷ [])));
+            b.hung.kept.talks (onward_in.told ∙ before ∙ is_told) ∙ ap (λ (l : List Talk). l ++ b.hung.last ∷ []) (accepts.talks ∙ a.talks is_told)
+            ∙ append_assoc old.port.talks (map (λ (c : Connection). c.last) a.served) (b.hung.last ∷ [])
+            ∙ ap (λ (l : List Talk). old.port.talks ++ l) (sym (map-append (λ (c : Connection). c.last) a.served (one ∷ [])));
         waiting = λ is_told.
-            (let w = a.waiting is_told in let taken = accepts.waiting (before ∙ is_told) in let same = b.hung.waiting in
+            (let w = a.waiting is_told in let taken = accepts.waiting (before ∙ is_told) in let same = b.hung.kept.waiting in
             omega (arith, w, taken, same, length-append a.served (one ∷ [])));
         onward = onward-then old.port port_in port (onward-then old.port mid.port port_in a.onward onward_in) onward;
         accepts = record {
-          later = (let p = a.accepts.later in let q = b.hung.accept_count in omega (arith, quiet));
+          later = (let p = a.accepts.later in let q = b.hung.kept.accept_count in omega (arith, quiet));
           rose = λ failed. absurd (true≢false (sym failed ∙ sound));
-          same = λ never. b.hung.accept_count ∙ quiet ∙ a.accepts.same never;
+          same = λ never. b.hung.kept.accept_count ∙ quiet ∙ a.accepts.same never;
         };
         clock_told = told ∙ before_clock;
         connections = (let c = a.connections in omega (arith, c, length-append a.served (one ∷ [])));

@@ -27,14 +27,14 @@ pub data PortEnds (asked served : ℕ) (before after : PortState) : Type 0 where
   failed : Rose before.accept_count after.accept_count → (IsTrue after.steady → ⊥) → PortEnds asked served before after
 
 -- A port was served: its connections had their turns one after the other, between these two logs, each was of a link
--- that waited, and the port's talks grew by just theirs
+-- that waited, and the port's talks grew by just theirs, as they ended
 pub record IsPortRun (share : Share) (ids : Option (List (List ℕ))) (asked : ℕ) (log last : List Entry) (run : PortRun)
     : Type 0 where
   pub are : All (IsConnection share run.before.told) run.served
   pub turns : ServedTurns share ids log (turns_of run.served) last
   pub dated : IsTrue run.clock.told → HaveMoments run.clock.answers 0 (turns_of run.served)
   pub talks : IsTrue run.before.told
-      → run.after.talks ≡ run.before.talks ++ map (λ (one : Connection). one.talk) run.served
+      → run.after.talks ≡ run.before.talks ++ map (λ (one : Connection). one.last) run.served
   pub waiting : IsTrue run.before.told → run.before.waiting ≡ run.after.waiting + length run.served
   pub onward : PortOnward run.before run.after
   pub most : length run.served ≤ asked

@@ -6,7 +6,7 @@ use Rattle.opening_journal.specs.declared.entry.Entry.{Entry}
 use Rattle.share_files.specs.declared.share.Share.{Share}
 use Rattle.stream_io.specs.Net.{HangsUp, IsNewLink, PortOnward, PortState}
 use Rattle.stream_io.specs.Store.{RisesWhere}
-use Rattle.stream_io.specs.Talk.{Talk}
+use Rattle.stream_io.specs.Talk.{Ended, Talk}
 use Rattle.trustee_core.specs.declared.kept.TrusteeName.{TrusteeName}
 use Rattle.turn_lock.specs.Pass.{Seen}
 use Rattle.trustee_node.specs.Connections.{Conversation, EndsBy, HasRead, HasWritten, IsDated, IsLinkFault}
@@ -46,7 +46,7 @@ worker_state state told answers worker = record {
   failed = worker.failed;
 }
 
--- a link was served, and hung up as it was then
+-- a link was served, and then hung up
 pub record ServesLink (share : Share) (ids : Option (List (List ℕ))) (pass_old pass_new : Seen Entry TrusteeName)
     (link : Talk) (port_old port_new : PortState) (clock_old clock_new : ClockState) (served : Served) : Type 0 where
   pub talk : Talk
@@ -54,14 +54,16 @@ pub record ServesLink (share : Share) (ids : Option (List (List ℕ))) (pass_old
       clock_new.answers served
   pub hung : HangsUp port_old talk port_new
 
--- a connection that was served: its link as it was accepted and as it was hung up, its turns and how it ended
+-- a connection that was served: its link as it was accepted, as it was hung up and as it then ended, its turns and how
+-- serving it ended
 pub record Connection : Type 0 where
   pub link : Talk
   pub talk : Talk
+  pub last : Talk
   pub turns : List Turn
   pub served : Served
 
--- the link was new at a port that is told where this says so, and served so
+-- the link was new at a port that is told where this says so, was served so, and ended so
 pub record IsConnection (share : Share) (port_told : Bool) (one : Connection) : Type 0 where
   pub port : PortState
   pub steady : Bool
@@ -73,6 +75,8 @@ pub record IsConnection (share : Share) (port_told : Bool) (one : Connection) : 
   pub most : length one.turns ≤ 65536
   pub cause : RisesWhere (IsLinkFault one.served.ended) one.link.count one.talk.count
   pub told : one.talk.told ≡ one.link.told
+  pub place : one.talk.place ≡ one.link.place
+  pub ended : Ended one.talk one.last
 
 abbrev pub turns_of : List Connection → List Turn
 turns_of served = flat_map (λ (one : Connection). one.turns) served
@@ -87,7 +91,7 @@ pub record Worked (share : Share) (ids : Option (List (List ℕ))) (old new : Wo
   pub are : All (IsConnection share old.port.told) served
   pub serves : Serves share ids old.pass new.pass (turns_of served)
   pub dated : IsTrue old.clock.told → IsDated old.clock.answers new.clock.answers (turns_of served)
-  pub talks : IsTrue old.port.told → new.port.talks ≡ old.port.talks ++ map (λ (one : Connection). one.talk) served
+  pub talks : IsTrue old.port.told → new.port.talks ≡ old.port.talks ++ map (λ (one : Connection). one.last) served
   pub waiting : IsTrue old.port.told → old.port.waiting ≡ new.port.waiting + length served
   pub onward : PortOnward old.port new.port
   pub accepts : RisesWhere (new.failed ≡ true) old.port.accept_count new.port.accept_count

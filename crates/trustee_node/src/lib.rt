@@ -15,7 +15,7 @@ mod turn;
 mod worker;
 
 pub use connection::serve_connection;
-pub use served::{Served, ServedEnd};
+pub use served::{Served, ServedEnd, end_by};
 pub use service::serve_ports;
 pub use totals::Totals;
 pub use worker::{Worker, serve};

@@ -30,7 +30,7 @@ pub struct Served {
 }
 
 /// The end of a connection whose next frame has this fault.
-pub(crate) fn end_by(fault: FrameFault) -> ServedEnd
+pub fn end_by(fault: FrameFault) -> ServedEnd
     ensures { result ≡ end_by fault }
 {
     match fault {

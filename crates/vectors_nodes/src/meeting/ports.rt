@@ -229,6 +229,7 @@ impl<'a, W: Wait + Sync> Port for MeetingPort<'a, W> {
         Ok(WaitingLink::new(link, self.meeting.hold(share), None))
     }
 
+    #[tactic(auto, using(crate::proofs::HangingUp::hangs_up))]
     fn hang_up(&mut self, link: Self::Link) {
         if link.faults() != 0 {
             self.faults = self.faults.saturating_add(1);

@@ -1,4 +1,4 @@
-use Rattle.std.proofs.Common.{◌≡◌, ◌-◌, ◌++◌, ℕ, List, inl, inr, length, take, ap, ◌∙◌, subst, arith, refl}
+use Rattle.std.proofs.Common.{◌≡◌, ◌-◌, ◌++◌, ℕ, List, inl, inr, take, ap, ◌∙◌, subst, arith, refl}
 use Rattle.lms_bytes.specs.Bytes.{joined}
 use Rattle.stream_io.proofs.Pieces.{part-front, wrote-same, wrote-then}
 use Rattle.stream_io.specs.Talk.{WrotePart}

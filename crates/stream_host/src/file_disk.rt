@@ -4,7 +4,7 @@ ghost use Rattle.std.specs.Prelude.{◌≡◌, false, [], Ok, IfOk, is_ok, if◌
 ghost use Rattle.std.proofs.lemmas.Bool.{false≢true};
 ghost use Rattle.disk_trait.specs.MemDisk.{counted};
 
-use crate::{Disk, DiskFault, Faults, Pages};
+use disk_trait::{Disk, DiskFault, Faults, Pages};
 use std::fs::{File, OpenFile};
 use std::io;
 use std::io::ErrorKind;
