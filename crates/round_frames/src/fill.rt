@@ -1,6 +1,7 @@
 //! Rooms that are filled from a source, and bytes that are taken of it as they come.
 
-ghost use Rattle.std.specs.Prelude.{◌≡◌, ◌≢◌, ◌⊎◌, ◌+◌, ◌<◌, ◌^◌, ◌++◌, length, take, IsTrue, IfErr, IfOk, OnOk};
+ghost use Rattle.std.specs.Prelude.{◌≡◌, ◌≢◌, ◌⊎◌, ◌+◌, ◌-◌, ◌<◌, ◌^◌, ◌++◌, length, take, min, max, IsTrue};
+ghost use Rattle.std.specs.Prelude.{IfErr, IfOk, OnOk};
 ghost use Rattle.stream_io.specs.Store.{RisesWhere};
 ghost use Rattle.stream_io.specs.Talk.{OnlyRead};
 ghost use Rattle.round_frames.specs.Reads.{Passed};
@@ -51,10 +52,18 @@ pub(crate) fn take_bytes<S: Source>(
     let size = size as usize;
     let mut bytes = Vec::new(alloc);
     'pieces: while bytes.len() < size {
-        let more = (size - bytes.len()).min(bytes.len().max(PIECE));
+        let more = count_behind(bytes.len(), size);
         take_more(source, &mut bytes, more)?;
     }
     Ok(bytes)
+}
+
+/// How many bytes of this size memory is taken for, where this many were read: at most as many again, or a piece.
+fn count_behind(read: usize, size: usize) -> usize
+    requires { read < size }
+    ensures { result ≡ min (size - read) (max read 4096) }
+{
+    (size - read).min(read.max(PIECE))
 }
 
 /// Takes so many bytes more from the source.

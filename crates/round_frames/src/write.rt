@@ -28,8 +28,39 @@ fn put_header(out: &mut [u8], kind: u8, size: u32)
     put(out, 4, &size.to_be_bytes());
 }
 
-/// Writes a head, and then what follows it.
+/// Up to how many bytes a head and what follows it are written together.
+const ROOM: usize = 4096;
+
+/// Writes a head, and then what follows it: by one call of the sink where both are short.
 fn write_both<K: Sink>(head: &[u8], rest: &[u8], sink: &mut K) -> Result<(), Failed>
+    ensures wrote { IsTrue (K.talk sink.old).told → MatchResult result
+        (λ _. (K.talk sink.new).written ≡ (K.talk sink.old).written ++ (head.now ++ rest.now))
+        (λ _. WrotePart (K.talk sink.old) (K.talk sink.new) (head.now ++ rest.now)) }
+    ensures only { OnlyWrote (K.talk sink.old) (K.talk sink.new) }
+    ensures cause { HasCause (K.talk sink.old).count (K.talk sink.new).count result }
+    ensures succeeds { IsTrue (K.steady sink.old) → length head.now + length rest.now ≤ K.room sink.old → IsOk result }
+    ensures steady { K.steady sink.new ≡ K.steady sink.old }
+{
+    if head.len() + rest.len() > ROOM {
+        return write_apart(head, rest, sink);
+    }
+    let room = join(head, rest);
+    write_whole(sink, &room[..head.len() + rest.len()])
+}
+
+/// A head and what follows it at the front of a room.
+fn join(head: &[u8], rest: &[u8]) -> [u8; ROOM]
+    requires { length head.now + length rest.now ≤ 4096 }
+    ensures { take (length head.now + length rest.now) result ≡ head.now ++ rest.now }
+{
+    let mut room = [0; ROOM];
+    put(&mut room, 0, head);
+    put(&mut room, head.len(), rest);
+    room
+}
+
+/// Writes a head, and then what follows it by a call of its own.
+fn write_apart<K: Sink>(head: &[u8], rest: &[u8], sink: &mut K) -> Result<(), Failed>
     ensures wrote { IsTrue (K.talk sink.old).told → MatchResult result
         (λ _. (K.talk sink.new).written ≡ (K.talk sink.old).written ++ (head.now ++ rest.now))
         (λ _. WrotePart (K.talk sink.old) (K.talk sink.new) (head.now ++ rest.now)) }

@@ -10,12 +10,12 @@ pieces-preserved g c =
     let talk = g.S.Stream.talk in
     let v = c.pieces.invariant in
     let r = c.in_ok-take_more.ensures in
-    let more = c.min-more.result in
+    let more = c.count_behind-more.result in
     let at = length c.pieces.bytes.items in
     let left = (talk c.pieces.source).left in
     let first = (talk c.args.source.now).left in
     record {
-      within = (let m = c.min-more.ensures in let l = r.length in let a = c.len-in-pieces.ensures in let t = c.pieces-test.true in let w = v.within in grind (arith, m, l, a, t, w));
+      within = (let m = c.count_behind-more.ensures in let l = r.length in let a = c.len-in-pieces.ensures in let t = c.pieces-test.true in let w = v.within in grind (arith, m, l, a, t, w));
       only = only-then _ _ _ v.only r.only;
       quiet = r.cause.same (λ is. absurd (cc)) ∙ v.quiet;
       steady = r.steady ∙ v.steady;
@@ -28,6 +28,6 @@ returns-in_err-take_more-clause-passed g c told =
     let talk = g.S.Stream.talk in
     let v = c.pieces.invariant in
     let p = err_from_is_err_and c.from_residual.result c.from_residual.ensures.1 in
-    rw (p.1, p.2) (passed-or (length c.pieces.bytes.items) c.min-more.result c.args.size (talk c.args.source.now) (talk c.pieces.source) (talk c.take_more.new.source) c.in_err-take_more.field-0.0
-    (let m = c.min-more.ensures in let a = c.len-in-pieces.ensures in let t = c.pieces-test.true in let w = v.within in grind (arith, m, a, t, w))
+    rw (p.1, p.2) (passed-or (length c.pieces.bytes.items) c.count_behind-more.result c.args.size (talk c.args.source.now) (talk c.pieces.source) (talk c.take_more.new.source) c.in_err-take_more.field-0.0
+    (let m = c.count_behind-more.ensures in let a = c.len-in-pieces.ensures in let t = c.pieces-test.true in let w = v.within in grind (arith, m, a, t, w))
     (v.took told) (c.in_err-take_more.ensures.passed (v.only.told ∙ told)))

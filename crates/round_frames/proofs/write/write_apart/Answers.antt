@@ -1,6 +1,6 @@
 use Rattle.round_frames.proofs.Writing.{wrote-behind}
 use Rattle.std.proofs.Common.{◌∙◌}
-use Rattle.round_frames.proofs.write.write_both.Goals as goal
+use Rattle.round_frames.proofs.write.write_apart.Goals as goal
 
 pub returns-clause-wrote : goal.returns-clause-wrote
 returns-clause-wrote g c told =
