@@ -20,6 +20,8 @@ mod sorted;
 #[cfg(test)]
 mod tables;
 #[cfg(test)]
+mod tall;
+#[cfg(test)]
 mod trustees;
 #[cfg(test)]
 mod turns;

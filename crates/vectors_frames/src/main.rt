@@ -1,6 +1,7 @@
-//! Reads frames that another implementation read as well, from a table with a row for each reading: the typecodes, the
-//! reader, the bytes, and what was read. Each is read twice, from one piece and from pieces of one byte. It prints the
-//! number of each row that was read otherwise, and how many were not. Then it reads a long message in pieces.
+//! Reads frames from tables with a row for each reading: the typecodes, the reader, the bytes, and what was read. One
+//! table is another implementation's, one has headers by hand: other kinds, and lengths at their limits. Each row is
+//! read twice, from one piece and from pieces of one byte. It prints the number of each row that was read otherwise,
+//! and how many were not. Then it reads a long message in pieces.
 #![tactic(auto)]
 
 mod reading;
@@ -88,9 +89,10 @@ fn agrees_on_long(alloc: Global) -> Result<bool, AllocError> {
     Ok(whole == cut && whole.as_str().contains(LONG_ID))
 }
 
-fn main(rt: HostRuntime) -> io::Result<()> {
+/// Prints the number of each row of a table that is read otherwise than it says, and how many are not.
+fn print_table(rt: HostRuntime, name: &str) -> io::Result<()> {
     let mut store = FileStore::new(rt);
-    let Ok(bytes) = store.read_all(rt.alloc(), "frames.tsv", 1 << 20) else {
+    let Ok(bytes) = store.read_all(rt.alloc(), name, 1 << 20) else {
         return Err(io::Error::from(ErrorKind::NotFound));
     };
     let Ok(table) = str::from_utf8(&bytes) else {
@@ -105,10 +107,15 @@ fn main(rt: HostRuntime) -> io::Result<()> {
         if same {
             agreed = agreed.saturating_add(1);
         } else {
-            println!(rt; "row {number} is read otherwise")?;
+            println!(rt; "{name}: row {number} is read otherwise")?;
         }
     }
-    println!(rt; "{agreed} rows are read as the table says")?;
+    println!(rt; "{name}: {agreed} rows are read as the table says")
+}
+
+fn main(rt: HostRuntime) -> io::Result<()> {
+    print_table(rt, "frames.tsv")?;
+    print_table(rt, "limits.tsv")?;
     let long = agrees_on_long(rt.alloc())?;
     println!(rt; "a long message is read alike in one piece and in many: {long}")
 }

@@ -3,8 +3,8 @@
 //! byte. Then it signs where a frame of another trustee comes first, and where a trustee refuses; and it serves a
 //! client that asks for the same signature.
 
-mod client;
-mod scene;
+pub(crate) mod client;
+pub(crate) mod scene;
 
 use crate::files::file_of;
 use aggregator_session::{SignFault, Signed, sign_leased};
@@ -44,7 +44,7 @@ fn run(rt: HostRuntime, session: &str, replies: [Vec<u8>; 3]) -> Option<Ran> {
 }
 
 /// The replies of the three trustees.
-fn replies(rt: HostRuntime, session: &str) -> Option<[Vec<u8>; 3]> {
+pub(crate) fn replies(rt: HostRuntime, session: &str) -> Option<[Vec<u8>; 3]> {
     Some([
         file_of(rt, session, "replies1")?,
         file_of(rt, session, "replies2")?,
@@ -114,11 +114,10 @@ fn is_alone(ran: &Ran) -> bool {
     ran.port.kept().talk(1).is_none()
 }
 
-/// What came of a client that asks for a signature of three trustees and then for one of two: whether it was given the
-/// first and told that two are no coalition, and how its connection ended.
-fn served(rt: HostRuntime, waits: &impl Wait, session: &str) -> Option<(bool, Served)> {
+/// What a client is answered that asks for a signature of three trustees and then for one of two: the signature, and
+/// that two are no coalition.
+pub(crate) fn answers(rt: HostRuntime, session: &str) -> Option<Vec<u8>> {
     let alloc = rt.alloc();
-    let scene = Scene::read(rt, session)?;
     let signature = file_of(rt, session, "signature")?;
     let length = u32::try_from(signature.len()).ok()?;
     let mut want = Vec::from_slice(alloc, b"\x54\x4c\x01\x07").ok()?;
@@ -127,6 +126,14 @@ fn served(rt: HostRuntime, waits: &impl Wait, session: &str) -> Option<(bool, Se
     want.extend_from_slice(b"\x54\x4c\x01\x08\x00\x00\x00\x07")
         .ok()?;
     want.extend_from_slice(&[18, 0, 0, 0, 0, 0, 0]).ok()?;
+    Some(want)
+}
+
+/// What came of such a client: whether it was answered so, and how its connection ended.
+fn served(rt: HostRuntime, waits: &impl Wait, session: &str) -> Option<(bool, Served)> {
+    let alloc = rt.alloc();
+    let scene = Scene::read(rt, session)?;
+    let want = answers(rt, session)?;
     let asked = requests(alloc, &scene.message)?;
     let (served, written) = serve(waits, alloc, &scene, replies(rt, session)?, asked)?;
     Some((written.as_slice() == want.as_slice(), served))

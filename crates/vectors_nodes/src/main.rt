@@ -1,10 +1,11 @@
 //! Runs trustees and aggregators over links in memory, on what another implementation asked, replied and signed: each
-//! trustee by itself, an aggregator over replies, links of one trustee of which one waits for the other, and sessions
-//! that wait for each other.
+//! trustee by itself, an aggregator over replies, links of one trustee of which one waits for the other, sessions that
+//! wait for each other, and links, ports and disks whose calls fail in turn.
 #![tactic(auto)]
 
 mod aggregator;
 mod beside;
+mod failing;
 mod files;
 mod links;
 mod meeting;
@@ -19,5 +20,6 @@ fn main(rt: HostRuntime) -> io::Result<()> {
     replying::print_runs(&rt, rt)?;
     aggregator::print_runs(&rt, rt)?;
     beside::print_runs(&rt, rt)?;
-    meeting::print_runs(&rt, rt)
+    meeting::print_runs(&rt, rt)?;
+    failing::print_runs(&rt, rt)
 }

@@ -1,6 +1,7 @@
 //! Trustees whose journals are empty, in memory.
 
 ghost use Rattle.std.specs.Prelude.{◌≡◌, IfSome, true};
+ghost use Rattle.opening_journal.specs.Journal.{header_of, params_of};
 ghost use Rattle.trustee_core.specs.Trustee.{journal_header, share_of};
 
 use crate::links::link;
@@ -45,16 +46,26 @@ fn header(share: &Share) -> Header
     }
 }
 
+/// An empty journal of the share's trustee.
+pub(crate) fn empty_journal(alloc: Global, share: &Share) -> Option<MemDisk> {
+    let mut disk = MemDisk::new(alloc, JOURNAL, usize::MAX).ok()?;
+    prepare(&mut disk, &header(share), 32).ok()?;
+    Some(disk)
+}
+
+/// The journal of the share's trustee on this disk, if it loads.
+pub(crate) fn load(alloc: Global, share: &Share, disk: MemDisk) -> Option<Journal<MemDisk>>
+    ensures header { IfSome result (λ journal. header_of journal ≡ journal_header share.now) }
+    ensures params { IfSome result (λ journal. params_of journal ≡ share.now.params) }
+{
+    Journal::load(alloc, disk, &header(share), &share.params).ok()
+}
+
 /// A trustee of the share, whose journal is empty.
 pub(crate) fn trustee(alloc: Global, share: &Share) -> Option<Trustee<MemDisk>>
     ensures { IfSome result (λ trustee. share_of trustee ≡ share.now) }
 {
-    let mut disk = MemDisk::new(alloc, JOURNAL, usize::MAX).ok()?;
-    let header = header(share);
-    prepare(&mut disk, &header, 32).ok()?;
-    let Ok(journal) = Journal::load(alloc, disk, &header, &share.params) else {
-        return None;
-    };
+    let journal = load(alloc, share, empty_journal(alloc, share)?)?;
     Some(Trustee::new(*share, journal))
 }
 

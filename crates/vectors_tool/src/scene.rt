@@ -14,7 +14,7 @@ use tool_run::{MemClocks, run_tool};
 pub(crate) type Files = Vec<(String, Vec<u8>)>;
 
 /// No file that is read from the system is longer.
-const FILE_LIMIT: u64 = 1 << 24;
+const FILE_LIMIT: u64 = 1 << 26;
 
 /// The moment at which each clock begins.
 const START: u64 = 1000;

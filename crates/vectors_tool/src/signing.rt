@@ -38,11 +38,14 @@ struct Run {
     one_of_many: bool,
 }
 
-/// The store of the files of a session, and of a message that is too long by one byte.
+/// The store of the files of a session, of a message that is as long as one may be, and of one that is longer by a
+/// byte.
 fn first_store(rt: HostRuntime) -> io::Result<MemStore> {
     let mut files = read_files(rt, &SESSION_FILES)?;
-    let long = vec![in rt.alloc(); 0; 16_777_217]?;
-    files.push((String::from_str(rt.alloc(), "long")?, long))?;
+    for (name, length) in [("longest", 16_777_216), ("long", 16_777_217)] {
+        let message = vec![in rt.alloc(); 0; length]?;
+        files.push((String::from_str(rt.alloc(), name)?, message))?;
+    }
     store_of(rt.alloc(), files, &[])
 }
 

@@ -5,7 +5,7 @@ ghost use Rattle.leaf_table.specs.Table.{plan_of};
 ghost use Rattle.share_files.specs.Reference.{leaves_length};
 
 use crate::files::file_of;
-use crate::links::link;
+use crate::links::failing_link;
 use crate::tables::{LEAVES, table_of};
 use aggregator_session::{Address, Desk};
 use coalition_map::Plan;
@@ -83,20 +83,18 @@ fn place(alloc: Global, member: u8) -> Option<String> {
 
 /// A port at which three trustees can be dialled who give these bytes.
 pub(crate) fn port(alloc: Global, replies: [Vec<u8>; 3]) -> Option<MemPort> {
-    let [one, two, three] = replies;
+    port_of(alloc, &replies, 1)
+}
+
+/// The same, where each can be dialled so many times.
+pub(crate) fn port_of(alloc: Global, replies: &[Vec<u8>; 3], times: u32) -> Option<MemPort> {
     let mut script = PortScript::new(alloc);
-    script
-        .dialled
-        .push((place(alloc, 1)?, link(alloc, one, None)?))
-        .ok()?;
-    script
-        .dialled
-        .push((place(alloc, 2)?, link(alloc, two, None)?))
-        .ok()?;
-    script
-        .dialled
-        .push((place(alloc, 3)?, link(alloc, three, None)?))
-        .ok()?;
+    for _ in 0..times {
+        for (member, replies) in (1..4).zip(replies) {
+            let link = failing_link(alloc, replies, None)?;
+            script.dialled.push((place(alloc, member)?, link)).ok()?;
+        }
+    }
     MemPort::new(alloc, None, script).ok()
 }
 

@@ -52,7 +52,7 @@ pub(crate) const FAULTY: Rows = &[
 ];
 
 /// Rehearsals, each with the files that are printed behind it. A file of entropy is named by its length, and its bytes
-/// count up from 0, or are all the same.
+/// count up from 0, or are all the same; those of the longest begin again after 250, so that no two keys are equal.
 pub(crate) const REHEARSALS: Rows = &[
     (
         "rehearse 144 empty empty.key empty.signature",
@@ -107,6 +107,10 @@ pub(crate) const DEALINGS: Rows = &[
     (
         "deal 240 10 7 5 3 e",
         "e.pub e.tree e.ref e.share1 e.share2 e.share3 e.share4 e.share5",
+    ),
+    (
+        "deal 464 6 3 12 6 g",
+        "g.pub g.tree g.ref g.share1 g.share12",
     ),
 ];
 

@@ -37,9 +37,9 @@ const ASKS_24: &[(&str, &str)] = &[
     ("three", "asks3.24"),
 ];
 
-/// A key of 32-byte hashes: signed, and signed again, and what the table then holds; then outputs that are there, members
-/// that are no coalition, files that are not there or no table, a message that is too long, and words that are no
-/// command.
+/// A key of 32-byte hashes: signed, and signed again, and what the table then holds; then outputs that are there,
+/// members that are no coalition, files that are not there or no table, a message that is too long, one as long as one
+/// may be whose first trustee is not there, and words that are no command.
 pub(crate) const SIGN: &[Step] = &[
     Step {
         words: "deal entropy 5 3 5 3 A",
@@ -97,6 +97,10 @@ pub(crate) const SIGN: &[Step] = &[
     },
     Step {
         words: "sign A table long more 1=one 2=two 3=three",
+        ..PLAIN
+    },
+    Step {
+        words: "sign A table longest more 1=one 2=two 4=four",
         ..PLAIN
     },
     Step {

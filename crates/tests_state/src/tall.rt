@@ -1,0 +1,117 @@
+//! A journal of 1,024 leaves in a file of the system, up to its last slot.
+
+ghost use Rattle.std.specs.Prelude.{◌≡◌};
+ghost use Rattle.opening_journal.specs.Journal.{params_of};
+
+use disk_trait::Disk;
+use lms_bytes::{MessageId, Params, Val};
+use opening_journal::{Entered, Entry, Journal, JournalFault};
+use slot_file::{Header, prepare};
+use std::alloc::Global;
+use std::fs::{metadata, remove_file};
+use std::process::Abort;
+use std::test::Fail;
+use stream_host::FileStore;
+use stream_io::Store;
+
+/// The message of the last leaf.
+const ONE: MessageId = MessageId {
+    length: 3,
+    hash: [0x11; 32],
+};
+
+/// Another message.
+const TWO: MessageId = MessageId {
+    length: 300,
+    hash: [0x22; 32],
+};
+
+/// The last leaf.
+const LAST: u32 = 1023;
+
+/// The bytes of a journal of 1,024 leaves.
+const BYTES: usize = 163_968;
+
+/// A journal of 1,024 leaves, of a set whose hashes have 32 bytes.
+#[derive(Drop)]
+struct Tall<D: Disk + Drop> {
+    journal: Journal<D>,
+    ghost sizes: { ((params_of journal).h ≡ 10) × ((params_of journal).n ≡ 32) },
+}
+
+/// The parameters of typecodes 6 and 3.
+fn params(rt: &impl Abort) -> Params
+    ensures sizes { (result.h ≡ 10) × (result.n ≡ 32) }
+{
+    let params = Params::of_codes(6, 3).expect(rt, "typecodes");
+    assert!(rt; params.h == 10 && params.n == 32);
+    params
+}
+
+/// The header of trustee 3.
+fn header(params: &Params) -> Header
+    ensures version { result.version ≡ 2 }
+    ensures lms { result.lms ≡ params.now.lms }
+    ensures ots { result.ots ≡ params.now.ots }
+{
+    Header {
+        version: 2,
+        number: 3,
+        lms: params.lms,
+        ots: params.ots,
+        id: [0x1d; 16],
+    }
+}
+
+impl<D: Disk + Drop> Tall<D> {
+    /// Loads the journal of a disk.
+    fn open(rt: &impl Abort, alloc: Global, disk: D) -> Tall<D> {
+        let params = params(rt);
+        match Journal::load(alloc, disk, &header(&params), &params) {
+            Ok(journal) => Tall { journal },
+            Err((_, fault)) => panic!(rt; "load: {fault}"),
+        }
+    }
+
+    /// Binds and opens the last leaf.
+    fn enter_last(&mut self) -> bool {
+        let (c, digest) = (Val::of(&[0xCC; 32]), Val::of(&[0xDD; 32]));
+        self.journal.bind(LAST, &ONE) == Ok(Entered::New)
+            && self.journal.open_leaf(LAST, &ONE, &c, &digest, 7) == Ok(Entered::New)
+    }
+
+    /// Whether the last leaf alone was bound and opened, and is bound to no other message.
+    fn has_last(&mut self) -> bool {
+        let bound = Entry::Bound {
+            leaf: LAST,
+            message: ONE,
+        };
+        let opened = Entry::Opened {
+            leaf: LAST,
+            message: ONE,
+            c: Val::of(&[0xCC; 32]),
+            digest: Val::of(&[0xDD; 32]),
+            moment: 7,
+        };
+        self.journal.entries() == [bound, opened].as_slice()
+            && self.journal.bind(LAST, &TWO) == Err(JournalFault::Spent { kept: ONE })
+    }
+}
+
+#[test]
+fn the_last_leaf_of_a_tall_journal_is_kept(rt: HostRuntime) -> Result<(), Fail> {
+    let name = "the_last_leaf_of_a_tall_journal_is_kept.journal";
+    let mut store = FileStore::new(rt);
+    let made = store.new_disk(rt.alloc(), name, BYTES);
+    let mut disk = made.ok().expect(&rt, "a new file");
+    assert!(rt; prepare(&mut disk, &header(&params(&rt)), 1024) == Ok(()));
+    let mut journal = Tall::open(&rt, rt.alloc(), disk);
+    assert!(rt; journal.enter_last());
+    drop(journal);
+    assert!(rt; metadata(&rt, name)?.len() == BYTES as u64);
+    let disk = store.take_disk(name).ok().expect(&rt, "the file");
+    let mut journal = Tall::open(&rt, rt.alloc(), disk);
+    assert!(rt; journal.has_last());
+    remove_file(&rt, name)?;
+    Ok(())
+}
