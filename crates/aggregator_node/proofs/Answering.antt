@@ -27,9 +27,9 @@ pub accepted_as : (key : PublicKey) (message : List ℕ) (result : Result Signed
 accepted_as key message (Ok signed) accepted = accepted
 accepted_as key message (Err fault) accepted = accepted
 
-pub port_as : (before now : PortState) (result : Result Signed SignFault) → PortCauses before now result → PortCauses before now (signature_in result)
-port_as before now (Ok signed) p = record { dialled = p.dialled; unwritten = p.unwritten; unread = p.unread; reads = p.reads; onward = p.onward; accepting = p.accepting }
-port_as before now (Err fault) p = record { dialled = p.dialled; unwritten = p.unwritten; unread = p.unread; reads = p.reads; onward = p.onward; accepting = p.accepting }
+pub port_as : (message : List ℕ) (before now : PortState) (result : Result Signed SignFault) → PortCauses message before now result → PortCauses message before now (signature_in result)
+port_as message before now (Ok signed) p = record { dialled = p.dialled; unwritten = p.unwritten; unread = p.unread; reads = p.reads; writes = p.writes; onward = p.onward; accepting = p.accepting }
+port_as message before now (Err fault) p = record { dialled = p.dialled; unwritten = p.unwritten; unread = p.unread; reads = p.reads; writes = p.writes; onward = p.onward; accepting = p.accepting }
 
 pub reference_as : (before now : ℕ) (result : Result Signed SignFault) → (result ≡ Err (sign.Session Reference) → Rose before now)
     → signature_in result ≡ Err (sign.Session Reference) → Rose before now

@@ -1,4 +1,5 @@
 pub mod Answering
+mod Replying
 pub mod Keeping
 pub mod Showing
 pub mod Signing

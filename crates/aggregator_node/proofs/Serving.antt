@@ -18,7 +18,7 @@ use Rattle.trustee_node.specs.declared.served.ServedEnd.TheVariants.{Worn}
 
 -- ports after ports
 pub onward-same : (port : PortState) → PortOnward port port
-onward-same port = record { told = refl; steady = refl; place = refl; count = omega arith; accept_count = omega arith }
+onward-same port = record { told = refl; steady = refl; place = refl; count = omega arith; accept_count = omega arith; room = omega arith }
 
 pub onward-then : (old mid new : PortState) → PortOnward old mid → PortOnward mid new → PortOnward old new
 onward-then old mid new a b = record {
@@ -27,6 +27,7 @@ onward-then old mid new a b = record {
   place = b.place ∙ a.place;
   count = (let p = a.count in let q = b.count in omega (arith, p, q));
   accept_count = (let p = a.accept_count in let q = b.accept_count in omega (arith, p, q));
+  room = (let p = a.room in let q = b.room in omega (arith, p, q));
 }
 
 -- a port at which no link was accepted

@@ -42,17 +42,17 @@ turn-fault members message old new result (no_turn t) = inl refl
 turn-fault members message old new result (asked before after (Ok leaf) t a) = tt
 turn-fault members message old new result (asked before after (Err why) t a) = inr (why, refl)
 
-none-dialled : {V : Type 0} (state : PortState) (fault : SignFault) → (fault ≡ Worn) ⊎ ((why : TableFault) × (fault ≡ TableFailed why)) → PortCauses {V = V} state state (Err fault)
-none-dialled {V} state fault (inl is) = subst (λ (x : SignFault). PortCauses {V = V} state state (Err x)) (sym is) (search rules)
-none-dialled {V} state fault (inr is) = subst (λ (x : SignFault). PortCauses {V = V} state state (Err x)) (sym is.1) (search rules)
+none-dialled : {V : Type 0} (message : List ℕ) (state : PortState) (fault : SignFault) → (fault ≡ Worn) ⊎ ((why : TableFault) × (fault ≡ TableFailed why)) → PortCauses {V = V} message state state (Err fault)
+none-dialled {V} message state fault (inl is) = subst (λ (x : SignFault). PortCauses {V = V} message state state (Err x)) (sym is) (search rules)
+none-dialled {V} message state fault (inr is) = subst (λ (x : SignFault). PortCauses {V = V} message state state (Err x)) (sym is.1) (search rules)
 
 none-read : {C V : Type 0} (c : cells.Ghosts C) (f : faults.Ghosts C) (old : C) (fault : SignFault) → (fault ≡ Worn) ⊎ ((why : TableFault) × (fault ≡ TableFailed why)) → ReferenceCauses {V = V} c f old old (Err fault)
 none-read {C} {V} c f old fault (inl is) = subst (λ (x : SignFault). ReferenceCauses {V = V} c f old old (Err x)) (sym is) (search rules)
 none-read {C} {V} c f old fault (inr is) = subst (λ (x : SignFault). ReferenceCauses {V = V} c f old old (Err x)) (sym is.1) (search rules)
 
 module _ {members : List ℕ} {message : MessageId} {old new : Seen Lease TableName} {fault : SignFault} where
-  pub port-of : {V : Type 0} (state : PortState) → LeaseTurn members message old new (Err fault) → PortCauses {V = V} state state (Err fault)
-  port-of state turn = none-dialled state fault (turn-fault members message old new (Err fault) turn)
+  pub port-of : {V : Type 0} {bytes : List ℕ} (state : PortState) → LeaseTurn members message old new (Err fault) → PortCauses {V = V} bytes state state (Err fault)
+  port-of {V} {bytes} state turn = none-dialled bytes state fault (turn-fault members message old new (Err fault) turn)
 
   pub cells-of : {C V : Type 0} (c : cells.Ghosts C) (f : faults.Ghosts C) (cells : C) → LeaseTurn members message old new (Err fault) → ReferenceCauses {V = V} c f cells cells (Err fault)
   cells-of c f cells turn = none-read c f cells fault (turn-fault members message old new (Err fault) turn)

@@ -14,6 +14,10 @@ use Rattle.stream_io.specs.Talk.{Talk}
 use Rattle.trustee_node.specs.declared.served.Served.{Served}
 use Rattle.trustee_node.specs.declared.served.ServedEnd.TheVariants.{Worn}
 
+-- a link was accepted with the room that its talk tells
+pub accepted-as : (old new : PortState) (link : Talk) (steady : Bool) (room wide : ℕ) → wide ≡ room → Accepts old link steady room new → Accepts old link steady wide new
+accepted-as old new link steady room wide is accepts = subst (λ (n : ℕ). Accepts old link steady n new) (sym is) accepts
+
 -- a worker's connections so far
 pub data Links (desk : DeskState) (reference : ReferenceState) : Post → List Connection → Post → Type 0 where
   no_link : (post : Post) → Links desk reference post [] post
@@ -75,7 +79,7 @@ module _ (desk : DeskState) where
 
   -- a link was accepted and served
   pub working-more : (old mid : WorkerState) (port : PortState) (post : Post) (reference : ReferenceState) (link : Talk) (steady : Bool) (served : Served) (frames : ℕ) (worn : Bool)
-      → Working desk old mid → Accepts mid.post.port link steady port → PortOnward mid.post.port port → port.accept_count ≡ mid.post.port.accept_count
+      → Working desk old mid → Accepts mid.post.port link steady link.room port → PortOnward mid.post.port port → port.accept_count ≡ mid.post.port.accept_count
       → HasServedLink desk mid.reference (record { pass = mid.post.pass; port = port; faults = mid.post.faults }) post link steady served → SameReference mid.reference reference
       → frames ≡ min (mid.frames + served.frames) (2 ^ 32 - 1)
       → Working desk old (record { post = post; reference = reference; connections = mid.connections + 1; frames = frames; worn = worn; failed = mid.failed })
@@ -91,6 +95,7 @@ module _ (desk : DeskState) where
         most = b.most;
         full = b.full;
         answers = b.answers;
+        writes = b.writes;
         ended = b.hung_up.ended;
         kept = b.hung_up.kept;
       } in

@@ -12,6 +12,8 @@ use Rattle.leaf_table.specs.declared.table.TableName.{TableName}
 use Rattle.aggregator_session.specs.Causes.{PortCauses}
 use Rattle.aggregator_session.specs.Signing.{DeskState, Signature}
 use Rattle.lms_bytes.specs.MessageId.{message_id}
+use Rattle.lms_bytes.specs.Signature.{signature_length}
+use Rattle.lms_bytes.specs.declared.params.Params.{Params}
 use Rattle.lms_verify.specs.Accepts.{AcceptsAt}
 use Rattle.round_frames.specs.Frames.{frame_of}
 use Rattle.round_frames.specs.Reads.{Reads}
@@ -43,6 +45,11 @@ pub record Stand : Type 0 where
 abbrev pub reply_frame : Result Signature SignFault → List ℕ
 reply_frame (Ok signature) = signature_frame signature.bytes
 reply_frame (Err fault) = failure_frame (failure_of fault)
+
+-- this project's profile: no reply is longer than this, the frame of a signature: the 8 bytes of its header and the
+-- signature, beside which a failure's 15 bytes are few
+abbrev pub longest_reply : Params → ℕ
+longest_reply params = 8 + signature_length params
 
 -- how a connection ends behind a request of this fault, or none where it goes on
 abbrev pub end_by_session : session.SessionFault → Option ServedEnd
@@ -136,7 +143,7 @@ pub record IsSigned (desk : DeskState) (reference : ReferenceState) (old new : S
   pub own : new.pass.floor ≡ 0 → new.pass.own ≡ old.pass.own ++ request.added
   pub accepted : IfOk request.outcome
       (λ signature. AcceptsAt desk.key request.message signature.bytes signature.leaf)
-  pub port : PortCauses old.port new.port request.outcome
+  pub port : PortCauses request.message old.port new.port request.outcome
   pub rises : request.outcome ≡ Err (sign.Session Reference) → Rose old.faults new.faults
   pub succeeds : IsExact desk reference → request.outcome ≢ Err (sign.Session Reference)
 

@@ -1,8 +1,8 @@
 -- What a worker does with the links of its clients.
-use Rattle.std.specs.Prelude.{◌≡◌, ◌≢◌, ◌≤◌, ◌==◌, ℕ, Bool, List, [], ◌∷◌, Result, Ok, Err, IsTrue, if◌then◌else◌}
+use Rattle.std.specs.Prelude.{◌≡◌, ◌≢◌, ◌≤◌, ◌*◌, ◌==◌, ℕ, Bool, List, [], ◌∷◌, Result, Ok, Err, IsTrue, if◌then◌else◌}
 use Rattle.std.specs.List.{flat_map, sum_by}
 use Rattle.aggregator_session.specs.declared.fault.SignFault.{SignFault}
-use Rattle.aggregator_node.specs.Clients.{ReferenceState, Request, Serves}
+use Rattle.aggregator_node.specs.Clients.{ReferenceState, Request, Serves, longest_reply}
 use Rattle.aggregator_node.specs.Failures.{failure_of}
 use Rattle.leaf_table.specs.declared.lease.Lease.{Lease}
 use Rattle.leaf_table.specs.declared.table.TableName.{TableName}
@@ -11,7 +11,7 @@ use Rattle.round_frames.specs.declared.fault.FrameFault.TheVariants.{ReadFault}
 use Rattle.stream_io.specs.Net.{Accepts, KeepsTalk, PortOnward, PortState, SameLinks}
 use Rattle.stream_io.specs.Talk.{Ended, Talk}
 use Rattle.trustee_node.specs.declared.served.Served.{Served}
-use Rattle.trustee_node.specs.declared.served.ServedEnd.TheVariants.{Frame, Full}
+use Rattle.trustee_node.specs.declared.served.ServedEnd.TheVariants.{Frame, Full, WriteFailed}
 use Rattle.turn_lock.specs.Pass.{Seen}
 
 -- where a worker stands: what its pass has seen, its port, and the count of faults of the reference that it reads
@@ -30,13 +30,14 @@ pub record Connection : Type 0 where
   pub served : Served
 
 -- A link was accepted, served and hung up. The members of its requests were dialled from the same port. It is full only
--- once 65536 requests were answered, and a steady link never fails to be read.
+-- once 65536 requests were answered. A steady link never fails to be read, nor to be written where it was accepted with
+-- room for as many of the longest replies.
 pub record ServesLink (desk : DeskState) (reference : ReferenceState) (old new : Post) (one : Connection)
     : Type 0 where
   pub steady : Bool
   pub begun : PortState
   pub done : PortState
-  pub accepted : Accepts old.port one.link steady begun
+  pub accepted : Accepts old.port one.link steady one.link.room begun
   pub serves : Serves desk reference
       (record { pass = old.pass; port = begun; faults = old.faults; talk = one.link })
       one.requests one.served.frames one.served.ended
@@ -44,6 +45,7 @@ pub record ServesLink (desk : DeskState) (reference : ReferenceState) (old new :
   pub most : one.served.frames ≤ 65536
   pub full : one.served.ended ≡ Full → one.served.frames ≡ 65536
   pub answers : IsTrue steady → one.served.ended ≢ Frame ReadFault
+  pub writes : IsTrue steady → 65536 * longest_reply desk.key.params ≤ one.link.room → one.served.ended ≢ WriteFailed
   pub ended : Ended one.talk one.last
   pub kept : KeepsTalk done one.last new.port
 

@@ -1,6 +1,6 @@
 -- What the worker of a port has done.
 use Rattle.std.specs.Prelude.{◌≡◌, ◌≢◌, ◌≤◌, ◌*◌, ◌-◌, ◌^◌, ℕ, Bool, true, false, List, length, min, IsTrue}
-use Rattle.aggregator_node.specs.Clients.{ReferenceState, Request, SameReference, Serves}
+use Rattle.aggregator_node.specs.Clients.{ReferenceState, Request, SameReference, Serves, longest_reply}
 use Rattle.aggregator_node.specs.Turns.{IsIdle}
 use Rattle.aggregator_node.specs.Ports.{reference_state}
 use Rattle.aggregator_node.specs.Posts.{Connection, Post, Works, frames_of, requests_of}
@@ -14,7 +14,7 @@ use Rattle.stream_io.specs.Net.{HangsUp, PortOnward, PortState}
 use Rattle.stream_io.specs.Store.{RisesWhere}
 use Rattle.stream_io.specs.Talk.{Talk}
 use Rattle.trustee_node.specs.declared.served.Served.{Served}
-use Rattle.trustee_node.specs.declared.served.ServedEnd.TheVariants.{Frame, Full}
+use Rattle.trustee_node.specs.declared.served.ServedEnd.TheVariants.{Frame, Full, WriteFailed}
 use Rattle.trustee_node.specs.declared.worker.Worker.{Worker}
 use Rattle.turn_lock.specs.Lock.{Lock}
 use Rattle.turn_lock.specs.Pass.{Seen}
@@ -63,6 +63,7 @@ pub record HasServedLink (desk : DeskState) (reference : ReferenceState) (old ne
   pub most : served.frames ≤ 65536
   pub full : served.ended ≡ Full → served.frames ≡ 65536
   pub answers : IsTrue steady → served.ended ≢ Frame ReadFault
+  pub writes : IsTrue steady → 65536 * longest_reply desk.key.params ≤ link.room → served.ended ≢ WriteFailed
   pub hung_up : HangsUp done talk new.port
   pub onward : PortOnward done new.port
 

@@ -1,7 +1,8 @@
 //! Connections of clients.
 
-ghost use Rattle.std.specs.Prelude.{◌≡◌, ◌≢◌, ◌≤◌, ◌<◌, ◌^◌, ◌++◌, None, Some, length, IfOk, IsTrue, MatchResult};
-ghost use Rattle.aggregator_node.specs.Clients.{HasAnswered, HasServed, end_after, reply_frame};
+ghost use Rattle.std.specs.Prelude.{◌≡◌, ◌≢◌, ◌+◌, ◌*◌, ◌≤◌, ◌<◌, ◌^◌, ◌++◌, None, Some, length, IfOk, IsOk, IsTrue};
+ghost use Rattle.std.specs.Prelude.{MatchResult};
+ghost use Rattle.aggregator_node.specs.Clients.{HasAnswered, HasServed, end_after, longest_reply, reply_frame};
 ghost use Rattle.aggregator_node.specs.Turns.{IsIdle};
 ghost use Rattle.disk_trait.specs.Faults.{HasCause};
 ghost use Rattle.aggregator_session.specs.Signing.{desk_state, signature_in};
@@ -61,6 +62,9 @@ pub fn serve_client<R: Cells, D: Disk, P: Port, L: Source + Sink>(
     ensures most { result.frames ≤ 65536 }
     ensures full { result.ended ≡ ServedEnd.Full → result.frames ≡ 65536 }
     ensures answers { IsTrue (L.steady link.old) → result.ended ≢ ServedEnd.Frame FrameFault.ReadFault }
+    ensures writes { IsTrue (L.steady link.old) → 65536 * longest_reply desk.now.key.now.params ≤ L.room link.old
+        → result.ended ≢ ServedEnd.WriteFailed }
+    ensures takes { (L.talk link.old).room ≡ L.room link.old }
     ensures steady { L.steady link.new ≡ L.steady link.old }
     ensures cells { CellsStay R.Cells.own R.Faults cells.old cells.new }
     ensures pass { IsIdle lock.now desk.now.plan.now pass.new }
@@ -104,6 +108,9 @@ fn answer_next<R: Cells, D: Disk, P: Port, L: Source + Sink>(
     ensures one { result.ended ≡ None → result.replies ≡ 1 }
     ensures open { result.ended ≢ Some ServedEnd.Full }
     ensures reads { IsTrue (L.steady link.old) → result.ended ≢ Some (ServedEnd.Frame FrameFault.ReadFault) }
+    ensures writes { IsTrue (L.steady link.old) → longest_reply desk.now.key.now.params ≤ L.room link.old
+        → result.ended ≢ Some ServedEnd.WriteFailed }
+    ensures room { L.room link.old ≤ L.room link.new + longest_reply desk.now.key.now.params }
     ensures steady { L.steady link.new ≡ L.steady link.old }
     ensures cells { CellsStay R.Cells.own R.Faults cells.old cells.new }
     ensures pass { IsIdle lock.now desk.now.plan.now pass.new }
@@ -164,6 +171,9 @@ fn write_outcome<K: Sink>(outcome: &Result<Signed, SignFault>, sink: &mut K) -> 
         (λ _. WrotePart (K.talk sink.old) (K.talk sink.new) (reply_frame (signature_in outcome.now))) }
     ensures only { OnlyWrote (K.talk sink.old) (K.talk sink.new) }
     ensures cause { HasCause (K.talk sink.old).count (K.talk sink.new).count result }
+    ensures succeeds { IsTrue (K.steady sink.old)
+        → length (reply_frame (signature_in outcome.now)) ≤ K.room sink.old → IsOk result }
+    ensures room { K.room sink.old ≤ K.room sink.new + length (reply_frame (signature_in outcome.now)) }
     ensures steady { K.steady sink.new ≡ K.steady sink.old }
 {
     match outcome {

@@ -47,7 +47,7 @@ pub fn sign_one<R: Cells, D: Disk, P: Port>(
         (signature_in result) }
     ensures accepted { IfOk result (λ signed.
         AcceptsAt desk.now.key.now message.now signed.bytes.items signed.leaf) }
-    ensures port { PortCauses (P.state port.old) (P.state port.new) result }
+    ensures port { PortCauses message.now (P.state port.old) (P.state port.new) result }
     ensures cells { ReferenceCauses R.Cells.own R.Faults cells.old cells.new result }
     ensures pass { IsIdle lock.now desk.now.plan.now pass.new }
 {

@@ -1,6 +1,6 @@
 //! Workers, which serve the links of clients one after the other.
 
-ghost use Rattle.std.specs.Prelude.{◌≤◌, ◌<◌, ℕ, All, length, slice_index_or};
+ghost use Rattle.std.specs.Prelude.{◌≡◌, ◌≤◌, ◌<◌, ℕ, All, length, slice_index_or};
 ghost use Rattle.aggregator_node.specs.Ports.{reference_state};
 ghost use Rattle.aggregator_node.specs.Workers.{HasServedLink, IsReady, WorkEnds, Worked, worker_state};
 ghost use Rattle.aggregator_session.specs.Signing.{desk_state};
@@ -15,7 +15,7 @@ use std::alloc::Global;
 use std::sync::Wait;
 use std::thread;
 use std::thread::Threads;
-use stream_io::{Accepted, Port, Stream};
+use stream_io::{Accepted, Port, Sink, Stream};
 use trustee_node::{Served, ServedEnd, Worker};
 use turn_lock::{Pass, TurnLock};
 
@@ -121,6 +121,7 @@ fn serve_link<X: Cells, D: Disk, P: Port>(
         (record { pass = pass.old; port = P.state port.old; faults = X.count cells.old })
         (record { pass = pass.new; port = P.state port.new; faults = X.count cells.new })
         (P.Link.talk link) (P.Link.steady link) result }
+    ensures takes { (P.Link.talk link).room ≡ P.Link.room link }
     ensures ready { IsReady X.Cells.own lock.now (desk_state desk.now) pass.new cells.new }
     ensures cells { CellsStay X.Cells.own X.Faults cells.old cells.new }
 {

@@ -1,11 +1,13 @@
 -- The frames of asks.
-use Rattle.std.proofs.Common.{◌≡◌, ℕ, Bool, true, false, List, IsTrue, Option, None, Result, refl, ap, ◌∙◌}
+use Rattle.std.proofs.Common.{◌≡◌, ◌+◌, ◌≤◌, ℕ, Bool, true, false, List, length, IsTrue, Option, None, Some, Result, refl, ap, ◌∙◌, arith}
 use Rattle.aggregator_session.specs.Runs.{AskedAgain, IsSecondFrame, asked, first_frame, not_read, second_frame}
 use Rattle.aggregator_session.specs.declared.fault.SignFault.{SignFault}
 use Rattle.lms_bytes.specs.declared.ask.Ask.{Ask}
+use Rattle.lms_bytes.specs.declared.ask.Second.{Second}
 use Rattle.lms_bytes.specs.declared.message.MessageId.{MessageId}
+use Rattle.lms_bytes.specs.declared.params.Params.{Params}
 use Rattle.lms_bytes.specs.declared.public_key.PublicKey.{PublicKey}
-use Rattle.round_frames.specs.Asks.{ask_frame}
+use Rattle.round_frames.specs.Asks.{ask_frame, ask_length}
 use Rattle.reference_value.specs.Places.{tag_in}
 use Rattle.session_core.specs.Asks.{IsAskOf, ask_with}
 use Rattle.session_core.specs.State.{SameAsk, State}
@@ -20,6 +22,19 @@ pub first-frame : (s : State) (digest message : List ℕ) (ask : Ask) → s.c �
 unfolding first_frame
 first-frame s digest message ask none a =
     ap (λ (x : Ask). ask_frame x message) a.same ∙ ap (λ (c : Option (List ℕ)). ask_frame (made s c a.tag digest) message) none
+
+-- how long the ask of round one is
+pub first-length : (params : Params) (s : State) (digest message : List ℕ) (ask : Ask) → s.c ≡ None → IsAskOf s digest ask → ask_length params ask message ≡ 64
+first-length params s digest message ask none a =
+    ap (λ (x : Ask). ask_length params x message) a.same ∙ ap (λ (c : Option (List ℕ)). ask_length params (made s c a.tag digest) message) none
+
+length-by : (params : Params) (ask : Ask) (message : List ℕ) (second : Option Second) → params.n ≤ 32 → ask.second ≡ second → ask_length params ask message ≤ 92 + length message
+length-by params ask message None small is = rw is (omega arith)
+length-by params ask message (Some second) small is = rw is (omega (arith, small))
+
+-- no ask is longer than this
+pub longest : (params : Params) (ask : Ask) (message : List ℕ) → ask_length params ask message ≤ 92 + length message
+longest params ask message = length-by params ask message ask.second (let h = params.hash_length in grind (arith, h)) refl
 
 pub second-frame : (told : Bool) (leaves : List ℕ) (s : State) (digest message : List ℕ) (member : ℕ) (ask : Ask) → digest ≡ digest_of s message → IsAskOf s digest ask
     → (IsTrue told → ask ≡ ask_with s (tag_in s.key.params s.plan leaves s.leaf member) digest) → IsSecondFrame told leaves s message member (ask_frame ask message)

@@ -30,7 +30,7 @@ hung-none port = record {
   kept = λ _. sym (append-nil port.talks);
   rises = λ some. absurd (some refl);
   most = omega arith;
-  onward = record { told = refl; steady = refl; place = refl; count = omega arith; accept_count = omega arith };
+  onward = record { told = refl; steady = refl; place = refl; count = omega arith; accept_count = omega arith; room = omega arith };
   accepting = refl;
 }
 
@@ -57,6 +57,7 @@ hung-more old mid new gone talk all one onward =
         place = onward.place ∙ before.place;
         count = (let p = before.count in let q = onward.count in omega arith);
         accept_count = (let p = before.accept_count in let q = onward.accept_count in omega arith);
+        room = (let p = before.room in let q = onward.room in omega arith);
       };
       accepting = kept.accept_count ∙ all.accepting;
     }

@@ -21,6 +21,7 @@ onward-then a b c x y = record {
   place = y.place ∙ x.place;
   count = (let p = x.count in let q = y.count in omega arith);
   accept_count = (let p = x.accept_count in let q = y.accept_count in omega arith);
+  room = (let p = x.room in let q = y.room in omega arith);
 }
 
 pub dials-then : (a b c : PortState) → OnlyDials a b → OnlyDials b c → OnlyDials a c

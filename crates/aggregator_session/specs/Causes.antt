@@ -1,5 +1,5 @@
 -- What the outside has to do with a session that gives no signature.
-use Rattle.std.specs.Prelude.{◌≡◌, ◌≢◌, Result, Err, IsTrue}
+use Rattle.std.specs.Prelude.{◌≡◌, ◌≢◌, ◌+◌, ◌≤◌, ℕ, List, length, Result, Err, IsTrue}
 use Rattle.aggregator_session.specs.Faults.{LostBy}
 use Rattle.aggregator_session.specs.Tasks.{IsExact}
 use Rattle.aggregator_session.specs.declared.fault.SignFault.{SignFault}
@@ -12,13 +12,20 @@ use Rattle.reference_value.specs.declared.cells.Cells as cells
 use Rattle.session_core.specs.declared.faults.SessionFault.TheVariants.{Reference}
 use Rattle.stream_io.specs.Net.{PortOnward, PortState}
 
--- Nobody fails to be dialled, written to or read unless the port's count rose, and no read fails at a steady port. No
--- link is accepted.
-pub record PortCauses {V : Type 0} (before now : PortState) (result : Result V SignFault) : Type 0 where
+-- this project's profile: how many bytes a session of this message writes to a member at most: the ask of round one has
+-- 64, and that of round two at most 92 and those of the message
+abbrev pub asks_length : List ℕ → ℕ
+asks_length message = 156 + length message
+
+-- Nobody fails to be dialled, written to or read unless the port's count rose. At a steady port no read fails, and no
+-- write where its links have room for the asks of this message. No link is accepted.
+pub record PortCauses {V : Type 0} (message : List ℕ) (before now : PortState) (result : Result V SignFault)
+    : Type 0 where
   pub dialled : LostBy DialFailed result → Rose before.count now.count
   pub unwritten : LostBy WriteFailed result → Rose before.count now.count
   pub unread : LostBy ReadFailed result → Rose before.count now.count
   pub reads : IsTrue before.steady → ¬ LostBy ReadFailed result
+  pub writes : IsTrue before.steady → asks_length message ≤ before.room → ¬ LostBy WriteFailed result
   pub onward : PortOnward before now
   pub accepting : now.accept_count ≡ before.accept_count
 

@@ -71,7 +71,7 @@ pub data Calls (addresses : List Address) (ask : List ℕ) (s : State) (member :
       → Calls addresses ask s member port after [] (Err (Lost member 1 DialFailed))
   dialled : (place : List ℕ) (start talk : Talk) (steady : Bool) (after : PortState) (answer : Result Reply SignFault)
       → place_of addresses member ≡ Some place → PortOnward port after → after.count ≡ port.count
-      → Dials port place start steady after
+      → Dials port place start steady start.room after
       → Asked s member ask start talk answer
       → Calls addresses ask s member port after (talk ∷ []) answer
 

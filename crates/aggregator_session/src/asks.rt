@@ -1,10 +1,10 @@
 //! One ask to one member.
 
-ghost use Rattle.std.specs.Prelude.{◌≡◌, ◌≢◌, ◌*◌, ◌≤◌, ⊤, length, Err, IsTrue, MatchOption, if◌then◌else◌};
+ghost use Rattle.std.specs.Prelude.{◌≡◌, ◌≢◌, ◌+◌, ◌*◌, ◌≤◌, ⊤, length, Err, IsTrue, MatchOption, if◌then◌else◌};
 ghost use Rattle.aggregator_session.specs.Faults.{LostBy};
 ghost use Rattle.aggregator_session.specs.Hearing.{HasAsked, HasHeard, is_answer};
 ghost use Rattle.lms_bytes.specs.MessageId.{message_id};
-ghost use Rattle.round_frames.specs.Asks.{ask_frame};
+ghost use Rattle.round_frames.specs.Asks.{ask_frame, ask_length};
 ghost use Rattle.session_core.specs.Replies.{with_delivery};
 ghost use Rattle.session_core.specs.State.{SameAsk};
 ghost use Rattle.session_core.specs.declared.faults.SessionFault.TheVariants.{Reference};
@@ -38,6 +38,10 @@ pub(crate) fn ask_member<L: Source + Sink>(
     ensures asked { HasAsked session.old session.new member (ask_frame ask.now message.now)
         (L.talk link.old) (L.talk link.new) result }
     ensures reads { IsTrue (L.steady link.old) → ¬ LostBy Why.ReadFailed result }
+    ensures writes { IsTrue (L.steady link.old) → ask_length params.now ask.now message.now ≤ L.room link.old
+        → ¬ LostBy Why.WriteFailed result }
+    ensures room { L.room link.old ≤ L.room link.new + ask_length params.now ask.now message.now }
+    ensures takes { (L.talk link.old).room ≡ L.room link.old }
     ensures dialled { ¬ LostBy Why.DialFailed result }
     ensures reference { result ≢ Err (SignFault.Session Reference) }
     ensures same { SameAsk session.old session.new }
@@ -65,6 +69,7 @@ fn hear<L: Source>(
     requires room { params.now.p * params.now.n ≤ length room.old }
     ensures heard { HasHeard session.old session.new member (L.talk link.old) (L.talk link.new) result }
     ensures reads { IsTrue (L.steady link.old) → ¬ LostBy Why.ReadFailed result }
+    ensures writes { ¬ LostBy Why.WriteFailed result }
     ensures dialled { ¬ LostBy Why.DialFailed result }
     ensures reference { result ≢ Err (SignFault.Session Reference) }
     ensures same { SameAsk session.old session.new }

@@ -1,7 +1,8 @@
 //! A session over links.
 
-ghost use Rattle.std.specs.Prelude.{◌≡◌, ◌≢◌, ◌⊎◌, ◌+◌, ◌*◌, ◌<◌, ◌≤◌, ◌++◌, [], All, Contains, length, map};
-ghost use Rattle.std.specs.Prelude.{None, Err, IfOk, IfSome, IsSome, IsTrue, OnOk};
+ghost use Rattle.std.specs.Prelude.{◌≡◌, ◌≢◌, ◌⊎◌, ◌+◌, ◌*◌, ◌<◌, ◌≤◌, ◌++◌, ℕ, [], All, Contains, length};
+ghost use Rattle.std.specs.Prelude.{None, Err, IfOk, IfSome, IsSome, IsTrue, OnOk, map};
+ghost use Rattle.aggregator_session.specs.Causes.{asks_length};
 ghost use Rattle.std.specs.Vec.{vec_capacity, vec_len};
 ghost use Rattle.aggregator_session.specs.Faults.{LostBy};
 ghost use Rattle.aggregator_session.specs.Runs.{AskedAgain, First, HasCalled, HasRun, SameSession, Second, SignRun};
@@ -57,6 +58,8 @@ pub fn run_session<R: Cells, P: Port>(
     ensures unwritten { LostBy Why.WriteFailed result → Rose (P.state port.old).count (P.state port.new).count }
     ensures unread { LostBy Why.ReadFailed result → Rose (P.state port.old).count (P.state port.new).count }
     ensures reads { IsTrue (P.state port.old).steady → ¬ LostBy Why.ReadFailed result }
+    ensures writes { IsTrue (P.state port.old).steady → asks_length message.now ≤ (P.state port.old).room
+        → ¬ LostBy Why.WriteFailed result }
     ensures reference { result ≡ Err (SignFault.Session Reference) → Rose (R.count cells.old) (R.count cells.new) }
     ensures succeeds { IsExact R.Cells.own R.Faults cells.old → result ≢ Err (SignFault.Session Reference) }
     ensures onward { PortOnward (P.state port.old) (P.state port.new) }
@@ -140,6 +143,8 @@ fn ask_all<R: Cells, P: Port>(
     ensures dialled { LostBy Why.DialFailed result → Rose (P.state port.old).count (P.state port.new).count }
     ensures once { RisesOnce (LostBy Why.DialFailed result) (P.state port.old).count (P.state port.new).count }
     ensures reads { IsTrue (P.state port.old).steady → ¬ LostBy Why.ReadFailed result }
+    ensures writes { IsTrue (P.state port.old).steady → asks_length task.now.message.now ≤ (P.state port.old).room
+        → ¬ LostBy Why.WriteFailed result }
     ensures reference { result ≡ Err (SignFault.Session Reference) → Rose (R.count cells.old) (R.count cells.new) }
     ensures succeeds { IsExact R.Cells.own R.Faults cells.old → result ≢ Err (SignFault.Session Reference) }
     ensures port { OnlyDials (P.state port.old) (P.state port.new) }
@@ -176,7 +181,10 @@ fn dial_all<R: Cells, P: Port>(
     ensures dialled { LostBy Why.DialFailed result → Rose (P.state port.old).count (P.state port.new).count }
     ensures once { RisesOnce (LostBy Why.DialFailed result) (P.state port.old).count (P.state port.new).count }
     ensures reads { IsTrue (P.state port.old).steady → ¬ LostBy Why.ReadFailed result }
+    ensures writes { IsTrue (P.state port.old).steady → 64 ≤ (P.state port.old).room
+        → ¬ LostBy Why.WriteFailed result }
     ensures steady { IsTrue (P.state port.old).steady → All (λ link. IsTrue (P.Link.steady link)) links.new.items }
+    ensures rooms { All (λ link. (P.state port.old).room ≤ P.Link.room link + 64) links.new.items }
     ensures port { OnlyDials (P.state port.old) (P.state port.new) }
     ensures same { SameAsk session.old session.new }
     ensures cells { cells.new ≡ cells.old }
@@ -212,8 +220,13 @@ fn dial_member<R: Cells, P: Port>(
     ensures dialled { LostBy Why.DialFailed result → Rose (P.state port.old).count (P.state port.new).count }
     ensures once { RisesOnce (LostBy Why.DialFailed result) (P.state port.old).count (P.state port.new).count }
     ensures reads { IsTrue (P.state port.old).steady → ¬ LostBy Why.ReadFailed result }
+    ensures writes { IsTrue (P.state port.old).steady → 64 ≤ (P.state port.old).room
+        → ¬ LostBy Why.WriteFailed result }
     ensures steady { IsTrue (P.state port.old).steady → All (λ link. IsTrue (P.Link.steady link)) links.old.items
         → All (λ link. IsTrue (P.Link.steady link)) links.new.items }
+    ensures rooms { (least : ℕ) → least ≤ (P.state port.old).room
+        → All (λ link. least ≤ P.Link.room link + 64) links.old.items
+        → All (λ link. least ≤ P.Link.room link + 64) links.new.items }
     ensures port { OnlyDials (P.state port.old) (P.state port.new) }
     ensures same { SameAsk session.old session.new }
     ensures cells { cells.new ≡ cells.old }
@@ -264,6 +277,9 @@ fn ask_again<R: Cells, L: Source + Sink>(
     ensures reference { result ≡ Err (SignFault.Session Reference) → Rose (R.count cells.old) (R.count cells.new) }
     ensures succeeds { IsExact R.Cells.own R.Faults cells.old → result ≢ Err (SignFault.Session Reference) }
     ensures reads { All (λ link. IsTrue (L.steady link)) links.old.items → ¬ LostBy Why.ReadFailed result }
+    ensures writes { All (λ link. IsTrue (L.steady link)) links.old.items
+        → All (λ link. 92 + length task.now.message.now ≤ L.room link) links.old.items
+        → ¬ LostBy Why.WriteFailed result }
     ensures dialled { ¬ LostBy Why.DialFailed result }
     ensures same { SameAsk session.old session.new }
     ensures onward { CellsOnward R.Cells.own R.Faults cells.old cells.new }
@@ -299,6 +315,8 @@ fn ask_once_more<R: Cells, L: Source + Sink>(
     ensures reference { result ≡ Err (SignFault.Session Reference) → Rose (R.count cells.old) (R.count cells.new) }
     ensures succeeds { IsExact R.Cells.own R.Faults cells.old → result ≢ Err (SignFault.Session Reference) }
     ensures reads { IsTrue (L.steady link.old) → ¬ LostBy Why.ReadFailed result }
+    ensures writes { IsTrue (L.steady link.old) → 92 + length task.now.message.now ≤ L.room link.old
+        → ¬ LostBy Why.WriteFailed result }
     ensures dialled { ¬ LostBy Why.DialFailed result }
     ensures steady { L.steady link.new ≡ L.steady link.old }
     ensures same { SameAsk session.old session.new }

@@ -62,7 +62,7 @@ pub fn sign_leased<R: Cells, D: Disk, P: Port>(
         (signature_in result) }
     ensures accepted { IfOk result (λ signed.
         AcceptsAt desk.now.key.now message.now signed.bytes.items signed.leaf) }
-    ensures port { PortCauses (P.state port.old) (P.state port.new) result }
+    ensures port { PortCauses message.now (P.state port.old) (P.state port.new) result }
     ensures cells { ReferenceCauses R.Cells.own R.Faults cells.old cells.new result }
     ensures table { Stays table.old table.new }
 {
@@ -90,7 +90,7 @@ pub fn run_leased<R: Cells, D: Disk, P: Port>(
         (signature_in result.outcome) result.session }
     ensures accepted { IfOk result.outcome (λ signed.
         AcceptsAt desk.now.key.now message.now signed.bytes.items signed.leaf) }
-    ensures port { PortCauses (P.state port.old) (P.state port.new) result.outcome }
+    ensures port { PortCauses message.now (P.state port.old) (P.state port.new) result.outcome }
     ensures cells { ReferenceCauses R.Cells.own R.Faults cells.old cells.new result.outcome }
     ensures table { Stays table.old table.new }
 {
@@ -152,7 +152,7 @@ pub fn run_on<R: Cells, P: Port>(
     ensures runs { RunsOn (desk_state desk.now) (reads_of R.Cells.own R.Faults cells.old cells.new) leaf message.now
         (P.state port.old) (P.state port.new) (bytes_in result) }
     ensures accepted { IfOk result (λ bytes. AcceptsAt desk.now.key.now message.now bytes.items leaf) }
-    ensures port { PortCauses (P.state port.old) (P.state port.new) result }
+    ensures port { PortCauses message.now (P.state port.old) (P.state port.new) result }
     ensures cells { ReferenceCauses R.Cells.own R.Faults cells.old cells.new result }
 {
     let Ended { outcome, .. } = run_to_end(alloc, desk, cells, port, leaf, id, message);
@@ -179,7 +179,7 @@ fn run_to_end<R: Cells, P: Port>(
     ensures runs { RunsTo (desk_state desk.now) (reads_of R.Cells.own R.Faults cells.old cells.new) leaf message.now
         (P.state port.old) (P.state port.new) (bytes_in result.outcome) result.session }
     ensures accepted { IfOk result.outcome (λ bytes. AcceptsAt desk.now.key.now message.now bytes.items leaf) }
-    ensures port { PortCauses (P.state port.old) (P.state port.new) result.outcome }
+    ensures port { PortCauses message.now (P.state port.old) (P.state port.new) result.outcome }
     ensures cells { ReferenceCauses R.Cells.own R.Faults cells.old cells.new result.outcome }
 {
     let Ok(mut session) = Session::start(alloc, desk.key, desk.plan, leaf, id) else {

@@ -16,13 +16,14 @@ use Rattle.round_frames.specs.declared.fault.FrameFault.TheVariants.{Cut, NoMemo
 use Rattle.round_frames.specs.declared.header.Header.{Header}
 
 pub only-same : (talk : Talk) → OnlyRead talk talk
-only-same talk = record { told = refl; place = refl; written = refl; count = omega arith }
+only-same talk = record { told = refl; place = refl; written = refl; room = omega arith; count = omega arith }
 
 pub only-then : (a b c : Talk) → OnlyRead a b → OnlyRead b c → OnlyRead a c
 only-then a b c x y = record {
   told = y.told ∙ x.told;
   place = y.place ∙ x.place;
   written = y.written ∙ x.written;
+  room = (let p = x.room in let q = y.room in omega arith);
   count = (let p = x.count in let q = y.count in omega arith);
 }
 

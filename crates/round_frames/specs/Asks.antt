@@ -66,6 +66,13 @@ ask_frame ask message = elim ask.second [
   | Some second ↦ second_front ask second message ++ message
 ]
 
+-- how long the frame of an ask is: 64 bytes in round one, and in round two 60 + n and those of the message
+abbrev pub ask_length : Params → Ask → List ℕ → ℕ
+ask_length params ask message = elim ask.second [
+  | None ↦ 64
+  | Some second ↦ 60 + params.n + length message
+]
+
 -- what round two adds to an ask of this message
 pub record IsSecond (params : Params) (ask : Ask) (message : List ℕ) (second : Second) : Type 0 where
   pub message_length : length message ≤ limit

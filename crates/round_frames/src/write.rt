@@ -5,7 +5,7 @@ ghost use Rattle.std.specs.Prelude.{MatchOption};
 ghost use Rattle.disk_trait.specs.Faults.{HasCause};
 ghost use Rattle.lms_bytes.specs.MessageId.{message_id};
 ghost use Rattle.stream_io.specs.Talk.{OnlyWrote, WrotePart};
-ghost use Rattle.round_frames.specs.Asks.{ask_frame, first_payload, second_front};
+ghost use Rattle.round_frames.specs.Asks.{ask_frame, ask_length, first_payload, second_front};
 ghost use Rattle.round_frames.specs.Frames.{frame, header_bytes};
 ghost use Rattle.round_frames.specs.Replies.{IsHead, head_parts, kind_of, payload_length, reply_front};
 ghost use Rattle.round_frames.specs.Requests.{request_frame};
@@ -39,6 +39,7 @@ fn write_both<K: Sink>(head: &[u8], rest: &[u8], sink: &mut K) -> Result<(), Fai
     ensures only { OnlyWrote (K.talk sink.old) (K.talk sink.new) }
     ensures cause { HasCause (K.talk sink.old).count (K.talk sink.new).count result }
     ensures succeeds { IsTrue (K.steady sink.old) → length head.now + length rest.now ≤ K.room sink.old → IsOk result }
+    ensures room { K.room sink.old ≤ K.room sink.new + (length head.now + length rest.now) }
     ensures steady { K.steady sink.new ≡ K.steady sink.old }
 {
     if head.len() + rest.len() > ROOM {
@@ -67,6 +68,7 @@ fn write_apart<K: Sink>(head: &[u8], rest: &[u8], sink: &mut K) -> Result<(), Fa
     ensures only { OnlyWrote (K.talk sink.old) (K.talk sink.new) }
     ensures cause { HasCause (K.talk sink.old).count (K.talk sink.new).count result }
     ensures succeeds { IsTrue (K.steady sink.old) → length head.now + length rest.now ≤ K.room sink.old → IsOk result }
+    ensures room { K.room sink.old ≤ K.room sink.new + (length head.now + length rest.now) }
     ensures steady { K.steady sink.new ≡ K.steady sink.old }
 {
     write_whole(sink, head)?;
@@ -90,6 +92,8 @@ pub fn write_ask<K: Sink>(
     ensures cause { HasCause (K.talk sink.old).count (K.talk sink.new).count result }
     ensures succeeds { IsTrue (K.steady sink.old)
         → length (ask_frame ask.now message.now) ≤ K.room sink.old → IsOk result }
+    ensures room { K.room sink.old ≤ K.room sink.new + length (ask_frame ask.now message.now) }
+    ensures length { length (ask_frame ask.now message.now) ≡ ask_length params.now ask.now message.now }
     ensures steady { K.steady sink.new ≡ K.steady sink.old }
 {
     match &ask.second {
@@ -107,6 +111,8 @@ fn write_first<K: Sink>(ask: &Ask, sink: &mut K) -> Result<(), Failed>
     ensures cause { HasCause (K.talk sink.old).count (K.talk sink.new).count result }
     ensures succeeds { IsTrue (K.steady sink.old)
         → length (frame 1 (first_payload ask.now)) ≤ K.room sink.old → IsOk result }
+    ensures room { K.room sink.old ≤ K.room sink.new + length (frame 1 (first_payload ask.now)) }
+    ensures length { length (frame 1 (first_payload ask.now)) ≡ 64 }
     ensures steady { K.steady sink.new ≡ K.steady sink.old }
 {
     let bytes = first_frame(ask);
@@ -144,6 +150,10 @@ fn write_second<K: Sink>(
     ensures cause { HasCause (K.talk sink.old).count (K.talk sink.new).count result }
     ensures succeeds { IsTrue (K.steady sink.old)
         → length (second_front ask.now second.now message.now ++ message.now) ≤ K.room sink.old → IsOk result }
+    ensures room { K.room sink.old
+        ≤ K.room sink.new + length (second_front ask.now second.now message.now ++ message.now) }
+    ensures length { length (second_front ask.now second.now message.now ++ message.now)
+        ≡ 60 + params.now.n + length message.now }
     ensures steady { K.steady sink.new ≡ K.steady sink.old }
 {
     let mut room = [0; 92];
@@ -178,6 +188,7 @@ pub fn write_reply_head<K: Sink>(
     ensures cause { HasCause (K.talk sink.old).count (K.talk sink.new).count result }
     ensures succeeds { IsTrue (K.steady sink.old)
         → length (reply_front params.now head.now) ≤ K.room sink.old → IsOk result }
+    ensures room { K.room sink.old ≤ K.room sink.new + length (reply_front params.now head.now) }
     ensures steady { K.steady sink.new ≡ K.steady sink.old }
 {
     let mut room = [0; 99];
@@ -256,6 +267,7 @@ pub fn write_request<K: Sink>(members: Members, message: &[u8], sink: &mut K) ->
     ensures cause { HasCause (K.talk sink.old).count (K.talk sink.new).count result }
     ensures succeeds { IsTrue (K.steady sink.old)
         → length (request_frame members message.now) ≤ K.room sink.old → IsOk result }
+    ensures room { K.room sink.old ≤ K.room sink.new + length (request_frame members message.now) }
     ensures steady { K.steady sink.new ≡ K.steady sink.old }
 {
     let mut head = [0; 10];
@@ -274,6 +286,7 @@ pub fn write_signature<K: Sink>(bytes: &[u8], sink: &mut K) -> Result<(), Failed
     ensures cause { HasCause (K.talk sink.old).count (K.talk sink.new).count result }
     ensures succeeds { IsTrue (K.steady sink.old)
         → length (signature_frame bytes.now) ≤ K.room sink.old → IsOk result }
+    ensures room { K.room sink.old ≤ K.room sink.new + length (signature_frame bytes.now) }
     ensures steady { K.steady sink.new ≡ K.steady sink.old }
 {
     let mut head = [0; 8];
@@ -290,6 +303,7 @@ pub fn write_failure<K: Sink>(failure: &Failure, sink: &mut K) -> Result<(), Fai
     ensures cause { HasCause (K.talk sink.old).count (K.talk sink.new).count result }
     ensures succeeds { IsTrue (K.steady sink.old)
         → length (failure_frame failure.now) ≤ K.room sink.old → IsOk result }
+    ensures room { K.room sink.old ≤ K.room sink.new + length (failure_frame failure.now) }
     ensures steady { K.steady sink.new ≡ K.steady sink.old }
 {
     let bytes = failure_bytes(failure);

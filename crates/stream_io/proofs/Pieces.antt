@@ -10,13 +10,14 @@ grown xs was now bs piece at n w e h =
     h ∙ ap (λ t. t ++ take n piece) w ∙ ap (λ t. (xs ++ take at bs) ++ take n t) e ∙ append_assoc xs (take at bs) (take n (drop at bs)) ∙ ap (λ t. xs ++ t) (sym (take-add at n bs))
 
 pub only-same : (talk : Talk) → OnlyRead talk talk
-only-same talk = record { told = refl; place = refl; written = refl; count = omega arith }
+only-same talk = record { told = refl; place = refl; written = refl; room = omega arith; count = omega arith }
 
 pub only-then : (a b c : Talk) → OnlyRead a b → OnlyRead b c → OnlyRead a c
 only-then a b c x y = record {
   told = y.told ∙ x.told;
   place = y.place ∙ x.place;
   written = y.written ∙ x.written;
+  room = (let p = x.room in let q = y.room in omega arith);
   count = (let p = x.count in let q = y.count in omega arith);
 }
 

@@ -20,6 +20,8 @@ pub record PortState : Type 0 where
   pub waiting : ℕ
   -- at which places somebody is there to be dialled
   pub reaches : List ℕ → Bool
+  -- how many bytes each link that it makes takes for sure, where that link is steady
+  pub room : ℕ
   -- the conversations that were hung up, each as it had ended then, the oldest first
   pub talks : List Talk
 
@@ -30,15 +32,18 @@ pub record PortOnward (old new : PortState) : Type 0 where
   pub place : new.place ≡ old.place
   pub count : old.count ≤ new.count
   pub accept_count : old.accept_count ≤ new.accept_count
+  pub room : old.room ≤ new.room
 
--- a link that a port has just made, to a place that was dialled or to none
-pub record IsNewLink (port : PortState) (dialled : Option (List ℕ)) (talk : Talk) (is_steady : Bool) : Type 0 where
+-- a link that a port has just made, to a place that was dialled or to none, and how many bytes it takes for sure
+pub record IsNewLink (port : PortState) (dialled : Option (List ℕ)) (talk : Talk) (is_steady : Bool) (takes : ℕ)
+    : Type 0 where
   pub told : IsTrue port.told → IsTrue talk.told
   pub steady : IsTrue port.steady → IsTrue is_steady
   pub place : IsTrue port.told → talk.place ≡ dialled
   pub taken : IsTrue port.told → talk.taken ≡ []
   pub written : IsTrue port.told → talk.written ≡ []
   pub count : talk.count ≡ 0
+  pub room : port.room ≤ takes
 
 -- no link is gone from those that wait, and nobody from those who can be dialled
 pub record SameLinks (old new : PortState) : Type 0 where
@@ -47,17 +52,18 @@ pub record SameLinks (old new : PortState) : Type 0 where
   pub talks : new.talks ≡ old.talks
 
 -- a link was accepted
-pub record Accepts (old : PortState) (talk : Talk) (steady : Bool) (new : PortState) : Type 0 where
+pub record Accepts (old : PortState) (talk : Talk) (steady : Bool) (room : ℕ) (new : PortState) : Type 0 where
   pub listens : old.place ≢ None
-  pub link : IsNewLink old None talk steady
+  pub link : IsNewLink old None talk steady room
   pub waiting : IsTrue old.told → old.waiting ≡ new.waiting + 1
   pub reaches : new.reaches ≡ old.reaches
   pub talks : new.talks ≡ old.talks
 
 -- somebody was dialled at a place: it may be that nobody else is there, and at every other place nothing changed
-pub record Dials (old : PortState) (place : List ℕ) (talk : Talk) (steady : Bool) (new : PortState) : Type 0 where
+pub record Dials (old : PortState) (place : List ℕ) (talk : Talk) (steady : Bool) (room : ℕ) (new : PortState)
+    : Type 0 where
   pub there : IsTrue old.told → IsTrue (old.reaches place)
-  pub link : IsNewLink old (Some place) talk steady
+  pub link : IsNewLink old (Some place) talk steady room
   pub waiting : new.waiting ≡ old.waiting
   pub reaches : IsTrue old.told → (other : List ℕ) → bytes_eq other place ≡ false
       → new.reaches other ≡ old.reaches other
@@ -88,6 +94,8 @@ pub record NetState : Type 0 where
   pub port_count : ℕ
   -- at which places ports may listen
   pub offers : List ℕ → Bool
+  -- how many bytes each link of its ports takes for sure, where that link is steady
+  pub room : ℕ
   -- how many ports are out
   pub out : ℕ
   -- the ports that were given back
@@ -99,6 +107,7 @@ pub record NetOnward (old new : NetState) : Type 0 where
   pub steady : new.steady ≡ old.steady
   pub count : old.count ≤ new.count
   pub port_count : old.port_count ≤ new.port_count
+  pub room : old.room ≤ new.room
 
 -- no port is out or back beyond those that were, and the places are as they were
 pub record SameNet (old new : NetState) : Type 0 where
@@ -119,6 +128,7 @@ pub record IsNewPort (net : NetState) (listens : Option (List ℕ)) (port : Port
   pub count : port.count ≡ 0
   pub accept_count : port.accept_count ≡ 0
   pub talks : port.talks ≡ []
+  pub room : net.room ≤ port.room
 
 -- so many ports were made
 pub record MakesPorts (old : NetState) (place : Option (List ℕ)) (count : ℕ) (ports : List PortState) (new : NetState)

@@ -3,20 +3,23 @@ use Rattle.std.specs.Prelude.{◌≡◌, ◌<◌, ◌≤◌, ◌++◌, ℕ, Bool
 
 -- A stream in one state: whether it tells its bytes, the place that was dialled or none, the bytes that were read of it
 -- and those that a peer has given and nobody has read, the bytes that were written to it, the oldest byte first each,
--- and its count of faults. The bytes mean something only where they are told.
+-- how many more bytes it takes for sure where it is steady, and its count of faults. The bytes mean something only
+-- where they are told.
 pub record Talk : Type 0 where
   pub told : Bool
   pub place : Option (List ℕ)
   pub taken : List ℕ
   pub left : List ℕ
   pub written : List ℕ
+  pub room : ℕ
   pub count : ℕ
 
--- a call that reads: what was written stays, and no count falls
+-- a call that reads: what was written stays, there is no less room to write, and no count falls
 pub record OnlyRead (old new : Talk) : Type 0 where
   pub told : new.told ≡ old.told
   pub place : new.place ≡ old.place
   pub written : new.written ≡ old.written
+  pub room : old.room ≤ new.room
   pub count : old.count ≤ new.count
 
 -- a call that writes: what was read and what is left stays, and no count falls

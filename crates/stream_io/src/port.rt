@@ -38,7 +38,8 @@ pub trait Port: Faults {
     /// link is to come.
     fn accept(&mut self) -> Accepted<Self::Link>
         ensures link { (link : Self.Link) → result ≡ Accepted.Link link
-            → Accepts (state self.old) (Self.Link.talk link) (Self.Link.steady link) (state self.new) }
+            → Accepts (state self.old) (Self.Link.talk link) (Self.Link.steady link) (Self.Link.room link)
+            (state self.new) }
         ensures end { IsTrue (state self.old).told → result ≡ Accepted.End ↔ (state self.old).waiting ≡ 0 }
         ensures deaf { (state self.old).place ≡ None → result ≡ Accepted.End }
         ensures refused { ((link : Self.Link) → result ≢ Accepted.Link link)
@@ -52,7 +53,7 @@ pub trait Port: Faults {
     /// Dials a place. It fails where nobody is there to be dialled, and counts that once.
     fn dial(&mut self, place: &str) -> Result<Self::Link, Failed>
         ensures link { IfOk result (λ link. Dials (state self.old) place.now (Self.Link.talk link)
-            (Self.Link.steady link) (state self.new)) }
+            (Self.Link.steady link) (Self.Link.room link) (state self.new)) }
         ensures refused { OnErr result (SameLinks (state self.old) (state self.new)) }
         ensures nobody { IsTrue (state self.old).told → IsTrue (state self.old).steady
             → OnErr result ((state self.old).reaches place.now ≡ false) }

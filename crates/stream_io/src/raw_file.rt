@@ -1,7 +1,7 @@
 //! Files as a system gives them, with calls that do a part of what they are asked, and syncs that promise little.
 
 ghost use Rattle.std.specs.Prelude.{◌≡◌, ◌↔◌, ◌+◌, ◌<◌, ◌≤◌, ℕ, Bool, List, length, take, drop};
-ghost use Rattle.std.specs.Prelude.{IsTrue, IsFalse, IsOk, IfOk, OnOk, OnErr};
+ghost use Rattle.std.specs.Prelude.{IsTrue, IsFalse, IsOk, IfOk, OnOk, OnErr, MatchResult};
 ghost use Rattle.disk_trait.specs.Disks.{SameKind};
 ghost use Rattle.disk_trait.specs.Faults.{HasCause};
 ghost use Rattle.disk_trait.specs.Images.{written, Torn, Follows, Only};
@@ -93,7 +93,8 @@ pub trait RawFile: Faults {
         ensures stable { IsTrue (honest self.old) → IsTrue (told self.old) → IsFalse (sync_failed self.old)
             → OnOk result (Only (reads self.old) (may_leave self.new)) }
         ensures grown { IsTrue (told self.old) → OnOk result (IsFalse (grown self.new)) }
-        ensures failed { IsTrue (told self.old) → OnOk result (sync_failed self.new ≡ sync_failed self.old) }
+        ensures failed { IsTrue (told self.old) → MatchResult result
+            (λ _. sync_failed self.new ≡ sync_failed self.old) (λ _. IsTrue (sync_failed self.new)) }
 
         ensures same { IsTrue (told self.old) → reads self.new ≡ reads self.old }
         ensures images { IsTrue (honest self.old)
@@ -108,7 +109,8 @@ pub trait RawFile: Faults {
         ensures stable { IsTrue (honest self.old) → IsTrue (told self.old) → IsFalse (grown self.old)
             → IsFalse (sync_failed self.old) → OnOk result (Only (reads self.old) (may_leave self.new)) }
         ensures grown { IsTrue (told self.old) → OnOk result (grown self.new ≡ grown self.old) }
-        ensures failed { IsTrue (told self.old) → OnOk result (sync_failed self.new ≡ sync_failed self.old) }
+        ensures failed { IsTrue (told self.old) → MatchResult result
+            (λ _. sync_failed self.new ≡ sync_failed self.old) (λ _. IsTrue (sync_failed self.new)) }
 
         ensures same { IsTrue (told self.old) → reads self.new ≡ reads self.old }
         ensures images { IsTrue (honest self.old)

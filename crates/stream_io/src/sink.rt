@@ -27,6 +27,9 @@ pub trait Sink: Stream {
         ensures room { MatchResult result (λ n. room self.old ≤ room self.new + n) (λ _. room self.old
             ≤ room self.new) }
         ensures steady { Self.steady self.new ≡ Self.steady self.old };
+
+    /// The room of the talk is the sink's.
+    ghost rooms: { (sink : Self) → (Self.talk sink).room ≡ room sink };
 }
 
 /// Writes all bytes. After a refusal some of them are left.

@@ -1,5 +1,5 @@
 -- The links of a port that wait: each is what the link is that it is made of.
-use Rattle.std.proofs.Common.{◌≡◌, ◌&&◌, ℕ, Bool, true, false, List, Option, refl, sym, subst, ◌∙◌}
+use Rattle.std.proofs.Common.{◌≡◌, ◌≤◌, ◌&&◌, ℕ, Bool, true, false, List, Option, refl, sym, subst, ◌∙◌}
 use Rattle.stream_io.specs.Net.{Accepts, Dials, IsNewLink, PortState}
 use Rattle.stream_io.specs.Talk.{Talk}
 use Rattle.stream_memory.specs.Waiting.{with_waits}
@@ -16,19 +16,20 @@ both_true : (first last : Bool) → first ≡ true → last ≡ true → (first 
 both_true true last one other = other
 both_true false last one other = one
 
-module _ (old new : PortState) (talk talk' : Talk) (steady steady' nothing : Bool) (same : talk' ≡ talk)
-    (as_steady : steady' ≡ (steady && nothing)) where
-  is_new : (place : Option (List ℕ)) → IsNewLink old place talk steady → IsNewLink (with_waits old nothing) place talk' steady'
-  is_new place it = subst (λ (t : Talk). IsNewLink (with_waits old nothing) place t steady') (sym same) (record {
+module _ (old new : PortState) (talk talk' : Talk) (steady steady' nothing : Bool) (takes takes' : ℕ) (same : talk' ≡ talk)
+    (as_steady : steady' ≡ (steady && nothing)) (as_much : takes' ≡ takes) where
+  is_new : (place : Option (List ℕ)) → IsNewLink old place talk steady takes → IsNewLink (with_waits old nothing) place talk' steady' takes'
+  is_new place it = subst (λ (t : Talk). IsNewLink (with_waits old nothing) place t steady' takes') (sym same) (record {
     told = it.told;
     steady = λ is. as_steady ∙ both_true steady nothing (it.steady (first_true old.steady nothing is)) (last_true old.steady nothing is);
     place = it.place;
     taken = it.taken;
     written = it.written;
     count = it.count;
+    room = subst (λ n. old.room ≤ n) (sym as_much) it.room;
   })
 
-  pub accepted : Accepts old talk steady new → Accepts (with_waits old nothing) talk' steady' (with_waits new nothing)
+  pub accepted : Accepts old talk steady takes new → Accepts (with_waits old nothing) talk' steady' takes' (with_waits new nothing)
   accepted it = record {
     listens = it.listens;
     link = is_new _ it.link;
@@ -37,7 +38,7 @@ module _ (old new : PortState) (talk talk' : Talk) (steady steady' nothing : Boo
     talks = it.talks;
   }
 
-  pub dialled : (place : List ℕ) → Dials old place talk steady new → Dials (with_waits old nothing) place talk' steady' (with_waits new nothing)
+  pub dialled : (place : List ℕ) → Dials old place talk steady takes new → Dials (with_waits old nothing) place talk' steady' takes' (with_waits new nothing)
   dialled place it = record {
     there = it.there;
     link = is_new _ it.link;

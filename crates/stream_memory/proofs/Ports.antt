@@ -53,8 +53,8 @@ admitted net None there = tt
 admitted net (Some place) there = there
 
 -- ports that are new for a net are so for one that is as steady
-pub new-for : (a b : NetState) (place : Option (List ℕ)) (ports : List PortState) → a.told ≡ b.told → a.steady ≡ b.steady → All (IsNewPort a place) ports → All (IsNewPort b place) ports
-new-for a b place ports told steady new k d lt =
+pub new-for : (a b : NetState) (place : Option (List ℕ)) (ports : List PortState) → a.told ≡ b.told → a.steady ≡ b.steady → b.room ≤ a.room → All (IsNewPort a place) ports → All (IsNewPort b place) ports
+new-for a b place ports told steady room new k d lt =
     let port = new k d lt in
     record {
       told = λ t. port.told (told ∙ t);
@@ -63,4 +63,5 @@ new-for a b place ports told steady new k d lt =
       count = port.count;
       accept_count = port.accept_count;
       talks = port.talks;
+      room = let its = port.room in omega arith;
     }

@@ -1,8 +1,9 @@
 -- A list without one of its elements.
-use Rattle.std.proofs.Common.{◌≡◌, ◌<◌, ◌+◌, ◌&&◌, ◌||◌, ℕ, zero, suc, Bool, true, false, cond, List, [], ◌∷◌, Option, Some, None, length, get_or, position, refl, sym, ap, ◌∙◌, arith}
+use Rattle.std.proofs.Common.{◌≡◌, ◌<◌, ◌+◌, ◌&&◌, ◌||◌, ℕ, zero, suc, Bool, true, false, cond, List, [], ◌∷◌, Option, Some, None, length, min, get_or, position, refl, sym, ap, ◌∙◌, arith}
 use Rattle.std.proofs.lemmas.Iterator.Adapters.{position_from-zero}
 use Rattle.std.proofs.lemmas.Slice.Eq.{bytes_eq-Decides}
 use Rattle.std.specs.Str.{bytes_eq}
+use Rattle.stream_memory.specs.Ports.{least}
 use Rattle.std.specs.List.{list_all, list_any, position_from, remove}
 
 pub any-removed : {X : Type 0} (p : X → Bool) (xs : List X) (i : ℕ) (d : X) → i < length xs → p (get_or xs i d) ≡ false → list_any p (remove xs i) ≡ list_any p xs
@@ -19,6 +20,13 @@ pub all-removed : {X : Type 0} (p : X → Bool) (xs : List X) (i : ℕ) (d : X) 
 all-removed p [] i d lt = absurd (omega arith)
 all-removed p (x ∷ xs) zero d lt = refl
 all-removed p (x ∷ xs) (suc i) d lt = ap (λ t. p x && t) (all-removed p xs i d (omega arith)) ∙ and-swap (p x) (p (get_or xs i d)) (list_all p (remove xs i))
+
+pub least-removed : {X : Type 0} (room : X → ℕ) (xs : List X) (i : ℕ) (d : X) → i < length xs → least room xs ≡ min (room (get_or xs i d)) (least room (remove xs i))
+least-removed room [] i d lt = absurd (omega arith)
+least-removed room (x ∷ xs) zero d lt = refl
+least-removed room (x ∷ xs) (suc i) d lt =
+    let below = least-removed room xs i d (omega arith) in
+    omega arith
 
 none-step : (b any : Bool) (i : ℕ) (rest : Option ℕ) → cond b (Some i) rest ≡ None → (rest ≡ None → any ≡ false) → (b || any) ≡ false
 none-step true any i rest e f = cc

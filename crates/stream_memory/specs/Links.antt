@@ -1,5 +1,6 @@
 -- What links in memory stand for.
-use Rattle.std.specs.Prelude.{◌&&◌, Bool, true, take, drop, is_none, option_map, string_bytes}
+use Rattle.std.specs.Prelude.{◌&&◌, ◌-◌, ℕ, Bool, true, take, drop, is_none, option_map, string_bytes}
+use Rattle.std.specs.Prelude.{vec_capacity, vec_len}
 use Rattle.stream_memory.specs.Calls.{is_empty}
 use Rattle.stream_memory.specs.Chain.{own}
 use Rattle.stream_memory.specs.declared.conversation.Conversation.{Conversation}
@@ -10,6 +11,10 @@ use Rattle.stream_io.specs.Talk.{Talk}
 abbrev pub conversation_of : MemLink → Conversation
 conversation_of link = own link.node.value
 
+-- how many more bytes the link takes
+abbrev pub room_left : Conversation → ℕ
+room_left link = vec_capacity link.sink.written - vec_len link.sink.written
+
 -- what has gone over the link, all of it told
 abbrev pub talk_of : Conversation → Talk
 talk_of link = record {
@@ -18,6 +23,7 @@ talk_of link = record {
   taken = take link.source.at link.source.bytes.items;
   left = drop link.source.at link.source.bytes.items;
   written = link.sink.written.items;
+  room = room_left link;
   count = link.calls.faults;
 }
 

@@ -5,8 +5,9 @@ use Rattle.std.specs.Str.{bytes_eq}
 use Rattle.std.specs.declared.alloc.Global.{Global}
 use Rattle.std.specs.declared.string.String.{String}
 use Rattle.stream_memory.specs.Calls.{is_empty}
-use Rattle.stream_memory.specs.Ports.{is_steady_script, port_state}
+use Rattle.stream_memory.specs.Ports.{is_steady_script, least, least_room, port_state}
 use Rattle.stream_memory.specs.declared.mem_net.MemNet.{MemNet}
+use Rattle.stream_memory.specs.declared.port_script.PortScript.{PortScript}
 use Rattle.stream_io.specs.Net.{NetState}
 
 -- one of these places has this name
@@ -18,6 +19,10 @@ abbrev pub is_admitted : (List ℕ → Bool) → Option (List ℕ) → Bool
 is_admitted offers None = true
 is_admitted offers (Some place) = offers place
 
+-- the least room of a link of this script
+abbrev pub room_of_script : PortScript → ℕ
+room_of_script script = least_room script.waiting.items script.dialled.items
+
 -- a net with the ports that came back, all of it told
 abbrev pub net_state : MemNet → NetState
 net_state net = record {
@@ -26,6 +31,7 @@ net_state net = record {
   count = net.calls.faults;
   port_count = net.port_faults;
   offers = is_listed net.places.items;
+  room = least room_of_script net.scripts.items;
   out = net.out;
   kept = map port_state net.kept;
 }

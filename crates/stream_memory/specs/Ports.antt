@@ -1,6 +1,6 @@
 -- What ports in memory stand for.
-use Rattle.std.specs.Prelude.{◌&&◌, ℕ, Bool, true, List, length, map, option_map, is_some, string_bytes}
-use Rattle.std.specs.Prelude.{if◌then◌else◌}
+use Rattle.std.specs.Prelude.{◌&&◌, ◌-◌, ◌^◌, ℕ, Bool, true, List, [], ◌∷◌, length, map, min, option_map, is_some}
+use Rattle.std.specs.Prelude.{if◌then◌else◌, string_bytes, vec_capacity}
 use Rattle.std.specs.List.{list_all, list_any}
 use Rattle.std.specs.Str.{bytes_eq}
 use Rattle.std.specs.declared.alloc.Global.{Global}
@@ -30,6 +30,22 @@ abbrev pub are_steady : List MemLink → List (String Global × MemLink) → Boo
 are_steady waiting dialled =
     list_all is_steady_waiting waiting && list_all is_steady_entry dialled
 
+-- how many bytes a link takes once it begins
+abbrev pub room_of_waiting : MemLink → ℕ
+room_of_waiting link = vec_capacity (conversation_of link).sink.written
+
+abbrev pub room_of_entry : String Global × MemLink → ℕ
+room_of_entry entry = room_of_waiting entry.1
+
+-- the least room of these, and 2^64 - 1 where there is none
+abbrev pub least : {L : Type 0} → (L → ℕ) → List L → ℕ
+least room [] = 2 ^ 64 - 1
+least room (link ∷ links) = min (room link) (least room links)
+
+-- the least room of these links, those that wait to be accepted and those that wait to be dialled
+abbrev pub least_room : List MemLink → List (String Global × MemLink) → ℕ
+least_room waiting dialled = min (least room_of_waiting waiting) (least room_of_entry dialled)
+
 -- what a port has and keeps
 abbrev pub kept_of : MemPort → KeptPort
 kept_of port = own port.node.value
@@ -48,5 +64,6 @@ port_state port = record {
   accept_count = port.accept_faults;
   waiting = if is_some port.place then length port.waiting.items else 0;
   reaches = λ place. list_any (is_at place) port.dialled.items;
+  room = least_room port.waiting.items port.dialled.items;
   talks = map talk_of port.talks;
 }

@@ -1,12 +1,13 @@
 //! What a port in memory has and keeps.
 
 ghost use Rattle.std.specs.Prelude.{◌≡◌, ◌≢◌, ◌↔◌, ◌<◌, ◌+◌, ◌&&◌, ℕ, List, length, false, None, Some, IsTrue, IfSome};
-ghost use Rattle.std.specs.Prelude.{IfNone, option_copied, option_map, position, string_bytes};
+ghost use Rattle.std.specs.Prelude.{IfNone, min, option_copied, option_map, position, string_bytes};
 ghost use Rattle.std.specs.List.{list_all, list_any, slice_get};
 ghost use Rattle.std.specs.Str.{bytes_eq};
 ghost use Rattle.stream_memory.specs.Chain.{own};
-ghost use Rattle.stream_memory.specs.Links.{conversation_of, talk_of};
-ghost use Rattle.stream_memory.specs.Ports.{is_at, is_steady_entry, is_steady_waiting, port_state};
+ghost use Rattle.stream_memory.specs.Links.{conversation_of, room_left, talk_of};
+ghost use Rattle.stream_memory.specs.Ports.{is_at, is_steady_entry, is_steady_waiting, least, port_state};
+ghost use Rattle.stream_memory.specs.Ports.{room_of_entry, room_of_waiting};
 ghost use Rattle.stream_io.specs.Net.{Accepts, HangsUp, KeepsTalk, PortOnward, SameLinks};
 ghost use Rattle.stream_io.specs.Store.{RisesWhere};
 ghost use Rattle.stream_io.specs.declared.port.Accepted.{Accepted};
@@ -64,7 +65,7 @@ impl KeptPort {
     pub(crate) fn accept(&mut self) -> Accepted<MemLink>
         ensures link { (link : MemLink) → result ≡ Accepted.Link link
             → Accepts (port_state self.old) (talk_of (conversation_of link)) (is_steady_waiting link)
-            (port_state self.new) }
+            (room_left (conversation_of link)) (port_state self.new) }
         ensures end { result ≡ Accepted.End ↔ (port_state self.old).waiting ≡ 0 }
         ensures deaf { (port_state self.old).place ≡ None → result ≡ Accepted.End }
         ensures refused { ((link : MemLink) → result ≢ Accepted.Link link)
@@ -114,6 +115,8 @@ pub(crate) fn take_first(waiting: &mut Vec<MemLink>) -> MemLink
     ensures many { length waiting.old.items ≡ length waiting.new.items + 1 }
     ensures steady { list_all is_steady_waiting waiting.old.items
         ≡ (is_steady_waiting result && list_all is_steady_waiting waiting.new.items) }
+    ensures room { least room_of_waiting waiting.old.items
+        ≡ min (room_of_waiting result) (least room_of_waiting waiting.new.items) }
 {
     waiting.remove(0)
 }
@@ -136,6 +139,8 @@ pub(crate) fn take_at(
         → list_any (is_at other) dialled.new.items ≡ list_any (is_at other) dialled.old.items }
     ensures steady { IfSome result (λ entry. list_all is_steady_entry dialled.old.items
         ≡ (is_steady_entry entry && list_all is_steady_entry dialled.new.items)) }
+    ensures room { IfSome result (λ entry. least room_of_entry dialled.old.items
+        ≡ min (room_of_entry entry) (least room_of_entry dialled.new.items)) }
     ensures none { IfNone result (list_any (is_at place.now) dialled.old.items ≡ false) }
     ensures same { IfNone result (dialled.new.items ≡ dialled.old.items) }
 {

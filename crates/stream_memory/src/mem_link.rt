@@ -1,8 +1,9 @@
 //! A link in memory.
 
 ghost use Rattle.std.specs.Prelude.{◌≡◌, ◌+◌, ◌-◌, ◌^◌, ◌++◌, ◌↔◌, [], None, IsTrue, IfOk, true, refl};
-ghost use Rattle.std.specs.Prelude.{min, option_map, string_bytes, vec_len, vec_capacity};
-ghost use Rattle.stream_memory.specs.Links.{conversation_of, is_steady_link, talk_of};
+ghost use Rattle.std.specs.Prelude.{min, option_map, string_bytes};
+ghost use Rattle.stream_memory.specs.Links.{conversation_of, is_steady_link, room_left, talk_of};
+ghost use Rattle.stream_memory.specs.Ports.{room_of_waiting};
 
 use crate::calls::Calls;
 use crate::chain::Node;
@@ -36,6 +37,7 @@ impl MemLink {
           taken = (⟦<MemSource as Stream>⟧.talk source).taken;
           left = (⟦<MemSource as Stream>⟧.talk source).left;
           written = (⟦<MemSink as Stream>⟧.talk sink).written;
+          room = (⟦<MemSink as Stream>⟧.talk sink).room;
           count = 0;
         }) }
         ensures room { IfOk result (λ link. ⟦<MemLink as Sink>⟧.room link ≡ ⟦<MemSink as Sink>⟧.room sink) }
@@ -92,6 +94,7 @@ impl MemLink {
         ensures written { (talk_of (conversation_of self.new)).written ≡ [] }
         ensures count { (talk_of (conversation_of self.new)).count ≡ 0 }
         ensures steady { is_steady_link (conversation_of self.new) ≡ is_steady_link (conversation_of self.old) }
+        ensures room { room_left (conversation_of self.new) ≡ room_of_waiting self.old }
     {
         let link = &mut self.node.value;
         link.place = place;
@@ -132,7 +135,9 @@ impl Source for MemLink {
 }
 
 impl Sink for MemLink {
-    ghost room = { λ link. let sink = (conversation_of link).sink in vec_capacity sink.written - vec_len sink.written };
+    ghost room = { λ link. room_left (conversation_of link) };
+
+    ghost rooms = { λ _. refl };
 
     fn write(&mut self, bytes: &[u8]) -> Result<usize, Failed> {
         let link = &mut self.node.value;

@@ -1,13 +1,13 @@
 //! A net in memory.
 
-ghost use Rattle.std.specs.Prelude.{◌≡◌, ◌&&◌, ◌++◌, [], true, false, All, IsTrue, IfOk, OnOk, OnErr, length, map};
+ghost use Rattle.std.specs.Prelude.{◌≡◌, ◌≤◌, ◌&&◌, ◌++◌, [], true, false, All, IsTrue, IfOk, OnOk, OnErr, length, map};
 ghost use Rattle.std.specs.Prelude.{refl};
 ghost use Rattle.std.specs.Prelude.{nat_lt, option_copied, option_map, string_bytes};
 ghost use Rattle.std.specs.List.{list_all, list_any, slice_get};
 ghost use Rattle.disk_trait.specs.Faults.{HasCause};
 ghost use Rattle.stream_memory.specs.Calls.{is_empty};
-ghost use Rattle.stream_memory.specs.Nets.{is_admitted, is_listed, net_state};
-ghost use Rattle.stream_memory.specs.Ports.{is_steady_script, kept_of, port_state};
+ghost use Rattle.stream_memory.specs.Nets.{is_admitted, is_listed, net_state, room_of_script};
+ghost use Rattle.stream_memory.specs.Ports.{is_steady_script, kept_of, least, port_state};
 ghost use Rattle.stream_io.specs.Net.{Gathers, IsNewPort, NetOnward, SomeFailed, SomeUnaccepted};
 ghost use Rattle.stream_io.specs.Store.{RisesWhere};
 
@@ -45,6 +45,7 @@ impl MemNet {
           count = 0;
           port_count = 0;
           offers = is_listed places.items;
+          room = least room_of_script scripts.items;
           out = 0;
           kept = [];
         } }
@@ -73,6 +74,7 @@ impl MemNet {
         ensures made { IfOk result (λ port.
             IsNewPort (net_state self.old) (option_copied place.entry) (port_state (kept_of port))) }
         ensures steady { (net_state self.new).steady ≡ (net_state self.old).steady }
+        ensures room { (net_state self.old).room ≤ (net_state self.new).room }
         ensures same { self.new ≡ record self.old { scripts = self.new.scripts; gave_steady = self.new.gave_steady } }
     {
         let place = name_of(alloc, place)?;
@@ -92,6 +94,7 @@ impl MemNet {
         ensures made { IfOk result (λ ports. All (IsNewPort (net_state self.old) (option_copied place.entry))
             (map (λ port. port_state (kept_of port)) ports.items)) }
         ensures steady { (net_state self.new).steady ≡ (net_state self.old).steady }
+        ensures room { (net_state self.old).room ≤ (net_state self.new).room }
         ensures same { self.new ≡ record self.old { scripts = self.new.scripts; gave_steady = self.new.gave_steady } }
     {
         let mut ports = Vec::with_capacity(alloc, count as usize)?;
@@ -114,8 +117,10 @@ fn name_of(alloc: Global, place: Option<&str>) -> Result<Option<String>, NoMemor
 
 /// Takes the first script, or makes one without links where none is left.
 fn next_script(alloc: Global, scripts: &mut Vec<PortScript>) -> PortScript
-    ensures { list_all is_steady_script scripts.old.items
+    ensures steady { list_all is_steady_script scripts.old.items
         ≡ (is_steady_script result && list_all is_steady_script scripts.new.items) }
+    ensures room { least room_of_script scripts.old.items ≤ room_of_script result }
+    ensures others { least room_of_script scripts.old.items ≤ least room_of_script scripts.new.items }
 {
     if scripts.is_empty() {
         PortScript::new(alloc)

@@ -3,7 +3,7 @@
 ghost use Rattle.std.specs.Prelude.{◌≡◌, [], true, IfOk, length, option_map, refl, string_bytes};
 ghost use Rattle.std.specs.Prelude.{if◌then◌else◌, is_some};
 ghost use Rattle.std.specs.List.{list_any};
-ghost use Rattle.stream_memory.specs.Ports.{is_at, is_steady_script, kept_of, port_state};
+ghost use Rattle.stream_memory.specs.Ports.{is_at, is_steady_script, kept_of, least_room, port_state};
 
 use crate::calls::Calls;
 use crate::chain::{Chain, Node};
@@ -36,6 +36,7 @@ impl MemPort {
           accept_count = 0;
           waiting = if is_some place then length script.waiting.items else 0;
           reaches = λ name. list_any (is_at name) script.dialled.items;
+          room = least_room script.waiting.items script.dialled.items;
           talks = [];
         }) }
     {

@@ -85,6 +85,7 @@ impl Stream for MemSink {
       taken = [];
       left = [];
       written = s.written.items;
+      room = vec_capacity s.written - vec_len s.written;
       count = s.calls.faults;
     } };
 
@@ -93,6 +94,8 @@ impl Stream for MemSink {
 
 impl Sink for MemSink {
     ghost room = { λ s. vec_capacity s.written - vec_len s.written };
+
+    ghost rooms = { λ _. refl };
 
     fn write(&mut self, bytes: &[u8]) -> Result<usize, Failed> {
         self.calls.make()?;

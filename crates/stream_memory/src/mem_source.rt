@@ -105,6 +105,7 @@ impl Stream for MemSource {
       taken = take s.at s.bytes.items;
       left = drop s.at s.bytes.items;
       written = [];
+      room = 0;
       count = s.calls.faults;
     } };
 

@@ -1,7 +1,7 @@
 //! What a port in memory is made of.
 
-ghost use Rattle.std.specs.Prelude.{◌≡◌, [], IsTrue};
-ghost use Rattle.stream_memory.specs.Ports.{is_steady_entry, is_steady_script, is_steady_waiting};
+ghost use Rattle.std.specs.Prelude.{◌≡◌, ◌-◌, ◌^◌, [], IsTrue};
+ghost use Rattle.stream_memory.specs.Ports.{is_steady_entry, is_steady_script, is_steady_waiting, least_room};
 ghost use Rattle.std.specs.List.{list_all};
 
 use crate::mem_link::MemLink;
@@ -25,6 +25,7 @@ impl PortScript {
         ensures dialled { result.dialled.items ≡ [] }
         ensures failing { result.failing.items ≡ [] }
         ensures steady { IsTrue (is_steady_script result) }
+        ensures room { least_room result.waiting.items result.dialled.items ≡ 2 ^ 64 - 1 }
     {
         PortScript {
             waiting: Vec::new(alloc),

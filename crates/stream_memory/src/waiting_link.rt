@@ -134,6 +134,8 @@ impl<L: Source + Sink> Source for WaitingLink<'_, L> {
 impl<L: Source + Sink> Sink for WaitingLink<'_, L> {
     ghost room = { λ s. L.room s.link };
 
+    ghost rooms = { λ s. L.rooms s.link };
+
     fn write(&mut self, bytes: &[u8]) -> Result<usize, Failed> {
         if !self.is_writable() {
             return Err(self.fail());

@@ -5,7 +5,7 @@ use Rattle.tool_base.specs.World.{IsNetBack}
 
 pub net_none : (net : NetState) → IsNetBack net net
 net_none net = record {
-  onward = record { told = refl; steady = refl; count = omega arith; port_count = omega arith };
+  onward = record { told = refl; steady = refl; count = omega arith; port_count = omega arith; room = omega arith };
   out = λ told. refl;
 }
 
@@ -15,6 +15,7 @@ net_onward a b c one two = record {
   steady = two.steady ∙ one.steady;
   count = let x = one.count in let y = two.count in omega arith;
   port_count = let x = one.port_count in let y = two.port_count in omega arith;
+  room = let x = one.room in let y = two.room in omega arith;
 }
 
 -- all ports that were made come back

@@ -1,5 +1,5 @@
 -- What a lost member comes from.
-use Rattle.std.proofs.Common.{◌≡◌, ◌⊎◌, inl, inr, ℕ, List, [], Option, Result, Ok, Err, IfErr, refl, ap, subst}
+use Rattle.std.proofs.Common.{◌≡◌, ◌⊎◌, ◌≤◌, inl, inr, ℕ, List, [], length, IsTrue, Option, Result, Ok, Err, IfErr, refl, ap, subst, arith}
 use Rattle.aggregator_session.specs.Runs.{CellsRead}
 use Rattle.aggregator_session.specs.declared.fault.SignFault.{SignFault}
 use Rattle.aggregator_session.specs.declared.fault.SignFault.TheVariants as fault
@@ -31,7 +31,7 @@ use Rattle.tool_base.specs.Loads.{FailsToLoad}
 use Rattle.tool_base.specs.Loads as loads
 use Rattle.tool_sign.proofs.Causes.{links-rose, with-fault}
 use Rattle.tool_sign.specs.Faults.{end_of_fault}
-use Rattle.tool_sign.specs.Lost.{IsUnfailed, LosesMember}
+use Rattle.tool_sign.specs.Lost.{IsOfPeer, IsUnfailed, LosesMember, LosesPeer, longest_asks}
 use Rattle.tool_sign.specs.Ports.{NetRun, SignedOver, Signing, answer_of}
 use Rattle.tool_sign.specs.Sessions.{SessionEnds}
 use Rattle.tool_sign.specs.Sessions as sessions
@@ -46,6 +46,14 @@ use Rattle.tool_words.specs.Words.{SignWords}
 -- the end where a member's reply is missing
 abbrev pub missing : ℕ → ℕ → Ending
 missing member round = ending.NotSigned (unsigned.Missing member round)
+
+abbrev pub lost_with : ℕ → ℕ → Why → Result Signature SignFault
+lost_with member round why = Err (fault.Lost member round why)
+
+-- what comes of a session that lost this member in this round, whatever it is for
+abbrev pub ByWhy : ℕ → ℕ → SessionWords → StoreRun → MessageSource → NetRun → Type 0 → Type 0
+ByWhy member round asked store source net X =
+    (s : Signing) (old new : TableSeen) (why : Why) → IsTask asked store source s → SignedOver s old new net (lost_with member round why) → X
 
 module _ (member round : ℕ) where
   -- a fault that is told by it is a lost member, or a session that misses the reply
@@ -142,61 +150,95 @@ module _ (member round : ℕ) where
       abbrev pub Loses : Type 0
       Loses = Rose net.before.count net.after.count ⊎ LosesMember asked store source net member round
 
-      abbrev lost_with : Why → Result Signature SignFault
-      lost_with why = Err (fault.Lost member round why)
-
-      loses : (s : Signing) (old new : TableSeen) (why : Why) → IsTask asked store source s → IsUnfailed why → SignedOver s old new net (lost_with why) → Loses
+      loses : (s : Signing) (old new : TableSeen) (why : Why) → IsTask asked store source s → IsUnfailed why → SignedOver s old new net (lost_with member round why) → Loses
       loses s old new why task unfailed over =
           inr (record { signing = s; task = task; old = old; new = new; why = why; unfailed = unfailed; over = over })
 
-      by-why : (s : Signing) (old new : TableSeen) (why : Why) → IsTask asked store source s → SignedOver s old new net (lost_with why) → Loses
+      pub by-why : ByWhy member round asked store source net Loses
       by-why s old new NoAddress task over = loses s old new NoAddress task tt over
-      by-why s old new DialFailed task over = inl (links-rose s old new net (lost_with DialFailed) over (inl refl))
-      by-why s old new WriteFailed task over = inl (links-rose s old new net (lost_with WriteFailed) over (inr (inl refl)))
-      by-why s old new ReadFailed task over = inl (links-rose s old new net (lost_with ReadFailed) over (inr (inr refl)))
+      by-why s old new DialFailed task over = inl (links-rose s old new net (lost_with member round DialFailed) over (inl refl))
+      by-why s old new WriteFailed task over = inl (links-rose s old new net (lost_with member round WriteFailed) over (inr (inl refl)))
+      by-why s old new ReadFailed task over = inl (links-rose s old new net (lost_with member round ReadFailed) over (inr (inr refl)))
       by-why s old new Ended task over = loses s old new Ended task tt over
       by-why s old new (Garbled f) task over = loses s old new (Garbled f) task tt over
 
       abbrev failed_with : SignFault → Result Signature SignFault
       failed_with f = Err f
 
-      by-outcome : (s : Signing) (outcome : Result Signature SignFault) → IsTask asked store source s → SignedTable s asked.table store net outcome
-          → answer_of outcome ≡ Err (missing member round) → Loses
-      by-outcome s (Ok signature) task signed is = absurd (cc)
-      by-outcome s (Err f) task signed is =
-          let same : end_of_fault f ≡ missing member round = cc in
-          elim (misses f same) [
-            | inl lost ↦ by-why s signed.old signed.new lost.0 task
-                (subst (λ (g : SignFault). SignedOver s signed.old signed.new net (Err g)) lost.1 signed.over)
-            | inr other ↦ absurd (leased-misses s signed.old signed.new signed.over.port signed.over.done (Err f) (ap failed_with other) signed.over.signs)
-          ]
+      module _ (X : Type 0) (by : ByWhy member round asked store source net X) where
+        by-outcome : (s : Signing) (outcome : Result Signature SignFault) → IsTask asked store source s → SignedTable s asked.table store net outcome
+            → answer_of outcome ≡ Err (missing member round) → X
+        by-outcome s (Ok signature) task signed is = absurd (cc)
+        by-outcome s (Err f) task signed is =
+            let same : end_of_fault f ≡ missing member round = cc in
+            elim (misses f same) [
+              | inl lost ↦ by s signed.old signed.new lost.0 task
+                  (subst (λ (g : SignFault). SignedOver s signed.old signed.new net (Err g)) lost.1 signed.over)
+              | inr other ↦ absurd (leased-misses s signed.old signed.new signed.over.port signed.over.done (Err f) (ap failed_with other) signed.over.signs)
+            ]
 
-      by-table : (s : Signing) (answer : Result Signature Ending) (touched : List (List ℕ)) → IsTask asked store source s → TableEnds s asked.table store net answer touched
-          → answer ≡ Err (missing member round) → Loses
-      by-table s _ _ task (signs.no_table idle read) is = absurd (cc)
-      by-table s _ _ task (signs.no_memory touched idle stays) is = absurd (cc)
-      by-table s _ _ task (signs.not_loaded end idle fails stays) is =
-          let same : end ≡ missing member round = cc in absurd (load-heard store _ _ asked.table end fails same)
-      by-table s _ _ task (signs.no_port entries idle reads rose never stays) is = absurd (cc)
-      by-table s _ _ task (signs.signed outcome signed) is = by-outcome s outcome task signed is
+        by-table : (s : Signing) (answer : Result Signature Ending) (touched : List (List ℕ)) → IsTask asked store source s → TableEnds s asked.table store net answer touched
+            → answer ≡ Err (missing member round) → X
+        by-table s _ _ task (signs.no_table idle read) is = absurd (cc)
+        by-table s _ _ task (signs.no_memory touched idle stays) is = absurd (cc)
+        by-table s _ _ task (signs.not_loaded end idle fails stays) is =
+            let same : end ≡ missing member round = cc in absurd (load-heard store _ _ asked.table end fails same)
+        by-table s _ _ task (signs.no_port entries idle reads rose never stays) is = absurd (cc)
+        by-table s _ _ task (signs.signed outcome signed) is = by-outcome s outcome task signed is
+
+        pub session-by : (answer : Result Signature Ending) (touched : List (List ℕ)) → SessionEnds asked store source net answer touched → answer ≡ Err (missing member round) → X
+        session-by _ _ (sessions.no_task end fails same) is = let e : end ≡ missing member round = cc in absurd (task-heard end fails e)
+        session-by answer touched (sessions.ended s _ _ task ends) is = by-table s answer touched task ends is
 
       pub by-session : (answer : Result Signature Ending) (touched : List (List ℕ)) → SessionEnds asked store source net answer touched → answer ≡ Err (missing member round) → Loses
-      by-session _ _ (sessions.no_task end fails same) is = let e : end ≡ missing member round = cc in absurd (task-heard end fails e)
-      by-session answer touched (sessions.ended s _ _ task ends) is = by-table s answer touched task ends is
+      by-session answer touched ends is = session-by Loses by-why answer touched ends is
+
+-- ---- over a steady net whose links have room for the asks
+module _ (member round : ℕ) (asked : SessionWords) (store : StoreRun) (source : MessageSource) (net : NetRun) (steady : IsTrue net.before.steady) (room : longest_asks ≤ net.before.room) where
+  -- a session that lost a member has a message of which an ask can be made
+  short-of : (s : Signing) (old new : TableSeen) (port done : PortState) (why : Why) (outcome : Result Signature SignFault) → outcome ≡ lost_with member round why
+      → SignsLeased s.desk s.reads s.members s.message old port new done outcome → length s.message ≤ 16777216
+  short-of s old new port done why _ is (signing.too_long long unread) = absurd (cc)
+  short-of s old new port done why _ is (signing.not_leased after f short unread asks) = short
+  short-of s old new port done why _ is (signing.leased leaf mid after now result short asks runs spends) = short
+
+  of-peer : (s : Signing) (old new : TableSeen) (why : Why) → IsTask asked store source s → IsOfPeer why → SignedOver s old new net (lost_with member round why)
+      → LosesPeer asked store source net member round
+  of-peer s old new why task of over = record { signing = s; task = task; old = old; new = new; why = why; of_peer = of; over = over }
+
+  pub peer-why : ByWhy member round asked store source net (LosesPeer asked store source net member round)
+  peer-why s old new NoAddress task over = of-peer s old new NoAddress task tt over
+  peer-why s old new DialFailed task over = of-peer s old new DialFailed task tt over
+  peer-why s old new WriteFailed task over =
+      let short = short-of s old new over.port over.done WriteFailed _ refl over.signs in
+      let has = over.made.room in
+      absurd (over.dialled.writes (over.made.steady steady) (omega (arith, room, short, has)) refl)
+  peer-why s old new ReadFailed task over = absurd (over.dialled.reads (over.made.steady steady) refl)
+  peer-why s old new Ended task over = of-peer s old new Ended task tt over
+  peer-why s old new (Garbled f) task over = of-peer s old new (Garbled f) task tt over
 
 abbrev err_of : Ending → Result Signature Ending
 err_of end = Err end
 
 module _ (words : SignWords) (store : StoreRun) (net : NetRun) (member round : ℕ) where
-  abbrev pub LosesIt : Type 0
-  LosesIt = Rose net.before.count net.after.count ⊎ LosesMember (session_words words) store (message_in store words.message) net member round
+  abbrev source : MessageSource
+  source = message_in store words.message
 
-  ends-lost : (end : Ending) (touched : List (List ℕ)) → SignEnds words store net end touched → end ≡ missing member round → LosesIt
-  ends-lost _ _ (sign.not_new end fails same) is = absurd (new-heard member round store words.out end fails is)
-  ends-lost _ _ (sign.not_signed end touched new ends) is =
-      by-session member round (session_words words) store (message_in store words.message) (upto-heard member round store message_limit words.message) net (Err end) touched ends (ap err_of is)
-  ends-lost _ _ (sign.not_written signature end touched new ends cause) is = absurd (unwritten-heard member round store [] words.out end cause is)
-  ends-lost _ _ (sign.signed signature touched new ends written) is = absurd (cc)
+  module _ (X : Type 0) (by : ByWhy member round (session_words words) store source net X) where
+    ends-lost : (end : Ending) (touched : List (List ℕ)) → SignEnds words store net end touched → end ≡ missing member round → X
+    ends-lost _ _ (sign.not_new end fails same) is = absurd (new-heard member round store words.out end fails is)
+    ends-lost _ _ (sign.not_signed end touched new ends) is =
+        session-by member round (session_words words) store source (upto-heard member round store message_limit words.message) net X by (Err end) touched ends (ap err_of is)
+    ends-lost _ _ (sign.not_written signature end touched new ends cause) is = absurd (unwritten-heard member round store [] words.out end cause is)
+    ends-lost _ _ (sign.signed signature touched new ends written) is = absurd (cc)
+
+  abbrev pub LosesIt : Type 0
+  LosesIt = Rose net.before.count net.after.count ⊎ LosesMember (session_words words) store source net member round
 
   pub loses-member : SigningRun words store net (missing member round) → LosesIt
-  loses-member run = ends-lost (missing member round) run.touched run.ends refl
+  loses-member run =
+      ends-lost LosesIt (by-why member round (session_words words) store source (upto-heard member round store message_limit words.message) net) (missing member round) run.touched run.ends refl
+
+  pub loses-peer : IsTrue net.before.steady → longest_asks ≤ net.before.room → SigningRun words store net (missing member round) → LosesPeer (session_words words) store source net member round
+  loses-peer steady room run =
+      ends-lost (LosesPeer (session_words words) store source net member round) (peer-why member round (session_words words) store source net steady room) (missing member round) run.touched run.ends refl

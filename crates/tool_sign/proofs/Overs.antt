@@ -83,7 +83,7 @@ module _ (signing : Signing) (old new : TableSeen) (a b c : NetState) (port done
   pub over_one : (made returned : List PortState) (outcome : Result Signature SignFault) (session : Option State) → made ≡ port ∷ [] → returned ≡ done ∷ [] → MakesPorts a None 1 made b → Gathers b returned c
       → b.told ≡ a.told → b.count ≡ a.count → b.port_count ≡ a.port_count
       → LeasedTo signing.desk signing.reads signing.members signing.message old port new done outcome session
-      → IfOk outcome (λ signature. AcceptsAt signing.desk.key signing.message signature.bytes signature.leaf) → PortCauses port done outcome → IsUnread signing outcome
+      → IfOk outcome (λ signature. AcceptsAt signing.desk.key signing.message signature.bytes signature.leaf) → PortCauses signing.message port done outcome → IsUnread signing outcome
       → SignedTo outcome session
   over_one made returned outcome session is back makes gathers told count port_count leased accepted causes unread =
       let gathered : Gathers b (done ∷ []) c = subst (λ ports. Gathers b ports c) back gathers in

@@ -15,9 +15,9 @@ use Rattle.stream_io.specs.Net.{PortState}
 use Rattle.tool_sign.proofs.Exacts.{exact-parts}
 use Rattle.tool_sign.specs.Ports.{IsUnread, is_exact}
 
-pub causes_as : (before now : PortState) (result : Result Signed SignFault) → PortCauses before now result → PortCauses before now (signature_in result)
-causes_as before now (Ok signed) causes = record { dialled = causes.dialled; unwritten = causes.unwritten; unread = causes.unread; reads = causes.reads; onward = causes.onward; accepting = causes.accepting }
-causes_as before now (Err fault) causes = record { dialled = causes.dialled; unwritten = causes.unwritten; unread = causes.unread; reads = causes.reads; onward = causes.onward; accepting = causes.accepting }
+pub causes_as : (message : List ℕ) (before now : PortState) (result : Result Signed SignFault) → PortCauses message before now result → PortCauses message before now (signature_in result)
+causes_as message before now (Ok signed) causes = record { dialled = causes.dialled; unwritten = causes.unwritten; unread = causes.unread; reads = causes.reads; writes = causes.writes; onward = causes.onward; accepting = causes.accepting }
+causes_as message before now (Err fault) causes = record { dialled = causes.dialled; unwritten = causes.unwritten; unread = causes.unread; reads = causes.reads; writes = causes.writes; onward = causes.onward; accepting = causes.accepting }
 
 pub accepted_as : (key : PublicKey) (message : List ℕ) (result : Result Signed SignFault) → IfOk result (λ signed. AcceptsAt key message signed.bytes.items signed.leaf)
     → IfOk (signature_in result) (λ signature. AcceptsAt key message signature.bytes signature.leaf)

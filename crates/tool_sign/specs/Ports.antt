@@ -59,7 +59,7 @@ pub record SignedOver (signing : Signing) (old new : TableSeen) (net : NetRun) (
   pub made : IsNewPort net.before None port
   pub signs : SignsLeased signing.desk signing.reads signing.members signing.message old port new done outcome
   pub accepted : IfOk outcome (λ signature. AcceptsAt signing.desk.key signing.message signature.bytes signature.leaf)
-  pub dialled : PortCauses port done outcome
+  pub dialled : PortCauses signing.message port done outcome
   pub unread : IsUnread signing outcome
   pub kept : IsTrue net.before.told → net.after.kept ≡ net.before.kept ++ (done ∷ [])
   pub count : RisesWhere (done.count ≢ 0) net.before.count net.after.count

@@ -1,6 +1,6 @@
 //! What follows from the definitions. No function here does anything.
 
-ghost use Rattle.std.specs.Prelude.{◌≡◌, ◌⊎◌, ℕ, List, Ok, Result};
+ghost use Rattle.std.specs.Prelude.{◌≡◌, ◌⊎◌, ◌≤◌, ℕ, List, IsTrue, Ok, Result};
 ghost use Rattle.aggregator_session.specs.Faults.{LostBy};
 ghost use Rattle.aggregator_session.specs.Runs.{CellsRead, HasRun};
 ghost use Rattle.aggregator_session.specs.declared.desk.Address.{Address};
@@ -20,7 +20,7 @@ ghost use Rattle.tool_base.specs.World.{from_to};
 ghost use Rattle.tool_base.specs.declared.unsigned.Unsigned.TheVariants.{Missing};
 ghost use Rattle.tool_sign.specs.Dealt.{IsDealt};
 ghost use Rattle.tool_sign.specs.Ports.{NetRun, SignedOver, Signing};
-ghost use Rattle.tool_sign.specs.Lost.{LosesMember};
+ghost use Rattle.tool_sign.specs.Lost.{LosesMember, LosesPeer, longest_asks};
 ghost use Rattle.tool_sign.specs.Sign.{SigningRun, session_words};
 ghost use Rattle.tool_sign.specs.Tasks.{message_in};
 ghost use Rattle.tool_words.specs.Words.{SignWords};
@@ -31,7 +31,9 @@ use stream_io::Store;
 /// its disks and views rose, and the net only where its count of failed ports rose. A member is lost only where the
 /// net's count of faults rose, or since its link ended before a reply, what it sent is no frame of a reply, or no
 /// address names it (`lost`): of a session, that it could not be dialled, written to or read is the cause only where
-/// that count rose (`links`).
+/// that count rose (`links`). Over a steady net whose links have room for the asks of the longest message, a member is
+/// lost only since nobody could be dialled, since its link ended or what it sent is no frame of a reply, or since no
+/// address names it, and never by a write or a read that failed (`peer`).
 pub fn causes<S: Store>(before: &S, after: &S)
     ensures store { (words : SignWords) (net : NetRun)
         → SigningRun words (from_to (S.state before.now) (S.state after.now)) net ending.StoreFailed
@@ -47,6 +49,11 @@ pub fn causes<S: Store>(before: &S, after: &S)
         SigningRun words run net (ending.NotSigned (Missing member round))
         → Rose net.before.count net.after.count
         ⊎ LosesMember (session_words words) run (message_in run words.message) net member round }
+    ensures peer { (words : SignWords) (net : NetRun) (member round : ℕ)
+        → let run = from_to (S.state before.now) (S.state after.now) in
+        SigningRun words run net (ending.NotSigned (Missing member round))
+        → IsTrue net.before.steady → longest_asks ≤ net.before.room
+        → LosesPeer (session_words words) run (message_in run words.message) net member round }
     ensures links { (signing : Signing) (old new : TableSeen) (net : NetRun) (outcome : Result Signature SignFault)
         → SignedOver signing old new net outcome
         → LostBy DialFailed outcome ⊎ LostBy WriteFailed outcome ⊎ LostBy ReadFailed outcome

@@ -14,7 +14,7 @@ ghost use Rattle.tool_words.specs.Words.{TrusteeWords};
 ghost use Rattle.trustee_core.specs.Lives.{OneOpening};
 ghost use Rattle.trustee_node.specs.Places.{IsLegal, granted_by};
 ghost use Rattle.trustee_node.specs.Turns.{Turn};
-ghost use Rattle.trustee_node.specs.Ports.{turns_in};
+ghost use Rattle.trustee_node.specs.Ports.{NoLinkFails, TakesAll, turns_in};
 
 use stream_io::Store;
 
@@ -27,7 +27,8 @@ pub fn one_opening<S: Store>()
 
 /// Where the store tells its content and no call of it fails but for its arguments, each ask that the trustee grants on
 /// the entries that its turn met is granted, so it is answered with its masks. Where the net is steady too, the command
-/// ends with the numbers of what was served.
+/// ends with the numbers of what was served; and where its links also have room for 65,536 of the longest replies, no
+/// connection ended by a link that failed.
 pub fn steady_trustee<S: Store>(before: &S, after: &S)
     ensures grants { (words : TrusteeWords) (net_old net_new : NetState) (time later : TimeState) (end : Ending)
         (run : ServedTrustee words (record { store = S.state before.now; net = net_old; time = time })
@@ -38,4 +39,8 @@ pub fn steady_trustee<S: Store>(before: &S, after: &S)
         (run : ServedTrustee words (record { store = S.state before.now; net = net_old; time = time })
         (record { store = S.state after.now; net = net_new; time = later }) end)
         → IsTrue net_old.steady → end ≡ ending.Served run.net.totals.connections run.net.totals.frames }
+    ensures links { (words : TrusteeWords) (net_old net_new : NetState) (time later : TimeState) (end : Ending)
+        (run : ServedTrustee words (record { store = S.state before.now; net = net_old; time = time })
+        (record { store = S.state after.now; net = net_new; time = later }) end)
+        → IsTrue net_old.steady → TakesAll run.share.params net_old.room → NoLinkFails run.net.served.runs }
 {}

@@ -1,6 +1,8 @@
 -- A connection, ask by ask.
-use Rattle.std.proofs.Common.{◌≡◌, ◌≢◌, ◌⊎◌, ◌+◌, ◌≤◌, ℕ, true, false, true≢false, List, [], ◌∷◌, ◌++◌, Result, Ok, Err, length, take, drop, refl, sym, ap, ◌∙◌, subst, arith, inl, inr, append_assoc, append-nil, length-append, take-append-drop}
+use Rattle.std.proofs.Common.{◌≡◌, ◌≢◌, ◌⊎◌, ◌+◌, ◌*◌, ◌≤◌, ◌<◌, ℕ, true, false, true≢false, List, [], ◌∷◌, ◌++◌, Result, Ok, Err, length, take, drop, refl, sym, ap, ◌∙◌, subst, arith, inl, inr, append_assoc, append-nil, length-append, take-append-drop}
 use Rattle.std.proofs.lemmas.Grind.{flat_map-append}
+use mathlib.Core.Logic.{dite}
+use native.Mathlib.Decide.{dec_le}
 use Rattle.approval_book.specs.Decisions.{book_answer_in}
 use Rattle.disk_trait.specs.Faults.{Rose}
 use Rattle.lms_bytes.specs.declared.ask.Ask.{Ask}
@@ -173,6 +175,41 @@ pub replies-more : (share : Share) (turns : List Turn) (turn : Turn) → replies
 replies-more share turns turn =
     let f = λ (t : Turn). reply_bytes share t.ask t.outcome in
     flat_map-append f turns (turn ∷ []) ∙ ap (λ (l : List ℕ). replies share turns ++ l) (append-nil (f turn))
+
+replies-length : (share : Share) (turns : List Turn) (turn : Turn) → length (replies share (turns ++ turn ∷ [])) ≡ length (replies share turns) + length (reply_bytes share turn.ask turn.outcome)
+replies-length share turns turn = ap length (replies-more share turns turn) ∙ length-append (replies share turns) (reply_bytes share turn.ask turn.outcome)
+
+-- no replies are longer than as many of the longest
+pub small-more : (share : Share) (turns : List Turn) (turn : Turn) (longest : ℕ) → length (replies share turns) ≤ length turns * longest
+    → length (reply_bytes share turn.ask turn.outcome) ≤ longest → length (replies share (turns ++ turn ∷ [])) ≤ length (turns ++ turn ∷ []) * longest
+small-more share turns turn longest before last =
+    let product : (length turns + 1) * longest ≡ length turns * longest + longest = grind arith in
+    let all : length (turns ++ turn ∷ []) * longest ≡ (length turns + 1) * longest = ap (λ (n : ℕ). n * longest) (length-append turns (turn ∷ [])) in
+    omega (arith, before, last, product, all, replies-length share turns turn)
+
+-- the room behind one more reply
+pub room-more : (share : Share) (turns : List Turn) (turn : Turn) (first mid last new : ℕ) → first ≤ mid + length (replies share turns) → mid ≤ last
+    → last ≤ new + length (reply_bytes share turn.ask turn.outcome) → first ≤ new + length (replies share (turns ++ turn ∷ []))
+room-more share turns turn first mid last new before read wrote = omega (arith, before, read, wrote, replies-length share turns turn)
+
+-- a reply that does not fit is one too many
+pub room-short : (share : Share) (turns : List Turn) (turn : Turn) (first mid last : ℕ) → first ≤ mid + length (replies share turns) → mid ≤ last
+    → (length (reply_bytes share turn.ask turn.outcome) ≤ last → ⊥) → first < length (replies share (turns ++ turn ∷ []))
+room-short share turns turn first mid last before read full =
+    dite (dec_le (length (replies share (turns ++ turn ∷ []))) first)
+    (λ fits. absurd (full (omega (arith, before, read, fits, replies-length share turns turn))))
+    (λ never. omega (arith, never))
+
+-- a fault of a frame that is one of the link
+pub link-fault : (fault : FrameFault) → IsLinkFault (end_by fault) → fault ≡ ReadFault
+link-fault End is = absurd is
+link-fault Cut is = is
+link-fault Magic is = is
+link-fault (Kind got) is = is
+link-fault (TooLong got) is = is
+link-fault Shape is = is
+link-fault ReadFault is = is
+link-fault NoMemory is = is
 
 pub written-more : (share : Share) (turns : List Turn) (turn : Turn) (old mid last new : List ℕ) → mid ≡ old ++ replies share turns → last ≡ mid → new ≡ last ++ reply_bytes share turn.ask turn.outcome → new ≡ old ++ replies share (turns ++ turn ∷ [])
 written-more share turns turn old mid last new before same now =

@@ -29,10 +29,10 @@ joined-length f n each (suc count) =
     let m : suc count * n ≡ count * n + n = grind arith in
     a ∙ (omega (arith, b, e, m))
 
-abbrev ask-by : List ℕ → ℕ → MessageId → Option Second → Ask
+abbrev pub ask-by : List ℕ → ℕ → MessageId → Option Second → Ask
 ask-by key leaf message second = record { key = key; leaf = leaf; message = message; second = second }
 
-granted-length : (share : Share) (key : List ℕ) (leaf : ℕ) (message : MessageId) (second : Option Second)
+pub granted-length : (share : Share) (key : List ℕ) (leaf : ℕ) (message : MessageId) (second : Option Second)
     → length (masks_joined share (ask-by key leaf message second)) ≡ body_length share.params (reply_head share (ask-by key leaf message second) (InTurn (Decided Granted)))
 granted-length share key leaf message None =
     let one : 1 * share.params.n ≡ share.params.n = grind arith in

@@ -38,11 +38,11 @@ begins-right xs ys one =
     ] in all refl
 
 -- the turns of connections
-few-turns : (share : Share) (told : Bool) (served : List Connection) → All (IsConnection share told) served → length (turns_of served) ≤ 65536 * length served
-few-turns share told [] are = omega arith
-few-turns share told (one ∷ served) are =
-    let first = (All-head (IsConnection share told) one served are).most in
-    let rest = few-turns share told served (All-tail (IsConnection share told) one served are) in
+few-turns : (share : Share) (port : PortState) (served : List Connection) → All (IsConnection share port) served → length (turns_of served) ≤ 65536 * length served
+few-turns share port [] are = omega arith
+few-turns share port (one ∷ served) are =
+    let first = (All-head (IsConnection share port) one served are).most in
+    let rest = few-turns share port served (All-tail (IsConnection share port) one served are) in
     omega (arith, first, rest, length-append one.turns (turns_of served))
 
 turns-more : (runs : List PortRun) (run : PortRun) → turns_in (runs ++ run ∷ []) ≡ turns_in runs ++ turns_of run.served
@@ -127,7 +127,7 @@ module _ (share : Share) (ids : Option (List (List ℕ))) where
 
       few : length (turns_of worked.served) ≤ 2 ^ 48
       few =
-          let turns = few-turns share port.told worked.served worked.are in
+          let turns = few-turns share port worked.served worked.are in
           let count = worked.connections in
           let most = done.most in
           let small = done.small in

@@ -1,5 +1,5 @@
 -- The heads of replies, and what follows them.
-use Rattle.std.proofs.Common.{◌≡◌, ◌⊎◌, ◌≤◌, ℕ, Option, None, Some, IfSome, Ok, Err, length, replicate, refl, ap, sym, subst, inl, inr, arith}
+use Rattle.std.proofs.Common.{◌≡◌, ◌⊎◌, ◌≤◌, ◌++◌, ◌∙◌, ℕ, List, Option, None, Some, IfSome, Ok, Err, length, replicate, refl, ap, sym, subst, inl, inr, arith}
 use Rattle.std.proofs.lemmas.List.{length-replicate}
 use Rattle.approval_book.specs.Decisions.{Decided, Denied}
 use Rattle.approval_book.specs.declared.denial.Denial.TheVariants.{NotApproved, Core}
@@ -7,13 +7,13 @@ use Rattle.lms_bytes.specs.declared.ask.Ask.{Ask}
 use Rattle.lms_bytes.specs.declared.ask.Second.{Second}
 use Rattle.lms_bytes.specs.declared.params.Params.{Params}
 use Rattle.round_frames.specs.Asks.{HasSizes}
-use Rattle.round_frames.specs.Replies.{IsHead}
+use Rattle.round_frames.specs.Replies.{IsHead, reply_front}
 use Rattle.share_files.specs.declared.share.Share.{Share}
 use Rattle.trustee_core.specs.Codes.{refusal_code}
 use Rattle.trustee_core.specs.Decisions.{Granted, Refused}
 use Rattle.trustee_core.specs.declared.refusal.Refusal.{Refusal}
 use Rattle.trustee_core.specs.declared.refusal.Refusal.TheVariants as refusal
-use Rattle.trustee_node.specs.Replies.{HasDigest, IsGrantOf, body_in, c_of, masks_joined, outcome_in, reply_body, reply_head, round_of}
+use Rattle.trustee_node.specs.Replies.{HasDigest, IsGrantOf, body_in, c_of, masks_joined, outcome_in, reply_body, reply_bytes, reply_head, round_of}
 use Rattle.trustee_node.specs.Turns.{InTurn, NoTurn, Outcome, code_of}
 use Rattle.trustee_node.specs.declared.turn.Answer.{Answer}
 use Rattle.trustee_node.specs.declared.turn.Answer.TheVariants as answer
@@ -78,6 +78,12 @@ body-is share ask (answer.Decided (Ok grant)) is = ap (masks_joined share) is
 body-is share ask (answer.Decided (Err (Core why))) is = refl
 body-is share ask (answer.Decided (Err (NotApproved message))) is = refl
 body-is share ask answer.Worn is = refl
+
+-- the front of a room and what follows it are the reply
+pub reply-is : (share : Share) (ask : Ask) (given : Answer) (front : List ℕ) → IsGrantOf given ask → front ≡ reply_front share.params (reply_head share ask (outcome_in given))
+    → front ++ body_in share given ≡ reply_bytes share ask (outcome_in given)
+reply-is share ask given front is head =
+    ap (λ (l : List ℕ). l ++ body_in share given) head ∙ ap (λ (l : List ℕ). reply_front share.params (reply_head share ask (outcome_in given)) ++ l) (body-is share ask given is)
 
 -- the digest of a granted ask has n bytes
 pub has-digest : (share : Share) (ask : Ask) (given : Answer) → IsGrantOf given ask → HasSizes share.params ask → HasDigest share given

@@ -2,6 +2,7 @@ mod Conversing
 mod Deciding
 mod Frames
 mod Heads
+mod Lengths
 mod Masks
 pub mod Opening
 pub mod Prefixes
@@ -15,3 +16,4 @@ mod Joining
 pub mod Finishing
 mod Running
 pub mod PortOpening
+pub mod RoomyLinks

@@ -106,6 +106,34 @@ pub gathered-all : (f : ℕ → List ℕ) (old now : Talk) (front : ℕ) (room h
 gathered-all f old now front room head next (inl (none, same, is)) some = absurd (omega (arith, none, some))
 gathered-all f old now front room head next (inr (none, written)) some = written
 
+-- the room behind more masks, where the front and they were written as one piece
+pub room-on : (f : ℕ → List ℕ) (first mid last : ℕ) (front head more piece : List ℕ) (next after : ℕ)
+    → first + length front ≤ mid + length (head ++ joined f next) → joined f next ++ more ≡ joined f after
+    → piece ≡ front ++ more → mid ≤ last + length piece → first ≤ last + length (head ++ joined f after)
+room-on f first mid last front head more piece next after before on is took =
+    let a = ap length on in
+    let b = ap length is in
+    omega (arith, before, took, a, b, length-append (joined f next) more, length-append front more, length-append head (joined f next), length-append head (joined f after))
+
+-- where all masks fit, so does the next piece
+pub room-there : (f : ℕ → List ℕ) (first mid : ℕ) (front head more piece : List ℕ) (next after count : ℕ)
+    → first + length front ≤ mid + length (head ++ joined f next) → joined f next ++ more ≡ joined f after
+    → piece ≡ front ++ more → after ≤ count → length (head ++ joined f count) ≤ first → length piece ≤ mid
+room-there f first mid front head more piece next after count before on is le fits =
+    let p = joined-begins f after count le in
+    let a = ap length on in
+    let b = ap length is in
+    let e = ap length p.1 in
+    omega (arith, before, fits, a, b, e, length-append (joined f after) p.0, length-append (joined f next) more, length-append front more, length-append head (joined f next), length-append head (joined f count))
+
+-- the room behind some masks is room behind all
+pub room-all : (f : ℕ → List ℕ) (first last : ℕ) (head : List ℕ) (after count : ℕ)
+    → first ≤ last + length (head ++ joined f after) → after ≤ count → first ≤ last + length (head ++ joined f count)
+room-all f first last head after count before le =
+    let p = joined-begins f after count le in
+    let e = ap length p.1 in
+    omega (arith, before, e, length-append (joined f after) p.0, length-append head (joined f after), length-append head (joined f count))
+
 -- a set has chains
 pub some-chains : (params : Params) → 0 < params.p
 some-chains params = let n = params.hash_length in let w = params.digit_width in let d = params.digest_digits in grind (arith, n, w, d)

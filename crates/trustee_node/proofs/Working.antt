@@ -1,12 +1,12 @@
 -- A worker, connection by connection.
-use Rattle.std.proofs.Common.{◌≡◌, ◌+◌, ◌-◌, ◌^◌, ◌≤◌, ℕ, Bool, true, false, true≢false, min, List, [], ◌∷◌, ◌++◌, Option, length, map, refl, sym, ap, ◌∙◌, subst, arith, append_assoc, append-nil, length-append}
+use Rattle.std.proofs.Common.{◌≡◌, ◌+◌, ◌-◌, ◌^◌, ◌≤◌, ℕ, Bool, true, false, true≢false, min, List, [], ◌∷◌, ◌++◌, Option, None, length, map, refl, sym, ap, ◌∙◌, subst, arith, append_assoc, append-nil, length-append}
 use Rattle.std.proofs.lemmas.List.{map-append}
 use Rattle.std.proofs.lemmas.List.Elements.{All-nil, All-push}
 use Rattle.std.proofs.lemmas.Grind.{flat_map-append}
 use Rattle.std.proofs.lemmas.List.Sums.{sum_by-append}
 use Rattle.opening_journal.specs.declared.entry.Entry.{Entry}
 use Rattle.share_files.specs.declared.share.Share.{Share}
-use Rattle.stream_io.specs.Net.{Accepts, PortOnward, PortState, SameLinks}
+use Rattle.stream_io.specs.Net.{Accepts, IsNewLink, PortOnward, PortState, SameLinks}
 use Rattle.stream_io.specs.Store.{RisesWhere}
 use Rattle.stream_io.specs.Talk.{Talk}
 use Rattle.trustee_core.specs.declared.kept.TrusteeName.{TrusteeName}
@@ -47,7 +47,7 @@ turns-more served one = flat_map-append (λ (c : Connection). c.turns) served (o
 
 -- ports after ports
 pub onward-same : (port : PortState) → PortOnward port port
-onward-same port = record { told = refl; steady = refl; place = refl; count = omega arith; accept_count = omega arith }
+onward-same port = record { told = refl; steady = refl; place = refl; count = omega arith; accept_count = omega arith; room = omega arith }
 
 pub onward-then : (old mid new : PortState) → PortOnward old mid → PortOnward mid new → PortOnward old new
 onward-then old mid new a b = record {
@@ -56,6 +56,7 @@ onward-then old mid new a b = record {
   place = b.place ∙ a.place;
   count = (let p = a.count in let q = b.count in omega arith);
   accept_count = (let p = a.accept_count in let q = b.accept_count in omega arith);
+  room = (let p = a.room in let q = b.room in omega arith);
 }
 
 -- a count that stays
@@ -70,7 +71,7 @@ module _ (share : Share) (ids : Option (List (List ℕ))) where
   pub worked-none : (old : WorkerState) → old.pass.in_turn ≡ false → Worked share ids old (begun old)
   worked-none old idle = record {
     served = [];
-    are = All-nil (IsConnection share old.port.told);
+    are = All-nil (IsConnection share old.port);
     serves = serves-none share ids old.pass idle;
     dated = λ _. dated-none old.clock.answers;
     talks = λ _. sym (append-nil old.port.talks);
@@ -105,35 +106,37 @@ module _ (share : Share) (ids : Option (List (List ℕ))) where
       }
 
   -- a link was accepted and served
-  pub worked-more : (old mid : WorkerState) (port_in port : PortState) (pass : Seen Entry TrusteeName) (clock : ClockState) (link : Talk) (steady : Bool) (served : Served) (frames : ℕ) (worn : Bool)
+  pub worked-more : (old mid : WorkerState) (port_in port : PortState) (pass : Seen Entry TrusteeName) (clock : ClockState) (link : Talk) (steady : Bool) (room : ℕ) (served : Served) (frames : ℕ) (worn : Bool)
       → Worked share ids old mid → mid.failed ≡ false
-      → Accepts mid.port link steady port_in → PortOnward mid.port port_in → port_in.accept_count ≡ mid.port.accept_count
-      → ServesLink share ids mid.pass pass link port_in port mid.clock clock served → PortOnward port_in port → clock.told ≡ mid.clock.told
+      → link.room ≡ room → Accepts mid.port link steady room port_in → PortOnward mid.port port_in → port_in.accept_count ≡ mid.port.accept_count
+      → ServesLink share ids mid.pass pass steady link port_in port mid.clock clock served → PortOnward port_in port → clock.told ≡ mid.clock.told
       → frames ≡ min (mid.frames + served.frames) (2 ^ 32 - 1) → (worn ≡ true → served.ended ≡ Worn)
       → Worked share ids old (record { port = port; pass = pass; clock = clock; connections = mid.connections + 1; frames = frames; worn = worn; failed = mid.failed })
-  worked-more old mid port_in port pass clock link steady served frames worn a sound accepts onward_in quiet b onward told sum ended =
+  worked-more old mid port_in port pass clock link steady room served frames worn a sound takes accepts onward_in quiet b onward told sum ended =
       let conversation = b.conversation in
       let one : Connection = record { link = link; talk = b.talk; last = b.hung.last; turns = conversation.turns; served = served } in
       let turns = turns-more a.served one in
       let before : mid.port.told ≡ old.port.told = a.onward.told in
       let before_clock : mid.clock.told ≡ old.clock.told = a.clock_told in
-      let is : IsConnection share old.port.told one = record {
-        port = mid.port;
+      let is : IsConnection share old.port one = record {
+        by_then = mid.port;
+        since = a.onward;
         steady = steady;
-        port_told_is = before;
-        accepted = accepts.link;
+        accepted = subst (IsNewLink mid.port None link steady) (sym takes) accepts.link;
         read = conversation.read;
         written = conversation.written;
         ends = conversation.ends;
         most = conversation.most;
+        small = conversation.small;
         cause = conversation.cause;
+        fails = conversation.fails;
         told = conversation.told;
         place = conversation.place;
         ended = b.hung.ended;
       } in
       record {
         served = a.served ++ one ∷ [];
-        are = All-push (IsConnection share old.port.told) a.served one a.are is;
+        are = All-push (IsConnection share old.port) a.served one a.are is;
         serves = subst (Serves share ids old.pass pass) (sym turns) (serves-then share ids old.pass mid.pass pass (turns_of a.served) conversation.turns a.serves conversation.serves);
         dated = λ is_told.
             subst (IsDated old.clock.answers clock.answers) (sym turns)

@@ -1,5 +1,5 @@
 -- A connection: the asks that were read and when, what was written, and how it ended.
-use Rattle.std.specs.Prelude.{◌≡◌, ◌≢◌, ◌⊎◌, ◌<◌, ◌≤◌, ◌+◌, ◌++◌, ⊤, ℕ, Bool, List, [], ◌∷◌}
+use Rattle.std.specs.Prelude.{◌≡◌, ◌≢◌, ◌⊎◌, ◌<◌, ◌≤◌, ◌+◌, ◌*◌, ◌++◌, ⊤, ℕ, Bool, List, [], ◌∷◌}
 use Rattle.std.specs.Prelude.{length, take, drop, IsTrue}
 use Rattle.std.specs.Prelude.{Option, Ok, Err}
 use Rattle.lms_bytes.specs.declared.params.Params.{Params}
@@ -14,7 +14,7 @@ use Rattle.stream_io.specs.Store.{RisesWhere}
 use Rattle.stream_io.specs.Talk.{Talk}
 use Rattle.trustee_core.specs.declared.kept.TrusteeName.{TrusteeName}
 use Rattle.turn_lock.specs.Pass.{Seen}
-use Rattle.trustee_node.specs.Replies.{replies, reply_bytes}
+use Rattle.trustee_node.specs.Replies.{longest_reply, replies, reply_bytes}
 use Rattle.trustee_node.specs.Turns.{Serves, Turn, with_code}
 use Rattle.trustee_node.specs.declared.served.Served.{Served}
 use Rattle.trustee_node.specs.declared.served.ServedEnd.{ServedEnd}
@@ -83,6 +83,11 @@ IsLinkFault WriteFailed = ⊤
 IsLinkFault Worn = ⊥
 IsLinkFault Full = ⊥
 
+-- over a steady link with this room no read fails, and a write only where the replies take more
+abbrev pub FailsForRoom : Share → Bool → ℕ → ServedEnd → List Turn → Type 0
+FailsForRoom share steady room ended turns =
+    IsTrue steady → IsLinkFault ended → (ended ≡ WriteFailed) × (room < length (replies share turns))
+
 -- each turn has the next answer of the clock, from this one on
 abbrev pub HaveMoments : (ℕ → ℕ) → ℕ → List Turn → Type 0
 HaveMoments answers from [] = ⊤
@@ -93,9 +98,11 @@ pub record IsDated (before now : ℕ → ℕ) (turns : List Turn) : Type 0 where
   pub moments : HaveMoments before 0 turns
   pub later : (j : ℕ) → now j ≡ before (j + length turns)
 
--- All of a connection, by the turns that its asks had: the pass, the link and the clock before and after, and its end.
+-- All of a connection, by the turns that its asks had: the pass, the link, which is steady or not, and the clock before
+-- and after, and its end.
 pub record Conversation (share : Share) (ids : Option (List (List ℕ))) (pass_old pass_new : Seen Entry TrusteeName)
-    (old new : Talk) (clock_told : Bool) (answers_old answers_new : ℕ → ℕ) (served : Served) : Type 0 where
+    (steady : Bool) (old new : Talk) (clock_told : Bool) (answers_old answers_new : ℕ → ℕ) (served : Served)
+    : Type 0 where
   pub turns : List Turn
   pub serves : Serves share ids pass_old pass_new turns
   pub dated : IsTrue clock_told → IsDated answers_old answers_new turns
@@ -103,7 +110,9 @@ pub record Conversation (share : Share) (ids : Option (List (List ℕ))) (pass_o
   pub written : IsTrue old.told → HasWritten share old new served.ended turns
   pub ends : EndsBy served.ended served.frames turns
   pub most : length turns ≤ 65536
+  pub small : length (replies share turns) ≤ length turns * longest_reply share.params
   pub cause : RisesWhere (IsLinkFault served.ended) old.count new.count
+  pub fails : FailsForRoom share steady old.room served.ended turns
   pub told : new.told ≡ old.told
   pub place : new.place ≡ old.place
 

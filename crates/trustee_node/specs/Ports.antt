@@ -1,12 +1,14 @@
 -- Ports that one trustee served, all beside each other.
-use Rattle.std.specs.Prelude.{◌≡◌, ◌≤◌, ◌<◌, ◌+◌, ◌-◌, ◌^◌, ◌++◌, ℕ, Bool, List, All, length, map, min, count_by}
-use Rattle.std.specs.Prelude.{Option, IsTrue}
+use Rattle.std.specs.Prelude.{◌≡◌, ◌≤◌, ◌<◌, ◌+◌, ◌-◌, ◌*◌, ◌^◌, ◌++◌, ℕ, Bool, List, All, length, map, min}
+use Rattle.std.specs.Prelude.{count_by, Option, IsTrue}
 use Rattle.std.specs.List.{flat_map, sum_by}
 use Rattle.disk_trait.specs.Faults.{Rose}
+use Rattle.lms_bytes.specs.declared.params.Params.{Params}
 use Rattle.opening_journal.specs.declared.entry.Entry.{Entry}
 use Rattle.share_files.specs.declared.share.Share.{Share}
 use Rattle.stream_io.specs.Net.{PortOnward, PortState}
-use Rattle.trustee_node.specs.Connections.{HaveMoments}
+use Rattle.trustee_node.specs.Connections.{HaveMoments, IsLinkFault}
+use Rattle.trustee_node.specs.Replies.{longest_reply}
 use Rattle.trustee_node.specs.Turns.{ServedTurns, Turn, added_by, with_code}
 use Rattle.trustee_node.specs.Workers.{ClockState, Connection, IsConnection, frames_of, turns_of}
 use Rattle.trustee_node.specs.Trustees.{TrusteeState}
@@ -30,7 +32,7 @@ pub data PortEnds (asked served : ℕ) (before after : PortState) : Type 0 where
 -- that waited, and the port's talks grew by just theirs, as they ended
 pub record IsPortRun (share : Share) (ids : Option (List (List ℕ))) (asked : ℕ) (log last : List Entry) (run : PortRun)
     : Type 0 where
-  pub are : All (IsConnection share run.before.told) run.served
+  pub are : All (IsConnection share run.before) run.served
   pub turns : ServedTurns share ids log (turns_of run.served) last
   pub dated : IsTrue run.clock.told → HaveMoments run.clock.answers 0 (turns_of run.served)
   pub talks : IsTrue run.before.told
@@ -39,6 +41,19 @@ pub record IsPortRun (share : Share) (ids : Option (List (List ℕ))) (asked : �
   pub onward : PortOnward run.before run.after
   pub most : length run.served ≤ asked
   pub ends : PortEnds asked (length run.served) run.before run.after
+
+-- a link of this room takes all replies of a connection, 65,536 of the longest
+abbrev pub TakesAll : Params → ℕ → Type 0
+TakesAll params room = 65536 * longest_reply params ≤ room
+
+-- the links that a port makes are steady, and take all replies of a connection
+abbrev pub HasRoomyLinks : Params → PortState → Type 0
+HasRoomyLinks params port = IsTrue port.steady × TakesAll params port.room
+
+-- no connection of these runs ended by a link that failed
+abbrev pub NoLinkFails : List PortRun → Type 0
+NoLinkFails runs =
+    All (λ (run : PortRun). All (λ (one : Connection). IsLinkFault one.served.ended → ⊥) run.served) runs
 
 -- all turns of these runs
 abbrev pub turns_in : List PortRun → List Turn

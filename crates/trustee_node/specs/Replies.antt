@@ -1,6 +1,6 @@
 -- Replies: what is written for an ask.
-use Rattle.std.specs.Prelude.{◌≡◌, ◌++◌, ◌∷◌, [], ⊤, ℕ, List, length, replicate, Option, Some, None, IfOk, IfSome}
-use Rattle.std.specs.Prelude.{Ok, Err}
+use Rattle.std.specs.Prelude.{◌≡◌, ◌≤◌, ◌+◌, ◌*◌, ◌++◌, ◌∷◌, [], ⊤, ℕ, List, length, replicate, Option, Some, None}
+use Rattle.std.specs.Prelude.{Ok, Err, IfOk, IfSome}
 use Rattle.std.specs.List.{flat_map}
 use Rattle.approval_book.specs.Decisions.{Decided, Denied, book_answer_in}
 use Rattle.approval_book.specs.declared.denial.Denial.TheVariants.{NotApproved, Core}
@@ -81,6 +81,11 @@ KeepsSizes params outcome = ⊤
 abbrev pub reply_bytes : Share → Ask → Outcome → List ℕ
 reply_bytes share ask outcome = reply_front share.params (reply_head share ask outcome) ++ reply_body share ask outcome
 
+-- this project's profile: no reply of a parameter set is longer than this: the 8 bytes of its header, at most 59 + 32
+-- of its head, and p masks of n bytes
+abbrev pub longest_reply : Params → ℕ
+longest_reply params = 99 + params.p * params.n
+
 -- the replies of these turns
 abbrev pub replies : Share → List Turn → List ℕ
 replies share turns = flat_map (λ (turn : Turn). reply_bytes share turn.ask turn.outcome) turns
@@ -108,6 +113,11 @@ abbrev pub HasDigest : Share → Answer → Type 0
 HasDigest share (answer.Decided result) =
     IfOk result (λ grant. IfSome (ask_of grant).second (λ second. length second.digest ≡ share.params.n))
 HasDigest share answer.Worn = ⊤
+
+-- internal: what a refusal keeps is short
+abbrev pub KeepsFew : Answer → Type 0
+KeepsFew (answer.Decided (Err (Core why))) = length (kept_by why) ≤ 64
+KeepsFew given = ⊤
 
 -- internal: what follows the head, by the answer of the call
 abbrev pub body_in : Share → Answer → List ℕ

@@ -1,5 +1,5 @@
 -- What a worker does with its links.
-use Rattle.std.specs.Prelude.{◌≡◌, ◌≤◌, ◌+◌, ◌-◌, ◌^◌, ◌++◌, ℕ, Bool, true, false, List, All, length, map, min}
+use Rattle.std.specs.Prelude.{◌≡◌, ◌≤◌, ◌+◌, ◌-◌, ◌*◌, ◌^◌, ◌++◌, ℕ, Bool, true, false, List, All, length, map, min}
 use Rattle.std.specs.Prelude.{Option, None, IsTrue}
 use Rattle.std.specs.List.{flat_map, sum_by}
 use Rattle.opening_journal.specs.declared.entry.Entry.{Entry}
@@ -9,7 +9,9 @@ use Rattle.stream_io.specs.Store.{RisesWhere}
 use Rattle.stream_io.specs.Talk.{Ended, Talk}
 use Rattle.trustee_core.specs.declared.kept.TrusteeName.{TrusteeName}
 use Rattle.turn_lock.specs.Pass.{Seen}
-use Rattle.trustee_node.specs.Connections.{Conversation, EndsBy, HasRead, HasWritten, IsDated, IsLinkFault}
+use Rattle.trustee_node.specs.Connections.{Conversation, EndsBy, FailsForRoom, HasRead, HasWritten, IsDated}
+use Rattle.trustee_node.specs.Connections.{IsLinkFault}
+use Rattle.trustee_node.specs.Replies.{longest_reply, replies}
 use Rattle.trustee_node.specs.Turns.{Serves, Turn, with_code}
 use Rattle.trustee_node.specs.declared.served.Served.{Served}
 use Rattle.trustee_node.specs.declared.worker.Worker.{Worker}
@@ -48,9 +50,10 @@ worker_state state told answers worker = record {
 
 -- a link was served, and then hung up
 pub record ServesLink (share : Share) (ids : Option (List (List ℕ))) (pass_old pass_new : Seen Entry TrusteeName)
-    (link : Talk) (port_old port_new : PortState) (clock_old clock_new : ClockState) (served : Served) : Type 0 where
+    (steady : Bool) (link : Talk) (port_old port_new : PortState) (clock_old clock_new : ClockState) (served : Served)
+    : Type 0 where
   pub talk : Talk
-  pub conversation : Conversation share ids pass_old pass_new link talk clock_old.told clock_old.answers
+  pub conversation : Conversation share ids pass_old pass_new steady link talk clock_old.told clock_old.answers
       clock_new.answers served
   pub hung : HangsUp port_old talk port_new
 
@@ -63,17 +66,19 @@ pub record Connection : Type 0 where
   pub turns : List Turn
   pub served : Served
 
--- the link was new at a port that is told where this says so, was served so, and ended so
-pub record IsConnection (share : Share) (port_told : Bool) (one : Connection) : Type 0 where
-  pub port : PortState
+-- The link was new at this port as it stood by then, was served so, and ended so.
+pub record IsConnection (share : Share) (port : PortState) (one : Connection) : Type 0 where
+  pub by_then : PortState
+  pub since : PortOnward port by_then
   pub steady : Bool
-  pub port_told_is : port.told ≡ port_told
-  pub accepted : IsNewLink port None one.link steady
+  pub accepted : IsNewLink by_then None one.link steady one.link.room
   pub read : IsTrue one.link.told → HasRead share.params one.link one.talk one.served.ended one.turns
   pub written : IsTrue one.link.told → HasWritten share one.link one.talk one.served.ended one.turns
   pub ends : EndsBy one.served.ended one.served.frames one.turns
   pub most : length one.turns ≤ 65536
+  pub small : length (replies share one.turns) ≤ length one.turns * longest_reply share.params
   pub cause : RisesWhere (IsLinkFault one.served.ended) one.link.count one.talk.count
+  pub fails : FailsForRoom share steady one.link.room one.served.ended one.turns
   pub told : one.talk.told ≡ one.link.told
   pub place : one.talk.place ≡ one.link.place
   pub ended : Ended one.talk one.last
@@ -88,7 +93,7 @@ frames_of served = sum_by (λ (one : Connection). one.served.frames) served
 -- numbers, and whether accepting failed. Where it is worn, at least one ask met a worn pass.
 pub record Worked (share : Share) (ids : Option (List (List ℕ))) (old new : WorkerState) : Type 0 where
   pub served : List Connection
-  pub are : All (IsConnection share old.port.told) served
+  pub are : All (IsConnection share old.port) served
   pub serves : Serves share ids old.pass new.pass (turns_of served)
   pub dated : IsTrue old.clock.told → IsDated old.clock.answers new.clock.answers (turns_of served)
   pub talks : IsTrue old.port.told → new.port.talks ≡ old.port.talks ++ map (λ (one : Connection). one.last) served

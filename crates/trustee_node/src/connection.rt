@@ -36,7 +36,8 @@ pub fn serve_connection<D: Disk, C: Clock, L: Source + Sink>(
 ) -> Served
     requires { IsIdle lock.now share.now pass.old }
     ensures conversation { Conversation share.now (option_map (λ b. ids_of b.now) book.entry) pass.old pass.new
-        (L.talk link.old) (L.talk link.new) (C.told clock.old) (C.answers clock.old) (C.answers clock.new) result }
+        (L.steady link.old) (L.talk link.old) (L.talk link.new)
+        (C.told clock.old) (C.answers clock.old) (C.answers clock.new) result }
     ensures pass { IsIdle lock.now share.now pass.new }
     ensures clock { C.told clock.new ≡ C.told clock.old }
     ensures answers { IsTrue (L.steady link.old) → result.ended ≢ ServedEnd.Frame FrameFault.ReadFault }

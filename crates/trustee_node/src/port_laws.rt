@@ -1,13 +1,13 @@
 //! What follows from the definitions. No function here does anything.
 
-ghost use Rattle.std.specs.Prelude.{ℕ, List, Option};
+ghost use Rattle.std.specs.Prelude.{ℕ, All, List, Option};
 ghost use Rattle.opening_journal.specs.Entries.{IsLegalList};
 ghost use Rattle.share_files.specs.declared.share.Share.{Share};
 ghost use Rattle.stream_io.specs.Net.{PortState};
 ghost use Rattle.trustee_core.specs.Lives.{OneOpening};
 ghost use Rattle.trustee_node.specs.Places.{granted_in};
 ghost use Rattle.trustee_node.specs.Workers.{ClockState};
-ghost use Rattle.trustee_node.specs.Ports.{ServedPorts, turns_in};
+ghost use Rattle.trustee_node.specs.Ports.{HasRoomyLinks, NoLinkFails, ServedPorts, turns_in};
 ghost use Rattle.trustee_node.specs.Trustees.{TrusteeState};
 ghost use Rattle.trustee_node.specs.declared.totals.Totals.{Totals};
 
@@ -18,4 +18,13 @@ pub fn one_opening()
         (before after : List PortState) (clocks : List ClockState) (totals : Totals)
         → (all : ServedPorts share ids asked old new before after clocks totals) → IsLegalList new.entries
         → OneOpening share (granted_in (turns_in all.runs)) }
+{}
+
+/// Over steady ports whose links have room for 65,536 of the longest replies of the share's parameter set, no
+/// connection ended by a link that failed.
+pub fn no_link_fails()
+    ensures { (share : Share) (ids : Option (List (List ℕ))) (asked : ℕ) (old new : TrusteeState)
+        (before after : List PortState) (clocks : List ClockState) (totals : Totals)
+        → (all : ServedPorts share ids asked old new before after clocks totals)
+        → All (HasRoomyLinks share.params) before → NoLinkFails all.runs }
 {}

@@ -1,14 +1,15 @@
 //! Replies. They are written outside the turn, and take no memory.
 
-ghost use Rattle.std.specs.Prelude.{◌≡◌, ◌<◌, ◌≤◌, ◌++◌, length, replicate, take, IfSome, IsTrue, MatchResult};
+ghost use Rattle.std.specs.Prelude.{◌≡◌, ◌<◌, ◌≤◌, ◌+◌, ◌++◌, length, replicate, take, IfSome, IsOk, IsTrue};
+ghost use Rattle.std.specs.Prelude.{MatchResult};
 ghost use Rattle.disk_trait.specs.Faults.{HasCause};
 ghost use Rattle.lms_bytes.specs.Bytes.{joined};
 ghost use Rattle.round_frames.specs.Asks.{HasSizes};
 ghost use Rattle.round_frames.specs.Replies.{IsHead};
 ghost use Rattle.stream_io.specs.Talk.{OnlyWrote, WrotePart};
 ghost use Rattle.trustee_core.specs.Grants.{ask_of, mask_of, masks_of};
-ghost use Rattle.trustee_node.specs.Replies.{HasDigest, IsGrantOf, body_in, c_of, kept_by, masks_joined, outcome_in};
-ghost use Rattle.trustee_node.specs.Replies.{reply_bytes, reply_head, round_of};
+ghost use Rattle.trustee_node.specs.Replies.{HasDigest, IsGrantOf, KeepsFew, body_in, c_of, kept_by, outcome_in};
+ghost use Rattle.trustee_node.specs.Replies.{longest_reply, masks_joined, reply_bytes, reply_head, round_of};
 
 use crate::turn::Answer;
 use approval_book::Denial;
@@ -39,6 +40,10 @@ pub(crate) fn write_reply<K: Sink>(
         (λ _. WrotePart (K.talk link.old) (K.talk link.new) bytes) }
     ensures only { OnlyWrote (K.talk link.old) (K.talk link.new) }
     ensures cause { HasCause (K.talk link.old).count (K.talk link.new).count result }
+    ensures succeeds { let bytes = reply_bytes share.now ask.now (outcome_in answer.now) in
+        IsTrue (K.steady link.old) → length bytes ≤ K.room link.old → IsOk result }
+    ensures room { K.room link.old ≤ K.room link.new + length (reply_bytes share.now ask.now (outcome_in answer.now)) }
+    ensures length { length (reply_bytes share.now ask.now (outcome_in answer.now)) ≤ longest_reply share.now.params }
     ensures steady { K.steady link.new ≡ K.steady link.old }
 {
     let head = head_of(share, ask, answer);
@@ -108,6 +113,11 @@ fn write_body<K: Sink>(
         (λ _. WrotePart (K.talk link.old) (K.talk link.new) bytes) }
     ensures only { OnlyWrote (K.talk link.old) (K.talk link.new) }
     ensures cause { HasCause (K.talk link.old).count (K.talk link.new).count result }
+    ensures succeeds { let bytes = take front room.old ++ body_in share.now answer.now in
+        IsTrue (K.steady link.old) → length bytes ≤ K.room link.old → IsOk result }
+    ensures room { let bytes = take front room.old ++ body_in share.now answer.now in
+        K.room link.old ≤ K.room link.new + length bytes }
+    ensures keeps { KeepsFew answer.now }
     ensures steady { K.steady link.new ≡ K.steady link.old }
 {
     match answer {
@@ -132,6 +142,11 @@ fn write_kept<K: Sink>(
         (λ _. WrotePart (K.talk link.old) (K.talk link.new) bytes) }
     ensures only { OnlyWrote (K.talk link.old) (K.talk link.new) }
     ensures cause { HasCause (K.talk link.old).count (K.talk link.new).count result }
+    ensures succeeds { let bytes = take front room.old ++ kept_by why.now in
+        IsTrue (K.steady link.old) → length bytes ≤ K.room link.old → IsOk result }
+    ensures room { let bytes = take front room.old ++ kept_by why.now in
+        K.room link.old ≤ K.room link.new + length bytes }
+    ensures keeps { length (kept_by why.now) ≤ 64 }
     ensures steady { K.steady link.new ≡ K.steady link.old }
 {
     let length = put_behind(why, room, front);
@@ -141,6 +156,7 @@ fn write_kept<K: Sink>(
 /// Puts what a refusal keeps behind the front of the room, and answers how long both are.
 fn put_behind(why: &Refusal, room: &mut [u8; ROOM], front: usize) -> usize
     requires { front ≤ 99 }
+    ensures keeps { length (kept_by why.now) ≤ 64 }
     ensures length { result ≤ 4096 }
     ensures bytes { take result room.new ≡ take front room.old ++ kept_by why.now }
 {
@@ -211,6 +227,10 @@ fn write_masks<K: Sink>(
         (λ _. WrotePart (K.talk link.old) (K.talk link.new) bytes) }
     ensures only { OnlyWrote (K.talk link.old) (K.talk link.new) }
     ensures cause { HasCause (K.talk link.old).count (K.talk link.new).count result }
+    ensures succeeds { let bytes = take front room.old ++ masks_joined share.now (ask_of grant.now) in
+        IsTrue (K.steady link.old) → length bytes ≤ K.room link.old → IsOk result }
+    ensures room { let bytes = take front room.old ++ masks_joined share.now (ask_of grant.now) in
+        K.room link.old ≤ K.room link.new + length bytes }
     ensures steady { K.steady link.new ≡ K.steady link.old }
 {
     let count = mask_count(&share.params, grant);

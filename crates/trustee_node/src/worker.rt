@@ -133,8 +133,9 @@ fn serve_link<D: Disk, C: Clock, P: Port>(
 ) -> Served
     requires { IsIdle lock.now share.now pass.old }
     ensures served { ServesLink share.now (option_map (λ b. ids_of b.now) book.entry) pass.old pass.new
-        (P.Link.talk link) (P.state port.old) (P.state port.new)
+        (P.Link.steady link) (P.Link.talk link) (P.state port.old) (P.state port.new)
         (clock_state C.told C.answers clock.old) (clock_state C.told C.answers clock.new) result }
+    ensures takes { (P.Link.talk link).room ≡ P.Link.room link }
     ensures pass { IsIdle lock.now share.now pass.new }
     ensures clock { C.told clock.new ≡ C.told clock.old }
     ensures onward { PortOnward (P.state port.old) (P.state port.new) }

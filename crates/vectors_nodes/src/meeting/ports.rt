@@ -156,6 +156,8 @@ impl<W: Wait> Source for MeetingLink<'_, W> {
 impl<W: Wait> Sink for MeetingLink<'_, W> {
     ghost room = { λ _. 0 };
 
+    ghost rooms = { λ _. refl };
+
     fn write(&mut self, bytes: &[u8]) -> Result<usize, Failed> {
         match self.written.extend_from_slice(bytes) {
             Ok(()) => Ok(bytes.len()),

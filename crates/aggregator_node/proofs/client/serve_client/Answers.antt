@@ -1,7 +1,9 @@
-use Rattle.std.proofs.Common.{◌≡◌, ◌+◌, ◌∙◌, arith, refl}
-use Rattle.aggregator_node.specs.Clients.{ended, full, more}
+use Rattle.std.proofs.Common.{◌≡◌, ◌+◌, Some, ap, ◌∙◌, arith, refl}
+use Rattle.aggregator_node.specs.Clients.{ended, full, longest_reply, more}
 use Rattle.reference_value.proofs.Staying.{stays-then}
 use Rattle.aggregator_node.proofs.Answering.{answers_told, same_cells}
+use Rattle.aggregator_node.proofs.Replying.{one-more, room-left}
+use Rattle.trustee_node.specs.declared.served.ServedEnd.{ServedEnd}
 use Rattle.aggregator_node.proofs.client.serve_client.Goals as goal
 
 pub returns-in-Some-clause-serves : goal.returns-in-Some-clause-serves
@@ -28,6 +30,7 @@ requests-preserved g c =
           (more _ _ _ _ _ _ _ _ (rw c.in_default.is at (answers_told _ _ _ _ _ _ _ _ (same_cells g.R.Cells g.R.Faults _ _ v.stays) step.answers.answers)) served));
       pass = step.pass;
       frames = let so_far = v.frames in omega (arith, one, so_far);
+      room = (let kept = v.room in let here = step.room in let product = one-more c.requests.counter (longest_reply c.args.desk.now.key.now.params) in omega (arith, kept, here, product));
       stays = stays-then v.stays step.cells;
       steady = step.steady ∙ v.steady;
     }
@@ -37,6 +40,19 @@ requests-init g c = record {
   goes = λ requests replies end last served. (let none : 0 + replies ≡ replies = omega arith in rw none (record { requests = requests; serves = served }));
   pass = c.requires.pass;
   frames = refl;
+  room = omega arith;
   stays = record { set = refl; plan = refl; told = refl; steady = refl; leaves = λ told. refl };
   steady = refl;
 }
+
+pub returns-in-Some-clause-writes : goal.returns-in-Some-clause-writes
+returns-in-Some-clause-writes g c steady fits is =
+    let v = c.requests.invariant in
+    let left = room-left c.requests.counter (longest_reply c.args.desk.now.key.now.params) (g.L.Sink.room c.args.link.now) (g.L.Sink.room c.requests.link) c.requests-test.true fits v.room in
+    c.answer_next-step.ensures.writes (v.steady ∙ steady) left (c.in-Some.is ∙ ap (λ (end : ServedEnd). Some end) is)
+
+pub returns-in-Some-clause-takes : goal.returns-in-Some-clause-takes
+returns-in-Some-clause-takes g c = g.met.L.Sink.rooms c.args.link.now
+
+pub returns-clause-takes : goal.returns-clause-takes
+returns-clause-takes g c = g.met.L.Sink.rooms c.args.link.now

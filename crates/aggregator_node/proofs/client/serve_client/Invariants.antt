@@ -1,5 +1,5 @@
-use Rattle.std.proofs.Common.{◌≡◌, ◌+◌, ℕ, List}
-use Rattle.aggregator_node.specs.Clients.{HasServed, ReferenceState, Request, Serves, Stand}
+use Rattle.std.proofs.Common.{◌≡◌, ◌+◌, ◌*◌, ◌≤◌, ℕ, List}
+use Rattle.aggregator_node.specs.Clients.{HasServed, ReferenceState, Request, Serves, Stand, longest_reply}
 use Rattle.aggregator_node.specs.Turns.{IsIdle}
 use Rattle.aggregator_session.specs.Signing.{desk_state}
 use Rattle.reference_value.specs.Stay.{CellsStay}
@@ -17,5 +17,6 @@ invariant-requests g l =
       pass : IsIdle l.lock l.desk.plan.now l.pass;
       frames : l.frames ≡ l.counter;
       stays : CellsStay g.R.Cells g.R.Faults l.fn.cells l.cells;
+      room : g.L.Sink.room l.fn.link ≤ g.L.Sink.room l.link + l.counter * longest_reply l.desk.key.now.params;
       steady : g.L.Faults.steady l.link ≡ g.L.Faults.steady l.fn.link;
     }

@@ -1,7 +1,7 @@
 use Rattle.std.proofs.Common.{true, refl, arith, rules}
 use Rattle.aggregator_node.specs.Ports.{reference_state}
 use Rattle.aggregator_node.specs.Workers.{worker_state}
-use Rattle.aggregator_node.proofs.Working.{link-worn, rises-nowhere, worked-all, worked-refused, working-more, working-none}
+use Rattle.aggregator_node.proofs.Working.{accepted-as, link-worn, rises-nowhere, worked-all, worked-refused, working-more, working-none}
 use Rattle.aggregator_session.specs.Signing.{desk_state}
 use Rattle.aggregator_node.proofs.worker.work.Goals as goal
 
@@ -26,7 +26,7 @@ loop-preserved g c =
       working = working-more (desk_state c.args.desk.now) (state c.args.worker.now) (state c.loop.worker) (g.P.Port.state c.accept.new.self) _
           (reference_state g.X.Cells g.X.Faults c.serve_link-served.new.cells)
           (g.P.Link.Stream.talk c.in-Link.link) (g.P.Link.Faults.steady c.in-Link.link) c.serve_link-served.result c.saturating_add-worker.result c.loop.worker.worn
-          v.working (a.link c.in-Link.link c.in-Link.is) a.onward (a.accept_cause.same (λ is. absurd (cc))) e.served
+          v.working (accepted-as _ _ _ _ _ _ e.takes (a.link c.in-Link.link c.in-Link.is)) a.onward (a.accept_cause.same (λ is. absurd (cc))) e.served
           (record { told = e.cells.told; steady = e.cells.steady; leaves = e.cells.leaves }) c.saturating_add-worker.ensures;
       ready = e.ready;
       count = (let n = v.count in omega (arith, n));
@@ -62,7 +62,7 @@ returns-then-eq-clause-worked g c =
     (working-more desk (state c.args.worker.now) (state c.loop.worker) (g.P.Port.state c.accept.new.self) _
     (reference_state g.X.Cells g.X.Faults c.serve_link-served.new.cells)
     (g.P.Link.Stream.talk c.in-Link.link) (g.P.Link.Faults.steady c.in-Link.link) c.serve_link-served.result c.saturating_add-worker.result true
-    v.working (a.link c.in-Link.link c.in-Link.is) a.onward (a.accept_cause.same (λ is. absurd (cc))) e.served
+    v.working (accepted-as _ _ _ _ _ _ e.takes (a.link c.in-Link.link c.in-Link.is)) a.onward (a.accept_cause.same (λ is. absurd (cc))) e.served
     (record { told = e.cells.told; steady = e.cells.steady; leaves = e.cells.leaves }) c.saturating_add-worker.ensures)
     v.sound (λ _. link-worn desk _ _ _ _ _ _ e.served (search rules))
 

@@ -1,4 +1,4 @@
-use Rattle.std.proofs.Common.{Err, refl}
+use Rattle.std.proofs.Common.{Err, refl, arith}
 use Rattle.aggregator_session.specs.Hearing.{awaited, unwritten}
 use Rattle.aggregator_session.specs.declared.fault.SignFault.TheVariants.{Lost}
 use Rattle.aggregator_session.specs.declared.fault.Why.TheVariants.{WriteFailed}
@@ -25,3 +25,20 @@ returns-clause-asked g c =
       state = h.state;
       told = h.told;
     }
+
+-- what was taken of the room is the ask's frame, and reading takes none
+pub returns-clause-room : goal.returns-clause-room
+returns-clause-room g c =
+    let w = c.in_default.ensures in
+    let wrote = w.room in
+    let long = w.length in
+    let read = c.hear.ensures.heard.heard.only.room in
+    let before = g.met.L.Sink.rooms c.write_ask.new.sink in
+    let after = g.met.L.Sink.rooms c.hear.new.link in
+    omega (arith, wrote, long, read, before, after)
+
+pub returns-in-Err-clause-takes : goal.returns-in-Err-clause-takes
+returns-in-Err-clause-takes g c = g.met.L.Sink.rooms c.args.link.now
+
+pub returns-clause-takes : goal.returns-clause-takes
+returns-clause-takes g c = g.met.L.Sink.rooms c.args.link.now

@@ -1,10 +1,10 @@
-use Rattle.std.proofs.Common.{◌≡◌, ◌<◌, true, false, length, refl, ap, ◌∙◌, arith}
-use Rattle.std.proofs.lemmas.List.{length-set}
+use Rattle.std.proofs.Common.{◌≡◌, ◌+◌, ◌<◌, ◌≤◌, true, false, length, refl, sym, ap, subst, ◌∙◌, arith}
+use Rattle.std.proofs.lemmas.List.{get_or-set_other, length-set}
 use Rattle.std.proofs.lemmas.List.Elements.{All-set}
 use Rattle.std.proofs.lemmas.Result.{err_from_is_err_and}
 use Rattle.aggregator_session.proofs.Frames.{asked-as}
 use Rattle.aggregator_session.proofs.Rounds.{ok-is, second-done, second-ends, second-more, second-refuses}
-use Rattle.aggregator_session.proofs.Tasks.{same-then}
+use Rattle.aggregator_session.proofs.Tasks.{lost-as, same-then}
 use Rattle.reference_value.proofs.Staying.{stays-then}
 use Rattle.aggregator_session.proofs.session.ask_again.Goals as goal
 
@@ -16,6 +16,17 @@ returns-in_err-ask_once_more-clause-run g c =
     rw (p.1, p.2) (second-ends talk (g.R.Cells.told c.args.cells.now) (g.R.Cells.leaves c.args.cells.now) c.args.session.now c.args.task.now.message.now c.args.task.now.members.now _ c.members.session c.members.i
     c.members.links.items c.members-test.true v.many v.run 0 c.index_mut.result.now c.ask_once_more.new.link _ c.ask_once_more.new.session c.index_mut.ensures.value refl
     c.ask_once_more.result c.in_err-ask_once_more.field-0.0 (asked-as _ _ _ _ _ v.stays.told v.stays.leaves c.ask_once_more.ensures.asked) v.same c.in_err-ask_once_more.was)
+
+pub returns-in_err-ask_once_more-clause-writes : goal.returns-in_err-ask_once_more-clause-writes
+returns-in_err-ask_once_more-clause-writes g c all wide lost =
+    let v = c.members.invariant in
+    let p = err_from_is_err_and c.from_residual.result c.from_residual.ensures.1 in
+    let is_wide = λ (link : _). 92 + length c.args.task.now.message.now ≤ g.L.Sink.room link in
+    let value = c.index_mut.ensures.value in
+    let inside : c.members.i < length c.members.links.items = (let x = v.many in let y = c.members-test.true in omega arith) in
+    c.ask_once_more.ensures.writes (ap (λ (l : _). g.L.Faults.steady l) value ∙ v.steady all c.members.i c.index_mut.result.now inside)
+    (subst is_wide (sym value) (v.rooms wide c.members.i c.index_mut.result.now (omega arith) inside))
+    (lost-as _ _ _ _ _ p.1 p.2 c.in_err-ask_once_more.was lost)
 
 pub returns-then-not-branch-clause-run : goal.returns-then-not-branch-clause-run
 returns-then-not-branch-clause-run g c =
@@ -31,6 +42,7 @@ members-preserved g c =
     let talk = g.L.Stream.talk in
     let a = c.ask_once_more.ensures in
     let is_steady = λ (link : _). g.L.Faults.steady link ≡ true in
+    let is_wide = λ (link : _). 92 + length c.args.task.now.message.now ≤ g.L.Sink.room link in
     record {
       run = second-more talk (g.R.Cells.told c.args.cells.now) (g.R.Cells.leaves c.args.cells.now) c.args.session.now c.args.task.now.message.now c.args.task.now.members.now _ c.members.session c.members.i
           c.members.links.items c.members-test.true v.many v.run 0 c.index_mut.result.now c.ask_once_more.new.link _ c.ask_once_more.new.session c.index_mut.ensures.value refl
@@ -41,6 +53,10 @@ members-preserved g c =
           let inside : c.members.i < length c.members.links.items = (let x = v.many in let y = c.members-test.true in omega arith) in
           All-set is_steady c.members.links.items c.members.i c.ask_once_more.new.link
           (a.steady ∙ (ap (λ (l : _). g.L.Faults.steady l) c.index_mut.ensures.value ∙ before c.members.i c.index_mut.result.now inside)) before;
+      rooms = λ all k d low lt.
+          let inside = length-set c.members.links.items c.members.i c.ask_once_more.new.link in
+          subst is_wide (sym (get_or-set_other c.members.links.items c.members.i k c.ask_once_more.new.link d (λ e. absurd (omega (arith, e, low)))))
+          (v.rooms all k d (omega (arith, low)) (omega (arith, lt, inside)));
       same = same-then _ _ _ v.same a.same;
       count = (let x = v.count in let y = a.onward.count in omega arith);
       stays = stays-then v.stays a.onward.stays;

@@ -4,7 +4,7 @@ use Rattle.std.proofs.lemmas.Result.{err_from_is_err_and}
 use Rattle.session_core.specs.State.{State}
 use Rattle.session_core.specs.declared.faults.SessionFault.TheVariants.{Reference}
 use Rattle.aggregator_session.specs.Runs.{judged_in_one, judged_in_two, lost_in_one, lost_in_two, signed}
-use Rattle.aggregator_session.proofs.Tasks.{once-as, once-of}
+use Rattle.aggregator_session.proofs.Tasks.{lost-as, once-as, once-of}
 use Rattle.aggregator_session.proofs.Sessions.{count-as, dealt-as, err-as, exact-as, exact-stays, fails-as, fails-reference, first-as, first-not, joined-as, none-of, opens, run-as, same-err, second-end, sign-reference, stops-later, stops-reference, whole-as}
 use Rattle.reference_value.proofs.Staying.{stays-as, stays-then}
 use Rattle.lms_bytes.specs.declared.public_key.PublicKey.{PublicKey}
@@ -186,3 +186,15 @@ returns-in_err-finish_with-clause-once g c = once-of _ _ _ _ _ c.in_ok-dial_all.
 
 pub returns-clause-once : goal.returns-clause-once
 returns-clause-once g c = once-of _ _ _ _ _ c.in_ok-dial_all.was c.dial_all.ensures.once
+
+pub returns-in_err-dial_all-clause-writes : goal.returns-in_err-dial_all-clause-writes
+returns-in_err-dial_all-clause-writes g c steady fits lost =
+    let p = err_from_is_err_and c.from_residual.result c.from_residual.ensures.1 in
+    c.dial_all.ensures.writes steady (omega (arith, fits)) (lost-as _ _ _ _ _ p.1 p.2 c.in_err-dial_all.was lost)
+
+pub returns-in_err-ask_again-clause-writes : goal.returns-in_err-ask_again-clause-writes
+returns-in_err-ask_again-clause-writes g c steady fits lost =
+    let p = err_from_is_err_and c.from_residual-in_err-ask_again.result c.from_residual-in_err-ask_again.ensures.1 in
+    c.ask_again.ensures.writes (c.dial_all.ensures.steady steady)
+    (λ k d lt. let room = c.dial_all.ensures.rooms k d lt in omega (arith, room, fits))
+    (lost-as _ _ _ _ _ p.1 p.2 c.in_err-ask_again.was lost)

@@ -1,7 +1,7 @@
-use Rattle.std.proofs.Common.{refl}
+use Rattle.std.proofs.Common.{refl, arith}
 use Rattle.std.proofs.lemmas.Result.{err_from_is_err_and}
 use Rattle.round_frames.specs.Asks.{ask_frame}
-use Rattle.aggregator_session.proofs.Frames.{second-frame}
+use Rattle.aggregator_session.proofs.Frames.{longest, second-frame}
 use Rattle.aggregator_session.specs.Runs.{asked, not_read}
 use Rattle.aggregator_session.proofs.session.ask_once_more.Goals as goal
 
@@ -17,3 +17,8 @@ returns-clause-asked g c =
     asked (ask_frame c.in_ok-ask.ask message) c.ask_member.result
     (second-frame (g.R.Cells.told c.args.cells.now) (g.R.Cells.leaves c.args.cells.now) c.args.session.now c.args.digest.now message c.args.member c.in_ok-ask.ask c.requires.digest a.ask a.tag)
     c.ask_member.ensures.asked
+
+pub returns-clause-writes : goal.returns-clause-writes
+returns-clause-writes g c steady fits lost =
+    let most = longest c.args.task.now.desk.now.key.now.params c.in_ok-ask.ask c.args.task.now.message.now in
+    c.ask_member.ensures.writes steady (omega (arith, most, fits)) lost

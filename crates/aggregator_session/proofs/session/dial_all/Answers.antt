@@ -33,6 +33,19 @@ returns-in_err-dial_member-clause-reads g c steady lost =
     let p = err_from_is_err_and c.from_residual.result c.from_residual.ensures.1 in
     c.dial_member.ensures.reads (v.port.onward.steady ∙ steady) (lost-as _ _ _ _ _ p.1 p.2 c.in_err-dial_member.was lost)
 
+pub returns-in_err-dial_member-clause-writes : goal.returns-in_err-dial_member-clause-writes
+returns-in_err-dial_member-clause-writes g c steady fits lost =
+    let v = c.members.invariant in
+    let p = err_from_is_err_and c.from_residual.result c.from_residual.ensures.1 in
+    let later = v.port.onward.room in
+    c.dial_member.ensures.writes (v.port.onward.steady ∙ steady) (omega (arith, fits, later)) (lost-as _ _ _ _ _ p.1 p.2 c.in_err-dial_member.was lost)
+
+pub returns-in_err-dial_member-clause-rooms : goal.returns-in_err-dial_member-clause-rooms
+returns-in_err-dial_member-clause-rooms g c = c.dial_member.ensures.rooms _ c.members.invariant.port.onward.room c.members.invariant.rooms
+
+pub returns-then-not-branch-clause-rooms : goal.returns-then-not-branch-clause-rooms
+returns-then-not-branch-clause-rooms g c = c.dial_member.ensures.rooms _ c.members.invariant.port.onward.room c.members.invariant.rooms
+
 pub returns-then-not-branch-clause-run : goal.returns-then-not-branch-clause-run
 returns-then-not-branch-clause-run g c =
     let v = c.members.invariant in
@@ -73,6 +86,7 @@ members-preserved g c =
       many = (let a = v.many in let b = c.in_ok-dial_member.ensures.links.1 in omega arith);
       room = (let a = v.room in let b = d.links.0 in omega arith);
       steady = λ s. d.steady (v.port.onward.steady ∙ s) (v.steady s);
+      rooms = d.rooms _ v.port.onward.room v.rooms;
       port = dials-then _ _ _ v.port d.port;
       undialled = (let first = v.undialled in let last = d.once.same (ok-not _ _ _ c.in_ok-dial_member.was) in omega arith);
       same = same-then _ _ _ v.same d.same;

@@ -1,4 +1,4 @@
-use Rattle.std.proofs.Common.{◌≡◌, ◌≤◌, IsTrue, All, length, map, drop}
+use Rattle.std.proofs.Common.{◌≡◌, ◌+◌, ◌≤◌, IsTrue, All, length, map, drop}
 use Rattle.aggregator_session.proofs.Rounds.{FirstFrom}
 use Rattle.aggregator_session.specs.Runs.{first_frame}
 use Rattle.aggregator_session.specs.Tasks.{OnlyDials}
@@ -16,6 +16,7 @@ invariant-members g l =
       many : l.links.len ≡ l.i;
       room : length l.task.members.now ≤ l.links.cap;
       steady : IsTrue (state l.fn.port).steady → All (λ link. IsTrue (g.P.Link.Faults.steady link)) l.links.items;
+      rooms : All (λ link. (state l.fn.port).room ≤ g.P.Link.Sink.room link + 64) l.links.items;
       port : OnlyDials (state l.fn.port) (state l.port);
       undialled : (state l.port).count ≤ (state l.fn.port).count;
       same : SameAsk l.fn.session l.session;

@@ -1,11 +1,12 @@
-use Rattle.std.proofs.Common.{[], ◌∷◌, List, Err, IsTrue, All, map, refl, sym, ap, subst, ◌∙◌}
+use Rattle.std.proofs.Common.{[], ◌∷◌, ◌+◌, ◌≤◌, ℕ, List, Err, IsTrue, All, map, refl, sym, ap, subst, ◌∙◌, arith}
 use Rattle.std.proofs.lemmas.List.{append-nil, map_push}
 use Rattle.std.proofs.lemmas.List.Elements.{All-push}
 use Rattle.aggregator_session.specs.Hearing.{Asked}
 use Rattle.aggregator_session.specs.Runs.{dialled, nowhere, undialled}
 use Rattle.aggregator_session.specs.declared.fault.SignFault.TheVariants.{Lost}
 use Rattle.aggregator_session.specs.declared.fault.Why.TheVariants.{DialFailed, NoAddress}
-use Rattle.aggregator_session.proofs.Frames.{first-frame}
+use Rattle.aggregator_session.proofs.Frames.{first-frame, first-length}
+use Rattle.stream_io.specs.Net.{Dials}
 use Rattle.aggregator_session.proofs.session.dial_member.Goals as goal
 
 pub returns-in_default-clause-called : goal.returns-in_default-clause-called
@@ -40,7 +41,8 @@ returns-clause-called g c =
     record {
       answer = h.answer;
       talks = last ∷ [];
-      calls = dialled c.in-Some.place.now start last (g.P.Link.Faults.steady c.in-Ok.link) (g.P.Port.state c.dial.new.self) h.answer c.in-Some.ensures.some c.in-Ok.ensures.onward c.in-Ok.ensures.cause.succeeded c.in-Ok.ensures.link
+      calls = dialled c.in-Some.place.now start last (g.P.Link.Faults.steady c.in-Ok.link) (g.P.Port.state c.dial.new.self) h.answer c.in-Some.ensures.some c.in-Ok.ensures.onward c.in-Ok.ensures.cause.succeeded
+          (subst (λ (room : ℕ). Dials (g.P.Port.state c.args.port.now) c.in-Some.place.now start (g.P.Link.Faults.steady c.in-Ok.link) room (g.P.Port.state c.dial.new.self)) (sym c.ask_member-answer.ensures.takes) c.in-Ok.ensures.link)
           (subst (λ (f : List _). Asked c.args.session.now c.args.member f start last h.answer) frame h.asked);
       links = ap (λ (l : List _). map talk l) c.push_reserved.ensures.items ∙ map_push talk _ _;
       state = h.state;
@@ -52,3 +54,18 @@ returns-clause-steady g c steady all =
     let is_steady = λ (link : _). IsTrue (g.P.Link.Faults.steady link) in
     subst (All is_steady) (sym c.push_reserved.ensures.items)
     (All-push is_steady c.args.links.now.items c.ask_member-answer.new.link all (c.ask_member-answer.ensures.steady ∙ c.in-Ok.ensures.link.link.steady steady))
+
+pub returns-clause-rooms : goal.returns-clause-rooms
+returns-clause-rooms g c least le all =
+    let is_wide = λ (link : _). least ≤ g.P.Link.Sink.room link + 64 in
+    let size = first-length c.args.task.now.desk.now.key.now.params c.args.session.now _ c.args.task.now.message.now c.in_ok-ask.ask c.requires.round c.in_ok-ask.ensures.ask in
+    let had = c.in-Ok.ensures.link.link.room in
+    let has = c.ask_member-answer.ensures.room in
+    subst (All is_wide) (sym c.push_reserved.ensures.items)
+    (All-push is_wide c.args.links.now.items c.ask_member-answer.new.link all (omega (arith, le, size, had, has)))
+
+pub returns-clause-writes : goal.returns-clause-writes
+returns-clause-writes g c steady fits lost =
+    let size = first-length c.args.task.now.desk.now.key.now.params c.args.session.now _ c.args.task.now.message.now c.in_ok-ask.ask c.requires.round c.in_ok-ask.ensures.ask in
+    let had = c.in-Ok.ensures.link.link.room in
+    c.ask_member-answer.ensures.writes (c.in-Ok.ensures.link.link.steady steady) (omega (arith, fits, size, had)) lost

@@ -1,5 +1,5 @@
 use Rattle.tool_sign.proofs.Causes.{device-rose, links-rose, net-rose, store-rose}
-use Rattle.tool_sign.proofs.Losses.{loses-member}
+use Rattle.tool_sign.proofs.Losses.{loses-member, loses-peer}
 use Rattle.tool_sign.proofs.laws.causes.Goals as goal
 
 pub returns-clause-store : goal.returns-clause-store
@@ -16,3 +16,6 @@ returns-clause-links g c = λ signing old new net outcome over lost. links-rose 
 
 pub returns-clause-lost : goal.returns-clause-lost
 returns-clause-lost g c = λ words net member round run. loses-member words _ net member round run
+
+pub returns-clause-peer : goal.returns-clause-peer
+returns-clause-peer g c = λ words net member round run steady room. loses-peer words _ net member round steady room run

@@ -36,7 +36,7 @@ returns-clause-ends g c =
     (over_one task (table_seen c.args.table.now) (table_seen c.run_leased-outcome.new.table) (g.N.Net.state c.args.net.now) (g.N.Net.state c.ports.new.self) (g.N.Net.state c.gather.new.self)
     (state c.index_mut.result.now) (state c.run_leased-outcome.new.port) _ _ _ _
     (first_made state c.in-Ok.ports.items c.index_mut.result.now ports.made.many c.index_mut.ensures.value) (one_after state c.in-Ok.ports.items _ ports.made.many) ports.made c.gather.ensures.kept
-    ports.onward.told (ports.cause.same (λ failed. cc)) (ports.port_cause.same (λ failed. cc)) leased.signs (accepted_as _ _ result leased.accepted) (causes_as _ _ result leased.port)
+    ports.onward.told (ports.cause.same (λ failed. cc)) (ports.port_cause.same (λ failed. cc)) leased.signs (accepted_as _ _ result leased.accepted) (causes_as _ _ _ result leased.port)
     (unread_as g.R.Cells g.R.Faults c.args.cells.now c.run_leased-outcome.new.cells _ _ _ result leased.cells))
 
 pub returns-clause-net : goal.returns-clause-net

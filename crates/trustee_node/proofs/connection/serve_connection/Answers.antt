@@ -1,8 +1,8 @@
-use Rattle.std.proofs.Common.{◌≡◌, ◌+◌, ◌++◌, ℕ, List, [], ◌∷◌, length, Err, refl, sym, ap, ◌∙◌, arith, append-nil}
-use Rattle.trustee_node.specs.Connections.{read_none}
-use Rattle.trustee_node.specs.Replies.{outcome_in}
+use Rattle.std.proofs.Common.{◌≡◌, ◌≤◌, ◌+◌, ◌++◌, ℕ, List, [], ◌∷◌, length, Err, refl, sym, ap, subst, ◌∙◌, arith, append-nil, true≢false}
+use Rattle.trustee_node.specs.Connections.{IsLinkFault, read_none}
+use Rattle.trustee_node.specs.Replies.{longest_reply, outcome_in, reply_bytes}
 use Rattle.trustee_node.specs.declared.served.ServedEnd.TheVariants.{WriteFailed, Worn, Full}
-use Rattle.trustee_node.proofs.Conversing.{ask-read, asks-more, cause-ended, dated-more, dated-none, ends-ended, failed-cause, fault-read, fresh-is, left-ended, length-more, quiet-cause, read-end, worn-few, worn-is, worn-more, worn-most, written-ended, written-more, written-part}
+use Rattle.trustee_node.proofs.Conversing.{ask-read, asks-more, cause-ended, dated-more, dated-none, ends-ended, failed-cause, fault-read, fresh-is, left-ended, length-more, link-fault, quiet-cause, read-end, room-more, room-short, small-more, worn-few, worn-is, worn-more, worn-most, written-ended, written-more, written-part}
 use Rattle.trustee_node.proofs.Serving.{serves-none, serves-then}
 use Rattle.trustee_node.proofs.Turning.{turn_of}
 use Rattle.trustee_node.proofs.connection.serve_connection.Goals as goal
@@ -21,6 +21,8 @@ loop-init g c =
       fresh = refl;
       frames = refl;
       many = refl;
+      small = grind arith;
+      room = omega arith;
       quiet = refl;
       told = refl;
       place = refl;
@@ -51,6 +53,9 @@ returns-in-Err-clause-conversation g c =
       written = λ told. written-ended c.args.share.now old new v.turns ended fault is (r.only.written ∙ v.written told);
       ends = ends-ended c.loop.frames v.turns count v.fresh ended fault is (λ want. r.no_memory (ap Err want));
       most = (let a = v.many in let b = c.loop-test.true in omega (arith, a, b));
+      small = v.small;
+      fails = λ steady failed.
+          absurd (r.answers (v.steady ∙ steady) (ap Err (link-fault fault (subst IsLinkFault is failed))));
       cause = cause-ended ended fault old.count mid.count new.count is v.quiet r.cause;
       told = r.only.told ∙ v.told;
       place = r.only.place ∙ v.place;
@@ -95,6 +100,12 @@ returns-in-Err-write_reply-clause-conversation g c =
       written = λ told. written-part share v.turns turn old last new (r.only.written ∙ v.written told) (w.wrote (told_last ∙ told));
       ends = (count, worn-most v.turns turn v.fresh (worn-few given));
       most = (let a = v.many in let b = c.loop-test.true in omega (arith, a, b, length-more v.turns turn));
+      small = small-more share v.turns turn (longest_reply share.params) v.small w.length;
+      fails = λ steady _. (
+        refl,
+        room-short share v.turns turn old.room mid.room last.room v.room r.only.room
+            (λ fits. true≢false (sym (w.succeeds (r.steady ∙ (v.steady ∙ steady)) (subst (λ (n : ℕ). length (reply_bytes share ask (outcome_in given)) ≤ n) (g.met.L.Sink.rooms c.next_ask.new.source) fits)))),
+      );
       cause = failed-cause WriteFailed old.count last.count new.count tt quiet w.cause.later w.cause.failed;
       told = w.only.told ∙ told_last;
       place = w.only.place ∙ (r.only.place ∙ v.place);
@@ -134,6 +145,8 @@ returns-then-is_worn-clause-conversation g c =
       written = λ told. written-more share v.turns turn old.written mid.written last.written new.written (v.written told) r.only.written (w.wrote (told_last ∙ told));
       ends = (count, worn-more v.turns turn 1 v.fresh (worn-is given (sym c.is_worn.ensures ∙ c.if-is_worn.true)));
       most = (let a = v.many in let b = c.loop-test.true in omega (arith, a, b, length-more v.turns turn));
+      small = small-more share v.turns turn (longest_reply share.params) v.small w.length;
+      fails = λ _ never. absurd never;
       cause = quiet-cause Worn old.count new.count (λ never. absurd never) quiet;
       told = w.only.told ∙ told_last;
       place = w.only.place ∙ (r.only.place ∙ v.place);
@@ -171,6 +184,9 @@ loop-preserved g c =
       fresh = worn-more v.turns turn 0 v.fresh (fresh-is given (sym c.is_worn.ensures ∙ c.if-is_worn.false));
       frames = (let a = v.frames in omega (arith, a));
       many = (let b = v.many in omega (arith, b, length-more v.turns turn));
+      small = small-more share v.turns turn (longest_reply share.params) v.small w.length;
+      room = room-more share v.turns turn old.room mid.room last.room (talk c.write_reply.new.link).room v.room r.only.room
+          (let written = w.room in let before = g.met.L.Sink.rooms c.next_ask.new.source in let after = g.met.L.Sink.rooms c.write_reply.new.link in omega (arith, written, before, after));
       quiet = w.cause.succeeded ∙ (r.cause.same (λ is. absurd (cc)) ∙ v.quiet);
       told = w.only.told ∙ told_last;
       place = w.only.place ∙ (r.only.place ∙ v.place);
@@ -194,6 +210,8 @@ returns-clause-conversation g c =
       written = v.written;
       ends = (count, all, v.fresh);
       most = omega (arith, all);
+      small = v.small;
+      fails = λ _ never. absurd never;
       cause = quiet-cause Full old.count new.count (λ never. absurd never) v.quiet;
       told = v.told;
       place = v.place;

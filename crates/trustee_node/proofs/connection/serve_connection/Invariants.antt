@@ -1,8 +1,8 @@
-use Rattle.std.proofs.Common.{◌≡◌, ◌++◌, List, length, IsTrue}
+use Rattle.std.proofs.Common.{◌≡◌, ◌≤◌, ◌+◌, ◌*◌, ◌++◌, List, length, IsTrue}
 use Rattle.std.specs.Option.{option_map}
 use Rattle.approval_book.specs.Approved.{ids_of}
 use Rattle.trustee_node.specs.Connections.{IsDated, ReadsAsks}
-use Rattle.trustee_node.specs.Replies.{replies}
+use Rattle.trustee_node.specs.Replies.{longest_reply, replies}
 use Rattle.trustee_node.specs.Turns.{IsIdle, Serves, Turn, with_code}
 use Rattle.trustee_node.proofs.connection.serve_connection.Given as goal
 
@@ -22,6 +22,8 @@ invariant-loop g l =
       fresh : with_code 11 turns ≡ 0;
       frames : l.frames ≡ l.counter;
       many : length turns ≡ l.counter;
+      small : length (replies l.share turns) ≤ length turns * longest_reply l.share.params;
+      room : (talk l.fn.link).room ≤ (talk l.link).room + length (replies l.share turns);
       quiet : (talk l.link).count ≡ (talk l.fn.link).count;
       told : (talk l.link).told ≡ (talk l.fn.link).told;
       place : (talk l.link).place ≡ (talk l.fn.link).place;

@@ -1,9 +1,9 @@
-use Rattle.std.proofs.Common.{◌≡◌, ◌-◌, ◌++◌, ℕ, List, inl, inr, take, ap, ◌∙◌, subst, arith, refl}
+use Rattle.std.proofs.Common.{◌≡◌, ◌-◌, ◌++◌, ℕ, List, inl, inr, take, ap, ◌∙◌, subst, arith, refl, length-append}
 use Rattle.lms_bytes.specs.Bytes.{joined}
 use Rattle.stream_io.proofs.Pieces.{part-front, wrote-same, wrote-then}
 use Rattle.stream_io.specs.Talk.{WrotePart}
 use Rattle.trustee_core.specs.Grants.{ask_of, mask_of}
-use Rattle.trustee_node.proofs.Masks.{gathered-all, gathered-on, gathered-part, joined-begins, part-of, some-masks}
+use Rattle.trustee_node.proofs.Masks.{gathered-all, gathered-on, gathered-part, joined-begins, part-of, room-all, room-on, room-there, some-masks}
 use Rattle.trustee_node.proofs.Prefixes.{prefix-in}
 use Rattle.trustee_node.proofs.reply.write_masks.Goals as goal
 
@@ -14,6 +14,7 @@ batches-init g c = record {
   only = wrote-same (g.K.Stream.talk c.args.link.now);
   quiet = refl;
   steady = refl;
+  takes = omega (arith, length-append (take c.args.front c.args.room.now) (joined (mask_of c.args.share.now (ask_of c.args.grant.now)) 0));
   gathered = λ told. inl (refl, refl, refl);
 }
 
@@ -35,12 +36,47 @@ batches-preserved g c =
       only = wrote-then _ _ _ v.only r.only;
       quiet = r.cause.succeeded ∙ v.quiet;
       steady = r.steady ∙ v.steady;
+      takes = (let all = room-on f (g.K.Sink.room c.args.link.now) (g.K.Sink.room c.batches.link) (g.K.Sink.room c.write_whole.new.sink) (take front room)
+          (take c.args.front c.args.room.now) behind _ c.batches.next batch.next v.takes b.bytes there r.room in omega (arith, all));
       gathered = λ told. inr (
         refl,
         gathered-on f (talk c.args.link.now) (talk c.batches.link) (talk c.write_whole.new.sink) front room (take c.args.front c.args.room.now) behind c.batches.next batch.next
             (v.gathered told) b.bytes (r.wrote (v.only.told ∙ told) ∙ ap (λ (l : List ℕ). (talk c.batches.link).written ++ l) there),
       );
     }
+
+pub returns-in-Err-clause-succeeds : goal.returns-in-Err-clause-succeeds
+returns-in-Err-clause-succeeds g c steady fits =
+    let v = c.batches.invariant in
+    let b = c.put_masks-batch.ensures in
+    let room = c.batches.room in
+    let front = c.batches.unwritten in
+    let batch = c.put_masks-batch.result in
+    let behind = take batch.length c.put_masks-batch.new.room in
+    let there = part-front front (4096 - front) batch.length room c.put_masks-batch.new.room (omega arith) (omega arith) (omega arith) in
+    c.in-Err.ensures.succeeds (v.steady ∙ steady)
+    (room-there (mask_of c.args.share.now (ask_of c.args.grant.now)) (g.K.Sink.room c.args.link.now) (g.K.Sink.room c.batches.link) (take front room)
+    (take c.args.front c.args.room.now) behind _ c.batches.next batch.next _ v.takes b.bytes there b.within fits)
+
+pub returns-in-Err-clause-room : goal.returns-in-Err-clause-room
+returns-in-Err-clause-room g c =
+    let v = c.batches.invariant in
+    let b = c.put_masks-batch.ensures in
+    let room = c.batches.room in
+    let front = c.batches.unwritten in
+    let batch = c.put_masks-batch.result in
+    let behind = take batch.length c.put_masks-batch.new.room in
+    let there = part-front front (4096 - front) batch.length room c.put_masks-batch.new.room (omega arith) (omega arith) (omega arith) in
+    room-all (mask_of c.args.share.now (ask_of c.args.grant.now)) (g.K.Sink.room c.args.link.now) (g.K.Sink.room c.write_whole.new.sink)
+    (take c.args.front c.args.room.now) batch.next _
+    (room-on (mask_of c.args.share.now (ask_of c.args.grant.now)) (g.K.Sink.room c.args.link.now) (g.K.Sink.room c.batches.link) (g.K.Sink.room c.write_whole.new.sink) (take front room)
+    (take c.args.front c.args.room.now) behind _ c.batches.next batch.next v.takes b.bytes there c.in-Err.ensures.room) b.within
+
+pub returns-clause-room : goal.returns-clause-room
+returns-clause-room g c =
+    let v = c.batches.invariant in
+    room-all (mask_of c.args.share.now (ask_of c.args.grant.now)) (g.K.Sink.room c.args.link.now) (g.K.Sink.room c.batches.link)
+    (take c.args.front c.args.room.now) c.batches.next _ (let t = v.takes in omega (arith, t)) (let w = v.within in let e = c.mask_count-count.ensures in omega (arith, w, e))
 
 pub returns-in-Err-clause-wrote : goal.returns-in-Err-clause-wrote
 returns-in-Err-clause-wrote g c told =

@@ -1,4 +1,5 @@
-use Rattle.std.proofs.Common.{◌≡◌, ◌≤◌, ◌-◌, IsTrue, take}
+use Rattle.std.proofs.Common.{◌≡◌, ◌≤◌, ◌-◌, ◌+◌, ◌++◌, IsTrue, length, take}
+use Rattle.lms_bytes.specs.Bytes.{joined}
 use Rattle.stream_io.specs.Talk.{OnlyWrote}
 use Rattle.trustee_core.specs.Grants.{ask_of, mask_of}
 use Rattle.trustee_node.proofs.Masks.{Gathered}
@@ -14,6 +15,8 @@ invariant-batches g l =
       only : OnlyWrote (talk l.initial.link) (talk l.link);
       quiet : (talk l.link).count ≡ (talk l.initial.link).count;
       steady : g.K.Faults.steady l.link ≡ g.K.Faults.steady l.initial.link;
+      takes : g.K.Sink.room l.initial.link + length (take l.unwritten l.room)
+          ≤ g.K.Sink.room l.link + length (take l.front l.fn.room ++ joined (mask_of l.share (ask_of l.grant)) l.next);
       gathered : IsTrue (talk l.initial.link).told
           → Gathered (mask_of l.share (ask_of l.grant)) (talk l.initial.link) (talk l.link) l.unwritten l.room (take l.front l.fn.room) l.next;
     }

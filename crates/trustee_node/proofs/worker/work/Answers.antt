@@ -26,8 +26,8 @@ loop-preserved g c =
       worked = worked-more c.args.share.now (option_map (λ b. ids_of b.now) c.args.book) (state c.args.worker.now) (state c.loop.worker)
           (g.P.Port.state c.accept.new.self) (g.P.Port.state c.serve_link-served.new.port) c.serve_link-served.new.pass
           (clock_state g.C.Clock.told g.C.Clock.answers c.serve_link-served.new.clock)
-          (g.P.Link.Stream.talk c.in-Link.link) (g.P.Link.Faults.steady c.in-Link.link) c.serve_link-served.result c.saturating_add-worker.result c.loop.worker.worn
-          v.worked v.sound (a.link c.in-Link.link c.in-Link.is) a.onward (a.accept_cause.same (λ is. absurd (cc))) e.served e.onward e.clock
+          (g.P.Link.Stream.talk c.in-Link.link) (g.P.Link.Faults.steady c.in-Link.link) (g.P.Link.Sink.room c.in-Link.link) c.serve_link-served.result c.saturating_add-worker.result c.loop.worker.worn
+          v.worked v.sound e.takes (a.link c.in-Link.link c.in-Link.is) a.onward (a.accept_cause.same (λ is. absurd (cc))) e.served e.onward e.clock
           c.saturating_add-worker.ensures (λ is. absurd (true≢false (sym is ∙ v.fresh)));
       pass = e.pass;
       count = (let n = v.count in omega (arith, n));
@@ -44,6 +44,6 @@ returns-then-eq-clause-worked g c =
     worked-more c.args.share.now (option_map (λ b. ids_of b.now) c.args.book) (state c.args.worker.now) (state c.loop.worker)
     (g.P.Port.state c.accept.new.self) (g.P.Port.state c.serve_link-served.new.port) c.serve_link-served.new.pass
     (clock_state g.C.Clock.told g.C.Clock.answers c.serve_link-served.new.clock)
-    (g.P.Link.Stream.talk c.in-Link.link) (g.P.Link.Faults.steady c.in-Link.link) c.serve_link-served.result c.saturating_add-worker.result true
-    v.worked v.sound (a.link c.in-Link.link c.in-Link.is) a.onward (a.accept_cause.same (λ is. absurd (cc))) e.served e.onward e.clock
+    (g.P.Link.Stream.talk c.in-Link.link) (g.P.Link.Faults.steady c.in-Link.link) (g.P.Link.Sink.room c.in-Link.link) c.serve_link-served.result c.saturating_add-worker.result true
+    v.worked v.sound e.takes (a.link c.in-Link.link c.in-Link.is) a.onward (a.accept_cause.same (λ is. absurd (cc))) e.served e.onward e.clock
     c.saturating_add-worker.ensures (λ _. search rules)

@@ -1,4 +1,4 @@
-use Rattle.std.proofs.Common.{rules, if◌then◌else◌, is_some, ◌≡◌, ◌+◌, ◌&&◌, length, true, refl, sym, ap, ◌∙◌}
+use Rattle.std.proofs.Common.{rules, if◌then◌else◌, is_some, ◌≡◌, ◌+◌, ◌&&◌, length, true, refl, sym, ap, ◌∙◌, arith}
 use Rattle.std.specs.List.{list_all}
 use Rattle.stream_memory.specs.Calls.{is_empty}
 use Rattle.stream_memory.specs.Ports.{is_steady_entry, is_steady_waiting, port_state}
@@ -26,6 +26,7 @@ returns-clause-link c link is =
         taken = λ _. begun.taken;
         written = λ _. begun.written;
         count = begun.count;
+        room = let least = taken.room in let its = begun.room in omega arith;
       };
       waiting = λ _. ap (λ b. if b then length port.waiting.items else 0) there ∙ taken.many ∙ ap (λ b. (if b then length left else 0) + 1) (sym there);
       reaches = refl;
@@ -48,4 +49,5 @@ returns-clause-onward c =
       place = refl;
       count = search rules;
       accept_count = search rules;
+      room = let least = c.take_first-link.ensures.room in omega arith;
     }

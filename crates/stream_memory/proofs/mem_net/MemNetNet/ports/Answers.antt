@@ -1,4 +1,4 @@
-use Rattle.std.proofs.Common.{rules, ◌&&◌, option_copied, refl, sym, ap, ◌∙◌}
+use Rattle.std.proofs.Common.{rules, ◌&&◌, option_copied, refl, sym, ap, ◌∙◌, arith}
 use Rattle.std.proofs.lemmas.List.{length-map}
 use Rattle.std.specs.List.{list_all}
 use Rattle.stream_memory.specs.Calls.{is_empty}
@@ -16,7 +16,7 @@ returns-clause-made c =
     record {
       many = length-map c.in_ok-ports.ports.items (λ (port : MemPort). port_state (kept_of port)) ∙ made.many;
       new_ports = new-for _ (net_state net) place _ refl
-          (ap (λ f. (is_empty f.items && net.gave_steady) && list_all is_steady_script net.scripts.items) c.admit.ensures.failing) made.made;
+          (ap (λ f. (is_empty f.items && net.gave_steady) && list_all is_steady_script net.scripts.items) c.admit.ensures.failing) (omega arith) made.made;
       offered = λ _. admitted net place (ap (λ l. is_admitted (is_listed l) place) (sym c.deref.ensures.value) ∙ c.in_default.ensures.offered);
       out = search rules;
       kept = search rules;

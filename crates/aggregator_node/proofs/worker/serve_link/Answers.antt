@@ -1,0 +1,23 @@
+use Rattle.std.proofs.Common.{arith}
+use Rattle.aggregator_node.proofs.worker.serve_link.Goals as goal
+
+pub returns-clause-served : goal.returns-clause-served
+returns-clause-served g c =
+    let s = c.serve_client-served.ensures in
+    let h = c.hang_up.ensures in
+    let room = s.takes in
+    record {
+      talk = g.P.Link.Stream.talk c.serve_client-served.new.link;
+      requests = s.serves.requests;
+      done = g.P.Port.state c.serve_client-served.new.port;
+      serves = s.serves.serves;
+      most = s.most;
+      full = s.full;
+      answers = s.answers;
+      writes = λ steady fits. s.writes steady (omega (arith, fits, room));
+      hung_up = h.kept;
+      onward = h.onward;
+    }
+
+pub returns-clause-takes : goal.returns-clause-takes
+returns-clause-takes g c = c.serve_client-served.ensures.takes
