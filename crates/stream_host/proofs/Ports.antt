@@ -1,5 +1,5 @@
 -- What a net says of its ports follows from what each of them says.
-use Rattle.std.proofs.Common.{◌≡◌, ℕ, ◌<◌, Bool, true, false, List, Option, Result, Ok, Err, IfOk, length, get_or, map, All, IsTrue, IsFalse}
+use Rattle.std.proofs.Common.{arith, ◌≡◌, ℕ, ◌<◌, Bool, true, false, List, Option, Result, Ok, Err, IfOk, length, map, All, IsTrue, IsFalse}
 use Rattle.std.proofs.Common.{refl, sym, ◌∙◌, subst}
 use Rattle.std.proofs.lemmas.Bool.{false≢true}
 use Rattle.std.proofs.lemmas.List.{get_or-map, length-map}
@@ -36,6 +36,7 @@ module _ {X : Type 0} (state : X → PortState) (faults port_faults : ℕ) where
     count = refl;
     accept_count = refl;
     talks = refl;
+    room = omega arith;
   }
 
   makes_ports : (now port_now count : ℕ) (place : Option (List ℕ)) (ports : List X) → length ports ≡ count

@@ -1,2 +1,5 @@
+pub mod Buffered
+pub mod FileLaws
+pub mod Files
 pub mod TcpPort
 pub mod Untold

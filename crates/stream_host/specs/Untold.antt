@@ -12,6 +12,7 @@ untold_talk count = record {
   taken = [];
   left = [];
   written = [];
+  room = 0;
   count = count;
 }
 
@@ -40,6 +41,7 @@ untold_port place count accept_count = record {
   accept_count = accept_count;
   waiting = 0;
   reaches = λ _. false;
+  room = 0;
   talks = [];
 }
 
@@ -51,6 +53,7 @@ untold_net count port_count = record {
   count = count;
   port_count = port_count;
   offers = λ _. false;
+  room = 0;
   out = 0;
   kept = [];
 }

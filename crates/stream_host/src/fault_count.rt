@@ -67,6 +67,16 @@ impl FaultCount {
         }
     }
 
+    /// Counts a fault where a call failed, and not where it was refused for anything else, and answers what it
+    /// answered.
+    pub fn noted<T, E: Refusal>(&mut self, done: Result<T, E>) -> Result<T, E>
+        ensures same { result ≡ done }
+        ensures rises { RisesWhere (done ≡ Err E.failed) self.old self.new }
+    {
+        self.note(&done);
+        done
+    }
+
     /// Counts a fault where a call failed, and not where it was refused for anything else.
     pub fn note<T, E: Refusal>(&mut self, done: &Result<T, E>)
         ensures { RisesWhere (done.now ≡ Err E.failed) self.old self.new }

@@ -7,6 +7,7 @@ ghost use Rattle.stream_io.specs.declared.store.ReadAllFault.{ReadAllFault};
 use crate::causes::{call_fault, new_fault, read_fault};
 use crate::fault_count::FaultCount;
 use crate::file_disk::FileDisk;
+use crate::host_file::HostFile;
 use crate::lockable::Lockable;
 use crate::new_file::{is_taken, write_new};
 use crate::open_file::{make_disk, open_disk, open_view};
@@ -94,9 +95,9 @@ impl<R: Files + Drop> Store for FileStore<R>
 where
     R::File: FileExt + Lockable + Send,
 {
-    type Disk = FileDisk<R::File>;
+    type Disk = FileDisk<HostFile<R::File>>;
 
-    type View = FileDisk<R::File>;
+    type View = FileDisk<HostFile<R::File>>;
 
     ghost state = { λ s. untold_store s.faults s.disk_faults };
 
@@ -105,15 +106,12 @@ where
     }
 
     fn read_all(&mut self, alloc: Global, name: &str, limit: u64) -> Result<Vec<u8>, ReadAllFault> {
-        let read = read_file(&self.rt, alloc, name, limit);
-        self.faults.note(&read);
-        read
+        self.faults.noted(read_file(&self.rt, alloc, name, limit))
     }
 
     fn has(&mut self, name: &str) -> Result<bool, CallFault> {
-        let found = is_taken(&self.rt, name).map_err(call_fault);
-        self.faults.note(&found);
-        found
+        self.faults
+            .noted(is_taken(&self.rt, name).map_err(call_fault))
     }
 
     /// Writes a file so that it appears under its name whole or not at all, also where the program is killed or the
@@ -134,9 +132,8 @@ where
         bytes: &[u8],
         readers: Readers,
     ) -> Result<(), NewFault> {
-        let written = write_new(&self.rt, alloc, name, bytes, readers).map_err(new_fault);
-        self.faults.note(&written);
-        written
+        let written = write_new(&self.rt, alloc, name, bytes, readers);
+        self.faults.noted(written.map_err(new_fault))
     }
 
     /// Makes an empty file that its owner alone may read, locks it, and makes its name stable. A file grows as it is
@@ -147,17 +144,15 @@ where
         name: &str,
         _size: usize,
     ) -> Result<Self::Disk, NewFault> {
-        let made = make_disk(&self.rt, name).map_err(new_fault);
-        self.faults.note(&made);
-        made
+        self.faults
+            .noted(make_disk(&self.rt, name).map_err(new_fault))
     }
 
     /// Opens a file for reading and writing, and locks it. It fails at what is no regular file, and where another has
     /// the lock.
     fn take_disk(&mut self, name: &str) -> Result<Self::Disk, CallFault> {
-        let taken = open_disk(&self.rt, name).map_err(call_fault);
-        self.faults.note(&taken);
-        taken
+        self.faults
+            .noted(open_disk(&self.rt, name).map_err(call_fault))
     }
 
     /// Closes the file, which gives up its lock.
@@ -168,9 +163,8 @@ where
     /// Opens a file for reading, and fails at what is no regular file. It takes no lock: many view a file at once, and
     /// a file that is viewed was made by `write_new`, which no lock keeps out.
     fn view(&mut self, _alloc: Global, name: &str) -> Result<Self::View, CallFault> {
-        let viewed = open_view(&self.rt, name).map_err(call_fault);
-        self.faults.note(&viewed);
-        viewed
+        self.faults
+            .noted(open_view(&self.rt, name).map_err(call_fault))
     }
 
     /// Closes the file.

@@ -1,13 +1,20 @@
-//! Thin adapters over the system for the traits of the outside. They tell nothing but their counts of faults.
+//! Thin adapters over the system for the traits of the outside, which tell nothing but their counts of faults; links
+//! that read ahead and write behind, over any link; and disks over any file.
 #![tactic(auto)]
 
+mod buffered;
+mod buffered_port;
 mod causes;
+mod counted;
 mod fault_count;
 mod file_disk;
 mod file_store;
+mod host_file;
 mod lockable;
 mod new_file;
+mod next_sync;
 mod open_file;
+mod pieces;
 mod read_ahead;
 mod stdout_sink;
 mod tcp_link;
@@ -15,8 +22,11 @@ mod tcp_net;
 mod tcp_port;
 mod write_behind;
 
+pub use buffered::Buffered;
+pub use buffered_port::BufferedPort;
 pub use file_disk::FileDisk;
 pub use file_store::FileStore;
+pub use host_file::HostFile;
 pub use lockable::Lockable;
 pub use stdout_sink::StdoutSink;
 pub use tcp_link::TcpLink;

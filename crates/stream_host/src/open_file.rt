@@ -3,8 +3,10 @@
 ghost use Rattle.std.specs.Prelude.{◌≡◌, IfOk};
 
 use crate::file_disk::FileDisk;
+use crate::host_file::HostFile;
 use crate::lockable::Lockable;
 use crate::new_file::{keep_name, make};
+use disk_trait::Faults;
 use std::fs::{Metadata, OpenFile, OpenOptions};
 use std::io::ErrorKind;
 use std::os::unix::fs::FileExt;
@@ -14,10 +16,10 @@ use stream_io::Readers;
 
 /// Makes an empty file under a name at which nothing stands, which its owner alone may read, as a disk that holds its
 /// lock. Where that fails, the file is removed as far as that can be done.
-pub fn make_disk<R: Files>(rt: &R, name: &str) -> io::Result<FileDisk<R::File>>
+pub fn make_disk<R: Files>(rt: &R, name: &str) -> io::Result<FileDisk<HostFile<R::File>>>
 where
     R::File: FileExt + Lockable,
-    ensures { IfOk result (λ faults. faults ≡ 0) }
+    ensures { IfOk result (λ disk. ⟦<FileDisk<HostFile<R::File>> as Faults>⟧.count disk ≡ 0) }
 {
     let file = make(rt, name, Readers::OwnerAlone)?;
     let locked = file.lock_alone();
@@ -26,10 +28,10 @@ where
 }
 
 /// Opens a regular file as a disk that holds its lock.
-pub fn open_disk<R: Files>(rt: &R, name: &str) -> io::Result<FileDisk<R::File>>
+pub fn open_disk<R: Files>(rt: &R, name: &str) -> io::Result<FileDisk<HostFile<R::File>>>
 where
     R::File: FileExt + Lockable,
-    ensures { IfOk result (λ faults. faults ≡ 0) }
+    ensures { IfOk result (λ disk. ⟦<FileDisk<HostFile<R::File>> as Faults>⟧.count disk ≡ 0) }
 {
     let mut how = OpenOptions::new();
     how.read(true).write(true);
@@ -39,10 +41,10 @@ where
 }
 
 /// Opens a regular file as pages that are read.
-pub fn open_view<R: Files>(rt: &R, name: &str) -> io::Result<FileDisk<R::File>>
+pub fn open_view<R: Files>(rt: &R, name: &str) -> io::Result<FileDisk<HostFile<R::File>>>
 where
     R::File: FileExt,
-    ensures { IfOk result (λ faults. faults ≡ 0) }
+    ensures { IfOk result (λ disk. ⟦<FileDisk<HostFile<R::File>> as Faults>⟧.count disk ≡ 0) }
 {
     let mut how = OpenOptions::new();
     how.read(true);

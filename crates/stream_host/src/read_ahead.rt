@@ -1,29 +1,39 @@
-//! Bytes that were received from a socket before they are read.
+//! Bytes that were read from a source before they are asked for.
 
-ghost use Rattle.std.specs.Prelude.{◌≤◌, length};
-ghost use Rattle.std.specs.Io.{ReadsAtMost};
+ghost use Rattle.std.specs.Prelude.{◌≡◌, ◌↔◌, [], length, take, drop, min, IsTrue, IfOk, OnErr};
+ghost use Rattle.disk_trait.specs.Faults.{HasCause};
+ghost use Rattle.stream_io.specs.Talk.{OnlyRead, Took};
 
-use crate::tcp_link::read_again;
-use std::io;
-use std::io::Read;
+use std::marker::Model;
+use stream_io::{Failed, Source};
 
-/// How many bytes are received at once: some frames whose messages are short.
-const ROOM: usize = 4096;
+/// How many bytes are read ahead at once: some frames whose messages are short.
+pub(crate) const ROOM: usize = 4096;
 
-/// What was received and not yet read. It stands in its link and not in memory of its own, since a link that is
-/// accepted or dialled takes no memory.
+/// What was read from the source and is not yet taken. It stands in its link and not in memory of its own, since a link
+/// that is accepted or dialled takes no memory.
 #[derive(Drop)]
 pub(crate) struct ReadAhead {
     bytes: [u8; ROOM],
     place: usize,
     end: usize,
-    ghost order: { place ≤ end },
-    ghost within: { end ≤ 4096 },
+}
+
+impl Model for ReadAhead {
+    ghost use Rattle.std.specs.Prelude.{◌≤◌, ◌-◌, ℕ, List, take, drop};
+
+    ghost Value = { List ℕ };
+
+    ghost view = { λ a. take (a.end - a.place) (drop a.place a.bytes) };
+
+    ghost invariant = { λ a. (a.place ≤ a.end) × (a.end ≤ 4096) };
 }
 
 impl ReadAhead {
     /// Nothing yet.
-    pub(crate) fn new() -> ReadAhead {
+    pub(crate) fn new() -> ReadAhead
+        ensures { result ≡ [] }
+    {
         ReadAhead {
             bytes: [0; ROOM],
             place: 0,
@@ -31,30 +41,39 @@ impl ReadAhead {
         }
     }
 
-    /// Whether nothing is left of what was received.
-    pub(crate) fn is_empty(&self) -> bool {
+    /// Whether nothing is left.
+    pub(crate) fn is_empty(&self) -> bool
+        ensures { IsTrue result ↔ self.now ≡ [] }
+    {
         self.place == self.end
     }
 
-    /// Reads what was received. Where nothing is left of that, it receives once: to the room itself where that is not
-    /// the smaller one.
-    pub(crate) fn read<S: Read>(&mut self, stream: &mut S, out: &mut [u8]) -> io::Result<usize>
-        ensures { ReadsAtMost result out.new }
+    /// Reads once from the source. A refusal has read nothing.
+    pub(crate) fn fill<S: Source>(&mut self, source: &mut S) -> Result<(), Failed>
+        requires { self.old ≡ [] }
+        ensures bytes { IsTrue (S.talk source.old).told
+            → IfOk result (λ _. self.new ≡ take (length self.new) (S.talk source.old).left) }
+        ensures took { IsTrue (S.talk source.old).told
+            → Took (S.talk source.old) (S.talk source.new) (length self.new) }
+        ensures end { IsTrue (S.talk source.old).told
+            → IfOk result (λ _. self.new ≡ [] → (S.talk source.old).left ≡ []) }
+        ensures none { OnErr result (self.new ≡ []) }
+        ensures only { OnlyRead (S.talk source.old) (S.talk source.new) }
+        ensures cause { HasCause (S.talk source.old).count (S.talk source.new).count result }
+        ensures steady { S.steady source.new ≡ S.steady source.old }
     {
-        if self.is_empty() {
-            if out.is_empty() || out.len() >= ROOM {
-                return read_again(stream, out);
-            }
-            let count = read_again(stream, &mut self.bytes)?;
-            self.place = 0;
-            self.end = count;
-        }
-        Ok(self.copy(out))
+        self.place = 0;
+        self.end = 0;
+        let count = source.read(&mut self.bytes)?;
+        self.end = count;
+        Ok(())
     }
 
-    /// Moves as many bytes as there are, and as the room takes.
-    fn copy(&mut self, out: &mut [u8]) -> usize
-        ensures { result ≤ length out.new }
+    /// Takes as many bytes as there are, and as the room has place for.
+    pub(crate) fn copy(&mut self, out: &mut [u8]) -> usize
+        ensures size { result ≡ min (length out.old) (length self.old) }
+        ensures bytes { take result out.new ≡ take result self.old }
+        ensures rest { self.new ≡ drop result self.old }
     {
         let count = out.len().min(self.end - self.place);
         out[..count].copy_from_slice(&self.bytes[self.place..self.place + count]);

@@ -48,6 +48,8 @@ impl<R: Print + Drop> Stream for StdoutSink<R> {
 impl<R: Print + Drop> Sink for StdoutSink<R> {
     ghost room = { λ _. 0 };
 
+    ghost rooms = { λ _. refl };
+
     fn write(&mut self, bytes: &[u8]) -> Result<usize, Failed> {
         for _ in 0..u64::MAX {
             match self.rt.write_some(bytes) {

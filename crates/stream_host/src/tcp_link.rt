@@ -5,24 +5,17 @@ ghost use Rattle.std.specs.Io.{ReadsAtMost, WritesAtMost};
 ghost use Rattle.stream_host.specs.Untold.{untold_talk};
 
 use crate::fault_count::FaultCount;
-use crate::read_ahead::ReadAhead;
-use crate::write_behind::WriteBehind;
 use disk_trait::Faults;
 use std::io;
 use std::io::{ErrorKind, Read, Write};
 use std::net::OpenStream;
 use stream_io::{Failed, Sink, Source, Stream};
 
-/// A link over a socket. What it receives ahead of its reads is read later, so that a frame takes one call of the
-/// system and not one for each of its parts. While some of that is not read yet, it also holds what is written, so that
-/// replies to asks that came together go out together: at the latest before it waits for more, or is hung up. Otherwise
-/// it keeps no byte back. It tells nothing but its count of faults. Where the peer breaks it off, its reads and writes
-/// fail, and no other link notices.
+/// A link over a socket, whose reads and writes are one call of the system each. It tells nothing but its count of
+/// faults. Where the peer breaks it off, its reads and writes fail, and no other link notices.
 #[derive(Drop)]
 pub struct TcpLink<S: Read + Write + OpenStream + Drop> {
     stream: S,
-    ahead: ReadAhead,
-    behind: WriteBehind,
     faults: FaultCount,
 }
 
@@ -35,43 +28,8 @@ impl<S: Read + Write + OpenStream + Drop> TcpLink<S> {
         let _ = stream.set_nodelay(true);
         TcpLink {
             stream,
-            ahead: ReadAhead::new(),
-            behind: WriteBehind::new(),
             faults: FaultCount::new(),
         }
-    }
-
-    /// Ends the link. What it holds goes out first; where that fails the peer is gone, as with bytes that the system
-    /// has taken and not sent yet.
-    pub(crate) fn end(mut self) {
-        let _ = self.behind.flush(&mut self.stream);
-    }
-
-    /// Reads what was received. Where nothing is left of that, what is held goes out before more is waited for.
-    fn receive(&mut self, out: &mut [u8]) -> io::Result<usize>
-        ensures read { ReadsAtMost result out.new }
-        ensures faults { self.new.faults ≡ self.old.faults }
-    {
-        if self.ahead.is_empty() {
-            self.behind.flush(&mut self.stream)?;
-        }
-        self.ahead.read(&mut self.stream, out)
-    }
-
-    /// Takes a beginning of the piece: all of it, to be held, while there are received bytes to read and it has room.
-    fn send(&mut self, piece: &[u8]) -> io::Result<usize>
-        ensures wrote { WritesAtMost result piece.now }
-        ensures faults { self.new.faults ≡ self.old.faults }
-    {
-        let holds = !self.ahead.is_empty();
-        if holds && self.behind.hold(piece) {
-            return Ok(piece.len());
-        }
-        self.behind.flush(&mut self.stream)?;
-        if holds && self.behind.hold(piece) {
-            return Ok(piece.len());
-        }
-        write_again(&mut self.stream, piece)
     }
 }
 
@@ -93,7 +51,7 @@ impl<S: Read + Write + OpenStream + Drop> Stream for TcpLink<S> {
 
 impl<S: Read + Write + OpenStream + Drop> Source for TcpLink<S> {
     fn read(&mut self, out: &mut [u8]) -> Result<usize, Failed> {
-        match self.receive(out) {
+        match read_again(&mut self.stream, out) {
             Ok(count) => Ok(count),
             Err(_) => Err(self.faults.fail()),
         }
@@ -103,9 +61,11 @@ impl<S: Read + Write + OpenStream + Drop> Source for TcpLink<S> {
 impl<S: Read + Write + OpenStream + Drop> Sink for TcpLink<S> {
     ghost room = { λ _. 0 };
 
+    ghost rooms = { λ _. refl };
+
     /// Writes a beginning of the piece. A write that takes nothing is a fault.
     fn write(&mut self, bytes: &[u8]) -> Result<usize, Failed> {
-        match self.send(bytes) {
+        match write_again(&mut self.stream, bytes) {
             Ok(count) if count > 0 || bytes.is_empty() => Ok(count),
             _ => Err(self.faults.fail()),
         }
@@ -113,7 +73,7 @@ impl<S: Read + Write + OpenStream + Drop> Sink for TcpLink<S> {
 }
 
 /// Reads once, and again where a signal interrupted it.
-pub(crate) fn read_again<S: Read>(stream: &mut S, out: &mut [u8]) -> io::Result<usize>
+fn read_again<S: Read>(stream: &mut S, out: &mut [u8]) -> io::Result<usize>
     ensures { ReadsAtMost result out.new }
 {
     for _ in 0..u64::MAX {

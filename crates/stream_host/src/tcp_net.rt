@@ -3,10 +3,11 @@
 ghost use Rattle.std.specs.Prelude.{◌≡◌, All, IfOk, IsFalse, IsTrue, false, length, map, option_copied};
 ghost use Rattle.std.specs.Prelude.{option_map, refl};
 ghost use Rattle.std.specs.Arc.{arc_value};
-ghost use Rattle.stream_host.specs.TcpPort.{port_state};
+ghost use Rattle.stream_host.specs.TcpPort.{buffered_port_state};
 ghost use Rattle.stream_host.specs.Untold.{untold_net, untold_port};
 ghost use Rattle.stream_io.specs.Net.{Gathers, NetOnward};
 
+use crate::buffered_port::BufferedPort;
 use crate::causes::call_fault;
 use crate::fault_count::FaultCount;
 use crate::tcp_port::{Place, TcpPort};
@@ -81,39 +82,49 @@ fn share<L: Drop>(place: &Option<Arc<Place<L>>>) -> Result<Option<Arc<Place<L>>>
     }
 }
 
+/// A port that listens at this place, or only dials.
+fn new_port<R: Sockets + Copy>(
+    rt: R,
+    place: Option<Arc<Place<R::Listener>>>,
+) -> BufferedPort<TcpPort<R>>
+    ensures { buffered_port_state result ≡ untold_port (option_map arc_value place) 0 0 }
+{
+    BufferedPort::new(TcpPort::new(rt, place))
+}
+
 /// Makes that many ports, which listen at one place by one socket, or only dial.
 fn make_ports<R: Sockets + Copy>(
     rt: R,
     alloc: Global,
     name: Option<&str>,
     count: u32,
-) -> Result<Vec<TcpPort<R>>, CallFault>
+) -> Result<Vec<BufferedPort<TcpPort<R>>>, CallFault>
     ensures many { IfOk result (λ ports. length ports.items ≡ count) }
-    ensures fresh { IfOk result (λ ports. All (λ port. port_state port
+    ensures fresh { IfOk result (λ ports. All (λ port. buffered_port_state port
         ≡ untold_port (option_copied name.entry) 0 0) ports.items) }
 {
     let place = place_of(&rt, alloc, name)?;
     let mut ports = Vec::with_capacity(alloc, count as usize)?;
     for _ in 0..count {
-        ports.push(TcpPort::new(rt, share(&place)?))?;
+        ports.push(new_port(rt, share(&place)?))?;
     }
     Ok(ports)
 }
 
 /// Whether one of these ports has counted a fault.
-fn some_failed<R: Sockets + Copy>(ports: &[TcpPort<R>]) -> bool
-    ensures some { IsTrue result → All (λ port. (port_state port).count ≡ 0) ports.now → ⊥ }
-    ensures none { IsFalse result → All (λ port. (port_state port).count ≡ 0) ports.now }
+fn some_failed<R: Sockets + Copy>(ports: &[BufferedPort<TcpPort<R>>]) -> bool
+    ensures some { IsTrue result → All (λ port. (buffered_port_state port).count ≡ 0) ports.now → ⊥ }
+    ensures none { IsFalse result → All (λ port. (buffered_port_state port).count ≡ 0) ports.now }
 {
-    ports.iter().any(|port| port.has_failed())
+    ports.iter().any(|port| port.below().has_failed())
 }
 
 /// Whether one of these ports failed to accept.
-fn some_unaccepted<R: Sockets + Copy>(ports: &[TcpPort<R>]) -> bool
-    ensures some { IsTrue result → All (λ port. (port_state port).accept_count ≡ 0) ports.now → ⊥ }
-    ensures none { IsFalse result → All (λ port. (port_state port).accept_count ≡ 0) ports.now }
+fn some_unaccepted<R: Sockets + Copy>(ports: &[BufferedPort<TcpPort<R>>]) -> bool
+    ensures some { IsTrue result → All (λ port. (buffered_port_state port).accept_count ≡ 0) ports.now → ⊥ }
+    ensures none { IsFalse result → All (λ port. (buffered_port_state port).accept_count ≡ 0) ports.now }
 {
-    ports.iter().any(|port| port.has_not_accepted())
+    ports.iter().any(|port| port.below().has_not_accepted())
 }
 
 impl<R: Sockets + Copy> Faults for TcpNet<R> {
@@ -131,7 +142,7 @@ where
     R::Stream: Send,
     R::Listener: Send + Sync,
 {
-    type Port = TcpPort<R>;
+    type Port = BufferedPort<TcpPort<R>>;
 
     ghost state = { λ s. untold_net s.faults s.port_faults };
 
@@ -155,7 +166,7 @@ where
     /// Closes ports, and the socket of a place with its last port.
     fn gather(&mut self, ports: Vec<Self::Port>)
         ensures kept { Gathers (untold_net self.old.faults self.old.port_faults)
-            (map (λ port. ⟦<TcpPort<R> as Port>⟧.state port) ports.items)
+            (map (λ port. ⟦<BufferedPort<TcpPort<R>> as Port>⟧.state port) ports.items)
             (untold_net self.new.faults self.new.port_faults) }
         ensures onward { NetOnward (untold_net self.old.faults self.old.port_faults)
             (untold_net self.new.faults self.new.port_faults) }

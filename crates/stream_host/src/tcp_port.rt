@@ -159,10 +159,9 @@ where
         }
     }
 
-    /// Closes a link, behind what it still holds.
+    /// Closes a link.
     fn hang_up(&mut self, link: Self::Link) {
         self.count_link(link.faults());
-        link.end();
     }
 
     ghost counts = { λ _. refl };

@@ -1,6 +1,6 @@
 //! Tests of what no contract says: that calls succeed where there is memory and no call fails.
 
-ghost use Rattle.std.specs.Prelude.{◌≡◌, None};
+ghost use Rattle.std.specs.Prelude.{◌≡◌, None, false, refl};
 ghost use Rattle.round_frames.specs.Replies.{IsHead};
 
 use coalition_map::Members;
@@ -11,7 +11,7 @@ use round_frames::{
     write_failure, write_reply_head, write_request, write_signature,
 };
 use std::alloc::Global;
-use stream_io::write_whole;
+use stream_io::{Failed, Source, Stream, write_whole};
 use stream_memory::{MemSink, MemSource};
 
 /// A failure of round two.
@@ -163,4 +163,56 @@ fn each_read_that_fails_ends_a_request(rt: HostRuntime) {
         let faults = faults_of_request(rt.alloc(), &sink, call);
         assert!(rt; faults == Some(1), "call {call}");
     }
+}
+
+/// A source that notes how many bytes at most were asked of it at once.
+#[derive(Drop)]
+struct Watched {
+    source: MemSource,
+    most: usize,
+}
+
+impl Faults for Watched {
+    ghost count = { λ watched. ⟦<MemSource as Faults>⟧.count watched.source };
+
+    ghost steady = { λ _. false };
+
+    fn faults(&self) -> u64 {
+        self.source.faults()
+    }
+}
+
+impl Stream for Watched {
+    ghost talk = { λ watched. ⟦<MemSource as Stream>⟧.talk watched.source };
+
+    ghost counts = { λ _. refl };
+}
+
+impl Source for Watched {
+    fn read(&mut self, out: &mut [u8]) -> Result<usize, Failed> {
+        self.most = self.most.max(out.len());
+        self.source.read(out)
+    }
+}
+
+/// How many bytes at most are asked for at once of a request whose header promises the longest message, where so many
+/// bytes of it come.
+fn most_asked(alloc: Global, sent: usize) -> Option<usize> {
+    let mut bytes = Vec::from_slice(alloc, b"\x54\x4c\x01\x06\x01\x00\x00\x02\x00\x07").ok()?;
+    bytes.resize(bytes.len().checked_add(sent)?, 0).ok()?;
+    let mut watched = Watched {
+        source: MemSource::new(bytes, Vec::new(alloc), Vec::new(alloc)),
+        most: 0,
+    };
+    match next_request(alloc, &mut watched) {
+        Err(FrameFault::Cut) => Some(watched.most),
+        _ => None,
+    }
+}
+
+#[test]
+fn no_room_is_made_for_what_may_never_come(rt: HostRuntime) {
+    assert!(rt; most_asked(rt.alloc(), 0) == Some(4096));
+    assert!(rt; most_asked(rt.alloc(), 5_000) == Some(4096));
+    assert!(rt; most_asked(rt.alloc(), 100_000) == Some(65_536));
 }

@@ -11,8 +11,10 @@ use std::io;
 use std::io::ErrorKind;
 use std::ops::Range;
 use std::os::unix::fs::FileExt;
+use std::process::Abort;
 use std::test::Fail;
-use stream_host::FileDisk;
+use stream_host::{FileDisk, HostFile};
+use stream_memory::MemFile;
 
 /// Writes `abcdef`, makes it stable, and writes `XYZ` at 4.
 const TWICE: &str = "write 0 abcdef, sync, write 4 XYZ";
@@ -134,6 +136,10 @@ struct Record {
     // how many calls there were of `sync_all` and of `sync_data`
     syncs: Cell<(u8, u8)>,
     sync_fails: Cell<bool>,
+    // how many bytes lie before the first of these, which nobody reads or writes
+    before: u64,
+    // whether a signal interrupts the next read or write
+    is_interrupted: Cell<bool>,
 }
 
 impl Record {
@@ -143,7 +149,25 @@ impl Record {
             length: Cell::new(length),
             syncs: Cell::new((0, 0)),
             sync_fails: Cell::new(false),
+            before: 0,
+            is_interrupted: Cell::new(false),
         }
+    }
+
+    /// Where an offset lies among the bytes.
+    fn place(&self, offset: u64) -> usize {
+        match offset.checked_sub(self.before) {
+            Some(place) => usize::try_from(place).unwrap_or(usize::MAX),
+            None => usize::MAX,
+        }
+    }
+
+    /// Fails where a signal interrupts the call.
+    fn interrupt(&self) -> io::Result<()> {
+        if self.is_interrupted.replace(false) {
+            return Err(io::Error::from(ErrorKind::Interrupted));
+        }
+        Ok(())
     }
 
     fn sync_answer(&self) -> io::Result<()> {
@@ -160,7 +184,8 @@ struct FakeFile<'a>(&'a Record);
 
 impl FileExt for FakeFile<'_> {
     fn read_at(&self, buf: &mut [u8], offset: u64) -> io::Result<usize> {
-        let at = usize::try_from(offset).unwrap_or(usize::MAX);
+        self.0.interrupt()?;
+        let at = self.0.place(offset);
         let bytes = self.0.bytes.get();
         if buf.is_empty() || at >= self.0.length.get() || at >= bytes.len() {
             return Ok(0);
@@ -170,7 +195,8 @@ impl FileExt for FakeFile<'_> {
     }
 
     fn write_at(&self, buf: &[u8], offset: u64) -> io::Result<usize> {
-        let at = usize::try_from(offset).unwrap_or(usize::MAX);
+        self.0.interrupt()?;
+        let at = self.0.place(offset);
         let mut bytes = self.0.bytes.get();
         if buf.is_empty() || at >= bytes.len() {
             return Ok(0);
@@ -184,7 +210,7 @@ impl FileExt for FakeFile<'_> {
 
 impl OpenFile for FakeFile<'_> {
     fn metadata(&self) -> io::Result<Metadata> {
-        Ok(Metadata::of_file(self.0.length.get() as u64))
+        Ok(Metadata::of_file(self.0.before.saturating_add(self.0.length.get() as u64)))
     }
 
     fn set_len(&self, _size: u64) -> io::Result<()> {
@@ -205,7 +231,7 @@ impl OpenFile for FakeFile<'_> {
 }
 
 /// A disk over a fake file.
-fn disk_over(record: &Record) -> FileDisk<FakeFile<'_>> {
+fn disk_over(record: &Record) -> FileDisk<HostFile<FakeFile<'_>>> {
     FileDisk::unlocked(FakeFile(record))
 }
 
@@ -219,6 +245,26 @@ fn short_reads_and_writes_go_on(rt: HostRuntime) {
 }
 
 #[test]
+fn a_call_of_a_file_is_made_again_after_a_signal(rt: HostRuntime) {
+    let record = Record::of_length(0);
+    let mut disk = disk_over(&record);
+    for step in ["write 0 abc", "read 0 abc", "faults 0"] {
+        record.is_interrupted.set(true);
+        plays(&rt, &mut disk, step);
+    }
+}
+
+#[test]
+fn offsets_are_passed_on_whole(rt: HostRuntime) {
+    let mut record = Record::of_length(2);
+    record.before = 20_000_000_000;
+    let mut disk = disk_over(&record);
+    plays(&rt, &mut disk, "write 20000000001 abc, length 20000000004");
+    plays(&rt, &mut disk, "read 20000000001 abc, read! 1 a, faults 1");
+    assert!(rt; record.bytes.get() == *b".abc....");
+}
+
+#[test]
 fn a_sync_is_of_all_after_growth(rt: HostRuntime) {
     let record = Record::of_length(2);
     let mut disk = disk_over(&record);
@@ -229,11 +275,11 @@ fn a_sync_is_of_all_after_growth(rt: HostRuntime) {
         ("write 1 b", (0, 1)),
         ("write 2 c", (1, 0)),
         ("write 2 d", (0, 1)),
-        ("write 7", (0, 1)),
+        ("write! 7", (0, 1)),
         ("write 3 e", (1, 0)),
-        ("write! 8 x", (1, 0)),
+        ("write! 8 x", (0, 1)),
         ("write 4 f", (1, 0)),
-        ("write! 6 ghi", (1, 0)),
+        ("write! 5 ghij", (1, 0)),
     ];
     for (write, want) in writes {
         record.syncs.set((0, 0));
@@ -241,7 +287,7 @@ fn a_sync_is_of_all_after_growth(rt: HostRuntime) {
         plays(&rt, &mut disk, "sync");
         assert!(rt; record.syncs.get() == want, "{write}");
     }
-    plays(&rt, &mut disk, "faults 2");
+    plays(&rt, &mut disk, "faults 3");
 }
 
 #[test]
@@ -257,4 +303,65 @@ fn a_failed_sync_is_never_forgotten(rt: HostRuntime) {
         plays(&rt, &mut disk, "sync!, write 0 abc, sync!, faults 3");
         assert!(rt; record.syncs.get() == asked);
     }
+}
+
+/// A disk in memory after a script, and the disk below a file in memory after the same.
+fn played(
+    rt: &impl Abort,
+    alloc: Global,
+    script: &str,
+    most: usize,
+) -> Result<(MemDisk, MemDisk), NoMemory> {
+    let mut plain = MemDisk::new(alloc, 16, usize::MAX)?;
+    let below = MemDisk::new(alloc, 16, usize::MAX)?;
+    let mut disk = FileDisk::over(MemFile::new(below, most));
+    plays(rt, &mut plain, script);
+    plays(rt, &mut disk, script);
+    Ok((plain, disk.into_file().into_disk()))
+}
+
+/// Whether two disks leave the same by this pick.
+fn leave_the_same(
+    one: MemDisk,
+    other: MemDisk,
+    alloc: Global,
+    pick: u64,
+) -> Result<bool, NoMemory> {
+    let image = crashed(one, alloc, pick)?;
+    Ok(image.bytes() == crashed(other, alloc, pick)?.bytes())
+}
+
+#[test]
+fn a_disk_over_the_least_of_files_is_a_disk(rt: HostRuntime) -> Result<(), NoMemory> {
+    let scripts = [
+        "write 0 abcdef, sync, write 4 XYZ, read 3 dXYZ",
+        "write 0 abcdef, sync, write 4 XYZ, sync, length 7",
+        "write 0 abcdef, sync, write 1 xy, sync, read 0 axydef",
+        "write 0 abc, sync, write 3 de, write 0 h, sync, write! 7 x, read! 4 xy, faults 2",
+    ];
+    for script in scripts {
+        for (most, pick) in [(1, 0), (1, 5), (4, 0), (4, 1), (16, 7)] {
+            let (plain, below) = played(&rt, rt.alloc(), script, most)?;
+            assert!(rt;
+                leave_the_same(plain, below, rt.alloc(), pick)?,
+                "{script}, {most}, {pick}"
+            );
+        }
+    }
+    Ok(())
+}
+
+#[test]
+fn a_disk_forgets_no_failed_sync_of_a_file(rt: HostRuntime) -> Result<(), NoMemory> {
+    let mut below = MemDisk::new(rt.alloc(), 16, usize::MAX)?;
+    below.fail_once(4);
+    let mut disk = FileDisk::over(MemFile::new(below, 2));
+    plays(
+        &rt,
+        &mut disk,
+        "write 0 abc, sync, write 0 x, sync!, sync!, faults 2",
+    );
+    let below = disk.into_file().into_disk();
+    assert!(rt; crashed(below, rt.alloc(), 0)?.bytes() == b"abc".as_slice());
+    Ok(())
 }

@@ -1,0 +1,252 @@
+//! Links that read ahead and hold back what is written.
+
+ghost use Rattle.std.specs.Prelude.{◌≡◌, ◌+◌, ◌-◌, ◌<◌, ◌≤◌, ◌++◌, [], length, take, min, refl, false, IsTrue, IsOk};
+ghost use Rattle.std.specs.Prelude.{IfOk, MatchResult, OnErr};
+ghost use Rattle.disk_trait.specs.Faults.{HasCause};
+ghost use Rattle.stream_host.specs.Buffered.{Ends, SameBytes, buffered_talk};
+ghost use Rattle.stream_io.specs.Talk.{OnlyRead, OnlyWrote, Took};
+
+use crate::read_ahead::{self, ReadAhead};
+use crate::write_behind::WriteBehind;
+use disk_trait::Faults;
+use std::marker::Model;
+use stream_io::{Failed, Sink, Source, Stream};
+
+/// A link over another one. What it reads ahead of its reads is read later, so that a frame takes one call of the link
+/// below and not one for each of its parts. While some of that is not read yet, it also holds back what is written, so
+/// that replies to asks that came together go out together: at the latest before it reads from the link below, or is
+/// ended. Otherwise it keeps no byte back. A fault of the link below is one of the call that met it.
+#[derive(Drop)]
+pub struct Buffered<L: Source + Sink> {
+    link: L,
+    ahead: ReadAhead,
+    behind: WriteBehind,
+}
+
+// A fact over the bound's members stands in the model and not in a ghost field, since a struct with such a field cannot
+// be a link of a port that the runtime's types are given to.
+impl<L: Source + Sink> Model for Buffered<L> {
+    ghost use Rattle.stream_host.specs.Buffered.{IsAhead, WithAhead};
+
+    ghost Value = { WithAhead L };
+
+    ghost view = { λ s. record { link = s.link; ahead = s.ahead; behind = s.behind } };
+
+    ghost invariant = { λ s. IsAhead (L.talk s.link) s.ahead };
+}
+
+impl<L: Source + Sink> Buffered<L> {
+    /// A link over another.
+    pub(crate) fn new(link: L) -> Buffered<L>
+        ensures link { result.link ≡ link }
+        ensures ahead { result.ahead ≡ [] }
+        ensures behind { result.behind ≡ [] }
+        ensures talk { IsTrue (L.talk link).told → buffered_talk (L.talk result.link) result.ahead result.behind
+            ≡ L.talk link }
+    {
+        Buffered {
+            link,
+            ahead: ReadAhead::new(),
+            behind: WriteBehind::new(),
+        }
+    }
+
+    /// Ends it: what is held back is written to the link below, which is given back. What was read ahead was taken of
+    /// that.
+    pub(crate) fn end(self) -> (L, Result<(), Failed>)
+        ensures { Ends (buffered_talk (L.talk self.link) self.ahead self.behind) (L.talk result.0) self.ahead result.1 }
+    {
+        let Buffered {
+            link,
+            ahead: _ahead,
+            behind,
+        } = self;
+        let mut link = link;
+        let mut behind = behind;
+        let flushed = behind.flush(&mut link);
+        (link, flushed)
+    }
+
+    /// Writes what is held back to the link below. After a refusal it holds what that did not take.
+    fn flush(&mut self) -> Result<(), Failed>
+        ensures sent { IfOk result (λ _. self.new.behind ≡ []) }
+        ensures same { SameBytes (buffered_talk (L.talk self.old.link) self.old.ahead self.old.behind)
+            (buffered_talk (L.talk self.new.link) self.new.ahead self.new.behind) }
+        ensures ahead { self.new.ahead ≡ self.old.ahead }
+        ensures only { OnlyWrote (L.talk self.old.link) (L.talk self.new.link) }
+        ensures passed { IsTrue (L.talk self.old.link).told → (L.talk self.new.link).written ++ self.new.behind
+            ≡ (L.talk self.old.link).written ++ self.old.behind }
+        ensures less { length self.new.behind ≤ length self.old.behind }
+        ensures cause { HasCause (L.talk self.old.link).count (L.talk self.new.link).count result }
+        ensures room { (L.talk self.old.link).room - length self.old.behind ≤ (L.talk self.new.link).room - length self.new.behind }
+        ensures steady { L.steady self.new.link ≡ L.steady self.old.link }
+    {
+        self.behind.flush(&mut self.link)
+    }
+
+    /// Reads ahead from the link below, for which nothing is held back.
+    fn receive(&mut self) -> Result<(), Failed>
+        requires nothing_held { self.old.behind ≡ [] }
+        requires nothing_ahead { self.old.ahead ≡ [] }
+        ensures behind { self.new.behind ≡ [] }
+        ensures bytes { IsTrue (L.talk self.old.link).told → (L.talk self.old.link).left
+            ≡ self.new.ahead ++ (L.talk self.new.link).left }
+        ensures taken { IsTrue (L.talk self.old.link).told → (L.talk self.new.link).taken
+            ≡ (L.talk self.old.link).taken ++ self.new.ahead }
+        ensures end { IsTrue (L.talk self.old.link).told
+            → IfOk result (λ _. self.new.ahead ≡ [] → (L.talk self.old.link).left ≡ []) }
+        ensures none { OnErr result (self.new.ahead ≡ []) }
+        ensures only { OnlyRead (L.talk self.old.link) (L.talk self.new.link) }
+        ensures cause { HasCause (L.talk self.old.link).count (L.talk self.new.link).count result }
+        ensures steady { L.steady self.new.link ≡ L.steady self.old.link }
+    {
+        self.ahead.fill(&mut self.link)
+    }
+
+    /// Where nothing is left of what was read ahead, reads ahead from the link below, once nothing is held back.
+    fn ready(&mut self) -> Result<(), Failed>
+        ensures same { IsTrue (L.talk self.old.link).told
+            → SameBytes (buffered_talk (L.talk self.old.link) self.old.ahead self.old.behind)
+            (buffered_talk (L.talk self.new.link) self.new.ahead self.new.behind) }
+        ensures sent { self.old.ahead ≡ [] → IfOk result (λ _. self.new.behind ≡ []) }
+        ensures kept { IfOk result (λ _. 0 < length self.old.ahead → self.new ≡ self.old) }
+        ensures refused { OnErr result (self.new.ahead ≡ self.old.ahead) }
+        ensures end { IsTrue (L.talk self.old.link).told → IfOk result (λ _. self.new.ahead ≡ []
+            → self.old.ahead ++ (L.talk self.old.link).left ≡ []) }
+        ensures only { OnlyRead (buffered_talk (L.talk self.old.link) self.old.ahead self.old.behind)
+            (buffered_talk (L.talk self.new.link) self.new.ahead self.new.behind) }
+        ensures cause { HasCause (L.talk self.old.link).count (L.talk self.new.link).count result }
+        ensures steady { L.steady self.new.link ≡ L.steady self.old.link }
+    {
+        if self.ahead.is_empty() {
+            self.flush()?;
+            self.receive()?;
+        }
+        Ok(())
+    }
+
+    /// Takes as many bytes as were read ahead, and as the room has place for.
+    fn serve(&mut self, out: &mut [u8]) -> usize
+        ensures size { result ≡ min (length out.old) (length self.old.ahead) }
+        ensures bytes { take result out.new ≡ take result self.old.ahead }
+        ensures took { IsTrue (L.talk self.old.link).told
+            → Took (buffered_talk (L.talk self.old.link) self.old.ahead self.old.behind)
+            (buffered_talk (L.talk self.new.link) self.new.ahead self.new.behind) result }
+        ensures link { self.new.link ≡ self.old.link }
+        ensures behind { self.new.behind ≡ self.old.behind }
+    {
+        self.ahead.copy(out)
+    }
+
+    /// Reads from the link below into the room itself, once nothing is held back.
+    fn read_through(&mut self, out: &mut [u8]) -> Result<usize, Failed>
+        requires { self.old.ahead ≡ [] }
+        ensures sent { IfOk result (λ _. self.new.behind ≡ []) }
+        ensures size { IfOk result (λ n. n ≤ length out.old) }
+        ensures bytes { IsTrue (L.talk self.old.link).told
+            → IfOk result (λ n. take n out.new ≡ take n (self.old.ahead ++ (L.talk self.old.link).left)) }
+        ensures took { IsTrue (L.talk self.old.link).told → MatchResult result
+            (λ n. Took (buffered_talk (L.talk self.old.link) self.old.ahead self.old.behind)
+            (buffered_talk (L.talk self.new.link) self.new.ahead self.new.behind) n)
+            (λ _. Took (buffered_talk (L.talk self.old.link) self.old.ahead self.old.behind)
+            (buffered_talk (L.talk self.new.link) self.new.ahead self.new.behind) 0) }
+        ensures ahead { self.new.ahead ≡ [] }
+        ensures end { IsTrue (L.talk self.old.link).told → IfOk result (λ n. n ≡ 0 → 0 < length out.old
+            → self.old.ahead ++ (L.talk self.old.link).left ≡ []) }
+        ensures only { OnlyRead (buffered_talk (L.talk self.old.link) self.old.ahead self.old.behind)
+            (buffered_talk (L.talk self.new.link) self.new.ahead self.new.behind) }
+        ensures cause { HasCause (L.talk self.old.link).count (L.talk self.new.link).count result }
+        ensures steady { L.steady self.new.link ≡ L.steady self.old.link }
+    {
+        self.flush()?;
+        self.link.read(out)
+    }
+}
+
+impl<L: Source + Sink> Faults for Buffered<L> {
+    ghost count = { λ s. (L.talk s.link).count };
+
+    // a read may write what is held back, and fails where that fails
+    ghost steady = { λ _. false };
+
+    fn faults(&self) -> u64 {
+        self.link.faults()
+    }
+}
+
+impl<L: Source + Sink> Stream for Buffered<L> {
+    ghost talk = { λ s. buffered_talk (L.talk s.link) s.ahead s.behind };
+
+    ghost counts = { λ _. refl };
+}
+
+impl<L: Source + Sink> Source for Buffered<L> {
+    /// Reads what was read ahead, or from the link below, once nothing is held back. A refusal has read nothing ahead.
+    fn read(&mut self, out: &mut [u8]) -> Result<usize, Failed>
+        ensures size { IfOk result (λ n. n ≤ length out.old) }
+        ensures bytes { IsTrue (L.talk self.old.link).told
+            → IfOk result (λ n. take n out.new ≡ take n (self.old.ahead ++ (L.talk self.old.link).left)) }
+        ensures took { IsTrue (L.talk self.old.link).told → MatchResult result
+            (λ n. Took (buffered_talk (L.talk self.old.link) self.old.ahead self.old.behind)
+            (buffered_talk (L.talk self.new.link) self.new.ahead self.new.behind) n)
+            (λ _. Took (buffered_talk (L.talk self.old.link) self.old.ahead self.old.behind)
+            (buffered_talk (L.talk self.new.link) self.new.ahead self.new.behind) 0) }
+        ensures end { IsTrue (L.talk self.old.link).told → IfOk result (λ n. n ≡ 0 → 0 < length out.old
+            → self.old.ahead ++ (L.talk self.old.link).left ≡ []) }
+        ensures only { OnlyRead (buffered_talk (L.talk self.old.link) self.old.ahead self.old.behind)
+            (buffered_talk (L.talk self.new.link) self.new.ahead self.new.behind) }
+        ensures cause { HasCause (L.talk self.old.link).count (L.talk self.new.link).count result }
+        ensures succeeds { IsTrue false → IsOk result }
+        ensures steady { false ≡ false }
+        ensures sent { self.old.ahead ≡ [] → 0 < length out.old → IfOk result (λ _. self.new.behind ≡ []) }
+        ensures refused { OnErr result (self.new.ahead ≡ self.old.ahead) }
+    {
+        if out.is_empty() {
+            return Ok(0);
+        }
+        if out.len() >= read_ahead::ROOM && self.ahead.is_empty() {
+            return self.read_through(out);
+        }
+        self.ready()?;
+        Ok(self.serve(out))
+    }
+}
+
+impl<L: Source + Sink> Sink for Buffered<L> {
+    ghost room = { λ s. (L.talk s.link).room - length s.behind };
+
+    ghost rooms = { λ _. refl };
+
+    /// Writes a beginning of the piece. It is held back only while bytes that were read ahead are left.
+    fn write(&mut self, bytes: &[u8]) -> Result<usize, Failed>
+        ensures size { IfOk result (λ n. n ≤ length bytes.now) }
+        ensures progress { IfOk result (λ n. 0 < length bytes.now → 0 < n) }
+        ensures wrote { IsTrue (L.talk self.old.link).told → MatchResult result
+            (λ n. (buffered_talk (L.talk self.new.link) self.new.ahead self.new.behind).written
+            ≡ (buffered_talk (L.talk self.old.link) self.old.ahead self.old.behind).written ++ take n bytes.now)
+            (λ _. (buffered_talk (L.talk self.new.link) self.new.ahead self.new.behind).written
+            ≡ (buffered_talk (L.talk self.old.link) self.old.ahead self.old.behind).written) }
+        ensures only { OnlyWrote (buffered_talk (L.talk self.old.link) self.old.ahead self.old.behind)
+            (buffered_talk (L.talk self.new.link) self.new.ahead self.new.behind) }
+        ensures cause { HasCause (L.talk self.old.link).count (L.talk self.new.link).count result }
+        ensures succeeds { IsTrue false
+            → length bytes.now ≤ (L.talk self.old.link).room - length self.old.behind → IsOk result }
+        ensures room { MatchResult result
+            (λ n. (L.talk self.old.link).room - length self.old.behind ≤ (L.talk self.new.link).room - length self.new.behind + n)
+            (λ _. (L.talk self.old.link).room - length self.old.behind ≤ (L.talk self.new.link).room - length self.new.behind) }
+        ensures steady { false ≡ false }
+        ensures sent { self.old.ahead ≡ [] → 0 < length bytes.now → IfOk result (λ _. self.new.behind ≡ []) }
+    {
+        if bytes.is_empty() {
+            return Ok(0);
+        }
+        if !self.ahead.is_empty() && self.behind.hold(bytes) {
+            return Ok(bytes.len());
+        }
+        self.flush()?;
+        if !self.ahead.is_empty() && self.behind.hold(bytes) {
+            return Ok(bytes.len());
+        }
+        self.link.write(bytes)
+    }
+}
