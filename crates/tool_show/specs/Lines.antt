@@ -15,20 +15,19 @@ abbrev pub plan_words : PlanNumbers → List ℕ
 plan_words plan = codes " of " ++ (decimal plan.n ++ (codes " threshold " ++ decimal plan.k))
 
 -- `codes LMS OTS key KEY`
-abbrev pub set_words : Params → List ℕ → List ℕ
-set_words params id =
-    codes " codes " ++ (decimal params.lms
-    ++ (codes " " ++ (decimal params.ots ++ (codes " key " ++ encode_lower id))))
+abbrev pub key_words : (lms ots : ℕ) → List ℕ → List ℕ
+key_words lms ots id =
+    codes " codes " ++ (decimal lms ++ (codes " " ++ (decimal ots ++ (codes " key " ++ encode_lower id))))
 
 -- `codes LMS OTS key KEY root HEX`
 abbrev pub root_words : Params → (id root : List ℕ) → List ℕ
-root_words params id root = set_words params id ++ (codes " root " ++ encode_lower root)
+root_words params id root = key_words params.lms params.ots id ++ (codes " root " ++ encode_lower root)
 
 -- `share member T of N threshold K codes LMS OTS key KEY`
 abbrev pub share_line : Share → List ℕ
 share_line share =
     codes "share member " ++ (decimal share.member
-    ++ (plan_words share.plan ++ (set_words share.params share.id ++ end_of_line)))
+    ++ (plan_words share.plan ++ (key_words share.params.lms share.params.ots share.id ++ end_of_line)))
 
 -- `tree codes LMS OTS key KEY root HEX`: the root T[1] is the first node
 abbrev pub tree_line : Params → (id nodes : List ℕ) → List ℕ
@@ -38,7 +37,7 @@ tree_line params id nodes = codes "tree" ++ (root_words params id (take params.n
 abbrev pub header_line : List ℕ → RefHeader → ℕ → List ℕ
 header_line name header size =
     name ++ (plan_words header.plan
-    ++ (set_words header.params header.id ++ (codes " bytes " ++ (decimal size ++ end_of_line))))
+    ++ (key_words header.params.lms header.params.ots header.id ++ (codes " bytes " ++ (decimal size ++ end_of_line))))
 
 -- `key codes LMS OTS key KEY root HEX`
 abbrev pub key_line : PublicKey → List ℕ

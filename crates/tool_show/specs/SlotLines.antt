@@ -9,6 +9,7 @@ use Rattle.slot_file.specs.declared.header.Header.{Header}
 use Rattle.slot_file.specs.declared.slot.Slot.{Slot}
 use Rattle.slot_file.specs.declared.slot.Slot.TheVariants.{Free, Half, Full, Damaged}
 use Rattle.tool_base.specs.Ending.{end_of_line}
+use Rattle.tool_show.specs.Lines.{key_words}
 use Rattle.tool_show.specs.Moments.{IsMomentWord}
 use Rattle.tool_show.specs.declared.kind.SlotKind.{SlotKind}
 use Rattle.tool_show.specs.declared.kind.SlotKind.TheVariants.{Journal, OldJournal, Table, Book}
@@ -50,12 +51,6 @@ later (Some moment) (Some other) = Some (max moment other)
 abbrev pub last_moment : SlotKind → List Slot → Option ℕ
 last_moment kind slots = fold (λ last slot. later last (slot_moment kind slot)) None slots
 
--- the words on a key: `codes LMS OTS key I`
-abbrev pub key_words : Header → List ℕ
-key_words header =
-    codes "codes " ++ (decimal header.lms
-    ++ (codes " " ++ (decimal header.ots ++ (codes " key " ++ encode_lower header.id))))
-
 -- the words on the leaves of a journal, with that on its last moment
 abbrev pub opened_words : List Slot → List ℕ → List ℕ
 opened_words slots last =
@@ -68,12 +63,12 @@ abbrev pub journal_line : Header → List Slot → List ℕ → List ℕ
 journal_line header slots last =
     codes "journal member " ++ (decimal header.number
     ++ (codes " version " ++ (decimal header.version
-    ++ (codes " " ++ (key_words header ++ (opened_words slots last ++ end_of_line))))))
+    ++ (key_words header.lms header.ots header.id ++ (opened_words slots last ++ end_of_line)))))
 
 -- the line of a leaf table
 abbrev pub table_line : Header → List Slot → List ℕ
 table_line header slots =
-    codes "table " ++ (key_words header
+    codes "table" ++ (key_words header.lms header.ots header.id
     ++ (codes " leaves " ++ (decimal (length slots)
     ++ (codes " leased " ++ (decimal (count_by is_half slots)
     ++ (codes " burnt " ++ (decimal (count_by is_full slots) ++ end_of_line)))))))
@@ -82,8 +77,8 @@ table_line header slots =
 abbrev pub book_line : Header → List Slot → List ℕ
 book_line header slots =
     codes "book member " ++ (decimal header.number
-    ++ (codes " " ++ (key_words header
-    ++ (codes " slots 1024 listed " ++ (decimal (taken_count slots) ++ end_of_line)))))
+    ++ (key_words header.lms header.ots header.id
+    ++ (codes " slots 1024 listed " ++ (decimal (taken_count slots) ++ end_of_line))))
 
 -- the line of a file, with the word of its last moment
 abbrev pub file_line : SlotKind → Header → List Slot → List ℕ → List ℕ

@@ -3,6 +3,7 @@
 ghost use Rattle.std.specs.Prelude.{◌≡◌, ◌≤◌, IfOk, length, string_bytes};
 ghost use Rattle.tool_show.specs.Lines as spec;
 
+use crate::words::key_words;
 use coalition_map::Plan;
 use hss_levels::HssKey;
 use lms_bytes::{KeyId, Params, PublicKey};
@@ -15,7 +16,7 @@ pub(crate) fn share_line(alloc: Global, share: &Share) -> Result<String, AllocEr
 {
     let member = share.member;
     let plan = plan_words(alloc, &share.plan)?;
-    let set = set_words(alloc, &share.params, &share.id)?;
+    let set = key_words(alloc, share.params.lms, share.params.ots, &share.id)?;
     format!(in alloc; "share member {member}{plan}{set}\n")
 }
 
@@ -40,7 +41,7 @@ pub(crate) fn header_line(
     ensures { IfOk result (λ line. string_bytes line ≡ spec.header_line name.now header.now size) }
 {
     let plan = plan_words(alloc, &header.plan)?;
-    let set = set_words(alloc, &header.params, &header.id)?;
+    let set = key_words(alloc, header.params.lms, header.params.ots, &header.id)?;
     format!(in alloc; "{name}{plan}{set} bytes {size}\n")
 }
 
@@ -70,21 +71,11 @@ fn plan_words(alloc: Global, plan: &Plan) -> Result<String, AllocError>
     format!(in alloc; " of {n} threshold {k}")
 }
 
-/// What a line says of a parameter set and of the identifier of a key.
-fn set_words(alloc: Global, params: &Params, id: &KeyId) -> Result<String, AllocError>
-    ensures { IfOk result (λ words. string_bytes words ≡ spec.set_words params.now id.now) }
-{
-    let lms = params.lms;
-    let ots = params.ots;
-    let id = hex::encode(alloc, id)?;
-    format!(in alloc; " codes {lms} {ots} key {id}")
-}
-
 /// What a line says of a key with its root.
 fn root_words(alloc: Global, params: &Params, id: &KeyId, root: &[u8]) -> Result<String, AllocError>
     ensures { IfOk result (λ words. string_bytes words ≡ spec.root_words params.now id.now root.now) }
 {
-    let set = set_words(alloc, params, id)?;
+    let set = key_words(alloc, params.lms, params.ots, id)?;
     let root = hex::encode(alloc, root)?;
     format!(in alloc; "{set} root {root}")
 }

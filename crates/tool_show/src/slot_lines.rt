@@ -31,20 +31,20 @@ fn journal_line(
     ensures { IfOk result (λ line. string_bytes line ≡ journal_line header.now slots.now last.now) }
 {
     let (member, version) = (header.number, header.version);
-    let key = key_words(alloc, header)?;
+    let key = key_words(alloc, header.lms, header.ots, &header.id)?;
     let leaves = opened_words(alloc, slots, last)?;
-    format!(in alloc; "journal member {member} version {version} {key}{leaves}\n")
+    format!(in alloc; "journal member {member} version {version}{key}{leaves}\n")
 }
 
 /// The line of a leaf table.
 fn table_line(alloc: Global, header: &Header, slots: &[Slot]) -> Result<String, AllocError>
     ensures { IfOk result (λ line. string_bytes line ≡ table_line header.now slots.now) }
 {
-    let key = key_words(alloc, header)?;
+    let key = key_words(alloc, header.lms, header.ots, &header.id)?;
     let leaves = slots.len();
     let leased = half_count(slots);
     let burnt = full_count(slots);
-    format!(in alloc; "table {key} leaves {leaves} leased {leased} burnt {burnt}\n")
+    format!(in alloc; "table{key} leaves {leaves} leased {leased} burnt {burnt}\n")
 }
 
 /// The line of a book.
@@ -52,9 +52,9 @@ fn book_line(alloc: Global, header: &Header, slots: &[Slot]) -> Result<String, A
     ensures { IfOk result (λ line. string_bytes line ≡ book_line header.now slots.now) }
 {
     let member = header.number;
-    let key = key_words(alloc, header)?;
+    let key = key_words(alloc, header.lms, header.ots, &header.id)?;
     let listed = taken_count(slots);
-    format!(in alloc; "book member {member} {key} slots 1024 listed {listed}\n")
+    format!(in alloc; "book member {member}{key} slots 1024 listed {listed}\n")
 }
 
 /// The line of a file.

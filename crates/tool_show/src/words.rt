@@ -1,21 +1,20 @@
 //! The words of lines.
 
 ghost use Rattle.std.specs.Prelude.{◌≡◌, IfOk, string_bytes};
-ghost use Rattle.tool_show.specs.SlotLines.{book_slot_line, id_words, journal_slot_line, key_words, slot_line};
-ghost use Rattle.tool_show.specs.SlotLines.{table_slot_line};
+ghost use Rattle.tool_show.specs.Lines.{key_words};
+ghost use Rattle.tool_show.specs.SlotLines.{book_slot_line, id_words, journal_slot_line, slot_line, table_slot_line};
 
 use crate::SlotKind;
-use lms_bytes::MessageId;
+use lms_bytes::{KeyId, MessageId};
 use slot_file::{Header, Slot};
 use std::alloc::{AllocError, Global};
 
-/// The words on a key: its codes and its identifier.
-pub(crate) fn key_words(alloc: Global, header: &Header) -> Result<String, AllocError>
-    ensures { IfOk result (λ words. string_bytes words ≡ key_words header.now) }
+/// What a line says of a key: the codes of its parameter set, and its identifier.
+pub(crate) fn key_words(alloc: Global, lms: u32, ots: u32, id: &KeyId) -> Result<String, AllocError>
+    ensures { IfOk result (λ words. string_bytes words ≡ key_words lms ots id.now) }
 {
-    let (lms, ots) = (header.lms, header.ots);
-    let id = hex::encode(alloc, &header.id)?;
-    format!(in alloc; "codes {lms} {ots} key {id}")
+    let id = hex::encode(alloc, id)?;
+    format!(in alloc; " codes {lms} {ots} key {id}")
 }
 
 /// The message id that lies in body A.
