@@ -78,7 +78,8 @@ impl<L: Source + Sink> Buffered<L> {
             ≡ (L.talk self.old.link).written ++ self.old.behind }
         ensures less { length self.new.behind ≤ length self.old.behind }
         ensures cause { HasCause (L.talk self.old.link).count (L.talk self.new.link).count result }
-        ensures room { (L.talk self.old.link).room - length self.old.behind ≤ (L.talk self.new.link).room - length self.new.behind }
+        ensures room { (L.talk self.old.link).room - length self.old.behind
+            ≤ (L.talk self.new.link).room - length self.new.behind }
         ensures steady { L.steady self.new.link ≡ L.steady self.old.link }
     {
         self.behind.flush(&mut self.link)
@@ -232,8 +233,10 @@ impl<L: Source + Sink> Sink for Buffered<L> {
         ensures succeeds { IsTrue false
             → length bytes.now ≤ (L.talk self.old.link).room - length self.old.behind → IsOk result }
         ensures room { MatchResult result
-            (λ n. (L.talk self.old.link).room - length self.old.behind ≤ (L.talk self.new.link).room - length self.new.behind + n)
-            (λ _. (L.talk self.old.link).room - length self.old.behind ≤ (L.talk self.new.link).room - length self.new.behind) }
+            (λ n. (L.talk self.old.link).room - length self.old.behind
+            ≤ (L.talk self.new.link).room - length self.new.behind + n)
+            (λ _. (L.talk self.old.link).room - length self.old.behind
+            ≤ (L.talk self.new.link).room - length self.new.behind) }
         ensures steady { false ≡ false }
         ensures sent { self.old.ahead ≡ [] → 0 < length bytes.now → IfOk result (λ _. self.new.behind ≡ []) }
     {
