@@ -16,6 +16,7 @@ use Rattle.std.specs.Str.{bytes_eq}
 use Rattle.share_files.specs.Reference.{leaves_length}
 use Rattle.aggregator_session.specs.Tasks.{IsExact}
 use Rattle.disk_trait.specs.declared.faults.Faults as faults
+use Rattle.reference_value.specs.Kinds.{StayAs}
 use Rattle.reference_value.specs.Stay.{CellsStay}
 use Rattle.reference_value.specs.declared.cells.Cells as cells
 use Rattle.coalition_map.specs.Coalitions.{PlanNumbers, leaf_members}
@@ -253,3 +254,7 @@ module _ {C : Type 0} (told : C → Bool) (leaves : C → List ℕ) (x y : C) (k
 pub none-of : (o : Option SessionFault) → ((f : SessionFault) → o ≡ Some f → ⊥) → o ≡ None
 none-of None not = refl
 none-of (Some f) not = absurd (not f refl)
+
+module _ {C : Type 0} {set_of : C → Params} {plan_of : C → PlanNumbers} {is_told is_steady : C → Bool} {leaves_of : C → List ℕ} {x y : C} where
+  pub stays-same : y ≡ x → StayAs set_of plan_of is_told is_steady leaves_of x y
+  stays-same is = record { set = ap set_of is; plan = ap plan_of is; told = ap is_told is; steady = ap is_steady is; leaves = λ told. ap leaves_of is }

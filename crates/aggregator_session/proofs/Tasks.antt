@@ -2,15 +2,18 @@
 use Rattle.std.proofs.Common.{◌≡◌, ◌≤◌, ℕ, Bool, List, Result, Ok, Err, refl, sym, subst, ◌∙◌, arith}
 use Rattle.std.specs.declared.alloc.Global.{Global}
 use Rattle.std.specs.declared.vec.Vec.{Vec}
-use Rattle.aggregator_session.specs.Faults.{IsLostBy, LostBy}
+use Rattle.aggregator_session.specs.Causes.{DialCauses}
+use Rattle.aggregator_session.specs.Faults.{IsLostBy, LostBy, sign_fault}
 use Rattle.aggregator_session.specs.Runs.{HasCalled, bytes_in, first_frame}
 use Rattle.aggregator_session.specs.Tasks.{OnlyDials, RisesOnce}
 use Rattle.aggregator_session.specs.declared.desk.Address.{Address}
 use Rattle.aggregator_session.specs.declared.fault.SignFault.{SignFault}
 use Rattle.aggregator_session.specs.declared.fault.Why.{Why}
-use Rattle.aggregator_session.specs.declared.fault.Why.TheVariants.{DialFailed}
+use Rattle.aggregator_session.specs.declared.fault.Why.TheVariants.{DialFailed, ReadFailed, WriteFailed}
 use Rattle.disk_trait.specs.Faults.{Rose}
 use Rattle.session_core.specs.State.{SameAsk, State}
+use Rattle.session_core.specs.declared.faults.SessionFault.{SessionFault}
+use Rattle.session_core.specs.declared.faults.SessionFault.TheVariants as session
 use Rattle.stream_io.specs.Talk.{Talk}
 use Rattle.stream_io.specs.Net.{PortOnward, PortState}
 
@@ -84,3 +87,29 @@ once-of failed r x before now is rises = record {
 pub bytes-lost : (why : Why) (result : Result (Vec ℕ Global) SignFault) → LostBy why result → LostBy why (bytes_in result)
 bytes-lost why (Ok bytes) lost = lost
 bytes-lost why (Err fault) lost = lost
+
+-- by a fault of the session no member is lost
+sign-none : (why : Why) (f : SessionFault) → IsLostBy why (sign_fault f) → ⊥
+sign-none why session.NoMemory lost = lost
+sign-none why (session.Missing member round) lost = lost
+sign-none why (session.SpentLeaf leaf member kept) lost = lost
+sign-none why (session.WrongCheck leaf member) lost = lost
+sign-none why (session.WrongRoot leaf got want) lost = lost
+sign-none why (session.MemberRefused member code) lost = lost
+sign-none why session.Reference lost = lost
+
+pub judged-none : {V : Type 0} (why : Why) (r : Result V SignFault) (x : SignFault) (f : SessionFault) → r ≡ Err x → x ≡ sign_fault f → LostBy why r → ⊥
+judged-none {V} why r x f is same lost =
+    let here : IsLostBy why x = subst (λ (z : Result V SignFault). LostBy why z) is lost in
+    sign-none why f (subst (IsLostBy why) same here)
+
+-- what is known of calls that gave a value, of an answer that loses nobody
+pub dials-on : {V W : Type 0} (n m : ℕ) (before now : PortState) (r : Result V SignFault) (q : Result W SignFault) (x : W) → q ≡ Ok x → ((why : Why) → LostBy why r → ⊥)
+    → DialCauses n before now q → DialCauses m before now r
+dials-on n m before now r q x is none d = record {
+  dialled = λ lost. absurd (none DialFailed lost);
+  once = once-of (LostBy DialFailed r) q x before.count now.count is d.once;
+  reads = λ steady lost. none ReadFailed lost;
+  writes = λ steady fits lost. none WriteFailed lost;
+  only = d.only;
+}

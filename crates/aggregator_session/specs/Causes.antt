@@ -1,7 +1,7 @@
 -- What the outside has to do with a session that gives no signature.
 use Rattle.std.specs.Prelude.{◌≡◌, ◌≢◌, ◌+◌, ◌≤◌, ℕ, List, length, Result, Err, IsTrue}
 use Rattle.aggregator_session.specs.Faults.{LostBy}
-use Rattle.aggregator_session.specs.Tasks.{IsExact}
+use Rattle.aggregator_session.specs.Tasks.{IsExact, OnlyDials, RisesOnce}
 use Rattle.aggregator_session.specs.declared.fault.SignFault.{SignFault}
 use Rattle.aggregator_session.specs.declared.fault.SignFault.TheVariants.{Session}
 use Rattle.aggregator_session.specs.declared.fault.Why.TheVariants.{DialFailed, ReadFailed, WriteFailed}
@@ -35,3 +35,20 @@ pub record ReferenceCauses {C V : Type 0} (c : cells.Ghosts C) (f : faults.Ghost
   pub rises : result ≡ Err (Session Reference) → Rose (f.count old) (f.count new)
   pub succeeds : IsExact c f old → result ≢ Err (Session Reference)
   pub stays : CellsStay c f old new
+
+-- internal: Why calls over links lose a member, by whether these are steady and have room for what is written: nobody
+-- is dialled, and on steady links no read fails, and no write that they have room for.
+pub record LinkCauses {V : Type 0} (steady fits : Type 0) (result : Result V SignFault) : Type 0 where
+  pub dialled : ¬ LostBy DialFailed result
+  pub reads : steady → ¬ LostBy ReadFailed result
+  pub writes : steady → fits → ¬ LostBy WriteFailed result
+
+-- internal: Why calls over a port that write at most so many bytes to a member lose one: for a dial that failed only
+-- where the port's count rose, which it does at most once, and not otherwise. At a steady port no read fails, and no
+-- write where its links have that room. No link is hung up.
+pub record DialCauses {V : Type 0} (most : ℕ) (before now : PortState) (result : Result V SignFault) : Type 0 where
+  pub dialled : LostBy DialFailed result → Rose before.count now.count
+  pub once : RisesOnce (LostBy DialFailed result) before.count now.count
+  pub reads : IsTrue before.steady → ¬ LostBy ReadFailed result
+  pub writes : IsTrue before.steady → most ≤ before.room → ¬ LostBy WriteFailed result
+  pub only : OnlyDials before now

@@ -1,10 +1,12 @@
 -- What a session is run with.
-use Rattle.std.specs.Prelude.{◌≡◌, ◌≢◌, ◌+◌, ◌≤◌, ◌++◌, ℕ, List, [], ◌∷◌, length, min, None, IfSome, IsTrue}
+use Rattle.std.specs.Prelude.{◌≡◌, ◌≢◌, ◌+◌, ◌*◌, ◌≤◌, ◌++◌, ℕ, List, [], ◌∷◌, length, min, None, IfSome, IsTrue}
 use Rattle.std.specs.List.{sum_by}
 use Rattle.coalition_map.specs.Coalitions.{PlanNumbers, leaf_members}
 use Rattle.disk_trait.specs.Faults.{Rose}
 use Rattle.disk_trait.specs.declared.faults.Faults as faults
+use Rattle.aggregator_session.specs.declared.session.Task.{Task}
 use Rattle.lms_bytes.specs.MessageId.{message_id}
+use Rattle.lms_bytes.specs.declared.params.Params.{Params}
 use Rattle.lms_bytes.specs.declared.public_key.PublicKey.{PublicKey}
 use Rattle.reference_value.specs.declared.cells.Cells as cells
 use Rattle.session_core.specs.State.{State}
@@ -20,14 +22,19 @@ pub record MayRun (key : PublicKey) (plan : PlanNumbers) (message : List ℕ) (s
   pub limit : length message ≤ 16777216
   pub round : s.c ≡ None
 
--- internal: a session of this key, plan and message, and the members of its leaf
-pub record IsTask (key : PublicKey) (plan : PlanNumbers) (members message : List ℕ) (s : State) : Type 0 where
-  pub of_key : s.key ≡ key
-  pub of_plan : s.plan ≡ plan
-  pub all : members ≡ leaf_members s.plan s.leaf
-  pub id : s.message ≡ message_id message
-  pub limit : length message ≤ 16777216
-  pub c : IfSome s.c (λ c. length c ≡ key.params.n)
+-- internal: A task stands so with a session, the set and the plan of its cells, and so many bytes of room: the session
+-- is of its key, plan and message, the members are those of its leaf, the cells are of its set and plan, and the room
+-- holds the masks of all chains.
+pub record Stands (task : Task) (s : State) (params : Params) (numbers : PlanNumbers) (size : ℕ) : Type 0 where
+  pub of_key : s.key ≡ task.desk.now.key.now
+  pub of_plan : s.plan ≡ task.desk.now.plan.now
+  pub all : task.members.now ≡ leaf_members s.plan s.leaf
+  pub id : s.message ≡ message_id task.message.now
+  pub limit : length task.message.now ≤ 16777216
+  pub c : IfSome s.c (λ c. length c ≡ task.desk.now.key.now.params.n)
+  pub set : params ≡ s.key.params
+  pub plan : numbers ≡ s.plan
+  pub room : s.key.params.p * s.key.params.n ≤ size
 
 -- cells that give what they have whenever they are asked: steady ones that tell all leaves
 pub record IsExact {C : Type 0} (c : cells.Ghosts C) (f : faults.Ghosts C) (r : C) : Type 0 where

@@ -1,7 +1,7 @@
 //! One ask to one member.
 
 ghost use Rattle.std.specs.Prelude.{◌≡◌, ◌≢◌, ◌+◌, ◌*◌, ◌≤◌, ⊤, length, Err, IsTrue, MatchOption, if◌then◌else◌};
-ghost use Rattle.aggregator_session.specs.Faults.{LostBy};
+ghost use Rattle.aggregator_session.specs.Causes.{LinkCauses};
 ghost use Rattle.aggregator_session.specs.Hearing.{HasAsked, HasHeard, is_answer};
 ghost use Rattle.lms_bytes.specs.MessageId.{message_id};
 ghost use Rattle.round_frames.specs.Asks.{ask_frame, ask_length};
@@ -37,12 +37,10 @@ pub(crate) fn ask_member<L: Source + Sink>(
     requires limit { length message.now ≤ 16777216 }
     ensures asked { HasAsked session.old session.new member (ask_frame ask.now message.now)
         (L.talk link.old) (L.talk link.new) result }
-    ensures reads { IsTrue (L.steady link.old) → ¬ LostBy Why.ReadFailed result }
-    ensures writes { IsTrue (L.steady link.old) → ask_length params.now ask.now message.now ≤ L.room link.old
-        → ¬ LostBy Why.WriteFailed result }
+    ensures links { LinkCauses (IsTrue (L.steady link.old))
+        (ask_length params.now ask.now message.now ≤ L.room link.old) result }
     ensures room { L.room link.old ≤ L.room link.new + ask_length params.now ask.now message.now }
     ensures takes { (L.talk link.old).room ≡ L.room link.old }
-    ensures dialled { ¬ LostBy Why.DialFailed result }
     ensures reference { result ≢ Err (SignFault.Session Reference) }
     ensures same { SameAsk session.old session.new }
     ensures steady { L.steady link.new ≡ L.steady link.old }
@@ -68,9 +66,7 @@ fn hear<L: Source>(
     requires params { session.old.key.params ≡ params.now }
     requires room { params.now.p * params.now.n ≤ length room.old }
     ensures heard { HasHeard session.old session.new member (L.talk link.old) (L.talk link.new) result }
-    ensures reads { IsTrue (L.steady link.old) → ¬ LostBy Why.ReadFailed result }
-    ensures writes { ¬ LostBy Why.WriteFailed result }
-    ensures dialled { ¬ LostBy Why.DialFailed result }
+    ensures links { LinkCauses (IsTrue (L.steady link.old)) ⊤ result }
     ensures reference { result ≢ Err (SignFault.Session Reference) }
     ensures same { SameAsk session.old session.new }
     ensures steady { L.steady link.new ≡ L.steady link.old }

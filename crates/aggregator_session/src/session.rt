@@ -1,20 +1,15 @@
 //! A session over links.
 
-ghost use Rattle.std.specs.Prelude.{◌≡◌, ◌≢◌, ◌⊎◌, ◌+◌, ◌*◌, ◌<◌, ◌≤◌, ◌++◌, ℕ, [], All, Contains, length};
-ghost use Rattle.std.specs.Prelude.{None, Err, IfOk, IfSome, IsSome, IsTrue, OnOk, map};
-ghost use Rattle.aggregator_session.specs.Causes.{asks_length};
+ghost use Rattle.std.specs.Prelude.{◌≡◌, ◌⊎◌, ◌+◌, ◌<◌, ◌≤◌, ◌++◌, ℕ, [], All, Contains, length};
+ghost use Rattle.std.specs.Prelude.{None, IfOk, IfSome, IsSome, IsTrue, OnOk, map};
+ghost use Rattle.aggregator_session.specs.Causes.{DialCauses, LinkCauses, PortCauses, ReferenceCauses, asks_length};
 ghost use Rattle.std.specs.Vec.{vec_capacity, vec_len};
-ghost use Rattle.aggregator_session.specs.Faults.{LostBy};
 ghost use Rattle.aggregator_session.specs.Runs.{AskedAgain, First, HasCalled, HasRun, SameSession, Second, SignRun};
 ghost use Rattle.aggregator_session.specs.Runs.{bytes_in, first_frame, reads_of};
-ghost use Rattle.aggregator_session.specs.Tasks.{HangsUpAll, IsExact, IsTask, MayRun, OnlyDials, RisesOnce};
+ghost use Rattle.aggregator_session.specs.Tasks.{HangsUpAll, MayRun, Stands};
 ghost use Rattle.coalition_map.specs.Coalitions.{leaf_members};
-ghost use Rattle.disk_trait.specs.Faults.{Rose};
-ghost use Rattle.reference_value.specs.Stay.{CellsOnward, CellsStay};
 ghost use Rattle.session_core.specs.State.{SameAsk};
 ghost use Rattle.session_core.specs.Verdicts.{AreMasks, digest_of};
-ghost use Rattle.session_core.specs.declared.faults.SessionFault.TheVariants.{Reference};
-ghost use Rattle.stream_io.specs.Net.{PortOnward};
 
 use crate::asks::ask_member;
 use crate::desk::{Desk, place_of};
@@ -54,17 +49,8 @@ pub fn run_session<R: Cells, P: Port>(
     ensures ran { HasRun desk.now.addresses.now desk.now.tree.now
         (reads_of R.Cells.own R.Faults cells.old cells.new) message.now (P.state port.old) (P.state port.new)
         session.old session.new (bytes_in result) }
-    ensures dialled { LostBy Why.DialFailed result → Rose (P.state port.old).count (P.state port.new).count }
-    ensures unwritten { LostBy Why.WriteFailed result → Rose (P.state port.old).count (P.state port.new).count }
-    ensures unread { LostBy Why.ReadFailed result → Rose (P.state port.old).count (P.state port.new).count }
-    ensures reads { IsTrue (P.state port.old).steady → ¬ LostBy Why.ReadFailed result }
-    ensures writes { IsTrue (P.state port.old).steady → asks_length message.now ≤ (P.state port.old).room
-        → ¬ LostBy Why.WriteFailed result }
-    ensures reference { result ≡ Err (SignFault.Session Reference) → Rose (R.count cells.old) (R.count cells.new) }
-    ensures succeeds { IsExact R.Cells.own R.Faults cells.old → result ≢ Err (SignFault.Session Reference) }
-    ensures onward { PortOnward (P.state port.old) (P.state port.new) }
-    ensures accepting { (P.state port.new).accept_count ≡ (P.state port.old).accept_count }
-    ensures stays { CellsStay R.Cells.own R.Faults cells.old cells.new }
+    ensures port { PortCauses message.now (P.state port.old) (P.state port.new) result }
+    ensures cells { ReferenceCauses R.Cells.own R.Faults cells.old cells.new result }
 {
     let members = members_of(alloc, desk.plan, session.leaf())?;
     let params = &desk.key.params;
@@ -128,28 +114,19 @@ fn ask_all<R: Cells, P: Port>(
     links: &mut Vec<P::Link>,
     room: &mut [u8],
 ) -> Result<Vec<u8>, SignFault>
-    requires task { IsTask task.now.desk.now.key.now task.now.desk.now.plan.now task.now.members.now
-        task.now.message.now session.old }
+    requires task { Stands task.now session.old (R.set cells.old) (R.plan cells.old) (length room.old) }
     requires round { session.old.c ≡ None }
-    requires cells { (R.set cells.old ≡ session.old.key.params) × (R.plan cells.old ≡ session.old.plan) }
     requires tree { (task.now.desk.now.tree.now.n ≡ session.old.key.params.n)
         × (task.now.desk.now.tree.now.h ≡ session.old.key.params.h) }
     requires none { links.old.items ≡ [] }
     requires space { length task.now.members.now ≤ vec_capacity links.old }
-    requires room { session.old.key.params.p * session.old.key.params.n ≤ length room.old }
     ensures run { SignRun task.now.desk.now.addresses.now task.now.desk.now.tree.now
         (reads_of R.Cells.own R.Faults cells.old cells.new) task.now.message.now (P.state port.old) session.old
         (map (λ link. P.Link.talk link) links.new.items) session.new (bytes_in result) }
-    ensures dialled { LostBy Why.DialFailed result → Rose (P.state port.old).count (P.state port.new).count }
-    ensures once { RisesOnce (LostBy Why.DialFailed result) (P.state port.old).count (P.state port.new).count }
-    ensures reads { IsTrue (P.state port.old).steady → ¬ LostBy Why.ReadFailed result }
-    ensures writes { IsTrue (P.state port.old).steady → asks_length task.now.message.now ≤ (P.state port.old).room
-        → ¬ LostBy Why.WriteFailed result }
-    ensures reference { result ≡ Err (SignFault.Session Reference) → Rose (R.count cells.old) (R.count cells.new) }
-    ensures succeeds { IsExact R.Cells.own R.Faults cells.old → result ≢ Err (SignFault.Session Reference) }
-    ensures port { OnlyDials (P.state port.old) (P.state port.new) }
+    ensures dials { DialCauses (asks_length task.now.message.now) (P.state port.old) (P.state port.new) result }
+    ensures cells { ReferenceCauses R.Cells.own R.Faults cells.old cells.new result }
     ensures same { SameSession session.old session.new }
-    ensures onward { CellsOnward R.Cells.own R.Faults cells.old cells.new }
+    ensures count { R.count cells.old ≤ R.count cells.new }
 {
     dial_all(task, cells, port, session, links, room)?;
     session.turn(cells)?;
@@ -167,25 +144,17 @@ fn dial_all<R: Cells, P: Port>(
     links: &mut Vec<P::Link>,
     room: &mut [u8],
 ) -> Result<(), SignFault>
-    requires task { IsTask task.now.desk.now.key.now task.now.desk.now.plan.now task.now.members.now
-        task.now.message.now session.old }
+    requires task { Stands task.now session.old (R.set cells.old) (R.plan cells.old) (length room.old) }
     requires round { session.old.c ≡ None }
-    requires cells { (R.set cells.old ≡ session.old.key.params) × (R.plan cells.old ≡ session.old.plan) }
     requires none { links.old.items ≡ [] }
     requires space { length task.now.members.now ≤ vec_capacity links.old }
-    requires room { session.old.key.params.p * session.old.key.params.n ≤ length room.old }
     ensures run { First task.now.desk.now.addresses.now (first_frame session.old) (P.state port.old) session.old
         task.now.members.now (map (λ link. P.Link.talk link) links.new.items) session.new result }
     ensures whole { OnOk result ((vec_len links.new ≡ length task.now.members.now)
         ⊎ (AreMasks session.new.first → ⊥)) }
-    ensures dialled { LostBy Why.DialFailed result → Rose (P.state port.old).count (P.state port.new).count }
-    ensures once { RisesOnce (LostBy Why.DialFailed result) (P.state port.old).count (P.state port.new).count }
-    ensures reads { IsTrue (P.state port.old).steady → ¬ LostBy Why.ReadFailed result }
-    ensures writes { IsTrue (P.state port.old).steady → 64 ≤ (P.state port.old).room
-        → ¬ LostBy Why.WriteFailed result }
+    ensures dials { DialCauses 64 (P.state port.old) (P.state port.new) result }
     ensures steady { IsTrue (P.state port.old).steady → All (λ link. IsTrue (P.Link.steady link)) links.new.items }
     ensures rooms { All (λ link. (P.state port.old).room ≤ P.Link.room link + 64) links.new.items }
-    ensures port { OnlyDials (P.state port.old) (P.state port.new) }
     ensures same { SameAsk session.old session.new }
     ensures cells { cells.new ≡ cells.old }
 {
@@ -207,27 +176,19 @@ fn dial_member<R: Cells, P: Port>(
     links: &mut Vec<P::Link>,
     room: &mut [u8],
 ) -> Result<bool, SignFault>
-    requires task { IsTask task.now.desk.now.key.now task.now.desk.now.plan.now task.now.members.now
-        task.now.message.now session.old }
+    requires task { Stands task.now session.old (R.set cells.old) (R.plan cells.old) (length room.old) }
     requires round { session.old.c ≡ None }
     requires member { Contains (leaf_members session.old.plan session.old.leaf) member }
-    requires cells { (R.set cells.old ≡ session.old.key.params) × (R.plan cells.old ≡ session.old.plan) }
     requires space { vec_len links.old < vec_capacity links.old }
-    requires room { session.old.key.params.p * session.old.key.params.n ≤ length room.old }
     ensures called { HasCalled task.now.desk.now.addresses.now (first_frame session.old) session.old session.new member
         (P.state port.old) (P.state port.new) (map (λ link. P.Link.talk link) links.old.items)
         (map (λ link. P.Link.talk link) links.new.items) result }
-    ensures dialled { LostBy Why.DialFailed result → Rose (P.state port.old).count (P.state port.new).count }
-    ensures once { RisesOnce (LostBy Why.DialFailed result) (P.state port.old).count (P.state port.new).count }
-    ensures reads { IsTrue (P.state port.old).steady → ¬ LostBy Why.ReadFailed result }
-    ensures writes { IsTrue (P.state port.old).steady → 64 ≤ (P.state port.old).room
-        → ¬ LostBy Why.WriteFailed result }
+    ensures dials { DialCauses 64 (P.state port.old) (P.state port.new) result }
     ensures steady { IsTrue (P.state port.old).steady → All (λ link. IsTrue (P.Link.steady link)) links.old.items
         → All (λ link. IsTrue (P.Link.steady link)) links.new.items }
     ensures rooms { (least : ℕ) → least ≤ (P.state port.old).room
         → All (λ link. least ≤ P.Link.room link + 64) links.old.items
         → All (λ link. least ≤ P.Link.room link + 64) links.new.items }
-    ensures port { OnlyDials (P.state port.old) (P.state port.new) }
     ensures same { SameAsk session.old session.new }
     ensures cells { cells.new ≡ cells.old }
     ensures links { (vec_capacity links.new ≡ vec_capacity links.old)
@@ -264,25 +225,18 @@ fn ask_again<R: Cells, L: Source + Sink>(
     links: &mut Vec<L>,
     room: &mut [u8],
 ) -> Result<(), SignFault>
-    requires task { IsTask task.now.desk.now.key.now task.now.desk.now.plan.now task.now.members.now
-        task.now.message.now session.old }
+    requires task { Stands task.now session.old (R.set cells.old) (R.plan cells.old) (length room.old) }
     requires round { IsSome session.old.c }
     requires digest { digest.now ≡ digest_of session.old task.now.message.now }
-    requires cells { (R.set cells.old ≡ session.old.key.params) × (R.plan cells.old ≡ session.old.plan) }
     requires links { vec_len links.old ≡ length task.now.members.now }
-    requires room { session.old.key.params.p * session.old.key.params.n ≤ length room.old }
     ensures run { Second (R.told cells.old) (R.leaves cells.old) session.old task.now.message.now session.old
         task.now.members.now (map (λ link. L.talk link) links.old.items) (map (λ link. L.talk link) links.new.items)
         session.new result }
-    ensures reference { result ≡ Err (SignFault.Session Reference) → Rose (R.count cells.old) (R.count cells.new) }
-    ensures succeeds { IsExact R.Cells.own R.Faults cells.old → result ≢ Err (SignFault.Session Reference) }
-    ensures reads { All (λ link. IsTrue (L.steady link)) links.old.items → ¬ LostBy Why.ReadFailed result }
-    ensures writes { All (λ link. IsTrue (L.steady link)) links.old.items
-        → All (λ link. 92 + length task.now.message.now ≤ L.room link) links.old.items
-        → ¬ LostBy Why.WriteFailed result }
-    ensures dialled { ¬ LostBy Why.DialFailed result }
+    ensures cells { ReferenceCauses R.Cells.own R.Faults cells.old cells.new result }
+    ensures links { LinkCauses (All (λ link. IsTrue (L.steady link)) links.old.items)
+        (All (λ link. 92 + length task.now.message.now ≤ L.room link) links.old.items) result }
     ensures same { SameAsk session.old session.new }
-    ensures onward { CellsOnward R.Cells.own R.Faults cells.old cells.new }
+    ensures count { R.count cells.old ≤ R.count cells.new }
 {
     'members: for i in 0..task.members.len() {
         let member = task.members[i];
@@ -303,24 +257,18 @@ fn ask_once_more<R: Cells, L: Source + Sink>(
     link: &mut L,
     room: &mut [u8],
 ) -> Result<bool, SignFault>
-    requires task { IsTask task.now.desk.now.key.now task.now.desk.now.plan.now task.now.members.now
-        task.now.message.now session.old }
+    requires task { Stands task.now session.old (R.set cells.old) (R.plan cells.old) (length room.old) }
     requires round { IsSome session.old.c }
     requires digest { digest.now ≡ digest_of session.old task.now.message.now }
     requires member { Contains (leaf_members session.old.plan session.old.leaf) member }
-    requires cells { (R.set cells.old ≡ session.old.key.params) × (R.plan cells.old ≡ session.old.plan) }
-    requires room { session.old.key.params.p * session.old.key.params.n ≤ length room.old }
     ensures asked { AskedAgain (R.told cells.old) (R.leaves cells.old) session.old session.new task.now.message.now
         member (L.talk link.old) (L.talk link.new) result }
-    ensures reference { result ≡ Err (SignFault.Session Reference) → Rose (R.count cells.old) (R.count cells.new) }
-    ensures succeeds { IsExact R.Cells.own R.Faults cells.old → result ≢ Err (SignFault.Session Reference) }
-    ensures reads { IsTrue (L.steady link.old) → ¬ LostBy Why.ReadFailed result }
-    ensures writes { IsTrue (L.steady link.old) → 92 + length task.now.message.now ≤ L.room link.old
-        → ¬ LostBy Why.WriteFailed result }
-    ensures dialled { ¬ LostBy Why.DialFailed result }
+    ensures cells { ReferenceCauses R.Cells.own R.Faults cells.old cells.new result }
+    ensures links { LinkCauses (IsTrue (L.steady link.old))
+        (92 + length task.now.message.now ≤ L.room link.old) result }
     ensures steady { L.steady link.new ≡ L.steady link.old }
     ensures same { SameAsk session.old session.new }
-    ensures onward { CellsOnward R.Cells.own R.Faults cells.old cells.new }
+    ensures count { R.count cells.old ≤ R.count cells.new }
 {
     let ask = session.ask(cells, member, digest)?;
     ask_member(

@@ -17,17 +17,6 @@ returns-in_err-ask_once_more-clause-run g c =
     c.members.links.items c.members-test.true v.many v.run 0 c.index_mut.result.now c.ask_once_more.new.link _ c.ask_once_more.new.session c.index_mut.ensures.value refl
     c.ask_once_more.result c.in_err-ask_once_more.field-0.0 (asked-as _ _ _ _ _ v.stays.told v.stays.leaves c.ask_once_more.ensures.asked) v.same c.in_err-ask_once_more.was)
 
-pub returns-in_err-ask_once_more-clause-writes : goal.returns-in_err-ask_once_more-clause-writes
-returns-in_err-ask_once_more-clause-writes g c all wide lost =
-    let v = c.members.invariant in
-    let p = err_from_is_err_and c.from_residual.result c.from_residual.ensures.1 in
-    let is_wide = λ (link : _). 92 + length c.args.task.now.message.now ≤ g.L.Sink.room link in
-    let value = c.index_mut.ensures.value in
-    let inside : c.members.i < length c.members.links.items = (let x = v.many in let y = c.members-test.true in omega arith) in
-    c.ask_once_more.ensures.writes (ap (λ (l : _). g.L.Faults.steady l) value ∙ v.steady all c.members.i c.index_mut.result.now inside)
-    (subst is_wide (sym value) (v.rooms wide c.members.i c.index_mut.result.now (omega arith) inside))
-    (lost-as _ _ _ _ _ p.1 p.2 c.in_err-ask_once_more.was lost)
-
 pub returns-then-not-branch-clause-run : goal.returns-then-not-branch-clause-run
 returns-then-not-branch-clause-run g c =
     let v = c.members.invariant in
@@ -58,8 +47,8 @@ members-preserved g c =
           subst is_wide (sym (get_or-set_other c.members.links.items c.members.i k c.ask_once_more.new.link d (λ e. absurd (omega (arith, e, low)))))
           (v.rooms all k d (omega (arith, low)) (omega (arith, lt, inside)));
       same = same-then _ _ _ v.same a.same;
-      count = (let x = v.count in let y = a.onward.count in omega arith);
-      stays = stays-then v.stays a.onward.stays;
+      count = (let x = v.count in let y = a.count in omega arith);
+      stays = stays-then v.stays a.cells.stays;
     }
 
 pub returns-clause-run : goal.returns-clause-run
@@ -67,3 +56,20 @@ returns-clause-run g c =
     let v = c.members.invariant in
     second-done g.L.Stream.talk (g.R.Cells.told c.args.cells.now) (g.R.Cells.leaves c.args.cells.now) c.args.session.now c.args.task.now.message.now c.args.task.now.members.now _ c.members.session c.members.i
     c.members.links.items c.members-test.false v.many v.run
+
+pub returns-in_err-ask_once_more-clause-links : goal.returns-in_err-ask_once_more-clause-links
+returns-in_err-ask_once_more-clause-links g c =
+    let v = c.members.invariant in
+    let p = err_from_is_err_and c.from_residual.result c.from_residual.ensures.1 in
+    let is_wide = λ (link : _). 92 + length c.args.task.now.message.now ≤ g.L.Sink.room link in
+    let value = c.index_mut.ensures.value in
+    let inside : c.members.i < length c.members.links.items = (let x = v.many in let y = c.members-test.true in omega arith) in
+    let links = c.ask_once_more.ensures.links in
+    record {
+      dialled = λ lost. links.dialled (lost-as _ _ _ _ _ p.1 p.2 c.in_err-ask_once_more.was lost);
+      reads = λ all lost. links.reads (ap (λ (l : _). g.L.Faults.steady l) value ∙ v.steady all c.members.i c.index_mut.result.now inside)
+          (lost-as _ _ _ _ _ p.1 p.2 c.in_err-ask_once_more.was lost);
+      writes = λ all wide lost. links.writes (ap (λ (l : _). g.L.Faults.steady l) value ∙ v.steady all c.members.i c.index_mut.result.now inside)
+          (subst is_wide (sym value) (v.rooms wide c.members.i c.index_mut.result.now (omega arith) inside))
+          (lost-as _ _ _ _ _ p.1 p.2 c.in_err-ask_once_more.was lost);
+    }

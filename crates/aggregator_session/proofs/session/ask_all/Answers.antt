@@ -4,8 +4,8 @@ use Rattle.std.proofs.lemmas.Result.{err_from_is_err_and}
 use Rattle.session_core.specs.State.{State}
 use Rattle.session_core.specs.declared.faults.SessionFault.TheVariants.{Reference}
 use Rattle.aggregator_session.specs.Runs.{judged_in_one, judged_in_two, lost_in_one, lost_in_two, signed}
-use Rattle.aggregator_session.proofs.Tasks.{lost-as, once-as, once-of}
-use Rattle.aggregator_session.proofs.Sessions.{count-as, dealt-as, err-as, exact-as, exact-stays, fails-as, fails-reference, first-as, first-not, joined-as, none-of, opens, run-as, same-err, second-end, sign-reference, stops-later, stops-reference, whole-as}
+use Rattle.aggregator_session.proofs.Tasks.{dials-on, judged-none, lost-as, once-as, once-of}
+use Rattle.aggregator_session.proofs.Sessions.{count-as, dealt-as, err-as, exact-as, exact-stays, fails-as, fails-reference, first-as, first-not, joined-as, none-of, opens, run-as, same-err, second-end, sign-reference, stays-same, stops-later, stops-reference, whole-as}
 use Rattle.reference_value.proofs.Staying.{stays-as, stays-then}
 use Rattle.lms_bytes.specs.declared.public_key.PublicKey.{PublicKey}
 use Rattle.session_core.specs.Verdicts.{digest_of, joined_bytes}
@@ -22,16 +22,6 @@ returns-in_err-dial_all-clause-run g c =
     rw (p.1, p.2) (lost_in_one _ c.dial_all.new.session c.in_err-dial_all.field-0.0
     (first-as _ _ _ c.args.session.now _ _ _ _ _ _ c.requires.task.all c.in_err-dial_all.was c.dial_all.ensures.run))
 
-pub returns-in_err-dial_all-clause-reference : goal.returns-in_err-dial_all-clause-reference
-returns-in_err-dial_all-clause-reference g c is =
-    let p = err_from_is_err_and c.from_residual.result c.from_residual.ensures.1 in
-    absurd (first-not _ _ _ _ _ _ _ _ Reference c.dial_all.ensures.run (err-as _ _ _ _ _ p.1 p.2 c.in_err-dial_all.was is))
-
-pub returns-in_err-dial_all-clause-succeeds : goal.returns-in_err-dial_all-clause-succeeds
-returns-in_err-dial_all-clause-succeeds g c exact is =
-    let p = err_from_is_err_and c.from_residual.result c.from_residual.ensures.1 in
-    first-not _ _ _ _ _ _ _ _ Reference c.dial_all.ensures.run (err-as _ _ _ _ _ p.1 p.2 c.in_err-dial_all.was is)
-
 pub returns-in_err-turn-clause-run : goal.returns-in_err-turn-clause-run
 returns-in_err-turn-clause-run g c =
     let p = err_from_is_err_and c.from_residual-in_err-turn.result c.from_residual-in_err-turn.ensures.1 in
@@ -41,26 +31,6 @@ returns-in_err-turn-clause-run g c =
     (judged_in_one _ c.dial_all.new.session c.in_err-turn.field-0.0
     (first-as _ _ _ c.args.session.now _ _ _ _ _ _ c.requires.task.all c.in_ok-dial_all.was c.dial_all.ensures.run)
     (stops-later _ [] _ _ _ _ (count-as _ _ same) c.in_err-turn.ensures.cause)))
-
-pub returns-in_err-turn-clause-reference : goal.returns-in_err-turn-clause-reference
-returns-in_err-turn-clause-reference g c is =
-    let p = err_from_is_err_and c.from_residual-in_err-turn.result c.from_residual-in_err-turn.ensures.1 in
-    let count = g.R.Faults.count in
-    let same = ap count c.dial_all.ensures.cells in
-    let both = stops-reference _ [] _ _ _ c.in_err-turn.ensures.cause (same-err _ _ _ _ p.1 p.2 is) in
-    let rose = both.1 in
-    omega arith
-
-pub returns-in_err-turn-clause-succeeds : goal.returns-in_err-turn-clause-succeeds
-returns-in_err-turn-clause-succeeds g c exact is =
-    let p = err_from_is_err_and c.from_residual-in_err-turn.result c.from_residual-in_err-turn.ensures.1 in
-    let both = stops-reference _ [] _ _ _ c.in_err-turn.ensures.cause (same-err _ _ _ _ p.1 p.2 is) in
-    let d = c.dial_all.ensures in
-    let e = exact-as d.cells exact in
-    let set = ap g.R.Cells.set d.cells ∙ (c.requires.cells.0 ∙ ap (λ (k : PublicKey). k.params) (sym d.same.key)) in
-    let plan = ap g.R.Cells.plan d.cells ∙ (c.requires.cells.1 ∙ sym d.same.plan) in
-    let no = c.in_err-turn.ensures.succeeds e.steady e.told (whole-as _ _ _ _ _ e.whole set plan) both.0 in
-    absurd (cc)
 
 pub returns-in_err-ask_again-clause-run : goal.returns-in_err-ask_again-clause-run
 returns-in_err-ask_again-clause-run g c =
@@ -89,9 +59,9 @@ returns-in_err-finish_with-clause-run g c =
     let a = c.ask_again.ensures in
     let many = length-map c.dial_all.new.links.items g.P.Link.Stream.talk in
     let stays = stays-as d.cells t.onward.stays in
-    let later = stays-then stays a.onward.stays in
+    let later = stays-then stays a.cells.stays in
     let count = g.R.Faults.count in
-    let le : count c.args.cells.now ≤ count c.ask_again.new.cells = (let x = ap count d.cells in let y = t.onward.count in let z = a.onward.count in omega arith) in
+    let le : count c.args.cells.now ≤ count c.ask_again.new.cells = (let x = ap count d.cells in let y = t.onward.count in let z = a.count in omega arith) in
     let digest = c.digest_of-digest.ensures ∙ same-digest c.turn.new.self c.ask_again.new.session c.args.task.now.message.now a.same in
     rw (p.1, p.2) (judged_in_two _ _ c.turn.new.self c.ask_again.new.session c.in_err-finish_with.field-0.0
     (opens _ _ _ c.args.session.now c.dial_all.new.session c.turn.new.self _ _ _ _ c.requires.task.all d.run c.in_ok-dial_all.was c.in_ok-dial_all.ensures.whole (search rules) t.turned
@@ -99,36 +69,6 @@ returns-in_err-finish_with-clause-run g c =
     (dealt-as g.R.Cells.told g.R.Cells.leaves _ _ c.dial_all.new.session c.turn.new.self d.cells t.dealt))
     (second-end _ _ _ _ _ _ _ _ stays.told stays.leaves c.requires.task.all c.in_ok-ask_again.was a.run)
     (fails-as _ c.args.task.now.message.now c.args.task.now.desk.now.tree.now _ _ _ _ _ _ _ _ later.told later.leaves le (c.in_err-finish_with.ensures.cause c.args.task.now.message.now digest)))
-
-pub returns-in_err-finish_with-clause-reference : goal.returns-in_err-finish_with-clause-reference
-returns-in_err-finish_with-clause-reference g c is =
-    let p = err_from_is_err_and c.from_residual-in_err-finish_with.result c.from_residual-in_err-finish_with.ensures.1 in
-    let d = c.dial_all.ensures in
-    let t = c.in_ok-turn.ensures in
-    let a = c.ask_again.ensures in
-    let count = g.R.Faults.count in
-    let le : count c.args.cells.now ≤ count c.ask_again.new.cells = (let x = ap count d.cells in let y = t.onward.count in let z = a.onward.count in omega arith) in
-    let digest = c.digest_of-digest.ensures ∙ same-digest c.turn.new.self c.ask_again.new.session c.args.task.now.message.now a.same in
-    let both = fails-reference _ c.args.task.now.message.now _ _ _ _ _ (c.in_err-finish_with.ensures.cause c.args.task.now.message.now digest) (same-err _ _ _ _ p.1 p.2 is) in
-    let rose = both.1 in
-    omega arith
-
-pub returns-in_err-finish_with-clause-succeeds : goal.returns-in_err-finish_with-clause-succeeds
-returns-in_err-finish_with-clause-succeeds g c exact is =
-    let p = err_from_is_err_and c.from_residual-in_err-finish_with.result c.from_residual-in_err-finish_with.ensures.1 in
-    let d = c.dial_all.ensures in
-    let t = c.in_ok-turn.ensures in
-    let a = c.ask_again.ensures in
-    let stays = stays-then (stays-as d.cells t.onward.stays) a.onward.stays in
-    let e = exact-stays stays exact in
-    let key = a.same.key ∙ (ap (λ (x : State). x.key) t.turned.same ∙ d.same.key) in
-    let plans = a.same.plan ∙ (ap (λ (x : State). x.plan) t.turned.same ∙ d.same.plan) in
-    let set = stays.set ∙ (c.requires.cells.0 ∙ ap (λ (k : PublicKey). k.params) (sym key)) in
-    let plan = stays.plan ∙ (c.requires.cells.1 ∙ sym plans) in
-    let reference = same-err _ _ _ _ p.1 p.2 is in
-    let digest = c.digest_of-digest.ensures ∙ same-digest c.turn.new.self c.ask_again.new.session c.args.task.now.message.now a.same in
-    let both = fails-reference _ c.args.task.now.message.now _ _ _ _ _ (c.in_err-finish_with.ensures.cause c.args.task.now.message.now digest) reference in
-    c.in_err-finish_with.ensures.read e.steady e.told (whole-as _ _ _ _ _ e.whole set plan) (ap (round_fault c.ask_again.new.session) digest ∙ both.0) (sign-reference _ reference)
 
 pub returns-clause-run : goal.returns-clause-run
 returns-clause-run g c =
@@ -138,7 +78,7 @@ returns-clause-run g c =
     let f = c.in_ok-finish_with.ensures in
     let many = length-map c.dial_all.new.links.items g.P.Link.Stream.talk in
     let stays = stays-as d.cells t.onward.stays in
-    let later = stays-then stays a.onward.stays in
+    let later = stays-then stays a.cells.stays in
     let message = c.args.task.now.message.now in
     let tree = c.args.task.now.desk.now.tree.now in
     let kept = c.ask_again.new.session in
@@ -158,43 +98,146 @@ returns-clause-run g c =
           (subst (λ (l : List ℕ). IsAnswered d key kept c.digest_of-digest.result l tree) (sym (later.leaves told)) (answered_by d key answered));
     })
 
-pub returns-clause-onward : goal.returns-clause-onward
-returns-clause-onward g c =
+pub returns-in_err-dial_all-clause-cells : goal.returns-in_err-dial_all-clause-cells
+returns-in_err-dial_all-clause-cells g c =
+    let p = err_from_is_err_and c.from_residual.result c.from_residual.ensures.1 in
     let d = c.dial_all.ensures in
-    let t = c.in_ok-turn.ensures.onward in
-    let a = c.ask_again.ensures.onward in
-    let f = c.in_ok-finish_with.ensures.onward in
-    let count = g.R.Faults.count in
     record {
-      stays = stays-then (stays-then (stays-as d.cells t.stays) a.stays) f.stays;
-      count = (let x = ap count d.cells in let y = t.count in let z = a.count in let u = f.count in omega arith);
+      rises = λ is. absurd (first-not _ _ _ _ _ _ _ _ Reference d.run (err-as _ _ _ _ _ p.1 p.2 c.in_err-dial_all.was is));
+      succeeds = λ exact is. first-not _ _ _ _ _ _ _ _ Reference d.run (err-as _ _ _ _ _ p.1 p.2 c.in_err-dial_all.was is);
+      stays = stays-same d.cells;
     }
 
-pub returns-in_err-dial_all-clause-once : goal.returns-in_err-dial_all-clause-once
-returns-in_err-dial_all-clause-once g c =
-    let p = err_from_is_err_and c.from_residual.result c.from_residual.ensures.1 in
-    once-as _ _ _ _ _ _ c.in_err-dial_all.was (sym p.2) p.1 c.dial_all.ensures.once
+pub returns-in_err-turn-clause-cells : goal.returns-in_err-turn-clause-cells
+returns-in_err-turn-clause-cells g c =
+    let p = err_from_is_err_and c.from_residual-in_err-turn.result c.from_residual-in_err-turn.ensures.1 in
+    let d = c.dial_all.ensures in
+    let t = c.in_err-turn.ensures in
+    let count = g.R.Faults.count in
+    record {
+      rises = λ is.
+          let same = ap count d.cells in
+          let both = stops-reference _ [] _ _ _ t.cause (same-err _ _ _ _ p.1 p.2 is) in
+          let rose = both.1 in
+          omega arith;
+      succeeds = λ exact is.
+          let both = stops-reference _ [] _ _ _ t.cause (same-err _ _ _ _ p.1 p.2 is) in
+          let e = exact-as d.cells exact in
+          let set = ap g.R.Cells.set d.cells ∙ (c.requires.task.set ∙ ap (λ (k : PublicKey). k.params) (sym d.same.key)) in
+          let plan = ap g.R.Cells.plan d.cells ∙ (c.requires.task.plan ∙ sym d.same.plan) in
+          let no = t.succeeds e.steady e.told (whole-as _ _ _ _ _ e.whole set plan) both.0 in
+          absurd (cc);
+      stays = stays-as d.cells t.onward.stays;
+    }
 
-pub returns-in_err-turn-clause-once : goal.returns-in_err-turn-clause-once
-returns-in_err-turn-clause-once g c = once-of _ _ _ _ _ c.in_ok-dial_all.was c.dial_all.ensures.once
-
-pub returns-in_err-ask_again-clause-once : goal.returns-in_err-ask_again-clause-once
-returns-in_err-ask_again-clause-once g c = once-of _ _ _ _ _ c.in_ok-dial_all.was c.dial_all.ensures.once
-
-pub returns-in_err-finish_with-clause-once : goal.returns-in_err-finish_with-clause-once
-returns-in_err-finish_with-clause-once g c = once-of _ _ _ _ _ c.in_ok-dial_all.was c.dial_all.ensures.once
-
-pub returns-clause-once : goal.returns-clause-once
-returns-clause-once g c = once-of _ _ _ _ _ c.in_ok-dial_all.was c.dial_all.ensures.once
-
-pub returns-in_err-dial_all-clause-writes : goal.returns-in_err-dial_all-clause-writes
-returns-in_err-dial_all-clause-writes g c steady fits lost =
-    let p = err_from_is_err_and c.from_residual.result c.from_residual.ensures.1 in
-    c.dial_all.ensures.writes steady (omega (arith, fits)) (lost-as _ _ _ _ _ p.1 p.2 c.in_err-dial_all.was lost)
-
-pub returns-in_err-ask_again-clause-writes : goal.returns-in_err-ask_again-clause-writes
-returns-in_err-ask_again-clause-writes g c steady fits lost =
+pub returns-in_err-ask_again-clause-cells : goal.returns-in_err-ask_again-clause-cells
+returns-in_err-ask_again-clause-cells g c =
     let p = err_from_is_err_and c.from_residual-in_err-ask_again.result c.from_residual-in_err-ask_again.ensures.1 in
-    c.ask_again.ensures.writes (c.dial_all.ensures.steady steady)
-    (λ k d lt. let room = c.dial_all.ensures.rooms k d lt in omega (arith, room, fits))
-    (lost-as _ _ _ _ _ p.1 p.2 c.in_err-ask_again.was lost)
+    let d = c.dial_all.ensures in
+    let t = c.in_ok-turn.ensures.onward in
+    let a = c.ask_again.ensures.cells in
+    let stays = stays-as d.cells t.stays in
+    let count = g.R.Faults.count in
+    record {
+      rises = λ is.
+          let rose = a.rises (err-as _ _ _ _ _ p.1 p.2 c.in_err-ask_again.was is) in
+          let x = ap count d.cells in
+          let y = t.count in
+          omega arith;
+      succeeds = λ exact is. a.succeeds (exact-stays stays exact) (err-as _ _ _ _ _ p.1 p.2 c.in_err-ask_again.was is);
+      stays = stays-then stays a.stays;
+    }
+
+pub returns-in_err-finish_with-clause-cells : goal.returns-in_err-finish_with-clause-cells
+returns-in_err-finish_with-clause-cells g c =
+    let p = err_from_is_err_and c.from_residual-in_err-finish_with.result c.from_residual-in_err-finish_with.ensures.1 in
+    let d = c.dial_all.ensures in
+    let t = c.in_ok-turn.ensures in
+    let a = c.ask_again.ensures in
+    let f = c.in_err-finish_with.ensures in
+    let count = g.R.Faults.count in
+    let le : count c.args.cells.now ≤ count c.ask_again.new.cells = (let x = ap count d.cells in let y = t.onward.count in let z = a.count in omega arith) in
+    let digest = c.digest_of-digest.ensures ∙ same-digest c.turn.new.self c.ask_again.new.session c.args.task.now.message.now a.same in
+    let cause = f.cause c.args.task.now.message.now digest in
+    let stays = stays-then (stays-as d.cells t.onward.stays) a.cells.stays in
+    record {
+      rises = λ is.
+          let both = fails-reference _ c.args.task.now.message.now _ _ _ _ _ cause (same-err _ _ _ _ p.1 p.2 is) in
+          let rose = both.1 in
+          omega arith;
+      succeeds = λ exact is.
+          let e = exact-stays stays exact in
+          let key = a.same.key ∙ (ap (λ (x : State). x.key) t.turned.same ∙ d.same.key) in
+          let plans = a.same.plan ∙ (ap (λ (x : State). x.plan) t.turned.same ∙ d.same.plan) in
+          let set = stays.set ∙ (c.requires.task.set ∙ ap (λ (k : PublicKey). k.params) (sym key)) in
+          let plan = stays.plan ∙ (c.requires.task.plan ∙ sym plans) in
+          let reference = same-err _ _ _ _ p.1 p.2 is in
+          let both = fails-reference _ c.args.task.now.message.now _ _ _ _ _ cause reference in
+          f.read e.steady e.told (whole-as _ _ _ _ _ e.whole set plan) (ap (round_fault c.ask_again.new.session) digest ∙ both.0) (sign-reference _ reference);
+      stays = stays-then stays f.onward.stays;
+    }
+
+pub returns-clause-cells : goal.returns-clause-cells
+returns-clause-cells g c =
+    let stays = stays-as c.dial_all.ensures.cells c.in_ok-turn.ensures.onward.stays in
+    record {
+      rises = λ is. absurd (cc);
+      succeeds = λ exact is. absurd (cc);
+      stays = stays-then (stays-then stays c.ask_again.ensures.cells.stays) c.in_ok-finish_with.ensures.onward.stays;
+    }
+
+pub returns-clause-count : goal.returns-clause-count
+returns-clause-count g c =
+    let x = ap g.R.Faults.count c.dial_all.ensures.cells in
+    let y = c.in_ok-turn.ensures.onward.count in
+    let z = c.ask_again.ensures.count in
+    let u = c.in_ok-finish_with.ensures.onward.count in
+    omega arith
+
+pub returns-in_err-dial_all-clause-dials : goal.returns-in_err-dial_all-clause-dials
+returns-in_err-dial_all-clause-dials g c =
+    let p = err_from_is_err_and c.from_residual.result c.from_residual.ensures.1 in
+    let d = c.dial_all.ensures.dials in
+    record {
+      dialled = λ lost. d.dialled (lost-as _ _ _ _ _ p.1 p.2 c.in_err-dial_all.was lost);
+      once = once-as _ _ _ _ _ _ c.in_err-dial_all.was (sym p.2) p.1 d.once;
+      reads = λ steady lost. d.reads steady (lost-as _ _ _ _ _ p.1 p.2 c.in_err-dial_all.was lost);
+      writes = λ steady fits lost. d.writes steady (omega (arith, fits)) (lost-as _ _ _ _ _ p.1 p.2 c.in_err-dial_all.was lost);
+      only = d.only;
+    }
+
+pub returns-in_err-turn-clause-dials : goal.returns-in_err-turn-clause-dials
+returns-in_err-turn-clause-dials g c =
+    let p = err_from_is_err_and c.from_residual-in_err-turn.result c.from_residual-in_err-turn.ensures.1 in
+    dials-on _ _ _ _ _ _ _ c.in_ok-dial_all.was (λ why lost. judged-none why _ _ c.in_err-turn.field-0.0 p.1 p.2 lost) c.dial_all.ensures.dials
+
+pub returns-in_err-ask_again-clause-dials : goal.returns-in_err-ask_again-clause-dials
+returns-in_err-ask_again-clause-dials g c =
+    let p = err_from_is_err_and c.from_residual-in_err-ask_again.result c.from_residual-in_err-ask_again.ensures.1 in
+    let d = c.dial_all.ensures in
+    let a = c.ask_again.ensures.links in
+    record {
+      dialled = λ lost. absurd (a.dialled (lost-as _ _ _ _ _ p.1 p.2 c.in_err-ask_again.was lost));
+      once = once-of _ _ _ _ _ c.in_ok-dial_all.was d.dials.once;
+      reads = λ steady lost. a.reads (d.steady steady) (lost-as _ _ _ _ _ p.1 p.2 c.in_err-ask_again.was lost);
+      writes = λ steady fits lost. a.writes (d.steady steady)
+          (λ k d lt. let room = c.dial_all.ensures.rooms k d lt in omega (arith, room, fits))
+          (lost-as _ _ _ _ _ p.1 p.2 c.in_err-ask_again.was lost);
+      only = d.dials.only;
+    }
+
+pub returns-in_err-finish_with-clause-dials : goal.returns-in_err-finish_with-clause-dials
+returns-in_err-finish_with-clause-dials g c =
+    let p = err_from_is_err_and c.from_residual-in_err-finish_with.result c.from_residual-in_err-finish_with.ensures.1 in
+    dials-on _ _ _ _ _ _ _ c.in_ok-dial_all.was (λ why lost. judged-none why _ _ c.in_err-finish_with.field-0.0 p.1 p.2 lost) c.dial_all.ensures.dials
+
+pub returns-clause-dials : goal.returns-clause-dials
+returns-clause-dials g c =
+    let d = c.dial_all.ensures.dials in
+    record {
+      dialled = λ lost. absurd lost;
+      once = once-of _ _ _ _ _ c.in_ok-dial_all.was d.once;
+      reads = λ steady lost. lost;
+      writes = λ steady fits lost. lost;
+      only = d.only;
+    }

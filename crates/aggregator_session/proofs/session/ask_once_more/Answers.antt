@@ -18,7 +18,12 @@ returns-clause-asked g c =
     (second-frame (g.R.Cells.told c.args.cells.now) (g.R.Cells.leaves c.args.cells.now) c.args.session.now c.args.digest.now message c.args.member c.in_ok-ask.ask c.requires.digest a.ask a.tag)
     c.ask_member.ensures.asked
 
-pub returns-clause-writes : goal.returns-clause-writes
-returns-clause-writes g c steady fits lost =
+pub returns-clause-links : goal.returns-clause-links
+returns-clause-links g c =
     let most = longest c.args.task.now.desk.now.key.now.params c.in_ok-ask.ask c.args.task.now.message.now in
-    c.ask_member.ensures.writes steady (omega (arith, most, fits)) lost
+    let links = c.ask_member.ensures.links in
+    record {
+      dialled = links.dialled;
+      reads = links.reads;
+      writes = λ steady fits lost. links.writes steady (omega (arith, most, fits)) lost;
+    }

@@ -15,31 +15,6 @@ returns-in_err-dial_member-clause-run g c =
     (g.P.Port.state c.members.port) c.members.session c.members.i 0 _ _ (g.P.Port.state c.dial_member.new.port) c.dial_member.new.session c.dial_member.result
     c.members-test.true v.run (called-as _ _ (frame-same _ _ v.same) c.dial_member.ensures.called) c.in_err-dial_member.field-0.0 c.in_err-dial_member.was)
 
-pub returns-in_err-dial_member-clause-dialled : goal.returns-in_err-dial_member-clause-dialled
-returns-in_err-dial_member-clause-dialled g c lost =
-    let v = c.members.invariant in
-    let p = err_from_is_err_and c.from_residual.result c.from_residual.ensures.1 in
-    rose-later _ _ _ v.port.onward.count (c.dial_member.ensures.dialled (lost-as _ _ _ _ _ p.1 p.2 c.in_err-dial_member.was lost))
-
-pub returns-in_err-dial_member-clause-once : goal.returns-in_err-dial_member-clause-once
-returns-in_err-dial_member-clause-once g c =
-    let v = c.members.invariant in
-    let p = err_from_is_err_and c.from_residual.result c.from_residual.ensures.1 in
-    rises-later _ _ _ v.undialled (once-as _ _ _ _ _ _ c.in_err-dial_member.was (sym p.2) p.1 c.dial_member.ensures.once)
-
-pub returns-in_err-dial_member-clause-reads : goal.returns-in_err-dial_member-clause-reads
-returns-in_err-dial_member-clause-reads g c steady lost =
-    let v = c.members.invariant in
-    let p = err_from_is_err_and c.from_residual.result c.from_residual.ensures.1 in
-    c.dial_member.ensures.reads (v.port.onward.steady ∙ steady) (lost-as _ _ _ _ _ p.1 p.2 c.in_err-dial_member.was lost)
-
-pub returns-in_err-dial_member-clause-writes : goal.returns-in_err-dial_member-clause-writes
-returns-in_err-dial_member-clause-writes g c steady fits lost =
-    let v = c.members.invariant in
-    let p = err_from_is_err_and c.from_residual.result c.from_residual.ensures.1 in
-    let later = v.port.onward.room in
-    c.dial_member.ensures.writes (v.port.onward.steady ∙ steady) (omega (arith, fits, later)) (lost-as _ _ _ _ _ p.1 p.2 c.in_err-dial_member.was lost)
-
 pub returns-in_err-dial_member-clause-rooms : goal.returns-in_err-dial_member-clause-rooms
 returns-in_err-dial_member-clause-rooms g c = c.dial_member.ensures.rooms _ c.members.invariant.port.onward.room c.members.invariant.rooms
 
@@ -59,16 +34,6 @@ returns-then-not-branch-clause-whole g c = inr (λ all.
     let h = c.dial_member.ensures.called in
     called-refused _ _ c.members.session _ _ _ _ _ h.answer c.dial_member.result (v.same.c ∙ c.requires.round) h.calls h.state h.told (ok-is _ _ false c.in_ok-dial_member.was c.if-not-branch.true) all)
 
-pub returns-then-not-branch-clause-once : goal.returns-then-not-branch-clause-once
-returns-then-not-branch-clause-once g c =
-    let v = c.members.invariant in
-    rises-later _ _ _ v.undialled (once-of _ _ _ _ _ c.in_ok-dial_member.was c.dial_member.ensures.once)
-
-pub returns-clause-once : goal.returns-clause-once
-returns-clause-once g c =
-    let v = c.members.invariant in
-    record { once = (let most = v.undialled in omega arith); same = λ _. v.undialled }
-
 pub returns-clause-run : goal.returns-clause-run
 returns-clause-run g c =
     let v = c.members.invariant in
@@ -87,8 +52,45 @@ members-preserved g c =
       room = (let a = v.room in let b = d.links.0 in omega arith);
       steady = λ s. d.steady (v.port.onward.steady ∙ s) (v.steady s);
       rooms = d.rooms _ v.port.onward.room v.rooms;
-      port = dials-then _ _ _ v.port d.port;
-      undialled = (let first = v.undialled in let last = d.once.same (ok-not _ _ _ c.in_ok-dial_member.was) in omega arith);
+      port = dials-then _ _ _ v.port d.dials.only;
+      undialled = (let first = v.undialled in let last = d.dials.once.same (ok-not _ _ _ c.in_ok-dial_member.was) in omega arith);
       same = same-then _ _ _ v.same d.same;
       cells = d.cells ∙ v.cells;
+    }
+
+pub returns-in_err-dial_member-clause-dials : goal.returns-in_err-dial_member-clause-dials
+returns-in_err-dial_member-clause-dials g c =
+    let v = c.members.invariant in
+    let p = err_from_is_err_and c.from_residual.result c.from_residual.ensures.1 in
+    let d = c.dial_member.ensures.dials in
+    let later = v.port.onward.room in
+    record {
+      dialled = λ lost. rose-later _ _ _ v.port.onward.count (d.dialled (lost-as _ _ _ _ _ p.1 p.2 c.in_err-dial_member.was lost));
+      once = rises-later _ _ _ v.undialled (once-as _ _ _ _ _ _ c.in_err-dial_member.was (sym p.2) p.1 d.once);
+      reads = λ steady lost. d.reads (v.port.onward.steady ∙ steady) (lost-as _ _ _ _ _ p.1 p.2 c.in_err-dial_member.was lost);
+      writes = λ steady fits lost. d.writes (v.port.onward.steady ∙ steady) (omega (arith, fits, later)) (lost-as _ _ _ _ _ p.1 p.2 c.in_err-dial_member.was lost);
+      only = dials-then _ _ _ v.port d.only;
+    }
+
+pub returns-then-not-branch-clause-dials : goal.returns-then-not-branch-clause-dials
+returns-then-not-branch-clause-dials g c =
+    let v = c.members.invariant in
+    let d = c.dial_member.ensures.dials in
+    record {
+      dialled = λ lost. absurd lost;
+      once = rises-later _ _ _ v.undialled (once-of _ _ _ _ _ c.in_ok-dial_member.was d.once);
+      reads = λ steady lost. lost;
+      writes = λ steady fits lost. lost;
+      only = dials-then _ _ _ v.port d.only;
+    }
+
+pub returns-clause-dials : goal.returns-clause-dials
+returns-clause-dials g c =
+    let v = c.members.invariant in
+    record {
+      dialled = λ lost. absurd lost;
+      once = record { once = (let most = v.undialled in omega arith); same = λ _. v.undialled };
+      reads = λ steady lost. lost;
+      writes = λ steady fits lost. lost;
+      only = v.port;
     }

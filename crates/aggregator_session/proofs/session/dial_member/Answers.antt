@@ -64,8 +64,17 @@ returns-clause-rooms g c least le all =
     subst (All is_wide) (sym c.push_reserved.ensures.items)
     (All-push is_wide c.args.links.now.items c.ask_member-answer.new.link all (omega (arith, le, size, had, has)))
 
-pub returns-clause-writes : goal.returns-clause-writes
-returns-clause-writes g c steady fits lost =
+pub returns-clause-dials : goal.returns-clause-dials
+returns-clause-dials g c =
     let size = first-length c.args.task.now.desk.now.key.now.params c.args.session.now _ c.args.task.now.message.now c.in_ok-ask.ask c.requires.round c.in_ok-ask.ensures.ask in
-    let had = c.in-Ok.ensures.link.link.room in
-    c.ask_member-answer.ensures.writes (c.in-Ok.ensures.link.link.steady steady) (omega (arith, fits, size, had)) lost
+    let d = c.in-Ok.ensures in
+    let had = d.link.link.room in
+    let same = d.cause.succeeded in
+    let links = c.ask_member-answer.ensures.links in
+    record {
+      dialled = λ lost. absurd (links.dialled lost);
+      once = record { once = omega (arith, same); same = λ _. omega (arith, same) };
+      reads = λ steady lost. links.reads (d.link.link.steady steady) lost;
+      writes = λ steady fits lost. links.writes (d.link.link.steady steady) (omega (arith, fits, size, had)) lost;
+      only = record { onward = d.onward; talks = d.link.talks; accepting = d.accepting };
+    }

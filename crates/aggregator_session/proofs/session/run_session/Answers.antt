@@ -5,7 +5,7 @@ use Rattle.aggregator_session.specs.Runs.{no_memory}
 use Rattle.aggregator_session.specs.declared.fault.Why.TheVariants.{DialFailed, ReadFailed, WriteFailed}
 use Rattle.aggregator_session.proofs.Counting.{session-counts}
 use Rattle.aggregator_session.proofs.Lasts.{ended-faulty}
-use Rattle.aggregator_session.proofs.Tasks.{bytes-lost, rose-later}
+use Rattle.aggregator_session.proofs.Tasks.{bytes-lost, onward-then, rose-later}
 use Rattle.aggregator_session.proofs.session.run_session.Goals as goal
 
 pub returns-in_err-members-clause-ran : goal.returns-in_err-members-clause-ran
@@ -53,16 +53,6 @@ returns-in_err-links-clause-ran g c =
       counts = record { once = omega arith; same = λ _. omega arith };
     })
 
-pub returns-clause-unwritten : goal.returns-clause-unwritten
-returns-clause-unwritten g c lost =
-    rose-later _ _ _ c.ask_all-result.ensures.port.onward.count
-    (c.hang_up_all.ensures.rises (ended-faulty _ _ c.hang_up_all.ensures.ended (session-counts WriteFailed (inl refl) _ _ _ _ _ _ _ _ _ c.ask_all-result.ensures.run lost)))
-
-pub returns-clause-unread : goal.returns-clause-unread
-returns-clause-unread g c lost =
-    rose-later _ _ _ c.ask_all-result.ensures.port.onward.count
-    (c.hang_up_all.ensures.rises (ended-faulty _ _ c.hang_up_all.ensures.ended (session-counts ReadFailed (inr refl) _ _ _ _ _ _ _ _ _ c.ask_all-result.ensures.run lost)))
-
 pub returns-clause-ran : goal.returns-clause-ran
 returns-clause-ran g c =
     let talk = g.P.Link.Stream.talk in
@@ -72,13 +62,30 @@ returns-clause-ran g c =
       talks = map talk c.ask_all-result.new.links.items;
       lasts = h.lasts;
       ended = h.ended;
-      hung_up = λ told. h.kept (a.port.onward.told ∙ told) ∙ ap (λ (l : List _). l ++ h.lasts) a.port.talks;
+      hung_up = λ told. h.kept (a.dials.only.onward.told ∙ told) ∙ ap (λ (l : List _). l ++ h.lasts) a.dials.only.talks;
       run = a.run;
       same = a.same;
-      later = a.onward.count;
-      rises = λ some. rose-later _ _ _ a.port.onward.count (h.rises some);
+      later = a.count;
+      rises = λ some. rose-later _ _ _ a.dials.only.onward.count (h.rises some);
       counts = record {
-        once = (let x = a.once.once in let y = h.most in omega (arith, x, y));
-        same = λ not. (let x = a.once.same (λ lost. not (bytes-lost DialFailed _ lost)) in let y = h.most in omega (arith, x, y));
+        once = (let x = a.dials.once.once in let y = h.most in omega (arith, x, y));
+        same = λ not. (let x = a.dials.once.same (λ lost. not (bytes-lost DialFailed _ lost)) in let y = h.most in omega (arith, x, y));
       };
+    }
+
+pub returns-clause-port : goal.returns-clause-port
+returns-clause-port g c =
+    let a = c.ask_all-result.ensures in
+    let h = c.hang_up_all.ensures in
+    let only = a.dials.only in
+    record {
+      dialled = λ lost. (let rose = a.dials.dialled lost in let later = h.onward.count in omega (arith, rose, later));
+      unwritten = λ lost. rose-later _ _ _ only.onward.count
+          (h.rises (ended-faulty _ _ h.ended (session-counts WriteFailed (inl refl) _ _ _ _ _ _ _ _ _ a.run lost)));
+      unread = λ lost. rose-later _ _ _ only.onward.count
+          (h.rises (ended-faulty _ _ h.ended (session-counts ReadFailed (inr refl) _ _ _ _ _ _ _ _ _ a.run lost)));
+      reads = a.dials.reads;
+      writes = a.dials.writes;
+      onward = onward-then _ _ _ only.onward h.onward;
+      accepting = h.accepting ∙ only.accepting;
     }
