@@ -1,7 +1,7 @@
 -- How long replies are, and what room they leave.
-use Rattle.std.proofs.Common.{◌≡◌, ◌+◌, ◌*◌, ◌-◌, ◌<◌, ◌≤◌, ◌++◌, ℕ, List, length, Option, Some, Result, Ok, Err, IfOk, IsOk, refl, sym, ap, ◌∙◌, arith, length-append}
+use Rattle.std.proofs.Common.{◌≡◌, ◌≢◌, ◌+◌, ◌*◌, ◌-◌, ◌<◌, ◌≤◌, ◌++◌, ℕ, List, length, Option, Some, Result, Ok, Err, IfOk, IsOk, refl, sym, ap, ◌∙◌, arith, length-append}
 use Rattle.aggregator_node.proofs.Answering.{Answered}
-use Rattle.aggregator_node.specs.Clients.{end_after, longest_reply, reply_frame}
+use Rattle.aggregator_node.specs.Clients.{StepEnds, end_after, longest_reply, reply_frame}
 use Rattle.aggregator_node.specs.Failures.{failure_of}
 use Rattle.aggregator_session.specs.Signing.{Signature, signature_in}
 use Rattle.aggregator_session.specs.declared.fault.SignFault.{SignFault}
@@ -20,7 +20,7 @@ use Rattle.session_core.specs.declared.faults.SessionFault.TheVariants as sessio
 use Rattle.stream_io.specs.declared.failed.Failed.{Failed}
 use Rattle.trustee_node.specs.Connections.{end_by}
 use Rattle.trustee_node.specs.declared.served.ServedEnd.{ServedEnd}
-use Rattle.trustee_node.specs.declared.served.ServedEnd.TheVariants.{WriteFailed}
+use Rattle.trustee_node.specs.declared.served.ServedEnd.TheVariants.{Frame, Full, Worn, WriteFailed}
 
 signature-size : (params : Params) (bytes : List ℕ) (q : ℕ) (c y path : List ℕ) → HasLayout params bytes q c y path → length bytes ≡ signature_length params
 signature-size params bytes q c y path has =
@@ -50,29 +50,62 @@ frame-length key message (Ok signed) accepted =
     omega (arith, size, eight, all)
 frame-length key message (Err fault) accepted = failure-short key.params fault
 
-end-written : (outcome : Result Signature SignFault) → end_after outcome ≡ Some WriteFailed → ⊥
-end-written (Ok signature) is = absurd (cc)
-end-written (Err (sign.TooLong got)) is = absurd (cc)
-end-written (Err sign.Worn) is = absurd (cc)
-end-written (Err (sign.Table fault)) is = absurd (cc)
-end-written (Err (sign.Lost member round why)) is = absurd (cc)
-end-written (Err (sign.Stray member round)) is = absurd (cc)
-end-written (Err (sign.Session (session.Missing member round))) is = absurd (cc)
-end-written (Err (sign.Session (session.SpentLeaf leaf member kept))) is = absurd (cc)
-end-written (Err (sign.Session (session.WrongCheck leaf member))) is = absurd (cc)
-end-written (Err (sign.Session (session.WrongRoot leaf got want))) is = absurd (cc)
-end-written (Err (sign.Session (session.MemberRefused member code))) is = absurd (cc)
-end-written (Err (sign.Session session.Reference)) is = absurd (cc)
-end-written (Err (sign.Session session.NoMemory)) is = absurd (cc)
-end-written (Err sign.NoMemory) is = absurd (cc)
+-- a request that was answered ends the connection by a worn pass or for want of memory alone
+end-other : (outcome : Result Signature SignFault) (end : ServedEnd) → end_after outcome ≡ Some end → end ≢ Worn → end ≢ Frame frame.NoMemory → ⊥
+end-other (Ok signature) end is worn memory = absurd (cc)
+end-other (Err (sign.TooLong got)) end is worn memory = absurd (cc)
+end-other (Err sign.Worn) end is worn memory = let same : end ≡ Worn = cc in worn same
+end-other (Err (sign.Table fault)) end is worn memory = absurd (cc)
+end-other (Err (sign.Lost member round why)) end is worn memory = absurd (cc)
+end-other (Err (sign.Stray member round)) end is worn memory = absurd (cc)
+end-other (Err (sign.Session (session.Missing member round))) end is worn memory = absurd (cc)
+end-other (Err (sign.Session (session.SpentLeaf leaf member kept))) end is worn memory = absurd (cc)
+end-other (Err (sign.Session (session.WrongCheck leaf member))) end is worn memory = absurd (cc)
+end-other (Err (sign.Session (session.WrongRoot leaf got want))) end is worn memory = absurd (cc)
+end-other (Err (sign.Session (session.MemberRefused member code))) end is worn memory = absurd (cc)
+end-other (Err (sign.Session session.Reference)) end is worn memory = absurd (cc)
+end-other (Err (sign.Session session.NoMemory)) end is worn memory = let same : end ≡ Frame frame.NoMemory = cc in memory same
+end-other (Err sign.NoMemory) end is worn memory = let same : end ≡ Frame frame.NoMemory = cc in memory same
 
--- a reply that was written ends no connection as one that was not
-pub not-unwritten : (written : Result (Unit {0}) Failed) (outcome : Result Signature SignFault) (replies : ℕ) (ended : Option ServedEnd) → Answered written outcome replies ended → IsOk written
-    → ended ≡ Some WriteFailed → ⊥
-not-unwritten (Ok done) outcome replies ended is ok failed = end-written outcome (sym is.1 ∙ failed)
-not-unwritten (Err fault) outcome replies ended is ok failed = absurd (cc)
+-- a request that was read, or for which there was no memory, by whether its answer was written
+pub step-answered : {steady fits : Type 0} (written : Result (Unit {0}) Failed) (outcome : Result Signature SignFault) (replies : ℕ) (ended : Option ServedEnd) → Answered written outcome replies ended
+    → (steady → fits → IsOk written) → StepEnds steady fits replies ended
+step-answered (Ok done) outcome replies ended is ok = record {
+  most = (let one = is.0 in omega (arith, one));
+  one = λ none. is.0;
+  not_full = λ full. end-other outcome Full (sym is.1 ∙ full) (λ e. absurd (cc)) (λ e. absurd (cc));
+  reads = λ steady failed. end-other outcome (Frame frame.ReadFault) (sym is.1 ∙ failed) (λ e. absurd (cc)) (λ e. absurd (cc));
+  writes = λ steady fits failed. end-other outcome WriteFailed (sym is.1 ∙ failed) (λ e. absurd (cc)) (λ e. absurd (cc));
+}
+step-answered (Err fault) outcome replies ended is ok = record {
+  most = (let none = is.0 in omega (arith, none));
+  one = λ none. let failed = is.1 in absurd (cc);
+  not_full = λ full. let failed = is.1 in absurd (cc);
+  reads = λ steady read. let failed = is.1 in absurd (cc);
+  writes = λ steady fits failed. let sure = ok steady fits in absurd (cc);
+}
 
-pub end-read : (fault : FrameFault) → end_by fault ≡ WriteFailed → ⊥
+end-full : (fault : FrameFault) → end_by fault ≡ Full → ⊥
+end-full frame.End is = absurd (cc)
+end-full frame.Cut is = absurd (cc)
+end-full frame.Magic is = absurd (cc)
+end-full (frame.Kind got) is = absurd (cc)
+end-full (frame.TooLong got) is = absurd (cc)
+end-full frame.Shape is = absurd (cc)
+end-full frame.ReadFault is = absurd (cc)
+end-full frame.NoMemory is = absurd (cc)
+
+end-failed : (fault : FrameFault) → end_by fault ≡ Frame frame.ReadFault → fault ≡ frame.ReadFault
+end-failed frame.End is = absurd (cc)
+end-failed frame.Cut is = absurd (cc)
+end-failed frame.Magic is = absurd (cc)
+end-failed (frame.Kind got) is = absurd (cc)
+end-failed (frame.TooLong got) is = absurd (cc)
+end-failed frame.Shape is = absurd (cc)
+end-failed frame.ReadFault is = refl
+end-failed frame.NoMemory is = absurd (cc)
+
+end-read : (fault : FrameFault) → end_by fault ≡ WriteFailed → ⊥
 end-read frame.End is = absurd (cc)
 end-read frame.Cut is = absurd (cc)
 end-read frame.Magic is = absurd (cc)
@@ -81,6 +114,16 @@ end-read (frame.TooLong got) is = absurd (cc)
 end-read frame.Shape is = absurd (cc)
 end-read frame.ReadFault is = absurd (cc)
 end-read frame.NoMemory is = absurd (cc)
+
+-- no request was read
+pub step-unread : {steady fits : Type 0} (fault : FrameFault) (end : ServedEnd) → end ≡ end_by fault → (steady → fault ≢ frame.ReadFault) → StepEnds steady fits 0 (Some end)
+step-unread fault end by sound = record {
+  most = omega arith;
+  one = λ none. absurd (cc);
+  not_full = λ full. let same : end ≡ Full = cc in end-full fault (sym by ∙ same);
+  reads = λ steady failed. let same : end ≡ Frame frame.ReadFault = cc in sound steady (end-failed fault (sym by ∙ same));
+  writes = λ steady fits failed. let same : end ≡ WriteFailed = cc in end-read fault (sym by ∙ same);
+}
 
 -- the room behind some of the replies
 pub room-left : (n size had has : ℕ) → n < 65536 → 65536 * size ≤ had → had ≤ has + n * size → size ≤ has

@@ -92,10 +92,7 @@ module _ (desk : DeskState) where
         done = b.done;
         accepted = accepts;
         serves = serves-told desk old.reference mid.reference _ _ _ _ _ a.same b.serves;
-        most = b.most;
-        full = b.full;
-        answers = b.answers;
-        writes = b.writes;
+        ends = b.ends;
         ended = b.hung_up.ended;
         kept = b.hung_up.kept;
       } in
@@ -104,7 +101,7 @@ module _ (desk : DeskState) where
         links = links-more desk old.reference old.post mid.post post one a.served a.links serves;
         few = (
             let before = a.few in
-            let most = b.most in
+            let most = b.ends.most in
             let here = serves-few desk mid.reference _ _ _ _ _ b.serves in
             let all = ap length (requests-more a.served one) in
             omega (arith, before, most, here, all, length-append (requests_of a.served) b.requests, length-append a.served (one ∷ []))

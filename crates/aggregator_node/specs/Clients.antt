@@ -1,6 +1,6 @@
 -- A client's connection: its requests are read one after the other, and each is signed and answered.
-use Rattle.std.specs.Prelude.{◌≡◌, ◌≢◌, ◌+◌, ◌++◌, ℕ, Bool, List, [], ◌∷◌, length, Option, None, Some, Result, Ok, Err}
-use Rattle.std.specs.Prelude.{IfOk, IsTrue}
+use Rattle.std.specs.Prelude.{◌≡◌, ◌≢◌, ◌+◌, ◌*◌, ◌≤◌, ◌++◌, ℕ, Bool, List, [], ◌∷◌, length, Option, None, Some}
+use Rattle.std.specs.Prelude.{Result, Ok, Err, IfOk, IsTrue}
 use Rattle.aggregator_session.specs.declared.fault.SignFault.{SignFault}
 use Rattle.aggregator_session.specs.declared.fault.SignFault.TheVariants as sign
 use Rattle.aggregator_node.specs.Failures.{failure_of}
@@ -29,6 +29,7 @@ use Rattle.stream_io.specs.Net.{PortState}
 use Rattle.stream_io.specs.Store.{RisesWhere}
 use Rattle.stream_io.specs.Talk.{OnlyRead, OnlyWrote, Talk, WrotePart}
 use Rattle.trustee_node.specs.Connections.{end_by}
+use Rattle.trustee_node.specs.declared.served.Served.{Served}
 use Rattle.trustee_node.specs.declared.served.ServedEnd.{ServedEnd}
 use Rattle.trustee_node.specs.declared.served.ServedEnd.TheVariants.{Frame, Full, Worn, WriteFailed}
 use Rattle.turn_lock.specs.Pass.{Seen}
@@ -176,6 +177,15 @@ pub record HasAnswered (desk : DeskState) (reference : ReferenceState) (old new 
   pub requests : List Request
   pub answers : Answers desk reference old requests replies ended new
 
+-- internal: What is known of one request, by whether its link is steady and has room for a reply: one reply at most was
+-- written whole, and one where the connection goes on. A steady link is read and, with that room, written without fail.
+pub record StepEnds (steady fits : Type 0) (replies : ℕ) (ended : Option ServedEnd) : Type 0 where
+  pub most : replies ≤ 1
+  pub one : ended ≡ None → replies ≡ 1
+  pub not_full : ended ≢ Some Full
+  pub reads : steady → ended ≢ Some (Frame frame.ReadFault)
+  pub writes : steady → fits → ended ≢ Some WriteFailed
+
 -- A connection from where it stands: the requests that were read whole, in their order, how many replies were written
 -- whole in all, and how it ended: by a request that was the last, or since it was full.
 pub data Serves (desk : DeskState) (reference : ReferenceState)
@@ -193,3 +203,12 @@ pub record HasServed (desk : DeskState) (reference : ReferenceState) (old new : 
     : Type 0 where
   pub requests : List Request
   pub serves : Serves desk reference old requests replies end new
+
+-- How serving a link ended that is steady where this says so, and has this room: with 65536 replies at most, and full
+-- only with so many. A steady link never fails to be read, nor to be written where it has room for as many of the
+-- longest replies.
+pub record HasEnded (params : Params) (steady : Bool) (room : ℕ) (served : Served) : Type 0 where
+  pub most : served.frames ≤ 65536
+  pub full : served.ended ≡ Full → served.frames ≡ 65536
+  pub answers : IsTrue steady → served.ended ≢ Frame frame.ReadFault
+  pub writes : IsTrue steady → 65536 * longest_reply params ≤ room → served.ended ≢ WriteFailed

@@ -1,17 +1,15 @@
 -- What a worker does with the links of its clients.
-use Rattle.std.specs.Prelude.{◌≡◌, ◌≢◌, ◌≤◌, ◌*◌, ◌==◌, ℕ, Bool, List, [], ◌∷◌, Result, Ok, Err, IsTrue, if◌then◌else◌}
+use Rattle.std.specs.Prelude.{◌==◌, ℕ, Bool, List, [], ◌∷◌, Result, Ok, Err, if◌then◌else◌}
 use Rattle.std.specs.List.{flat_map, sum_by}
 use Rattle.aggregator_session.specs.declared.fault.SignFault.{SignFault}
-use Rattle.aggregator_node.specs.Clients.{ReferenceState, Request, Serves, longest_reply}
+use Rattle.aggregator_node.specs.Clients.{HasEnded, ReferenceState, Request, Serves}
 use Rattle.aggregator_node.specs.Failures.{failure_of}
 use Rattle.leaf_table.specs.declared.lease.Lease.{Lease}
 use Rattle.leaf_table.specs.declared.table.TableName.{TableName}
 use Rattle.aggregator_session.specs.Signing.{DeskState, Signature}
-use Rattle.round_frames.specs.declared.fault.FrameFault.TheVariants.{ReadFault}
 use Rattle.stream_io.specs.Net.{Accepts, KeepsTalk, PortOnward, PortState, SameLinks}
 use Rattle.stream_io.specs.Talk.{Ended, Talk}
 use Rattle.trustee_node.specs.declared.served.Served.{Served}
-use Rattle.trustee_node.specs.declared.served.ServedEnd.TheVariants.{Frame, Full, WriteFailed}
 use Rattle.turn_lock.specs.Pass.{Seen}
 
 -- where a worker stands: what its pass has seen, its port, and the count of faults of the reference that it reads
@@ -29,9 +27,7 @@ pub record Connection : Type 0 where
   pub requests : List Request
   pub served : Served
 
--- A link was accepted, served and hung up. The members of its requests were dialled from the same port. It is full only
--- once 65536 requests were answered. A steady link never fails to be read, nor to be written where it was accepted with
--- room for as many of the longest replies.
+-- A link was accepted, served and hung up. The members of its requests were dialled from the same port.
 pub record ServesLink (desk : DeskState) (reference : ReferenceState) (old new : Post) (one : Connection)
     : Type 0 where
   pub steady : Bool
@@ -42,10 +38,7 @@ pub record ServesLink (desk : DeskState) (reference : ReferenceState) (old new :
       (record { pass = old.pass; port = begun; faults = old.faults; talk = one.link })
       one.requests one.served.frames one.served.ended
       (record { pass = new.pass; port = done; faults = new.faults; talk = one.talk })
-  pub most : one.served.frames ≤ 65536
-  pub full : one.served.ended ≡ Full → one.served.frames ≡ 65536
-  pub answers : IsTrue steady → one.served.ended ≢ Frame ReadFault
-  pub writes : IsTrue steady → 65536 * longest_reply desk.key.params ≤ one.link.room → one.served.ended ≢ WriteFailed
+  pub ends : HasEnded desk.key.params steady one.link.room one.served
   pub ended : Ended one.talk one.last
   pub kept : KeepsTalk done one.last new.port
 

@@ -1,6 +1,6 @@
 -- What the worker of a port has done.
-use Rattle.std.specs.Prelude.{◌≡◌, ◌≢◌, ◌≤◌, ◌*◌, ◌-◌, ◌^◌, ℕ, Bool, true, false, List, length, min, IsTrue}
-use Rattle.aggregator_node.specs.Clients.{ReferenceState, Request, SameReference, Serves, longest_reply}
+use Rattle.std.specs.Prelude.{◌≡◌, ◌≤◌, ◌*◌, ◌-◌, ◌^◌, ℕ, Bool, true, false, List, length, min, IsTrue}
+use Rattle.aggregator_node.specs.Clients.{HasEnded, ReferenceState, Request, SameReference, Serves}
 use Rattle.aggregator_node.specs.Turns.{IsIdle}
 use Rattle.aggregator_node.specs.Ports.{reference_state}
 use Rattle.aggregator_node.specs.Posts.{Connection, Post, Works, frames_of, requests_of}
@@ -9,12 +9,10 @@ use Rattle.leaf_table.specs.declared.lease.Lease.{Lease}
 use Rattle.leaf_table.specs.declared.table.TableName.{TableName}
 use Rattle.aggregator_session.specs.Signing.{DeskState}
 use Rattle.reference_value.specs.declared.cells.Cells as cells
-use Rattle.round_frames.specs.declared.fault.FrameFault.TheVariants.{ReadFault}
 use Rattle.stream_io.specs.Net.{HangsUp, PortOnward, PortState}
 use Rattle.stream_io.specs.Store.{RisesWhere}
 use Rattle.stream_io.specs.Talk.{Talk}
 use Rattle.trustee_node.specs.declared.served.Served.{Served}
-use Rattle.trustee_node.specs.declared.served.ServedEnd.TheVariants.{Frame, Full, WriteFailed}
 use Rattle.trustee_node.specs.declared.worker.Worker.{Worker}
 use Rattle.turn_lock.specs.Lock.{Lock}
 use Rattle.turn_lock.specs.Pass.{Seen}
@@ -40,8 +38,8 @@ worker_state state c f worker = record {
   failed = worker.failed;
 }
 
--- internal: Clients can be served by this pass with these cells: the pass is idle, and the cells are of the desk's set
--- and plan, which are those of its tree.
+-- messages can be signed by this pass with these cells: the pass is idle, and the cells are of the desk's set and plan,
+-- which are those of its tree
 pub record IsReady {X : Type 0} (c : cells.Ghosts X) (lock : Lock Lease TableName) (desk : DeskState)
     (pass : Seen Lease TableName) (own : X) : Type 0 where
   pub idle : IsIdle lock desk.plan pass
@@ -60,10 +58,7 @@ pub record HasServedLink (desk : DeskState) (reference : ReferenceState) (old ne
   pub serves : Serves desk reference
       (record { pass = old.pass; port = old.port; faults = old.faults; talk = link }) requests served.frames
       served.ended (record { pass = new.pass; port = done; faults = new.faults; talk = talk })
-  pub most : served.frames ≤ 65536
-  pub full : served.ended ≡ Full → served.frames ≡ 65536
-  pub answers : IsTrue steady → served.ended ≢ Frame ReadFault
-  pub writes : IsTrue steady → 65536 * longest_reply desk.key.params ≤ link.room → served.ended ≢ WriteFailed
+  pub ends : HasEnded desk.key.params steady link.room served
   pub hung_up : HangsUp done talk new.port
   pub onward : PortOnward done new.port
 

@@ -1,9 +1,12 @@
 //! Connections of clients.
 
-ghost use Rattle.std.specs.Prelude.{◌≡◌, ◌≢◌, ◌+◌, ◌*◌, ◌≤◌, ◌<◌, ◌^◌, ◌++◌, None, Some, length, IfOk, IsOk, IsTrue};
+ghost use Rattle.std.specs.Prelude.{◌≡◌, ◌+◌, ◌≤◌, ◌<◌, ◌^◌, ◌++◌, Some, length, IfOk, IsOk, IsTrue};
 ghost use Rattle.std.specs.Prelude.{MatchResult};
-ghost use Rattle.aggregator_node.specs.Clients.{HasAnswered, HasServed, end_after, longest_reply, reply_frame};
+ghost use Rattle.aggregator_node.specs.Clients.{HasAnswered, HasEnded, HasServed, StepEnds, end_after, longest_reply};
+ghost use Rattle.aggregator_node.specs.Clients.{reply_frame};
+ghost use Rattle.aggregator_node.specs.Ports.{reference_state};
 ghost use Rattle.aggregator_node.specs.Turns.{IsIdle};
+ghost use Rattle.aggregator_node.specs.Workers.{IsReady};
 ghost use Rattle.disk_trait.specs.Faults.{HasCause};
 ghost use Rattle.aggregator_session.specs.Signing.{desk_state, signature_in};
 ghost use Rattle.reference_value.specs.Stay.{CellsStay};
@@ -49,21 +52,12 @@ pub fn serve_client<R: Cells, D: Disk, P: Port, L: Source + Sink>(
     port: &mut P,
     link: &mut L,
 ) -> Served
-    requires pass { IsIdle lock.now desk.now.plan.now pass.old }
-    requires height { desk.now.plan.now.h ≡ desk.now.key.now.params.h }
-    requires cells { (R.set cells.old ≡ desk.now.key.now.params) × (R.plan cells.old ≡ desk.now.plan.now) }
-    requires tree { (desk.now.tree.now.n ≡ desk.now.key.now.params.n)
-        × (desk.now.tree.now.h ≡ desk.now.key.now.params.h) }
-    ensures serves { HasServed (desk_state desk.now)
-        (record { told = R.told cells.old; steady = R.steady cells.old; leaves = R.leaves cells.old })
+    requires ready { IsReady R.Cells.own lock.now (desk_state desk.now) pass.old cells.old }
+    ensures serves { HasServed (desk_state desk.now) (reference_state R.Cells.own R.Faults cells.old)
         (record { pass = pass.old; port = P.state port.old; faults = R.count cells.old; talk = L.talk link.old })
         (record { pass = pass.new; port = P.state port.new; faults = R.count cells.new; talk = L.talk link.new })
         result.frames result.ended }
-    ensures most { result.frames ≤ 65536 }
-    ensures full { result.ended ≡ ServedEnd.Full → result.frames ≡ 65536 }
-    ensures answers { IsTrue (L.steady link.old) → result.ended ≢ ServedEnd.Frame FrameFault.ReadFault }
-    ensures writes { IsTrue (L.steady link.old) → 65536 * longest_reply desk.now.key.now.params ≤ L.room link.old
-        → result.ended ≢ ServedEnd.WriteFailed }
+    ensures ends { HasEnded desk.now.key.now.params (L.steady link.old) (L.room link.old) result }
     ensures takes { (L.talk link.old).room ≡ L.room link.old }
     ensures steady { L.steady link.new ≡ L.steady link.old }
     ensures cells { CellsStay R.Cells.own R.Faults cells.old cells.new }
@@ -94,22 +88,13 @@ fn answer_next<R: Cells, D: Disk, P: Port, L: Source + Sink>(
     port: &mut P,
     link: &mut L,
 ) -> Step
-    requires pass { IsIdle lock.now desk.now.plan.now pass.old }
-    requires height { desk.now.plan.now.h ≡ desk.now.key.now.params.h }
-    requires cells { (R.set cells.old ≡ desk.now.key.now.params) × (R.plan cells.old ≡ desk.now.plan.now) }
-    requires tree { (desk.now.tree.now.n ≡ desk.now.key.now.params.n)
-        × (desk.now.tree.now.h ≡ desk.now.key.now.params.h) }
-    ensures answers { HasAnswered (desk_state desk.now)
-        (record { told = R.told cells.old; steady = R.steady cells.old; leaves = R.leaves cells.old })
+    requires ready { IsReady R.Cells.own lock.now (desk_state desk.now) pass.old cells.old }
+    ensures answers { HasAnswered (desk_state desk.now) (reference_state R.Cells.own R.Faults cells.old)
         (record { pass = pass.old; port = P.state port.old; faults = R.count cells.old; talk = L.talk link.old })
         (record { pass = pass.new; port = P.state port.new; faults = R.count cells.new; talk = L.talk link.new })
         result.replies result.ended }
-    ensures most { result.replies ≤ 1 }
-    ensures one { result.ended ≡ None → result.replies ≡ 1 }
-    ensures open { result.ended ≢ Some ServedEnd.Full }
-    ensures reads { IsTrue (L.steady link.old) → result.ended ≢ Some (ServedEnd.Frame FrameFault.ReadFault) }
-    ensures writes { IsTrue (L.steady link.old) → longest_reply desk.now.key.now.params ≤ L.room link.old
-        → result.ended ≢ Some ServedEnd.WriteFailed }
+    ensures ends { StepEnds (IsTrue (L.steady link.old))
+        (longest_reply desk.now.key.now.params ≤ L.room link.old) result.replies result.ended }
     ensures room { L.room link.old ≤ L.room link.new + longest_reply desk.now.key.now.params }
     ensures steady { L.steady link.new ≡ L.steady link.old }
     ensures cells { CellsStay R.Cells.own R.Faults cells.old cells.new }

@@ -1,10 +1,11 @@
 //! One message, signed with a leaf that is leased for it in a turn of a table's lock.
 
-ghost use Rattle.std.specs.Prelude.{◌≡◌, IfOk};
+ghost use Rattle.std.specs.Prelude.{IfOk};
 ghost use Rattle.aggregator_session.specs.Runs.{reads_of};
 ghost use Rattle.aggregator_node.specs.Logs.{Shown};
 ghost use Rattle.aggregator_node.specs.Signing.{SignsInTurns};
 ghost use Rattle.aggregator_node.specs.Turns.{IsIdle};
+ghost use Rattle.aggregator_node.specs.Workers.{IsReady};
 ghost use Rattle.aggregator_session.specs.Causes.{PortCauses, ReferenceCauses};
 ghost use Rattle.aggregator_session.specs.Signing.{desk_state, signature_in};
 ghost use Rattle.lms_bytes.specs.MessageId.{message_id};
@@ -36,11 +37,7 @@ pub fn sign_one<R: Cells, D: Disk, P: Port>(
     members: Members,
     message: &[u8],
 ) -> Result<Signed, SignFault>
-    requires pass { IsIdle lock.now desk.now.plan.now pass.old }
-    requires height { desk.now.plan.now.h ≡ desk.now.key.now.params.h }
-    requires cells { (R.set cells.old ≡ desk.now.key.now.params) × (R.plan cells.old ≡ desk.now.plan.now) }
-    requires tree { (desk.now.tree.now.n ≡ desk.now.key.now.params.n)
-        × (desk.now.tree.now.h ≡ desk.now.key.now.params.h) }
+    requires ready { IsReady R.Cells.own lock.now (desk_state desk.now) pass.old cells.old }
     ensures signs { SignsInTurns (desk_state desk.now) (reads_of R.Cells.own R.Faults cells.old cells.new) members
         message.now pass.old (P.state port.old) pass.new (P.state port.new) (signature_in result) }
     ensures shows { Shown desk.now.plan.now members (message_id message.now) pass.old pass.new

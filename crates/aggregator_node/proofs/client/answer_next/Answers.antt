@@ -1,11 +1,10 @@
-use Rattle.std.proofs.Common.{◌≡◌, ◌≢◌, [], Err, inl, inr, true≢false, refl, sym, ap, ◌∙◌, arith}
+use Rattle.std.proofs.Common.{◌≢◌, [], Err, inl, inr, true≢false, refl, sym, ap, ◌∙◌, arith}
 use Rattle.round_frames.specs.declared.fault.FrameFault.TheVariants.{NoMemory, ReadFault}
 use Rattle.aggregator_node.specs.Clients.{no_request}
 use Rattle.aggregator_node.proofs.Answering.{accepted_as, exact_cells, exchange_answered, never_as, port_as, reference_as, room_answered}
-use Rattle.aggregator_node.proofs.Replying.{end-read, failure-short, frame-length, not-unwritten}
+use Rattle.aggregator_node.proofs.Replying.{failure-short, frame-length, step-answered, step-unread}
 use Rattle.aggregator_session.specs.Signing.{signature_in}
 use Rattle.aggregator_session.specs.declared.fault.SignFault.TheVariants as sign
-use Rattle.trustee_node.specs.declared.served.ServedEnd.TheVariants.{WriteFailed}
 use Rattle.aggregator_node.proofs.client.answer_next.Goals as goal
 
 pub returns-then-eq-clause-answers : goal.returns-then-eq-clause-answers
@@ -77,21 +76,10 @@ returns-clause-answers g c =
               accepted = accepted_as _ _ result (rw c.deref.ensures.value at s.accepted);
               port = port_as _ _ _ result (rw c.deref.ensures.value at s.port);
               rises = reference_as _ _ result s.cells.rises;
-              succeeds = λ is. never_as result (s.cells.succeeds (exact_cells _ _ _ _ c.requires.cells.0 c.requires.cells.1 is));
+              succeeds = λ is. never_as result (s.cells.succeeds (exact_cells _ _ _ _ c.requires.ready.set c.requires.ready.plan is));
             };
           }) w.wrote w.only w.cause c.answered-2.ensures;
     }
-
--- a reply has the room that the link had before its request was read
-pub returns-then-eq-clause-writes : goal.returns-then-eq-clause-writes
-returns-then-eq-clause-writes g c steady fits is =
-    let read = c.in-Err.ensures in
-    let before = g.met.L.Sink.rooms c.args.link.now in
-    let after = g.met.L.Sink.rooms c.next_request.new.source in
-    let kept = read.only.room in
-    let short = failure-short c.args.desk.now.key.now.params sign.NoMemory in
-    not-unwritten c.write_outcome.result (Err sign.NoMemory) c.answered.result.replies c.answered.result.ended c.answered.ensures
-    (c.write_outcome.ensures.succeeds (read.steady ∙ steady) (omega (arith, fits, before, after, kept, short))) is
 
 pub returns-then-eq-clause-room : goal.returns-then-eq-clause-room
 returns-then-eq-clause-room g c =
@@ -102,27 +90,12 @@ returns-then-eq-clause-room g c =
     let short = failure-short c.args.desk.now.key.now.params sign.NoMemory in
     omega (arith, before, after, kept, wrote, short)
 
-pub returns-in-Err-clause-writes : goal.returns-in-Err-clause-writes
-returns-in-Err-clause-writes g c steady fits is =
-    let same : c.end_by.result ≡ WriteFailed = cc in
-    end-read c.in-Err.fault (sym c.end_by.ensures ∙ same)
-
 pub returns-in-Err-clause-room : goal.returns-in-Err-clause-room
 returns-in-Err-clause-room g c =
     let before = g.met.L.Sink.rooms c.args.link.now in
     let after = g.met.L.Sink.rooms c.next_request.new.source in
     let kept = c.in-Err.ensures.only.room in
     omega (arith, before, after, kept)
-
-pub returns-clause-writes : goal.returns-clause-writes
-returns-clause-writes g c steady fits is =
-    let read = c.in-Ok.ensures in
-    let before = g.met.L.Sink.rooms c.args.link.now in
-    let after = g.met.L.Sink.rooms c.next_request.new.source in
-    let kept = read.only.room in
-    let short = frame-length _ _ c.sign_one-outcome.result c.sign_one-outcome.ensures.accepted in
-    not-unwritten c.write_outcome-2.result (signature_in c.sign_one-outcome.result) c.answered-2.result.replies c.answered-2.result.ended c.answered-2.ensures
-    (c.write_outcome-2.ensures.succeeds (read.steady ∙ steady) (omega (arith, fits, before, after, kept, short))) is
 
 pub returns-clause-room : goal.returns-clause-room
 returns-clause-room g c =
@@ -132,3 +105,28 @@ returns-clause-room g c =
     let wrote = c.write_outcome-2.ensures.room in
     let short = frame-length _ _ c.sign_one-outcome.result c.sign_one-outcome.ensures.accepted in
     omega (arith, before, after, kept, wrote, short)
+
+-- a reply has the room that the link had before its request was read
+pub returns-then-eq-clause-ends : goal.returns-then-eq-clause-ends
+returns-then-eq-clause-ends g c =
+    let read = c.in-Err.ensures in
+    let before = g.met.L.Sink.rooms c.args.link.now in
+    let after = g.met.L.Sink.rooms c.next_request.new.source in
+    let kept = read.only.room in
+    let short = failure-short c.args.desk.now.key.now.params sign.NoMemory in
+    step-answered c.write_outcome.result (Err sign.NoMemory) c.answered.result.replies c.answered.result.ended c.answered.ensures
+    (λ steady fits. c.write_outcome.ensures.succeeds (read.steady ∙ steady) (omega (arith, fits, before, after, kept, short)))
+
+pub returns-in-Err-clause-ends : goal.returns-in-Err-clause-ends
+returns-in-Err-clause-ends g c =
+    step-unread c.in-Err.fault c.end_by.result c.end_by.ensures (λ steady is. c.in-Err.ensures.answers steady (ap Err is))
+
+pub returns-clause-ends : goal.returns-clause-ends
+returns-clause-ends g c =
+    let read = c.in-Ok.ensures in
+    let before = g.met.L.Sink.rooms c.args.link.now in
+    let after = g.met.L.Sink.rooms c.next_request.new.source in
+    let kept = read.only.room in
+    let short = frame-length _ _ c.sign_one-outcome.result c.sign_one-outcome.ensures.accepted in
+    step-answered c.write_outcome-2.result (signature_in c.sign_one-outcome.result) c.answered-2.result.replies c.answered-2.result.ended c.answered-2.ensures
+    (λ steady fits. c.write_outcome-2.ensures.succeeds (read.steady ∙ steady) (omega (arith, fits, before, after, kept, short)))

@@ -22,7 +22,7 @@ pub requests-preserved : goal.requests-preserved
 requests-preserved g c =
     let v = c.requests.invariant in
     let step = c.answer_next-step.ensures in
-    let one = step.one c.in_default.is in
+    let one = step.ends.one c.in_default.is in
     record {
       goes = λ others replies end last served.
           let whole : c.requests.frames + (c.answer_next-step.result.replies + replies) ≡ c.requests.frames + c.answer_next-step.result.replies + replies = omega arith in
@@ -38,18 +38,38 @@ requests-preserved g c =
 pub requests-init : goal.requests-init
 requests-init g c = record {
   goes = λ requests replies end last served. (let none : 0 + replies ≡ replies = omega arith in rw none (record { requests = requests; serves = served }));
-  pass = c.requires.pass;
+  pass = c.requires.ready.idle;
   frames = refl;
   room = omega arith;
   stays = record { set = refl; plan = refl; told = refl; steady = refl; leaves = λ told. refl };
   steady = refl;
 }
 
-pub returns-in-Some-clause-writes : goal.returns-in-Some-clause-writes
-returns-in-Some-clause-writes g c steady fits is =
+pub returns-in-Some-clause-ends : goal.returns-in-Some-clause-ends
+returns-in-Some-clause-ends g c =
     let v = c.requests.invariant in
-    let left = room-left c.requests.counter (longest_reply c.args.desk.now.key.now.params) (g.L.Sink.room c.args.link.now) (g.L.Sink.room c.requests.link) c.requests-test.true fits v.room in
-    c.answer_next-step.ensures.writes (v.steady ∙ steady) left (c.in-Some.is ∙ ap (λ (end : ServedEnd). Some end) is)
+    let step = c.answer_next-step.ensures.ends in
+    let some_end = λ (end : ServedEnd). Some end in
+    record {
+      most = (let so_far = v.frames in let most = step.most in let before = c.requests-test.true in omega (arith, so_far, most, before));
+      full = λ is. absurd (step.not_full (c.in-Some.is ∙ ap some_end is));
+      answers = λ steady is. step.reads (v.steady ∙ steady) (c.in-Some.is ∙ ap some_end is);
+      writes = λ steady fits is.
+          let left = room-left c.requests.counter (longest_reply c.args.desk.now.key.now.params) (g.L.Sink.room c.args.link.now) (g.L.Sink.room c.requests.link) c.requests-test.true fits v.room in
+          step.writes (v.steady ∙ steady) left (c.in-Some.is ∙ ap some_end is);
+    }
+
+pub returns-clause-ends : goal.returns-clause-ends
+returns-clause-ends g c =
+    let so_far = c.requests.invariant.frames in
+    let last = c.requests-test.false in
+    let end = c.requests.auto.counter-end in
+    record {
+      most = omega (arith, so_far, last, end);
+      full = λ _. omega (arith, so_far, last, end);
+      answers = λ steady is. absurd (cc);
+      writes = λ steady fits is. absurd (cc);
+    }
 
 pub returns-in-Some-clause-takes : goal.returns-in-Some-clause-takes
 returns-in-Some-clause-takes g c = g.met.L.Sink.rooms c.args.link.now

@@ -35,13 +35,13 @@ returns-clause-signs g c =
 
 pub returns-then-message-clause-shows : goal.returns-then-message-clause-shows
 returns-then-message-clause-shows g c =
-    shows _ (desk_state c.args.desk.now) _ c.args.members c.args.message.now _ _ _ _ _ c.requires.pass.2 (returns-then-message-clause-signs g c)
+    shows _ (desk_state c.args.desk.now) _ c.args.members c.args.message.now _ _ _ _ _ c.requires.ready.idle.2 (returns-then-message-clause-signs g c)
 
 pub returns-in-Err-clause-shows : goal.returns-in-Err-clause-shows
-returns-in-Err-clause-shows g c = shows _ _ _ _ c.args.message.now _ _ _ _ _ c.requires.pass.2 (returns-in-Err-clause-signs g c)
+returns-in-Err-clause-shows g c = shows _ _ _ _ c.args.message.now _ _ _ _ _ c.requires.ready.idle.2 (returns-in-Err-clause-signs g c)
 
 pub returns-in_err-outcome-clause-shows : goal.returns-in_err-outcome-clause-shows
-returns-in_err-outcome-clause-shows g c = shows _ _ _ _ c.args.message.now _ _ _ _ _ c.requires.pass.2 (returns-in_err-outcome-clause-signs g c)
+returns-in_err-outcome-clause-shows g c = shows _ _ _ _ c.args.message.now _ _ _ _ _ c.requires.ready.idle.2 (returns-in_err-outcome-clause-signs g c)
 
 pub returns-clause-shows : goal.returns-clause-shows
-returns-clause-shows g c = shows _ _ _ _ c.args.message.now _ _ _ _ _ c.requires.pass.2 (returns-clause-signs g c)
+returns-clause-shows g c = shows _ _ _ _ c.args.message.now _ _ _ _ _ c.requires.ready.idle.2 (returns-clause-signs g c)

@@ -11,10 +11,12 @@ returns-clause-served g c =
       requests = s.serves.requests;
       done = g.P.Port.state c.serve_client-served.new.port;
       serves = s.serves.serves;
-      most = s.most;
-      full = s.full;
-      answers = s.answers;
-      writes = λ steady fits. s.writes steady (omega (arith, fits, room));
+      ends = record {
+        most = s.ends.most;
+        full = s.ends.full;
+        answers = s.ends.answers;
+        writes = λ steady fits. s.ends.writes steady (omega (arith, fits, room));
+      };
       hung_up = h.kept;
       onward = h.onward;
     }
