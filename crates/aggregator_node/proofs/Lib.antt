@@ -15,3 +15,4 @@ mod Summing
 pub mod Gathering
 mod Joining
 mod Finishing
+mod RoomyLinks

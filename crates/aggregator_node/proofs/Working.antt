@@ -95,6 +95,7 @@ module _ (desk : DeskState) where
         ends = b.ends;
         ended = b.hung_up.ended;
         kept = b.hung_up.kept;
+        onward = onward-then mid.post.port port post.port onward (onward-then port b.done post.port dialled.onward b.onward);
       } in
       record {
         served = a.served ++ one ∷ [];
@@ -107,8 +108,7 @@ module _ (desk : DeskState) where
             omega (arith, before, most, here, all, length-append (requests_of a.served) b.requests, length-append a.served (one ∷ []))
             );
         same = same-then old.reference mid.reference reference a.same same;
-        onward = onward-then old.post.port mid.post.port post.port a.onward
-            (onward-then mid.post.port port post.port onward (onward-then port b.done post.port dialled.onward b.onward));
+        onward = onward-then old.post.port mid.post.port post.port a.onward serves.onward;
         accepting = b.hung_up.kept.accept_count ∙ dialled.accepting ∙ quiet ∙ a.accepting;
         connections = (let c = a.connections in omega (arith, c, length-append a.served (one ∷ [])));
         frames = (let t = a.frames in omega (arith, t, sum, sum_by-append (λ (c : Connection). c.served.frames) a.served (one ∷ [])));

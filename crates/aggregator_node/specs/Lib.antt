@@ -5,5 +5,6 @@ pub mod Signing
 pub mod Turns
 pub mod Posts
 pub mod Ports
+pub mod Roomy
 pub mod Workers
 pub mod Gathered

@@ -41,6 +41,7 @@ pub record ServesLink (desk : DeskState) (reference : ReferenceState) (old new :
   pub ends : HasEnded desk.key.params steady one.link.room one.served
   pub ended : Ended one.talk one.last
   pub kept : KeepsTalk done one.last new.port
+  pub onward : PortOnward old.port new.port
 
 -- no link was accepted, and no further one was asked for
 pub record Leaves (old new : PortState) : Type 0 where

@@ -3,6 +3,7 @@
 #![tactic(auto)]
 
 mod client;
+pub mod client_laws;
 mod failure;
 mod gather;
 mod service;
