@@ -152,7 +152,7 @@ module _ (member round : ℕ) where
 
       loses : (s : Signing) (old new : TableSeen) (why : Why) → IsTask asked store source s → IsUnfailed why → SignedOver s old new net (lost_with member round why) → Loses
       loses s old new why task unfailed over =
-          inr (record { signing = s; task = task; old = old; new = new; why = why; unfailed = unfailed; over = over })
+          inr (record { signing = s; task = task; old = old; new = new; why = why; of_kind = unfailed; over = over })
 
       pub by-why : ByWhy member round asked store source net Loses
       by-why s old new NoAddress task over = loses s old new NoAddress task tt over
@@ -204,7 +204,7 @@ module _ (member round : ℕ) (asked : SessionWords) (store : StoreRun) (source 
 
   of-peer : (s : Signing) (old new : TableSeen) (why : Why) → IsTask asked store source s → IsOfPeer why → SignedOver s old new net (lost_with member round why)
       → LosesPeer asked store source net member round
-  of-peer s old new why task of over = record { signing = s; task = task; old = old; new = new; why = why; of_peer = of; over = over }
+  of-peer s old new why task of over = record { signing = s; task = task; old = old; new = new; why = why; of_kind = of; over = over }
 
   pub peer-why : ByWhy member round asked store source net (LosesPeer asked store source net member round)
   peer-why s old new NoAddress task over = of-peer s old new NoAddress task tt over

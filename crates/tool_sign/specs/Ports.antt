@@ -1,16 +1,19 @@
 -- A port of a net that only dials, and what was signed over it.
 use Rattle.std.specs.Prelude.{◌≡◌, ◌≢◌, ◌++◌, ◌&&◌, ◌==◌, ℕ, Bool, List, [], ◌∷◌, length, None}
 use Rattle.std.specs.Prelude.{Result, Ok, Err, IfOk, IsTrue}
-use Rattle.aggregator_session.specs.Runs.{CellsRead}
+use Rattle.aggregator_session.specs.Runs.{CellsRead, reads_of}
+use Rattle.aggregator_session.specs.declared.desk.Desk.{Desk}
 use Rattle.aggregator_session.specs.declared.fault.SignFault.{SignFault}
 use Rattle.aggregator_session.specs.declared.fault.SignFault.TheVariants.{Session}
 use Rattle.coalition_map.specs.Coalitions.{PlanNumbers}
 use Rattle.disk_trait.specs.Faults.{Rose}
+use Rattle.disk_trait.specs.declared.faults.Faults as faults
 use Rattle.aggregator_session.specs.Causes.{PortCauses}
-use Rattle.aggregator_session.specs.Signing.{DeskState, Signature, SignsLeased}
+use Rattle.aggregator_session.specs.Signing.{DeskState, Signature, SignsLeased, desk_state}
 use Rattle.aggregator_session.specs.Tables.{TableSeen}
 use Rattle.lms_bytes.specs.declared.params.Params.{Params}
 use Rattle.lms_verify.specs.Accepts.{AcceptsAt}
+use Rattle.reference_value.specs.declared.cells.Cells as cells
 use Rattle.session_core.specs.declared.faults.SessionFault.TheVariants.{Reference}
 use Rattle.share_files.specs.Reference.{leaves_length}
 use Rattle.stream_io.specs.Net.{IsNewPort, NetState, PortState, SameNet}
@@ -39,6 +42,16 @@ pub record Signing : Type 0 where
 -- whether a reference gives what it has whenever it is asked: it tells all leaves, and its calls do not fail
 abbrev pub is_exact : Bool → Bool → List ℕ → Params → PlanNumbers → Bool
 is_exact told steady leaves params plan = told && steady && length leaves == leaves_length params plan
+
+-- what is signed at this desk with these cells, as they stand before and after
+abbrev pub signing_of : {C : Type 0} → cells.Ghosts C → faults.Ghosts C → Desk → C → C → List ℕ → List ℕ → Signing
+signing_of c f desk old new members message = record {
+  desk = desk_state desk;
+  reads = reads_of c f old new;
+  exact = is_exact (c.told old) (f.steady old) (c.leaves old) (c.set old) (c.plan old);
+  members = members;
+  message = message;
+}
 
 -- nothing was begun: no value of the reference was read, and no port was had
 pub record IsIdle (signing : Signing) (net : NetRun) : Type 0 where

@@ -1,11 +1,9 @@
 //! What follows from the definitions. No function here does anything.
 
-ghost use Rattle.std.specs.Prelude.{◌≡◌, ◌⊎◌, ◌≤◌, ℕ, List, IsTrue, Ok, Result};
-ghost use Rattle.aggregator_session.specs.Faults.{LostBy};
+ghost use Rattle.std.specs.Prelude.{◌≡◌, ℕ, List, Ok, Result};
 ghost use Rattle.aggregator_session.specs.Runs.{CellsRead, HasRun};
 ghost use Rattle.aggregator_session.specs.declared.desk.Address.{Address};
 ghost use Rattle.aggregator_session.specs.declared.fault.SignFault.{SignFault};
-ghost use Rattle.aggregator_session.specs.declared.fault.Why.TheVariants.{DialFailed, ReadFailed, WriteFailed};
 ghost use Rattle.disk_trait.specs.Faults.{Rose};
 ghost use Rattle.aggregator_session.specs.Signing.{Signature};
 ghost use Rattle.aggregator_session.specs.Tables.{TableSeen};
@@ -20,10 +18,8 @@ ghost use Rattle.tool_base.specs.World.{from_to};
 ghost use Rattle.tool_base.specs.declared.unsigned.Unsigned.TheVariants.{Missing};
 ghost use Rattle.tool_sign.specs.Dealt.{IsDealt};
 ghost use Rattle.tool_sign.specs.Ports.{NetRun, SignedOver, Signing};
-ghost use Rattle.tool_sign.specs.Lost.{LosesMember, LosesPeer, longest_asks};
-ghost use Rattle.tool_sign.specs.Sign.{SigningRun, session_words};
-ghost use Rattle.tool_sign.specs.Tasks.{message_in};
-ghost use Rattle.tool_words.specs.Words.{SignWords};
+ghost use Rattle.tool_sign.specs.Lost.{LostByCall, MissesReply};
+ghost use Rattle.tool_sign.specs.Sign.{OnlyWhere};
 
 use stream_io::Store;
 
@@ -33,31 +29,19 @@ use stream_io::Store;
 /// address names it (`lost`): of a session, that it could not be dialled, written to or read is the cause only where
 /// that count rose (`links`). Over a steady net whose links have room for the asks of the longest message, a member is
 /// lost only since nobody could be dialled, since its link ended or what it sent is no frame of a reply, or since no
-/// address names it, and never by a write or a read that failed (`peer`).
+/// address names it, and never by a write or a read that failed (`peer` of `MissesReply`).
 pub fn causes<S: Store>(before: &S, after: &S)
-    ensures store { (words : SignWords) (net : NetRun)
-        → SigningRun words (from_to (S.state before.now) (S.state after.now)) net ending.StoreFailed
-        → Rose (S.state before.now).count (S.state after.now).count }
-    ensures device { (words : SignWords) (net : NetRun)
-        → SigningRun words (from_to (S.state before.now) (S.state after.now)) net ending.DeviceFailed
-        → DeviceRose (from_to (S.state before.now) (S.state after.now)) }
-    ensures net { (words : SignWords) (net : NetRun)
-        → SigningRun words (from_to (S.state before.now) (S.state after.now)) net ending.NetFailed
-        → Rose net.before.port_count net.after.port_count }
-    ensures lost { (words : SignWords) (net : NetRun) (member round : ℕ)
-        → let run = from_to (S.state before.now) (S.state after.now) in
-        SigningRun words run net (ending.NotSigned (Missing member round))
-        → Rose net.before.count net.after.count
-        ⊎ LosesMember (session_words words) run (message_in run words.message) net member round }
-    ensures peer { (words : SignWords) (net : NetRun) (member round : ℕ)
-        → let run = from_to (S.state before.now) (S.state after.now) in
-        SigningRun words run net (ending.NotSigned (Missing member round))
-        → IsTrue net.before.steady → longest_asks ≤ net.before.room
-        → LosesPeer (session_words words) run (message_in run words.message) net member round }
+    ensures store { OnlyWhere (from_to (S.state before.now) (S.state after.now)) ending.StoreFailed
+        (λ _ _. Rose (S.state before.now).count (S.state after.now).count) }
+    ensures device { OnlyWhere (from_to (S.state before.now) (S.state after.now)) ending.DeviceFailed
+        (λ _ _. DeviceRose (from_to (S.state before.now) (S.state after.now))) }
+    ensures net { OnlyWhere (from_to (S.state before.now) (S.state after.now)) ending.NetFailed
+        (λ _ net. Rose net.before.port_count net.after.port_count) }
+    ensures lost { (member round : ℕ)
+        → OnlyWhere (from_to (S.state before.now) (S.state after.now)) (ending.NotSigned (Missing member round))
+        (λ words net. MissesReply words (from_to (S.state before.now) (S.state after.now)) net member round) }
     ensures links { (signing : Signing) (old new : TableSeen) (net : NetRun) (outcome : Result Signature SignFault)
-        → SignedOver signing old new net outcome
-        → LostBy DialFailed outcome ⊎ LostBy WriteFailed outcome ⊎ LostBy ReadFailed outcome
-        → Rose net.before.count net.after.count }
+        → SignedOver signing old new net outcome → LostByCall outcome → Rose net.before.count net.after.count }
 {}
 
 /// A signature of a session over what a dealer made is that of the undivided key, for the session's leaf, the dealer's

@@ -1,14 +1,13 @@
 //! Signing with a leaf of a table that a store has, over a port of a net.
 
 ghost use Rattle.std.specs.Prelude.{◌≡◌, Err, None};
-ghost use Rattle.aggregator_session.specs.Runs.{reads_of};
 ghost use Rattle.leaf_table.specs.Table.{Stays, plan_of};
-ghost use Rattle.aggregator_session.specs.Signing.{desk_state, signature_in};
+ghost use Rattle.aggregator_session.specs.Signing.{signature_in};
 ghost use Rattle.aggregator_session.specs.Tables.{table_seen};
 ghost use Rattle.reference_value.specs.Stay.{CellsStay};
 ghost use Rattle.tool_base.specs.World.{IsNetBack, from_to};
 ghost use Rattle.tool_sign.specs.Ended.{NetTo, TableTo};
-ghost use Rattle.tool_sign.specs.Ports.{answer_of, is_exact, over_net};
+ghost use Rattle.tool_sign.specs.Ports.{answer_of, over_net, signing_of};
 ghost use Rattle.tool_sign.specs.Signs.{answer_in};
 ghost use Rattle.tool_sign.specs.Tables.{table_header};
 
@@ -53,15 +52,7 @@ pub(crate) fn sign_with_table<R: Cells, S: Store, N: Net>(
     requires cells { (R.set cells.old ≡ desk.now.key.now.params) × (R.plan cells.old ≡ desk.now.plan.now) }
     requires tree { (desk.now.tree.now.n ≡ desk.now.key.now.params.n)
         × (desk.now.tree.now.h ≡ desk.now.key.now.params.h) }
-    ensures run { TableTo
-        (record {
-          desk = desk_state desk.now;
-          reads = reads_of R.Cells.own R.Faults cells.old cells.new;
-          exact = is_exact (R.told cells.old) (R.steady cells.old) (R.leaves cells.old) (R.set cells.old)
-              (R.plan cells.old);
-          members = members;
-          message = message.now;
-        })
+    ensures run { TableTo (signing_of R.Cells.own R.Faults desk.now cells.old cells.new members message.now)
         table.now (from_to (S.state store.old) (S.state store.new)) (over_net (N.state net.old) (N.state net.new))
         (answer_in result.outcome) result.session }
     ensures cells { CellsStay R.Cells.own R.Faults cells.old cells.new }
@@ -99,15 +90,7 @@ fn sign_over_net<R: Cells, D: Disk, N: Net>(
     requires cells { (R.set cells.old ≡ desk.now.key.now.params) × (R.plan cells.old ≡ desk.now.plan.now) }
     requires tree { (desk.now.tree.now.n ≡ desk.now.key.now.params.n)
         × (desk.now.tree.now.h ≡ desk.now.key.now.params.h) }
-    ensures ends { NetTo
-        (record {
-          desk = desk_state desk.now;
-          reads = reads_of R.Cells.own R.Faults cells.old cells.new;
-          exact = is_exact (R.told cells.old) (R.steady cells.old) (R.leaves cells.old) (R.set cells.old)
-              (R.plan cells.old);
-          members = members;
-          message = message.now;
-        })
+    ensures ends { NetTo (signing_of R.Cells.own R.Faults desk.now cells.old cells.new members message.now)
         (table.new ≡ table.old) (table_seen table.old) (table_seen table.new)
         (over_net (N.state net.old) (N.state net.new)) (answer_in result.outcome) result.session }
     ensures table { Stays table.old table.new }

@@ -15,7 +15,7 @@ pub returns-clause-links : goal.returns-clause-links
 returns-clause-links g c = λ signing old new net outcome over lost. links-rose signing old new net outcome over lost
 
 pub returns-clause-lost : goal.returns-clause-lost
-returns-clause-lost g c = λ words net member round run. loses-member words _ net member round run
-
-pub returns-clause-peer : goal.returns-clause-peer
-returns-clause-peer g c = λ words net member round run steady room. loses-peer words _ net member round steady room run
+returns-clause-lost g c = λ member round words net run. record {
+  lost = loses-member words _ net member round run;
+  peer = λ steady room. loses-peer words _ net member round steady room run;
+}

@@ -1,8 +1,6 @@
 use Rattle.std.proofs.Common.{ap, refl}
-use Rattle.aggregator_session.specs.Runs.{reads_of}
-use Rattle.aggregator_session.specs.Signing.{desk_state}
 use Rattle.aggregator_session.specs.Tables.{table_seen}
-use Rattle.tool_sign.specs.Ports.{Signing, is_exact}
+use Rattle.tool_sign.specs.Ports.{Signing, signing_of}
 use Rattle.tool_sign.specs.Signs.{answer_in}
 use Rattle.tool_base.proofs.Nets.{net_back}
 use Rattle.tool_sign.proofs.Overs.{ends_over, first_made, had_none, had_no_port, one_after, over_one, same_many}
@@ -27,10 +25,9 @@ returns-clause-ends g c =
     let state = g.N.Port.Port.state in
     let ports = c.in-Ok.ensures in
     let leased = c.run_leased-outcome.ensures in
-    let reads = reads_of g.R.Cells g.R.Faults c.args.cells.now c.run_leased-outcome.new.cells in
     let result = c.run_leased-outcome.result.outcome in
     let cells = c.args.cells.now in
-    let task : Signing = record { desk = desk_state c.args.desk.now; reads = reads; exact = is_exact (g.R.Cells.told cells) (g.R.Faults.steady cells) (g.R.Cells.leaves cells) (g.R.Cells.set cells) (g.R.Cells.plan cells); members = c.args.members; message = c.args.message.now } in
+    let task : Signing = signing_of g.R.Cells g.R.Faults c.args.desk.now cells c.run_leased-outcome.new.cells c.args.members c.args.message.now in
     ends_over task (table_seen c.args.table.now) (table_seen c.run_leased-outcome.new.table) (g.N.Net.state c.args.net.now) (g.N.Net.state c.ports.new.self) (g.N.Net.state c.gather.new.self)
     (state c.index_mut.result.now) (state c.run_leased-outcome.new.port) _ _ _ _ c.answer_of.ensures
     (over_one task (table_seen c.args.table.now) (table_seen c.run_leased-outcome.new.table) (g.N.Net.state c.args.net.now) (g.N.Net.state c.ports.new.self) (g.N.Net.state c.gather.new.self)
