@@ -1,5 +1,5 @@
 -- A trustee as contracts see it.
-use Rattle.std.specs.Prelude.{◌≡◌, ◌≢◌, ℕ, Result, Err}
+use Rattle.std.specs.Prelude.{◌≡◌, ◌≢◌, ℕ, List, Result, Err}
 use Rattle.disk_trait.specs.declared.disk.Pages as pages
 use Rattle.disk_trait.specs.declared.faults.Faults as faults
 use Rattle.opening_journal.specs.Journal.{IsSteady, IsTold, Stays, faults_of}
@@ -7,6 +7,7 @@ use Rattle.opening_journal.specs.declared.journal.Journal.{Journal}
 use Rattle.share_files.specs.declared.share.Share.{Share}
 use Rattle.slot_file.specs.Disks.{RisesAt}
 use Rattle.slot_file.specs.declared.header.Header.{Header}
+use Rattle.trustee_core.specs.declared.note.Note.{Note}
 use Rattle.trustee_core.specs.declared.refusal.Refusal.{Refusal}
 use Rattle.trustee_core.specs.declared.refusal.Refusal.TheVariants.{Damaged, Device}
 use Rattle.trustee_core.specs.declared.trustee.Trustee.{Trustee}
@@ -27,6 +28,10 @@ module _ {D : Type 0} {p : pages.Ghosts D} {f : faults.Ghosts D} where
 
   abbrev pub journal_of : Trustee D p f → Journal D p f
   journal_of trustee = trustee.journal
+
+  -- what it noted, from its start on
+  abbrev pub notes_of : Trustee D p f → List Note
+  notes_of trustee = trustee.log.notes
 
   -- What a decision says of the disk: no slot is found damaged where the disk tells its content, a steady disk that
   -- tells it does not fail, and the count rises where the answer is Device and nowhere else.

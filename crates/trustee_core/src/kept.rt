@@ -1,8 +1,8 @@
 //! What a trustee under a lock stands for.
 
+use crate::note::Note;
 use crate::trustee::Trustee;
 use disk_trait::Disk;
-use opening_journal::Entry;
 use share_files::Share;
 use turn_lock::Kept;
 
@@ -20,14 +20,14 @@ pub struct TrusteeName {
 }
 
 impl<D: Disk> Kept for Trustee<D> {
-    ghost use Rattle.opening_journal.specs.Journal.{disk_of, faults_of, state_of};
-    ghost use Rattle.trustee_core.specs.Trustee.{journal_of, share_of};
+    ghost use Rattle.opening_journal.specs.Journal.{disk_of, faults_of};
+    ghost use Rattle.trustee_core.specs.Trustee.{journal_of, notes_of, share_of};
 
-    type Entry = Entry;
+    type Entry = Note;
 
     type Name = TrusteeName;
 
-    ghost entries = { λ trustee. (state_of (journal_of trustee)).entries };
+    ghost entries = { λ trustee. notes_of trustee };
 
     ghost number = { λ trustee. faults_of (journal_of trustee) };
 

@@ -5,12 +5,14 @@ mod clock;
 mod grant;
 mod kept;
 pub mod laws;
+mod note;
 mod refusal;
 mod trustee;
 
 pub use clock::Clock;
 pub use grant::{Grant, mask_count, release};
 pub use kept::TrusteeName;
+pub use note::{Note, NoteLog};
 pub use refusal::Refusal;
 pub use trustee::Trustee;
 

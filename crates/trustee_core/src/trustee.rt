@@ -1,27 +1,35 @@
 //! The trustee.
 
-ghost use Rattle.std.specs.Prelude.{◌≡◌, ◌≢◌, ◌≤◌, ◌^◌, [], length, IfOk, IfErr, IfSome, OnOk, None, Some, Ok, Err};
+ghost use Rattle.std.specs.Prelude.{◌≡◌, ◌≢◌, ◌≤◌, ◌^◌, [], List, length, IfOk, IfErr, IfSome, OnOk, None, Some, Ok, Err};
 ghost use Rattle.opening_journal.specs.Entries.{JournalState, StandsFor};
+ghost use Rattle.lms_bytes.specs.declared.ask.Second.{Second};
+ghost use Rattle.opening_journal.specs.Opening.{Binds, Opens};
+ghost use Rattle.opening_journal.specs.declared.entry.Entry.{Entry};
 ghost use Rattle.opening_journal.specs.Journal.{Enters, Holds, IsTold, disk_of, header_of, params_of, state_of};
 ghost use Rattle.trustee_core.specs.Codes.{refusal_code};
 ghost use Rattle.trustee_core.specs.Decisions.{Decides, FailsTest, HasTag, IsForLeaf, answer_in, answer_of, refusal_of};
 ghost use Rattle.trustee_core.specs.Grants.{ask_of};
 ghost use Rattle.trustee_core.specs.Lives.{Lives};
+ghost use Rattle.trustee_core.specs.Notes.{HasNote, Notes, entries_in, first_notes};
+ghost use Rattle.trustee_core.specs.declared.note.Note.TheVariants.{Doubted};
 
 use crate::MESSAGE_LIMIT;
 use crate::grant::Grant;
+use crate::note::NoteLog;
 use crate::refusal::Refusal;
 use disk_trait::Disk;
 use lms_bytes::{Ask, Second};
 use mask_prf::check_tag;
 use opening_journal::{Entered, Journal, JournalFault};
 use share_files::Share;
+use std::snapshot::Snapshot;
 
 /// A trustee: its share, and its journal on a disk.
 #[derive(Drop)]
 pub struct Trustee<D: Disk> {
     share: Share,
     journal: Journal<D>,
+    log: NoteLog,
     ghost params: { params_of journal ≡ share.params },
     ghost header: { header_of journal ≡ record {
       version = 2;
@@ -30,10 +38,12 @@ pub struct Trustee<D: Disk> {
       ots = share.params.ots;
       id = share.id;
     } },
+    ghost made: { entries_in log.notes ≡ (state_of journal).entries },
+    ghost doubted: { (entry : Entry) → (state_of journal).doubt ≡ Some entry → HasNote log.notes (Doubted entry) },
 }
 
 impl<D: Disk> Trustee<D> {
-    ghost use Rattle.trustee_core.specs.Trustee.{Decided, journal_header, journal_of, share_of};
+    ghost use Rattle.trustee_core.specs.Trustee.{Decided, journal_header, journal_of, notes_of, share_of};
 
     /// The trustee of this share, whose journal this is. A journal that was loaded from what an earlier life left goes
     /// on with that life.
@@ -42,11 +52,17 @@ impl<D: Disk> Trustee<D> {
         requires params { params_of journal ≡ share.params }
         ensures share { share_of result ≡ share }
         ensures journal { journal_of result ≡ journal }
+        ensures notes { notes_of result ≡ first_notes (state_of journal) }
         ensures restarts { IsTold journal → (state_of journal).doubt ≡ None → (earlier : JournalState)
             → StandsFor share.params.n (2 ^ share.params.h) (D.reads (disk_of journal)) earlier
             → Lives share earlier [] (state_of journal) }
     {
-        Trustee { share, journal }
+        let log = NoteLog::of(&journal);
+        Trustee {
+            share,
+            journal,
+            log,
+        }
     }
 
     /// Decides on an ask at a moment, in seconds since the start of 1970. The randomizer and the digest of a round-two
@@ -63,6 +79,7 @@ impl<D: Disk> Trustee<D> {
         ensures idle { (state_of (journal_of self.old)).doubt ≡ None → result ≢ Err Refusal.Device
             → (state_of (journal_of self.new)).entries ≡ (state_of (journal_of self.old)).entries
             → journal_of self.new ≡ journal_of self.old }
+        ensures notes { Notes ask.now moment (answer_in result) (notes_of self.old) (notes_of self.new) }
         ensures decided { Decided self.old self.new result }
     {
         if let Err(why) = test(&self.share, ask) {
@@ -74,7 +91,7 @@ impl<D: Disk> Trustee<D> {
         }
     }
 
-    // Enters an ask that passes the tests into the journal: round one binds its leaf, and round two opens it.
+    // Enters an ask that passes the tests into the journal, and notes what came of it.
     fn enter(&mut self, ask: &Ask, moment: u64) -> Result<Entered, JournalFault>
         requires own { IsForLeaf (share_of self.old) ask.now }
         requires tag { IfSome ask.now.second (HasTag (share_of self.old) ask.now) }
@@ -88,15 +105,18 @@ impl<D: Disk> Trustee<D> {
             → (state_of (journal_of self.new)).entries ≢ (state_of (journal_of self.old)).entries }
         ensures enters { Enters (journal_of self.old) (journal_of self.new) result }
         ensures share { share_of self.new ≡ share_of self.old }
+        ensures notes { Notes ask.now moment (answer_of result) (notes_of self.old) (notes_of self.new) }
     {
-        let (leaf, message) = (ask.leaf, &ask.message);
-        match &ask.second {
-            None => self.journal.bind(leaf, message),
-            Some(second) => {
-                self.journal
-                    .open_leaf(leaf, message, &second.c, &second.digest, moment)
-            }
-        }
+        let result = enter_journal(&self.share, &mut self.journal, ask, moment);
+        let entering = Entering {
+            log: Snapshot::of(&self.log),
+            journal: Snapshot::of(&self.journal),
+            ask: Snapshot::of(ask),
+            moment,
+            result: Snapshot::of(&result),
+        };
+        self.log = NoteLog::of(&entering);
+        result
     }
 
     /// Gives the disk back.
@@ -107,6 +127,48 @@ impl<D: Disk> Trustee<D> {
         ensures holds { Holds (journal_of self) }
     {
         self.journal.end()
+    }
+}
+
+/// A call of the journal, as the notes are shown it.
+#[derive(Drop)]
+struct Entering<D: Disk> {
+    /// The notes before it.
+    log: Snapshot<NoteLog>,
+    /// The journal after it.
+    journal: Snapshot<Journal<D>>,
+    ask: Snapshot<Ask>,
+    moment: u64,
+    result: Snapshot<Result<Entered, JournalFault>>,
+}
+
+/// Enters an ask that passes the tests into the journal: round one binds its leaf, and round two opens it.
+fn enter_journal<D: Disk>(
+    share: &Share,
+    journal: &mut Journal<D>,
+    ask: &Ask,
+    moment: u64,
+) -> Result<Entered, JournalFault>
+    requires params { params_of journal.old ≡ share.now.params }
+    requires own { IsForLeaf share.now ask.now }
+    requires tag { IfSome ask.now.second (HasTag share.now ask.now) }
+    requires c { IfSome ask.now.second (λ second. length second.c ≡ share.now.params.n) }
+    requires digest { IfSome ask.now.second (λ second. length second.digest ≡ share.now.params.n) }
+    ensures event { Decides share.now (state_of journal.old) ask.now moment (answer_of result) (state_of journal.new) }
+    ensures idle { (state_of journal.old).doubt ≡ None → result ≢ Ok Entered.New → result ≢ Err JournalFault.Device
+        → journal.new ≡ journal.old }
+    ensures added { result ≡ Ok Entered.New → (state_of journal.new).entries ≢ (state_of journal.old).entries }
+    ensures enters { Enters journal.old journal.new result }
+    ensures binds { ask.now.second ≡ None
+        → Binds (state_of journal.old) ask.now.leaf ask.now.message result (state_of journal.new) }
+    ensures opens { (pair : Second) → ask.now.second ≡ Some pair
+        → Opens (state_of journal.old) ask.now.leaf ask.now.message pair.c pair.digest moment result
+        (state_of journal.new) }
+{
+    let (leaf, message) = (ask.leaf, &ask.message);
+    match &ask.second {
+        None => journal.bind(leaf, message),
+        Some(second) => journal.open_leaf(leaf, message, &second.c, &second.digest, moment),
     }
 }
 

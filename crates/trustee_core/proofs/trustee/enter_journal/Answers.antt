@@ -1,0 +1,34 @@
+use Rattle.std.proofs.Common.{◌≡◌, subst, Option, IfSome}
+use Rattle.lms_bytes.specs.declared.ask.Second.{Second}
+use Rattle.opening_journal.specs.Journal.{state_of}
+use Rattle.opening_journal.specs.Opening.{Opens}
+use Rattle.trustee_core.specs.Decisions.{HasTag, first, second}
+use Rattle.trustee_core.proofs.Extending.{binds-adds, opens-adds}
+use Rattle.trustee_core.proofs.trustee.enter_journal.Goals as goal
+
+pub returns-in-None-clause-event : goal.returns-in-None-clause-event
+returns-in-None-clause-event g c = first _ _ c.requires.own c.in-None.is c.bind.ensures.event
+
+pub returns-in-Some-clause-event : goal.returns-in-Some-clause-event
+returns-in-Some-clause-event g c =
+    let share = c.args.share.now in
+    let tag = subst (λ (o : Option Second). IfSome o (HasTag share c.args.ask.now)) c.in-Some.is c.requires.tag in
+    second _ _ c.in-Some.second c.requires.own c.in-Some.is tag c.open_leaf.ensures.event
+
+pub returns-in-None-clause-added : goal.returns-in-None-clause-added
+returns-in-None-clause-added g c = binds-adds _ _ _ c.bind.result _ c.bind.ensures.event
+
+pub returns-in-Some-clause-added : goal.returns-in-Some-clause-added
+returns-in-Some-clause-added g c = opens-adds _ _ _ _ _ _ c.open_leaf.result _ c.open_leaf.ensures.event
+
+pub returns-in-None-clause-opens : goal.returns-in-None-clause-opens
+returns-in-None-clause-opens g c = λ pair some. (let none = c.in-None.is in absurd (cc))
+
+pub returns-in-Some-clause-binds : goal.returns-in-Some-clause-binds
+returns-in-Some-clause-binds g c = λ none. (let some = c.in-Some.is in absurd (cc))
+
+pub returns-in-Some-clause-opens : goal.returns-in-Some-clause-opens
+returns-in-Some-clause-opens g c = λ pair some.
+    let mine = c.in-Some.is in
+    let same : c.in-Some.second ≡ pair = cc in
+    subst (λ (p : Second). Opens (state_of c.args.journal.now) c.args.ask.now.leaf c.args.ask.now.message p.c p.digest c.args.moment c.open_leaf.result (state_of c.open_leaf.new.self)) same c.open_leaf.ensures.event
