@@ -3,10 +3,13 @@
 ghost use Rattle.std.specs.Prelude.{◌≡◌, length, ◌↔◌, IsTrue, IfOk, IfSome, Result};
 ghost use Rattle.std.specs.Option.{option_map};
 ghost use Rattle.approval_book.specs.Approved.{ids_of};
-ghost use Rattle.approval_book.specs.Decisions.{BookDecides, IsDenied, as_denial, book_answer_in};
+ghost use Rattle.approval_book.specs.Decisions.{BookDecides, Decided as DecidedBy, IsDenied, as_denial};
+ghost use Rattle.approval_book.specs.Decisions.{book_answer_in};
 ghost use Rattle.opening_journal.specs.Journal.{state_of};
 ghost use Rattle.trustee_core.specs.Grants.{ask_of};
-ghost use Rattle.trustee_core.specs.Trustee.{Decided, journal_of, share_of};
+ghost use Rattle.trustee_core.specs.Decisions.{Answer};
+ghost use Rattle.trustee_core.specs.Notes.{Notes};
+ghost use Rattle.trustee_core.specs.Trustee.{Decided, journal_of, notes_of, share_of};
 ghost use Rattle.trustee_core.specs.declared.grant.Grant.{Grant as Granted};
 ghost use Rattle.trustee_core.specs.declared.refusal.Refusal.{Refusal as Refused};
 
@@ -33,6 +36,8 @@ pub fn decide_approved<D: Disk>(
     ensures denied { IsDenied (option_map (λ b. ids_of b.now) book.entry) ask.now → trustee.new ≡ trustee.old }
     ensures decided { (IsDenied (option_map (λ b. ids_of b.now) book.entry) ask.now → ⊥)
         → (core : Result Granted Refused) × (result ≡ as_denial core) × Decided trustee.old trustee.new core }
+    ensures notes { (answer : Answer) → book_answer_in result ≡ DecidedBy answer
+        → Notes ask.now moment answer (notes_of trustee.old) (notes_of trustee.new) }
 {
     if is_denied(book, ask) {
         let message = ask.message;

@@ -2,6 +2,7 @@ pub mod Adding
 pub mod Extending
 pub mod Living
 pub mod NoteLists
+pub mod NotesHeld
 mod Noting
 mod Refusals
 mod Restarting

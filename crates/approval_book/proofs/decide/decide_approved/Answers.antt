@@ -1,5 +1,8 @@
-use Rattle.std.proofs.Common.{◌∙◌, sym, true≢false}
+use Rattle.std.proofs.Common.{◌≡◌, ◌∙◌, subst, sym, true≢false}
 use Rattle.approval_book.specs.Decisions.{decided, denied}
+use Rattle.trustee_core.specs.Decisions.{Answer, Granted, Refused}
+use Rattle.trustee_core.specs.Notes.{Notes}
+use Rattle.trustee_core.specs.Trustee.{notes_of}
 use Rattle.approval_book.proofs.decide.decide_approved.Goals as goal
 
 pub returns-then-is_denied-clause-event : goal.returns-then-is_denied-clause-event
@@ -12,3 +15,16 @@ returns-in-Ok-clause-event g c =
 pub returns-in-Err-clause-event : goal.returns-in-Err-clause-event
 returns-in-Err-clause-event g c =
     decided _ _ (λ is. true≢false (sym (c.is_denied.ensures.1 is) ∙ c.if-is_denied.false)) c.in-Err.ensures.event
+
+pub returns-then-is_denied-clause-notes : goal.returns-then-is_denied-clause-notes
+returns-then-is_denied-clause-notes g c = λ answer is. absurd (cc)
+
+pub returns-in-Ok-clause-notes : goal.returns-in-Ok-clause-notes
+returns-in-Ok-clause-notes g c = λ answer is.
+    let same : Granted ≡ answer = cc in
+    subst (λ (a : Answer). Notes c.args.ask.now c.args.moment a (notes_of c.args.trustee.now) (notes_of c.decide.new.self)) same c.in-Ok.ensures.notes
+
+pub returns-in-Err-clause-notes : goal.returns-in-Err-clause-notes
+returns-in-Err-clause-notes g c = λ answer is.
+    let same : Refused c.in-Err.why ≡ answer = cc in
+    subst (λ (a : Answer). Notes c.args.ask.now c.args.moment a (notes_of c.args.trustee.now) (notes_of c.decide.new.self)) same c.in-Err.ensures.notes
