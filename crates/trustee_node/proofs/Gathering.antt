@@ -8,9 +8,13 @@ use mathlib.Core.List.{IsPrefix}
 use Rattle.opening_journal.specs.declared.entry.Entry.{Entry}
 use Rattle.share_files.specs.declared.share.Share.{Share}
 use Rattle.stream_io.specs.Net.{PortState}
+use Rattle.trustee_core.specs.Notes.{entries_in}
 use Rattle.trustee_core.specs.declared.kept.TrusteeName.{TrusteeName}
-use Rattle.trustee_node.specs.Turns.{Draws, Faults, HasSteadyDisk, ServedTurns, TellsDisk, Turn, added_by, ended}
+use Rattle.trustee_core.specs.declared.note.Note.{Note}
+use Rattle.trustee_node.specs.Turns.{Draws, Faults, HasSteadyDisk, NotedBy, ServedTurns, TellsDisk, Turn, added_by, ended}
 use Rattle.trustee_node.specs.Workers.{ClockState, Connection, IsConnection, WorkEnds, WorkerState, Worked, accept_failed, frames_of, no_further, pass_worn, served_all, turns_of}
+use Rattle.trustee_core.proofs.NoteLists.{entries-append}
+use Rattle.trustee_node.proofs.Noting.{entries-prefix, noted-join}
 use Rattle.trustee_node.proofs.Standing.{begins-length}
 use Rattle.trustee_node.proofs.Serving.{served-then, with_code-append}
 use Rattle.trustee_node.specs.Gathered.{Gathered, IsDone}
@@ -49,7 +53,7 @@ turns-more : (runs : List PortRun) (run : PortRun) → turns_in (runs ++ run ∷
 turns-more runs run =
     flat_map-append (λ (r : PortRun). turns_of r.served) runs (run ∷ []) ∙ ap (λ (l : List Turn). turns_in runs ++ l) (append-nil (turns_of run.served))
 
-module _ (start old other new : Seen Entry TrusteeName) (turns more : List Turn) where
+module _ (start old other new : Seen Note TrusteeName) (turns more : List Turn) where
   draws-join : start.draws ≡ 0 → start.greatest ≡ 0 → new.draws ≡ old.draws + other.draws → new.greatest ≡ max old.greatest other.greatest
       → Draws start old turns → Draws start other more → Draws start new (turns ++ more)
   draws-join none first sum most a b = record {
@@ -96,7 +100,7 @@ module _ (share : Share) (ids : Option (List (List ℕ))) where
         All-cons (IsPortRun share ids asked log last) run runs (run-longer log mid last run p (All-head (IsPortRun share ids asked log mid) run runs are))
         (runs-longer log mid last runs p (All-tail (IsPortRun share ids asked log mid) run runs are))
 
-    module _ (lock : Lock Entry TrusteeName) (port : PortState) (clock : ClockState) (worker : WorkerState) (done : IsDone share ids asked (first_pass lock) port clock worker) where
+    module _ (lock : Lock Note TrusteeName) (port : PortState) (clock : ClockState) (worker : WorkerState) (done : IsDone share ids asked (first_pass lock) port clock worker) where
       abbrev base : WorkerState
       base = record {
         port = port;
@@ -142,7 +146,7 @@ module _ (share : Share) (ids : Option (List (List ℕ))) where
       ends-by small (accept_failed is unsteady) = failed (worked.accepts.rose is) unsteady
       ends-by small (pass_worn is sound) = absurd (let some = worked.worn is in let never = worked.serves.draws.fresh small in omega (arith, some, never))
 
-      port-run : worker.pass.greatest < 2 ^ 62 → IsPortRun share ids asked lock.opening_log worker.pass.log run
+      port-run : worker.pass.greatest < 2 ^ 62 → IsPortRun share ids asked (entries_in lock.opening_log) (entries_in worker.pass.log) run
       port-run small = record {
         are = worked.are;
         turns = worked.serves.served;
@@ -155,7 +159,7 @@ module _ (share : Share) (ids : Option (List (List ℕ))) where
       }
 
     -- the first worker
-    pub gathered-one : (lock : Lock Entry TrusteeName) (port : PortState) (clock : ClockState) (worker : WorkerState) (totals : Totals)
+    pub gathered-one : (lock : Lock Note TrusteeName) (port : PortState) (clock : ClockState) (worker : WorkerState) (totals : Totals)
         → IsDone share ids asked (first_pass lock) port clock worker → totals.connections ≡ worker.connections → totals.frames ≡ worker.frames
         → Gathered share ids asked lock worker.pass (port ∷ []) (worker.port ∷ []) (clock ∷ []) totals
     gathered-one lock port clock worker totals done connections frames =
@@ -167,11 +171,13 @@ module _ (share : Share) (ids : Option (List (List ℕ))) where
           before = refl;
           after = refl;
           by_clocks = refl;
-          are = λ small. All-cons (IsPortRun share ids asked lock.opening_log worker.pass.log) one [] (port-run lock port clock worker done small) (All-nil (IsPortRun share ids asked lock.opening_log worker.pass.log));
+          are = λ small. All-cons (IsPortRun share ids asked (entries_in lock.opening_log) (entries_in worker.pass.log)) one [] (port-run lock port clock worker done small)
+              (All-nil (IsPortRun share ids asked (entries_in lock.opening_log) (entries_in worker.pass.log)));
           same = w.serves.same;
           draws = subst (Draws (first_pass lock) worker.pass) turns w.serves.draws;
           faults = subst (Faults (first_pass lock) worker.pass) turns w.serves.faults;
           own = λ zero. w.serves.own zero ∙ ap added_by turns;
+          notes = subst (NotedBy (first_pass lock) worker.pass) turns w.serves.notes;
           most = (let short = few lock port clock worker done in let all = ap length turns in omega (arith, short, all));
           joined = w.serves.joined;
           totals_are = record {
@@ -181,7 +187,7 @@ module _ (share : Share) (ids : Option (List (List ℕ))) where
         }
 
     -- one more worker
-    pub gathered-more : (lock : Lock Entry TrusteeName) (old new : Seen Entry TrusteeName) (olds news : List PortState) (clocks : List ClockState) (totals sums : Totals)
+    pub gathered-more : (lock : Lock Note TrusteeName) (old new : Seen Note TrusteeName) (olds news : List PortState) (clocks : List ClockState) (totals sums : Totals)
         (port : PortState) (clock : ClockState) (worker : WorkerState)
         → Gathered share ids asked lock old olds news clocks totals → IsDone share ids asked (first_pass lock) port clock worker → Joins old worker.pass new
         → sums.connections ≡ min (totals.connections + worker.connections) (2 ^ 32 - 1) → sums.frames ≡ min (totals.frames + worker.frames) (2 ^ 32 - 1)
@@ -203,15 +209,17 @@ module _ (share : Share) (ids : Option (List (List ℕ))) where
           after = map-append (λ (r : PortRun). r.after) a.runs (one ∷ []) ∙ ap (λ (l : List PortState). l ++ worker.port ∷ []) a.after;
           by_clocks = map-append (λ (r : PortRun). r.clock) a.runs (one ∷ []) ∙ ap (λ (l : List ClockState). l ++ clock ∷ []) a.by_clocks;
           are = λ small.
-              All-push (IsPortRun share ids asked lock.opening_log new.log) a.runs one (runs-longer lock.opening_log old.log new.log a.runs left (a.are (omega (arith, small, greatest))))
-              (run-longer lock.opening_log worker.pass.log new.log one right (port-run lock port clock worker done (omega (arith, small, greatest))));
+              All-push (IsPortRun share ids asked (entries_in lock.opening_log) (entries_in new.log)) a.runs one
+              (runs-longer (entries_in lock.opening_log) (entries_in old.log) (entries_in new.log) a.runs (entries-prefix old.log new.log left) (a.are (omega (arith, small, greatest))))
+              (run-longer (entries_in lock.opening_log) (entries_in worker.pass.log) (entries_in new.log) one (entries-prefix worker.pass.log new.log right) (port-run lock port clock worker done (omega (arith, small, greatest))));
           same = record { lock = met.same.lock ∙ a.same.lock; name = met.same.name ∙ a.same.name };
           draws = subst (Draws start new) turns (draws-join start old worker.pass new (turns_in a.runs) served refl refl met.draws met.greatest a.draws w.serves.draws);
           faults = subst (Faults start new) turns (faults-join start old worker.pass new (turns_in a.runs) served refl met.rises met.floor met.same.name name a.faults w.serves.faults);
           own = λ zero.
-              let before : old.own ≡ added_by (turns_in a.runs) = a.own (omega (arith, zero, floor)) in
-              let here : worker.pass.own ≡ added_by served = w.serves.own (omega (arith, zero, floor)) in
-              met.own ∙ (λ i. before i ++ here i) ∙ sym (flat_map-append (λ (t : Turn). t.added) (turns_in a.runs) served) ∙ ap added_by turns;
+              let before : entries_in old.own ≡ added_by (turns_in a.runs) = a.own (omega (arith, zero, floor)) in
+              let here : entries_in worker.pass.own ≡ added_by served = w.serves.own (omega (arith, zero, floor)) in
+              ap entries_in met.own ∙ entries-append old.own worker.pass.own ∙ (λ i. before i ++ here i) ∙ sym (flat_map-append (λ (t : Turn). t.added) (turns_in a.runs) served) ∙ ap added_by turns;
+          notes = subst (NotedBy start new) turns (noted-join start old worker.pass new (turns_in a.runs) served refl met.own left right a.notes w.serves.notes);
           most = (
               let short = few lock port clock worker done in
               let before = a.most in

@@ -1,9 +1,9 @@
 -- Workers of which some are joined.
 use Rattle.std.proofs.Common.{◌≡◌, ℕ, List, [], ◌∷◌, ◌++◌, Option, sym, ap, ◌∙◌, subst, append_assoc, append-nil}
-use Rattle.opening_journal.specs.declared.entry.Entry.{Entry}
 use Rattle.share_files.specs.declared.share.Share.{Share}
 use Rattle.stream_io.specs.Net.{PortState}
 use Rattle.trustee_core.specs.declared.kept.TrusteeName.{TrusteeName}
+use Rattle.trustee_core.specs.declared.note.Note.{Note}
 use Rattle.trustee_node.specs.Workers.{ClockState, WorkerState}
 use Rattle.trustee_node.specs.Gathered.{AreDone, Gathered, IsDone}
 use Rattle.trustee_node.specs.declared.totals.Totals.{Totals}
@@ -12,12 +12,12 @@ use Rattle.trustee_node.proofs.PortStanding.{no-clocks, no-ports, split}
 use Rattle.turn_lock.specs.Lock.{Lock}
 use Rattle.turn_lock.specs.Pass.{Seen, first_pass}
 
-module _ {W : Type 0} (state : W → WorkerState) (share : Share) (ids : Option (List (List ℕ))) (asked : ℕ) (lock : Lock Entry TrusteeName) where
+module _ {W : Type 0} (state : W → WorkerState) (share : Share) (ids : Option (List (List ℕ))) (asked : ℕ) (lock : Lock Note TrusteeName) where
   abbrev IsSo : PortState → ClockState → W → Type 0
   IsSo port clock worker = IsDone share ids asked (first_pass lock) port clock (state worker)
 
   -- the first ports are joined, and the workers of the others are left
-  pub record InHand (olds : List PortState) (clocks : List ClockState) (workers : List W) (pass : Seen Entry TrusteeName) (news : List PortState) (totals : Totals) : Type 0 where
+  pub record InHand (olds : List PortState) (clocks : List ClockState) (workers : List W) (pass : Seen Note TrusteeName) (news : List PortState) (totals : Totals) : Type 0 where
     pub taken : List PortState
     pub dated : List ClockState
     pub other_ports : List PortState
@@ -28,7 +28,7 @@ module _ {W : Type 0} (state : W → WorkerState) (share : Share) (ids : Option 
     pub gathered : Gathered share ids asked lock pass taken news dated totals
 
   -- the first of them
-  pub hand-one : (olds : List PortState) (clocks : List ClockState) (all workers : List W) (worker : W) (pass : Seen Entry TrusteeName) (news : List PortState) (totals : Totals)
+  pub hand-one : (olds : List PortState) (clocks : List ClockState) (all workers : List W) (worker : W) (pass : Seen Note TrusteeName) (news : List PortState) (totals : Totals)
       → AreDone state share ids asked (first_pass lock) olds clocks all → all ≡ workers ++ worker ∷ []
       → pass ≡ (state worker).pass → news ≡ (state worker).port ∷ [] → totals.connections ≡ (state worker).connections → totals.frames ≡ (state worker).frames
       → InHand olds clocks workers pass news totals
@@ -43,12 +43,12 @@ module _ {W : Type 0} (state : W → WorkerState) (share : Share) (ids : Option 
         ports_are = s.ports_are;
         clocks_are = s.clocks_are;
         left = s.others;
-        gathered = subst (λ (p : Seen Entry TrusteeName). Gathered share ids asked lock p (s.port ∷ []) news (s.clock ∷ []) totals) (sym pass_is)
+        gathered = subst (λ (p : Seen Note TrusteeName). Gathered share ids asked lock p (s.port ∷ []) news (s.clock ∷ []) totals) (sym pass_is)
             (subst (λ (l : List PortState). Gathered share ids asked lock (state worker).pass (s.port ∷ []) l (s.clock ∷ []) totals) (sym news_are) one);
       }
 
   -- one more
-  pub hand-more : (olds : List PortState) (clocks : List ClockState) (all workers : List W) (worker : W) (old new : Seen Entry TrusteeName) (news nows : List PortState) (totals sums : Totals)
+  pub hand-more : (olds : List PortState) (clocks : List ClockState) (all workers : List W) (worker : W) (old new : Seen Note TrusteeName) (news nows : List PortState) (totals sums : Totals)
       → InHand olds clocks all old news totals → all ≡ workers ++ worker ∷ []
       → ((taken : List PortState) (dated : List ClockState) (port : PortState) (clock : ClockState) → Gathered share ids asked lock old taken news dated totals → IsSo port clock worker
       → Gathered share ids asked lock new (taken ++ port ∷ []) nows (dated ++ clock ∷ []) sums)
@@ -67,7 +67,7 @@ module _ {W : Type 0} (state : W → WorkerState) (share : Share) (ids : Option 
       }
 
   -- all of them
-  pub hand-all : (olds : List PortState) (clocks : List ClockState) (workers : List W) (pass : Seen Entry TrusteeName) (news : List PortState) (totals : Totals)
+  pub hand-all : (olds : List PortState) (clocks : List ClockState) (workers : List W) (pass : Seen Note TrusteeName) (news : List PortState) (totals : Totals)
       → InHand olds clocks workers pass news totals → workers ≡ [] → Gathered share ids asked lock pass olds news clocks totals
   hand-all olds clocks workers pass news totals hand none =
       let ports : hand.taken ≡ olds = sym (append-nil hand.taken) ∙ ap (λ (l : List PortState). hand.taken ++ l) (sym (no-ports IsSo hand.other_ports hand.other_clocks workers hand.left none)) ∙ sym hand.ports_are in

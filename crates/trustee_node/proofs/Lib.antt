@@ -4,6 +4,7 @@ mod Frames
 mod Heads
 mod Lengths
 mod Masks
+mod Noting
 pub mod Opening
 pub mod Prefixes
 pub mod Serving

@@ -2,10 +2,10 @@
 use Rattle.std.proofs.Common.{◌≡◌, ◌^◌, ◌≤◌, ◌<◌, false, ℕ, List, ◌++◌, Option, Some, IfSome, All, length, take, drop, get_or, refl, sym, ap, ◌∙◌, subst, arith}
 use Rattle.std.proofs.lemmas.List.{length-map}
 use Rattle.std.proofs.Math.Seq.{take-append_seam}
-use Rattle.opening_journal.specs.declared.entry.Entry.{Entry}
 use Rattle.share_files.specs.declared.share.Share.{Share}
 use Rattle.stream_io.specs.Net.{PortState}
 use Rattle.trustee_core.specs.declared.kept.TrusteeName.{TrusteeName}
+use Rattle.trustee_core.specs.declared.note.Note.{Note}
 use Rattle.trustee_node.specs.Turns.{IsIdle}
 use Rattle.trustee_node.specs.Workers.{ClockState, WorkEnds, WorkerState, Worked}
 use Rattle.trustee_node.specs.Gathered.{AreBegun, AreDone, Gathered, IsBegun, IsDone}
@@ -15,12 +15,12 @@ use Rattle.trustee_node.proofs.PortStanding.{stand-all, stand-then}
 use Rattle.turn_lock.specs.Lock.{Lock}
 use Rattle.turn_lock.specs.Pass.{Seen, first_pass}
 
-idle-first : (lock : Lock Entry TrusteeName) (share : Share) (name : TrusteeName) (pass : Seen Entry TrusteeName) → lock.name ≡ Some name → name.share ≡ share → pass ≡ first_pass lock → IsIdle lock share pass
+idle-first : (lock : Lock Note TrusteeName) (share : Share) (name : TrusteeName) (pass : Seen Note TrusteeName) → lock.name ≡ Some name → name.share ≡ share → pass ≡ first_pass lock → IsIdle lock share pass
 idle-first lock share name pass is same begun =
     let named : IfSome lock.name (λ n. n.share ≡ share) = subst (λ (o : Option TrusteeName). IfSome o (λ n. n.share ≡ share)) (sym is) same in
     subst (IsIdle lock share) (sym begun) (refl, refl, named)
 
-module _ {W : Type 0} (state : W → WorkerState) (share : Share) (lock : Lock Entry TrusteeName) (items slice : List W) (value : slice ≡ items) where
+module _ {W : Type 0} (state : W → WorkerState) (share : Share) (lock : Lock Note TrusteeName) (items slice : List W) (value : slice ≡ items) where
   pub idle-begun : (name : TrusteeName) (ports : List PortState) (clocks : List ClockState) → lock.name ≡ Some name → name.share ≡ share → AreBegun state (first_pass lock) ports clocks items
       → All (λ worker. IsIdle lock share (state worker).pass) slice
   idle-begun name ports clocks is same begun =
@@ -59,7 +59,7 @@ module _ {W : Type 0} (state : W → WorkerState) (share : Share) (lock : Lock E
           ends = ends i d (omega (arith, lt, size));
         }))
 
-pub joined-all : (share : Share) (ids : Option (List (List ℕ))) (asked : ℕ) (lock : Lock Entry TrusteeName) (pass : Seen Entry TrusteeName) (olds news : List PortState) (clocks : List ClockState) (totals : Totals)
+pub joined-all : (share : Share) (ids : Option (List (List ℕ))) (asked : ℕ) (lock : Lock Note TrusteeName) (pass : Seen Note TrusteeName) (olds news : List PortState) (clocks : List ClockState) (totals : Totals)
     → Gathered share ids asked lock pass olds news clocks totals → pass.joined ≡ length olds
 joined-all share ids asked lock pass olds news clocks totals all =
     all.joined ∙ sym (length-map all.runs (λ (run : PortRun). run.before)) ∙ ap length all.before

@@ -1,6 +1,7 @@
 -- One turn of a pass.
-use Rattle.std.proofs.Common.{◌≡◌, ◌≢◌, ◌⊎◌, ◌+◌, ◌-◌, ◌^◌, ◌≤◌, ◌<◌, ℕ, false, List, [], ◌∷◌, ◌++◌, length, drop, None, Option, Result, Ok, Err, IsTrue, refl, sym, ap, ◌∙◌, subst, arith, inl, inr, append-nil}
+use Rattle.std.proofs.Common.{◌≡◌, ◌≢◌, ◌⊎◌, ◌+◌, ◌-◌, ◌^◌, ◌≤◌, ◌<◌, ℕ, false, List, [], ◌∷◌, ◌++◌, length, drop, None, Option, Result, Ok, Err, IsTrue, refl, sym, ap, ◌∙◌, subst, arith, inl, inr, append-nil, All}
 use Rattle.std.proofs.Math.Seq.{drop-append_seam}
+use Rattle.std.proofs.lemmas.List.Elements.{All-nil, All-weaker}
 use mathlib.Core.List.{IsPrefix}
 use native.Mathlib.Decide.{dec_le}
 use mathlib.Core.Logic.{dite}
@@ -15,17 +16,21 @@ use Rattle.opening_journal.specs.Journal.{disk_of, faults_of, state_of}
 use Rattle.opening_journal.specs.declared.entry.Entry.{Entry}
 use Rattle.opening_journal.proofs.Held.{holds}
 use Rattle.share_files.specs.declared.share.Share.{Share}
-use Rattle.trustee_core.specs.Decisions.{Granted, Refused, answer_in}
-use Rattle.trustee_core.specs.Trustee.{Decided as DecidedOn, journal_of, share_of}
+use Rattle.trustee_core.specs.Decisions.{Answer, Granted, Refused, answer_in}
+use Rattle.trustee_core.specs.Notes.{MayNote, Notes, entries_in}
+use Rattle.trustee_core.specs.Trustee.{Decided as DecidedOn, journal_of, notes_of, share_of}
 use Rattle.trustee_core.specs.declared.grant.Grant.{Grant}
 use Rattle.trustee_core.specs.declared.kept.TrusteeName.{TrusteeName}
+use Rattle.trustee_core.specs.declared.note.Note.{Note}
 use Rattle.trustee_core.specs.declared.refusal.Refusal.{Refusal}
 use Rattle.trustee_core.specs.declared.refusal.Refusal.TheVariants as refusal
 use Rattle.trustee_core.specs.declared.trustee.Trustee.{Trustee}
 use Rattle.turn_lock.specs.Lock.{Lock}
 use Rattle.turn_lock.specs.Pass.{DrawsOne, Gives, IsWornOut, SameDone, SameDrawn, SamePass, Seen, Takes}
-use Rattle.trustee_node.specs.Turns.{HasSteadyDisk, InTurn, NoTurn, Outcome, Serves, TellsDisk, Turn, ended, is_code, next, worn}
+use Rattle.trustee_node.specs.Turns.{HasSteadyDisk, InTurn, IsNoteOf, NoTurn, Outcome, Serves, TellsDisk, Turn, ended, is_code, next, worn}
 use Rattle.trustee_node.proofs.Deciding.{book-met}
+use Rattle.trustee_node.proofs.Noting.{entries-prefix, note-of}
+use Rattle.trustee_core.proofs.NoteLists.{entries-append}
 use Rattle.trustee_node.proofs.Prefixes.{prefix-is, prefix-same, prefix-then}
 use Rattle.trustee_node.proofs.Serving.{same-then}
 
@@ -177,14 +182,49 @@ module _ {D : Type 0} {p : pages.Ghosts D} {f : counting.Ghosts D} where
   pub sure : (trustee : Trustee D p f) → faults_of (journal_of trustee) ≡ 0 → (state_of (journal_of trustee)).doubt ≡ None
   sure trustee none = (holds (journal_of trustee)).cause none
 
+-- what a decision noted, whatever it answered
+pub record Noted (ask : Ask) (moment : ℕ) (old new : List Note) : Type 0 where
+  pub added : List Note
+  pub are : new ≡ old ++ added
+  pub each : All (λ (note : Note). (answer : Answer) × MayNote old ask moment answer note) added
+
+noted-none : (ask : Ask) (moment : ℕ) (old new : List Note) → new ≡ old → Noted ask moment old new
+noted-none ask moment old new is = record {
+  added = [];
+  are = is ∙ sym (append-nil old);
+  each = All-nil (λ (note : Note). (answer : Answer) × MayNote old ask moment answer note);
+}
+
+noted-some : (ask : Ask) (moment : ℕ) (answer : Answer) (old new : List Note) → Notes ask moment answer old new → Noted ask moment old new
+noted-some ask moment answer old new is = record {
+  added = is.added;
+  are = is.are;
+  each = All-weaker (MayNote old ask moment answer) (λ (note : Note). (answer : Answer) × MayNote old ask moment answer note) (λ note may. (answer, may)) is.added is.each;
+}
+
+module _ {D : Type 0} {p : pages.Ghosts D} {f : counting.Ghosts D} where
+  pub noted-of : (ids : Option (List (List ℕ))) (ask : Ask) (moment : ℕ) (old new : Trustee D p f) (result : Result Grant Denial)
+      → BookDecides (share_of old) ids (state_of (journal_of old)) ask moment (book_answer_in result) (state_of (journal_of new))
+      → (IsDenied ids ask → new ≡ old)
+      → ((IsDenied ids ask → ⊥) → (core : Result Grant Refusal) × (result ≡ as_denial core) × DecidedOn old new core)
+      → ((answer : Answer) → book_answer_in result ≡ Decided answer → Notes ask moment answer (notes_of old) (notes_of new))
+      → Noted ask moment (notes_of old) (notes_of new)
+  noted-of ids ask moment old new result event stays decides notes =
+      elim (denied-or (share_of old) ids (state_of (journal_of old)) ask moment (book_answer_in result) (state_of (journal_of new)) event) [
+        | inl out ↦ noted-none ask moment (notes_of old) (notes_of new) (ap (λ (t : Trustee D p f). notes_of t) (stays out.0))
+        | inr approved ↦
+            let d = decides approved in
+            noted-some ask moment (answer_in d.0) (notes_of old) (notes_of new) (notes (answer_in d.0) (ap book_answer_in d.1 ∙ as-core d.0))
+      ]
+
 -- a turn was taken at one state of the trustee, with this number, and given at another
-pub record Turned (old new : Seen Entry TrusteeName) (before after : JournalState) (number : ℕ) : Type 0 where
-  pub begins : IsPrefix old.log before.entries
-  pub log : new.log ≡ after.entries
+pub record Turned (old new : Seen Note TrusteeName) (before after : List Note) (number : ℕ) : Type 0 where
+  pub begins : IsPrefix old.log before
+  pub log : new.log ≡ after
   pub reaches : old.floor ≤ number
   pub goes_on : number ≤ new.floor
   pub rises : new.rises ≡ old.rises + (new.floor - number)
-  pub own : new.own ≡ old.own ++ drop (length before.entries) after.entries
+  pub own : new.own ≡ old.own ++ drop (length before) after
   pub draws : new.draws ≡ old.draws + 1
   pub greatest : old.greatest ≤ new.greatest
   pub fresh : new.greatest < 2 ^ 62
@@ -192,8 +232,8 @@ pub record Turned (old new : Seen Entry TrusteeName) (before after : JournalStat
   pub joined : new.joined ≡ old.joined
   pub idle : new.in_turn ≡ false
 
-pub took-gave : (lock : Lock Entry TrusteeName) (name : TrusteeName) (old mid new : Seen Entry TrusteeName) (before after : JournalState) (number last : ℕ)
-    → Takes before.entries number name old mid → DrawsOne lock old mid → SameDone old mid → Gives after.entries last mid new → SameDrawn mid new → number ≤ last
+pub took-gave : (lock : Lock Note TrusteeName) (name : TrusteeName) (old mid new : Seen Note TrusteeName) (before after : List Note) (number last : ℕ)
+    → Takes before number name old mid → DrawsOne lock old mid → SameDone old mid → Gives after last mid new → SameDrawn mid new → number ≤ last
     → Turned old new before after number
 took-gave lock name old mid new before after number last takes draws done gives drawn goes_on = record {
   begins = takes.begins;
@@ -201,7 +241,7 @@ took-gave lock name old mid new before after number last takes draws done gives 
   reaches = takes.reaches;
   goes_on = (let f = gives.floor in omega (arith, f, goes_on));
   rises = (let f = gives.floor in let r = gives.rises in let s = done.rises in let t = takes.floor in omega (arith, f, r, s, t));
-  own = gives.own ∙ (λ i. done.own i ++ drop (length (takes.log i)) after.entries);
+  own = gives.own ∙ (λ i. done.own i ++ drop (length (takes.log i)) after);
   draws = (let p = draws.greatest in let q = takes.fresh in let d = draws.draws (omega (arith, p, q)) in let e = drawn.draws in omega (arith, d, e));
   greatest = (let p = draws.greatest in let q = drawn.greatest in omega (arith, p, q));
   fresh = (let p = takes.fresh in let q = drawn.greatest in omega (arith, p, q));
@@ -214,33 +254,54 @@ took-gave lock name old mid new before after number last takes draws done gives 
 added-after : {A : Type 0} (before seen added : List A) → seen ≡ before → drop (length before) (seen ++ added) ≡ added
 added-after before seen added is = ap (λ (b : List _). drop (length b) (seen ++ added)) (sym is) ∙ drop-append_seam seen added
 
+added-notes : (notes later added : List Note) → later ≡ notes ++ added → drop (length notes) later ≡ added
+added-notes notes later added is = ap (drop (length notes)) is ∙ drop-append_seam notes added
+
 -- one ask in the fields of a turn
 abbrev pub turn_of : Ask → ℕ → List Entry → Outcome → List Entry → Turn
 turn_of ask moment seen outcome added = record { ask = ask; moment = moment; seen = seen; outcome = outcome; added = added }
 
+-- what a turn may note
+turn-notes : (turn : Turn) (notes later log : List Note) (noted : Noted turn.ask turn.moment notes later) → later ≡ log → All (IsNoteOf log (turn ∷ [])) noted.added
+turn-notes turn notes later log noted is =
+    All-weaker (λ (note : Note). (answer : Answer) × MayNote notes turn.ask turn.moment answer note) (IsNoteOf log (turn ∷ []))
+    (λ note may. note-of turn notes log (noted.added, sym noted.are ∙ is) may.0 note may.1) noted.added noted.each
+
 -- a turn in which the trustee decided
-pub turned : (share : Share) (ids : Option (List (List ℕ))) (old new : Seen Entry TrusteeName) (before after : JournalState) (number : ℕ) (ask : Ask) (moment : ℕ) (answer : BookAnswer)
-    → Turned old new before after number → (number ≡ 0 → before.doubt ≡ None)
+pub turned : (share : Share) (ids : Option (List (List ℕ))) (old new : Seen Note TrusteeName) (before after : JournalState) (notes later : List Note) (number : ℕ) (ask : Ask) (moment : ℕ) (answer : BookAnswer)
+    → Turned old new notes later number → entries_in notes ≡ before.entries → entries_in later ≡ after.entries → Noted ask moment notes later → (number ≡ 0 → before.doubt ≡ None)
     → BookDecides share ids before ask moment answer after
     → (answer ≡ Decided (Refused refusal.Device) → Rose number new.floor)
     → (HasSteadyDisk new.name → is_code 6 (InTurn answer) ≡ 0)
     → (TellsDisk new.name → is_code 7 (InTurn answer) ≡ 0)
     → (seen : List Entry) × (added : List Entry) × Serves share ids old new (turn_of ask moment seen (InTurn answer) added ∷ [])
-turned share ids old new before after number ask moment answer t sure decides rose steady told =
+turned share ids old new before after notes later number ask moment answer t mine theirs noted sure decides rose steady told =
     let m = book-met share ids before ask moment answer after decides in
     let turn = turn_of ask moment m.seen (InTurn answer) m.added in
     let le = t.goes_on in
-    let reaches = t.reaches in (
+    let reaches = t.reaches in
+    let log : entries_in new.log ≡ after.entries = ap entries_in t.log ∙ theirs in
+    let own : new.own ≡ old.own ++ noted.added = t.own ∙ ap (λ (n : List Note). old.own ++ n) (added-notes notes later noted.added noted.are) in (
       m.seen,
       m.added,
       record {
-        served = next old.log new.log turn [] (prefix-then old.log before.entries m.seen t.begins m.begins) m.answers
-            (ended (m.seen ++ m.added) new.log (prefix-is (m.seen ++ m.added) new.log (sym m.entries ∙ sym t.log)));
+        served = next (entries_in old.log) (entries_in new.log) turn []
+            (prefix-then (entries_in old.log) before.entries m.seen (subst (IsPrefix (entries_in old.log)) mine (entries-prefix old.log notes t.begins)) m.begins) m.answers
+            (ended (m.seen ++ m.added) (entries_in new.log) (prefix-is (m.seen ++ m.added) (entries_in new.log) (sym m.entries ∙ sym log)));
         floor = omega (arith, le, reaches);
         own = λ zero.
             let is = m.sure (sure (omega (arith, le, zero))) in
-            t.own ∙ ap (λ (e : List Entry). old.own ++ drop (length before.entries) e) m.entries
-            ∙ ap (λ (e : List Entry). old.own ++ e) (added-after before.entries m.seen m.added is ∙ sym (append-nil m.added));
+            let grew : before.entries ++ entries_in noted.added ≡ after.entries =
+            (λ i. sym mine i ++ entries_in noted.added) ∙ sym (entries-append notes noted.added) ∙ sym (ap entries_in noted.are) ∙ theirs in
+            let same : entries_in noted.added ≡ m.added =
+            sym (drop-append_seam before.entries (entries_in noted.added)) ∙ ap (drop (length before.entries)) (grew ∙ m.entries) ∙ added-after before.entries m.seen m.added is in
+            ap entries_in own ∙ entries-append old.own noted.added ∙ ap (λ (e : List Entry). entries_in old.own ++ e) (same ∙ sym (append-nil m.added));
+        notes = record {
+          noted = noted.added;
+          are = own;
+          each = turn-notes turn notes later new.log noted (sym t.log);
+          log = prefix-then old.log notes new.log t.begins (noted.added, sym noted.are ∙ sym t.log);
+        };
         draws = record {
           most = (let a = t.draws in omega (arith, a));
           least = (let a = t.draws in omega (arith, a));
@@ -261,22 +322,29 @@ turned share ids old new before after number ask moment answer t sure decides ro
     )
 
 -- the draws of a pass that was worn, or is worn by this ticket
-few-draws : (lock : Lock Entry TrusteeName) (old new : Seen Entry TrusteeName) → DrawsOne lock old new → (old.draws ≤ new.draws) × (new.draws ≤ old.draws + 1)
+few-draws : (lock : Lock Note TrusteeName) (old new : Seen Note TrusteeName) → DrawsOne lock old new → (old.draws ≤ new.draws) × (new.draws ≤ old.draws + 1)
 few-draws lock old new one = dite (dec_le (2 ^ 62) old.greatest)
-    (λ le. let same = ap (λ (p : Seen Entry TrusteeName). p.draws) (one.still_worn le) in (omega (arith, same), omega (arith, same)))
+    (λ le. let same = ap (λ (p : Seen Note TrusteeName). p.draws) (one.still_worn le) in (omega (arith, same), omega (arith, same)))
     (λ lt. let d = one.draws (omega (arith, lt)) in (omega (arith, d), omega (arith, d)))
 
 -- a turn that a worn pass did not get
-pub not-turned : (share : Share) (ids : Option (List (List ℕ))) (lock : Lock Entry TrusteeName) (old new : Seen Entry TrusteeName) (ask : Ask) (moment : ℕ)
-    → IsWornOut old new → DrawsOne lock old new → SameDone old new → Serves share ids old new (turn_of ask moment old.log NoTurn [] ∷ [])
+pub not-turned : (share : Share) (ids : Option (List (List ℕ))) (lock : Lock Note TrusteeName) (old new : Seen Note TrusteeName) (ask : Ask) (moment : ℕ)
+    → IsWornOut old new → DrawsOne lock old new → SameDone old new → Serves share ids old new (turn_of ask moment (entries_in old.log) NoTurn [] ∷ [])
 not-turned share ids lock old new ask moment out one done =
-    let turn = turn_of ask moment old.log NoTurn [] in
+    let turn = turn_of ask moment (entries_in old.log) NoTurn [] in
     let few = few-draws lock old new one in
     record {
-      served = next old.log new.log turn [] (prefix-same old.log) worn
-          (ended (old.log ++ []) new.log (prefix-is (old.log ++ []) new.log (append-nil old.log ∙ sym out.log)));
+      served = next (entries_in old.log) (entries_in new.log) turn [] (prefix-same (entries_in old.log)) worn
+          (ended (entries_in old.log ++ []) (entries_in new.log)
+          (prefix-is (entries_in old.log ++ []) (entries_in new.log) (append-nil (entries_in old.log) ∙ sym (ap entries_in out.log))));
       floor = (let a = out.floor in omega (arith, a));
-      own = λ _. done.own ∙ sym (append-nil old.own);
+      own = λ _. ap entries_in done.own ∙ sym (append-nil (entries_in old.own));
+      notes = record {
+        noted = [];
+        are = done.own ∙ sym (append-nil old.own);
+        each = All-nil (IsNoteOf new.log (turn ∷ []));
+        log = prefix-is old.log new.log (sym out.log);
+      };
       draws = record {
         most = (let a = few.1 in omega (arith, a));
         least = (let a = few.0 in omega (arith, a));

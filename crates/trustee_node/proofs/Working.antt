@@ -4,12 +4,12 @@ use Rattle.std.proofs.lemmas.List.{map-append}
 use Rattle.std.proofs.lemmas.List.Elements.{All-nil, All-push}
 use Rattle.std.proofs.lemmas.Grind.{flat_map-append}
 use Rattle.std.proofs.lemmas.List.Sums.{sum_by-append}
-use Rattle.opening_journal.specs.declared.entry.Entry.{Entry}
 use Rattle.share_files.specs.declared.share.Share.{Share}
 use Rattle.stream_io.specs.Net.{Accepts, IsNewLink, PortOnward, PortState, SameLinks}
 use Rattle.stream_io.specs.Store.{RisesWhere}
 use Rattle.stream_io.specs.Talk.{Talk}
 use Rattle.trustee_core.specs.declared.kept.TrusteeName.{TrusteeName}
+use Rattle.trustee_core.specs.declared.note.Note.{Note}
 use Rattle.turn_lock.specs.Pass.{Seen}
 use Rattle.trustee_node.specs.Connections.{EndsBy, HaveMoments, IsDated}
 use Rattle.trustee_node.specs.Turns.{Serves, Turn, with_code}
@@ -106,7 +106,7 @@ module _ (share : Share) (ids : Option (List (List ℕ))) where
       }
 
   -- a link was accepted and served
-  pub worked-more : (old mid : WorkerState) (port_in port : PortState) (pass : Seen Entry TrusteeName) (clock : ClockState) (link : Talk) (steady : Bool) (room : ℕ) (served : Served) (frames : ℕ) (worn : Bool)
+  pub worked-more : (old mid : WorkerState) (port_in port : PortState) (pass : Seen Note TrusteeName) (clock : ClockState) (link : Talk) (steady : Bool) (room : ℕ) (served : Served) (frames : ℕ) (worn : Bool)
       → Worked share ids old mid → mid.failed ≡ false
       → link.room ≡ room → Accepts mid.port link steady room port_in → PortOnward mid.port port_in → port_in.accept_count ≡ mid.port.accept_count
       → ServesLink share ids mid.pass pass steady link port_in port mid.clock clock served → PortOnward port_in port → clock.told ≡ mid.clock.told

@@ -3,7 +3,6 @@ use Rattle.std.specs.Prelude.{◌≡◌, ◌≢◌, ◌⊎◌, ◌<◌, ◌≤�
 use Rattle.std.specs.Prelude.{length, take, drop, IsTrue}
 use Rattle.std.specs.Prelude.{Option, Ok, Err}
 use Rattle.lms_bytes.specs.declared.params.Params.{Params}
-use Rattle.opening_journal.specs.declared.entry.Entry.{Entry}
 use Rattle.round_frames.specs.Asks.{asks}
 use Rattle.round_frames.specs.Frames.{frame_of}
 use Rattle.round_frames.specs.declared.fault.FrameFault.{FrameFault}
@@ -13,6 +12,7 @@ use Rattle.share_files.specs.declared.share.Share.{Share}
 use Rattle.stream_io.specs.Store.{RisesWhere}
 use Rattle.stream_io.specs.Talk.{Talk}
 use Rattle.trustee_core.specs.declared.kept.TrusteeName.{TrusteeName}
+use Rattle.trustee_core.specs.declared.note.Note.{Note}
 use Rattle.turn_lock.specs.Pass.{Seen}
 use Rattle.trustee_node.specs.Replies.{longest_reply, replies, reply_bytes}
 use Rattle.trustee_node.specs.Turns.{Serves, Turn, with_code}
@@ -100,7 +100,7 @@ pub record IsDated (before now : ℕ → ℕ) (turns : List Turn) : Type 0 where
 
 -- All of a connection, by the turns that its asks had: the pass, the link, which is steady or not, and the clock before
 -- and after, and its end.
-pub record Conversation (share : Share) (ids : Option (List (List ℕ))) (pass_old pass_new : Seen Entry TrusteeName)
+pub record Conversation (share : Share) (ids : Option (List (List ℕ))) (pass_old pass_new : Seen Note TrusteeName)
     (steady : Bool) (old new : Talk) (clock_told : Bool) (answers_old answers_new : ℕ → ℕ) (served : Served)
     : Type 0 where
   pub turns : List Turn

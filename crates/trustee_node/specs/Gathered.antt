@@ -1,10 +1,11 @@
 -- Workers that were given ports, that are done, and whose passes are joined.
 use Rattle.std.specs.Prelude.{◌≡◌, ◌≤◌, ◌<◌, ◌*◌, ◌^◌, ◌++◌, ℕ, List, [], ◌∷◌, All, length, map, Option}
-use Rattle.opening_journal.specs.declared.entry.Entry.{Entry}
 use Rattle.share_files.specs.declared.share.Share.{Share}
 use Rattle.stream_io.specs.Net.{PortState}
+use Rattle.trustee_core.specs.Notes.{entries_in}
 use Rattle.trustee_core.specs.declared.kept.TrusteeName.{TrusteeName}
-use Rattle.trustee_node.specs.Turns.{Draws, Faults, added_by}
+use Rattle.trustee_core.specs.declared.note.Note.{Note}
+use Rattle.trustee_node.specs.Turns.{Draws, Faults, NotedBy, added_by}
 use Rattle.trustee_node.specs.Workers.{ClockState, WorkEnds, WorkerState, Worked}
 use Rattle.trustee_node.specs.Ports.{HasTotals, IsPortRun, PortRun, turns_in}
 use Rattle.trustee_node.specs.declared.totals.Totals.{Totals}
@@ -20,20 +21,20 @@ pub data StandTo {W : Type 0} (Is : PortState → ClockState → W → Type 0)
       → StandTo Is (port ∷ ports) (clock ∷ clocks) (workers ++ worker ∷ [])
 
 -- internal: a worker that was given this port, this clock and this pass
-pub record IsBegun (pass : Seen Entry TrusteeName) (port : PortState) (clock : ClockState) (worker : WorkerState)
+pub record IsBegun (pass : Seen Note TrusteeName) (port : PortState) (clock : ClockState) (worker : WorkerState)
     : Type 0 where
   pub pass_is : worker.pass ≡ pass
   pub port_is : worker.port ≡ port
   pub clock_is : worker.clock ≡ clock
 
 -- internal: such workers, by what each was given
-abbrev pub AreBegun : {W : Type 0} → (W → WorkerState) → Seen Entry TrusteeName → List PortState → List ClockState
+abbrev pub AreBegun : {W : Type 0} → (W → WorkerState) → Seen Note TrusteeName → List PortState → List ClockState
     → List W → Type 0
 AreBegun state pass ports clocks workers =
     StandTo (λ port clock worker. IsBegun pass port clock (state worker)) ports clocks workers
 
 -- internal: such a worker, after it was run
-pub record IsDone (share : Share) (ids : Option (List (List ℕ))) (asked : ℕ) (pass : Seen Entry TrusteeName)
+pub record IsDone (share : Share) (ids : Option (List (List ℕ))) (asked : ℕ) (pass : Seen Note TrusteeName)
     (port : PortState) (clock : ClockState) (worker : WorkerState) : Type 0 where
   pub first : WorkerState
   pub begun : IsBegun pass port clock first
@@ -43,24 +44,26 @@ pub record IsDone (share : Share) (ids : Option (List (List ℕ))) (asked : ℕ)
   pub ends : WorkEnds asked worker
 
 -- internal: the pass in which the passes of these ports' workers are joined
-pub record Gathered (share : Share) (ids : Option (List (List ℕ))) (asked : ℕ) (lock : Lock Entry TrusteeName)
-    (pass : Seen Entry TrusteeName) (ports_old ports_new : List PortState) (clocks : List ClockState)
+pub record Gathered (share : Share) (ids : Option (List (List ℕ))) (asked : ℕ) (lock : Lock Note TrusteeName)
+    (pass : Seen Note TrusteeName) (ports_old ports_new : List PortState) (clocks : List ClockState)
     (totals : Totals) : Type 0 where
   pub runs : List PortRun
   pub before : map (λ (run : PortRun). run.before) runs ≡ ports_old
   pub after : map (λ (run : PortRun). run.after) runs ≡ ports_new
   pub by_clocks : map (λ (run : PortRun). run.clock) runs ≡ clocks
-  pub are : pass.greatest < 2 ^ 62 → All (IsPortRun share ids asked lock.opening_log pass.log) runs
+  pub are : pass.greatest < 2 ^ 62 →
+      All (IsPortRun share ids asked (entries_in lock.opening_log) (entries_in pass.log)) runs
   pub same : SamePass (first_pass lock) pass
   pub draws : Draws (first_pass lock) pass (turns_in runs)
   pub faults : Faults (first_pass lock) pass (turns_in runs)
-  pub own : pass.floor ≡ 0 → pass.own ≡ added_by (turns_in runs)
+  pub own : pass.floor ≡ 0 → entries_in pass.own ≡ added_by (turns_in runs)
+  pub notes : NotedBy (first_pass lock) pass (turns_in runs)
   pub most : length (turns_in runs) ≤ 2 ^ 48 * length runs
   pub joined : pass.joined ≡ length runs
   pub totals_are : HasTotals runs totals
 
 -- internal: workers that are done, by what each was given
-abbrev pub AreDone : {W : Type 0} → (W → WorkerState) → Share → Option (List (List ℕ)) → ℕ → Seen Entry TrusteeName
+abbrev pub AreDone : {W : Type 0} → (W → WorkerState) → Share → Option (List (List ℕ)) → ℕ → Seen Note TrusteeName
     → List PortState → List ClockState → List W → Type 0
 AreDone state share ids asked pass ports clocks workers =
     StandTo (λ port clock worker. IsDone share ids asked pass port clock (state worker)) ports clocks workers

@@ -1,15 +1,16 @@
 -- Ports that one trustee served, all beside each other.
 use Rattle.std.specs.Prelude.{◌≡◌, ◌≤◌, ◌<◌, ◌+◌, ◌-◌, ◌*◌, ◌^◌, ◌++◌, ℕ, Bool, List, All, length, map, min}
-use Rattle.std.specs.Prelude.{count_by, Option, IsTrue}
+use Rattle.std.specs.Prelude.{count_by, Contains, Option, Some, IsTrue}
 use Rattle.std.specs.List.{flat_map, sum_by}
 use Rattle.disk_trait.specs.Faults.{Rose}
 use Rattle.lms_bytes.specs.declared.params.Params.{Params}
 use Rattle.opening_journal.specs.declared.entry.Entry.{Entry}
 use Rattle.share_files.specs.declared.share.Share.{Share}
 use Rattle.stream_io.specs.Net.{PortOnward, PortState}
+use Rattle.trustee_core.specs.declared.note.Note.TheVariants.{Doubted}
 use Rattle.trustee_node.specs.Connections.{HaveMoments, IsLinkFault}
 use Rattle.trustee_node.specs.Replies.{longest_reply}
-use Rattle.trustee_node.specs.Turns.{ServedTurns, Turn, added_by, with_code}
+use Rattle.trustee_node.specs.Turns.{IsAsked, ServedTurns, Turn, added_by, with_code}
 use Rattle.trustee_node.specs.Workers.{ClockState, Connection, IsConnection, frames_of, turns_of}
 use Rattle.trustee_node.specs.Trustees.{TrusteeState}
 use Rattle.trustee_node.specs.declared.totals.Totals.{Totals}
@@ -75,6 +76,18 @@ pub record HasTotals (runs : List PortRun) (totals : Totals) : Type 0 where
       totals.connections ≡ min (sum_by (λ (run : PortRun). length run.served) runs) (2 ^ 32 - 1)
   pub frames : totals.frames ≡ min (sum_by (λ (run : PortRun). frames_of run.served) runs) (2 ^ 32 - 1)
 
+-- an entry that was there, that was in doubt at some time before, or that one of these turns asked for
+pub data ComesFrom (old : TrusteeState) (turns : List Turn) (entry : Entry) : Type 0 where
+  was_there : Contains old.entries entry → ComesFrom old turns entry
+  was_in_doubt : Contains old.notes (Doubted entry) → ComesFrom old turns entry
+  is_asked : IsAsked turns entry → ComesFrom old turns entry
+
+-- nothing is bound that was not asked for, at any number of faults: each entry, and the one in doubt, comes from there
+pub record AllComeFrom (old new : TrusteeState) (turns : List Turn) : Type 0 where
+  pub entries : (entry : Entry) → Contains new.entries entry → ComesFrom old turns entry
+  pub doubt : (entry : Entry) → new.doubt ≡ Some entry → ComesFrom old turns entry
+  pub notes : (entry : Entry) → Contains new.notes (Doubted entry) → ComesFrom old turns entry
+
 -- What serving these ports made of a trustee and of them, in their order. Where there was no fault, each entry stands
 -- in the last log as often as in the first one and in what the turns added together.
 pub record ServedPorts (share : Share) (ids : Option (List (List ℕ))) (asked : ℕ) (old new : TrusteeState)
@@ -87,4 +100,5 @@ pub record ServedPorts (share : Share) (ids : Option (List (List ℕ))) (asked :
   pub codes : HasCodes old new (turns_in runs)
   pub adds : new.faults ≡ 0 → (test : Entry → Bool)
       → count_by test new.entries ≡ count_by test old.entries + count_by test (added_by (turns_in runs))
+  pub asked_for : AllComeFrom old new (turns_in runs)
   pub totals_are : HasTotals runs totals

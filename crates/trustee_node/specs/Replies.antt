@@ -16,6 +16,7 @@ use Rattle.share_files.specs.declared.share.Share.{Share}
 use Rattle.trustee_core.specs.Decisions.{Granted, Refused}
 use Rattle.trustee_core.specs.Grants.{ask_of, mask_of, masks_of}
 use Rattle.trustee_core.specs.declared.kept.TrusteeName.{TrusteeName}
+use Rattle.trustee_core.specs.declared.note.Note.{Note}
 use Rattle.trustee_core.specs.declared.refusal.Refusal.{Refusal}
 use Rattle.trustee_core.specs.declared.refusal.Refusal.TheVariants.{ForeignKey, NoSuchLeaf, NotMember, TooLong}
 use Rattle.trustee_core.specs.declared.refusal.Refusal.TheVariants.{BadCheck, Device, Damaged, NotBound, Spent}
@@ -102,7 +103,7 @@ IsGrantOf answer.Worn ask = ⊤
 
 -- an ask was answered so, in one turn or in none
 pub record OneTurn (share : Share) (ids : Option (List (List ℕ))) (ask : Ask) (moment : ℕ) (result : Answer)
-    (old new : Seen Entry TrusteeName) : Type 0 where
+    (old new : Seen Note TrusteeName) : Type 0 where
   pub seen : List Entry
   pub added : List Entry
   pub serves : Serves share ids old new

@@ -1,5 +1,6 @@
 -- Turns of a trustee under a lock: what each ask met, how it was answered, and what it added.
 use Rattle.std.specs.Prelude.{◌≡◌, ◌<◌, ◌≤◌, ◌+◌, ◌-◌, ◌^◌, ◌==◌, ◌++◌, ℕ, Bool, true, false, List, [], ◌∷◌, length}
+use Rattle.std.specs.Prelude.{All, Contains, map}
 use Rattle.std.specs.Prelude.{Option, IfSome, IsSomeAnd, IsTrue, if◌then◌else◌}
 use Rattle.std.specs.List.{flat_map, sum_by}
 use mathlib.Core.List.{IsPrefix}
@@ -10,7 +11,10 @@ use Rattle.opening_journal.specs.declared.entry.Entry.{Entry}
 use Rattle.share_files.specs.declared.share.Share.{Share}
 use Rattle.trustee_core.specs.Codes.{refusal_code}
 use Rattle.trustee_core.specs.Decisions.{Granted, HasTag, IsForLeaf, Refused}
+use Rattle.trustee_core.specs.Notes.{entries_in, entry_of}
 use Rattle.trustee_core.specs.declared.kept.TrusteeName.{TrusteeName}
+use Rattle.trustee_core.specs.declared.note.Note.{Note}
+use Rattle.trustee_core.specs.declared.note.Note.TheVariants.{Made, Doubted}
 use Rattle.trustee_core.specs.declared.refusal.Refusal.TheVariants.{Damaged, Device}
 use Rattle.turn_lock.specs.Lock.{Lock}
 use Rattle.turn_lock.specs.Pass.{SamePass, Seen}
@@ -86,13 +90,13 @@ abbrev pub HasSteadyDisk : Option TrusteeName → Type 0
 HasSteadyDisk name = IsSomeAnd name (λ name. IsTrue name.steady × IsTrue name.told)
 
 -- the pass is of this lock, round the trustee of this share, and holds no turn
-abbrev pub IsIdle : Lock Entry TrusteeName → Share → Seen Entry TrusteeName → Type 0
+abbrev pub IsIdle : Lock Note TrusteeName → Share → Seen Note TrusteeName → Type 0
 IsIdle lock share pass =
     (pass.lock ≡ lock) × (pass.in_turn ≡ false) × IfSome pass.name (λ name. name.share ≡ share)
 
 -- The tickets of these turns: one for each ask that is decided, and one or none for one that is not. An ask is not
 -- decided exactly where the pass is worn.
-pub record Draws (old new : Seen Entry TrusteeName) (turns : List Turn) : Type 0 where
+pub record Draws (old new : Seen Note TrusteeName) (turns : List Turn) : Type 0 where
   pub most : new.draws ≤ old.draws + length turns
   pub least : old.draws + length turns ≤ new.draws + with_code 11 turns
   pub greatest : old.greatest ≤ new.greatest
@@ -101,18 +105,40 @@ pub record Draws (old new : Seen Entry TrusteeName) (turns : List Turn) : Type 0
 
 -- The faults of these turns: those of the disk are rises of the pass's own, and a steady disk that tells its content
 -- has none. No slot is damaged before the first fault, and none of a disk that tells its content.
-pub record Faults (old new : Seen Entry TrusteeName) (turns : List Turn) : Type 0 where
+pub record Faults (old new : Seen Note TrusteeName) (turns : List Turn) : Type 0 where
   pub rises : new.floor < 2 ^ 64 - 1 → old.rises + with_code 6 turns ≤ new.rises
   pub steady : HasSteadyDisk new.name → with_code 6 turns ≡ 0
   pub first : new.floor ≡ 0 → with_code 7 turns ≡ 0
   pub told : TellsDisk new.name → with_code 7 turns ≡ 0
 
+-- the entries of these turns' asks, each at its moment
+abbrev pub asked_by : List Turn → List Entry
+asked_by turns = map (λ (turn : Turn). entry_of turn.ask turn.moment) turns
+
+abbrev pub IsAsked : List Turn → Entry → Type 0
+IsAsked turns entry = Contains (asked_by turns) entry
+
+-- A note that these turns may have added to this log: an entry that one of them asked for was made or is in doubt, or
+-- one that the log has in doubt turned out to be made.
+pub data IsNoteOf (log : List Note) (turns : List Turn) : Note → Type 0 where
+  asked_made : (entry : Entry) → IsAsked turns entry → IsNoteOf log turns (Made entry)
+  asked_doubted : (entry : Entry) → IsAsked turns entry → IsNoteOf log turns (Doubted entry)
+  turned_out : (entry : Entry) → Contains log (Doubted entry) → IsNoteOf log turns (Made entry)
+
+-- What these turns noted, at any number of faults. The log goes on from the one before.
+pub record NotedBy (old new : Seen Note TrusteeName) (turns : List Turn) : Type 0 where
+  pub noted : List Note
+  pub are : new.own ≡ old.own ++ noted
+  pub each : All (IsNoteOf new.log turns) noted
+  pub log : IsPrefix old.log new.log
+
 -- What these turns made of a pass. With no fault they added what their answers say, and nothing else.
-pub record Serves (share : Share) (ids : Option (List (List ℕ))) (old new : Seen Entry TrusteeName) (turns : List Turn)
+pub record Serves (share : Share) (ids : Option (List (List ℕ))) (old new : Seen Note TrusteeName) (turns : List Turn)
     : Type 0 where
-  pub served : ServedTurns share ids old.log turns new.log
+  pub served : ServedTurns share ids (entries_in old.log) turns (entries_in new.log)
   pub floor : old.floor ≤ new.floor
-  pub own : new.floor ≡ 0 → new.own ≡ old.own ++ added_by turns
+  pub own : new.floor ≡ 0 → entries_in new.own ≡ entries_in old.own ++ added_by turns
+  pub notes : NotedBy old new turns
   pub draws : Draws old new turns
   pub faults : Faults old new turns
   pub same : SamePass old new

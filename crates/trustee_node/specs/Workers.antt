@@ -2,12 +2,12 @@
 use Rattle.std.specs.Prelude.{◌≡◌, ◌≤◌, ◌+◌, ◌-◌, ◌*◌, ◌^◌, ◌++◌, ℕ, Bool, true, false, List, All, length, map, min}
 use Rattle.std.specs.Prelude.{Option, None, IsTrue}
 use Rattle.std.specs.List.{flat_map, sum_by}
-use Rattle.opening_journal.specs.declared.entry.Entry.{Entry}
 use Rattle.share_files.specs.declared.share.Share.{Share}
 use Rattle.stream_io.specs.Net.{HangsUp, IsNewLink, PortOnward, PortState}
 use Rattle.stream_io.specs.Store.{RisesWhere}
 use Rattle.stream_io.specs.Talk.{Ended, Talk}
 use Rattle.trustee_core.specs.declared.kept.TrusteeName.{TrusteeName}
+use Rattle.trustee_core.specs.declared.note.Note.{Note}
 use Rattle.turn_lock.specs.Pass.{Seen}
 use Rattle.trustee_node.specs.Connections.{Conversation, EndsBy, FailsForRoom, HasRead, HasWritten, IsDated}
 use Rattle.trustee_node.specs.Connections.{IsLinkFault}
@@ -28,7 +28,7 @@ clock_state told answers clock = record { told = told clock; answers = answers c
 -- a worker in one state: its port, its pass and its clock, and what it did
 pub record WorkerState : Type 0 where
   pub port : PortState
-  pub pass : Seen Entry TrusteeName
+  pub pass : Seen Note TrusteeName
   pub clock : ClockState
   pub connections : ℕ
   pub frames : ℕ
@@ -37,7 +37,7 @@ pub record WorkerState : Type 0 where
 
 -- the state of a worker whose port and clock have these members
 abbrev pub worker_state : {P T C L : Type 0} → (P → PortState) → (C → Bool) → (C → ℕ → ℕ)
-    → Worker P T C L Entry TrusteeName → WorkerState
+    → Worker P T C L Note TrusteeName → WorkerState
 worker_state state told answers worker = record {
   port = state worker.port;
   pass = worker.pass;
@@ -49,7 +49,7 @@ worker_state state told answers worker = record {
 }
 
 -- a link was served, and then hung up
-pub record ServesLink (share : Share) (ids : Option (List (List ℕ))) (pass_old pass_new : Seen Entry TrusteeName)
+pub record ServesLink (share : Share) (ids : Option (List (List ℕ))) (pass_old pass_new : Seen Note TrusteeName)
     (steady : Bool) (link : Talk) (port_old port_new : PortState) (clock_old clock_new : ClockState) (served : Served)
     : Type 0 where
   pub talk : Talk

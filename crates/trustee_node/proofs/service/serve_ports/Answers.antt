@@ -2,6 +2,7 @@ use Rattle.std.proofs.Common.{map, arith}
 use Rattle.std.proofs.lemmas.List.{length-map}
 use Rattle.std.specs.Option.{option_map}
 use Rattle.approval_book.specs.Approved.{ids_of}
+use Rattle.trustee_core.proofs.NotesHeld.{doubt-held, entries-held}
 use Rattle.trustee_node.specs.Workers.{clock_state, worker_state}
 use Rattle.trustee_node.specs.Trustees.{name_of, trustee_state}
 use Rattle.trustee_node.proofs.Finishing.{ends-served}
@@ -65,6 +66,6 @@ returns-clause-served g c =
     let opening = c.in-Ok-new.ensures.opening in
     let end = c.close.ensures in
     ends-served share ids asked lock (trustee_state c.args.trustee) (trustee_state c.close.result) c.gather-pass.result.0 olds (map port c.gather-pass.new.ports.items) clocks c.gather-pass.result.1
-    record { log = opening.0; number = opening.1; name = opening.2; first = c.in-Ok-new.ensures.numbers.0 }
-    record { log = end.log; number = end.number; name = end.named; whole = end.whole }
+    record { log = opening.0; entries = entries-held c.args.trustee; number = opening.1; name = opening.2; first = c.in-Ok-new.ensures.numbers.0 }
+    record { log = end.log; entries = entries-held c.close.result; doubt = doubt-held c.close.result; number = end.number; name = end.named; whole = end.whole }
     all (let many = length-map c.args.ports.now.items port in let n = c.args.ports.now.ok.0 in let few = c.requires.ports.1 in omega (arith, many, n, few))

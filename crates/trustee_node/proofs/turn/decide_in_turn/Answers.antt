@@ -5,16 +5,16 @@ use Rattle.lms_bytes.specs.declared.ask.Ask.{Ask}
 use Rattle.disk_trait.specs.Faults.{Rose}
 use Rattle.opening_journal.specs.Entries.{JournalState}
 use Rattle.opening_journal.specs.Journal.{faults_of, state_of}
-use Rattle.opening_journal.specs.declared.entry.Entry.{Entry}
 use Rattle.share_files.specs.declared.share.Share.{Share}
-use Rattle.trustee_core.specs.Trustee.{journal_of, share_of}
+use Rattle.trustee_core.specs.Notes.{entries_in}
+use Rattle.trustee_core.specs.Trustee.{journal_of, notes_of, share_of}
+use Rattle.trustee_core.specs.declared.note.Note.{Note}
+use Rattle.trustee_core.proofs.NotesHeld.{entries-held}
 use Rattle.trustee_core.specs.declared.kept.TrusteeName.{TrusteeName}
 use Rattle.trustee_node.specs.Turns.{HasSteadyDisk, TellsDisk}
-use Rattle.trustee_node.proofs.Deciding.{book-met}
 use Rattle.trustee_node.proofs.Heads.{sizes-c, sizes-digest}
-use Rattle.trustee_node.proofs.Prefixes.{prefix-then}
 use Rattle.trustee_node.proofs.Serving.{idle-again, same-then}
-use Rattle.trustee_node.proofs.Turning.{leaves, name_of, not-turned, sure, took-gave, turned}
+use Rattle.trustee_node.proofs.Turning.{leaves, name_of, not-turned, noted-of, sure, took-gave, turned}
 use Rattle.trustee_node.proofs.turn.decide_in_turn.Goals as goal
 
 -- the share of the trustee that was taken
@@ -37,10 +37,10 @@ decide_approved-decided-requires-clause-digest g c =
 
 pub give-requires-clause-begins : goal.give-requires-clause-begins
 give-requires-clause-begins g c =
-    let before = state_of (journal_of c.in-Ok.trustee) in
-    let after = state_of (journal_of c.decide_approved-decided.new.trustee) in
-    let m = book-met (share_of c.in-Ok.trustee) _ before c.args.ask.now c.args.moment _ after c.decide_approved-decided.ensures.event in
-    subst (λ (l : List Entry). IsPrefix l after.entries) (sym c.in-Ok.ensures.taken.log) (prefix-then before.entries m.seen after.entries m.begins (m.added, sym m.entries))
+    let d = c.decide_approved-decided.ensures in
+    let later = c.decide_approved-decided.new.trustee in
+    let noted = noted-of _ c.args.ask.now c.args.moment c.in-Ok.trustee later c.decide_approved-decided.result d.event d.denied d.decided d.notes in
+    subst (λ (l : List Note). IsPrefix l (notes_of later)) (sym c.in-Ok.ensures.taken.log) (noted.added, sym noted.are)
 
 pub give-requires-clause-reaches : goal.give-requires-clause-reaches
 give-requires-clause-reaches g c =
@@ -60,7 +60,7 @@ pub returns-in_default-clause-turn : goal.returns-in_default-clause-turn
 returns-in_default-clause-turn g c =
     let old = c.args.pass.now in
     let serves = not-turned c.args.share.now _ c.args.lock.now old c.take.new.pass c.args.ask.now c.args.moment c.in_default.ensures.worn c.take.ensures.draws c.take.ensures.stays in
-    record { seen = old.log; added = []; serves = serves }
+    record { seen = entries_in old.log; added = []; serves = serves }
 
 pub returns-clause-turn : goal.returns-clause-turn
 returns-clause-turn g c =
@@ -82,10 +82,12 @@ returns-clause-turn g c =
     let gives = c.give.ensures.gives in
     let drawn = c.give.ensures.stays in
     let share = same-share c.args.share.now old.name (name_of trustee) taken.named c.requires.pass.2 in
-    let turn = took-gave c.args.lock.now (name_of trustee) old mid new before after number last taken c.take.ensures.draws stays gives drawn left.count in
+    let turn = took-gave c.args.lock.now (name_of trustee) old mid new (notes_of trustee) (notes_of later) number last taken c.take.ensures.draws stays gives drawn left.count in
     let named : new.name ≡ Some (name_of trustee) = drawn.same.name ∙ stays.same.name ∙ sym taken.named in
     let event = event-of (share_of trustee) c.args.share.now _ before c.args.ask.now c.args.moment answer after share d.event in
-    let t = turned c.args.share.now _ old new before after number c.args.ask.now c.args.moment answer turn (sure trustee) event
+    let noted = noted-of _ c.args.ask.now c.args.moment trustee later result d.event d.denied d.decided d.notes in
+    let t = turned c.args.share.now _ old new before after (notes_of trustee) (notes_of later) number c.args.ask.now c.args.moment answer turn
+    (entries-held trustee) (entries-held later) noted (sure trustee) event
     (λ device. subst (Rose number) (sym gives.floor) (left.rose device))
     (λ is. let known = subst HasSteadyDisk named is in left.steady known.0 known.1)
     (λ is. left.told (subst TellsDisk named is)) in
