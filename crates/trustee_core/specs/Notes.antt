@@ -11,19 +11,20 @@ use Rattle.trustee_core.specs.declared.note.Note.{Note}
 use Rattle.trustee_core.specs.declared.note.Note.TheVariants.{Made, Doubted}
 use Rattle.trustee_core.specs.declared.refusal.Refusal.TheVariants.{Device}
 
--- the entries that were made, in their order
+-- the entry that a note says was made, in a list
 abbrev pub entry_in : Note → List Entry
 entry_in (Made entry) = entry ∷ []
 entry_in (Doubted entry) = []
 
+-- the entries that were made, in their order
 abbrev pub entries_in : List Note → List Entry
 entries_in notes = flat_map entry_in notes
 
--- these entries were made
+-- a note of each of these entries, that it was made
 abbrev pub made : List Entry → List Note
 made entries = map (λ entry. Made entry) entries
 
--- the entry in doubt, if there is one
+-- a note of the entry in doubt, if there is one
 abbrev pub doubted : Option Entry → List Note
 doubted None = []
 doubted (Some entry) = Doubted entry ∷ []
@@ -36,11 +37,12 @@ first_notes state = made state.entries ++ doubted state.doubt
 abbrev pub HasNote : List Note → Note → Type 0
 HasNote notes note = All (λ other. other ≢ note) notes → ⊥
 
--- the entry that an ask makes at a moment
+-- the entry of an ask, by whether it has a pair of round two
 abbrev pub entry_by : Option Second → Ask → ℕ → Entry
 entry_by None ask moment = Bound ask.leaf ask.message
 entry_by (Some pair) ask moment = Opened ask.leaf ask.message pair.c pair.digest moment
 
+-- the entry that an ask makes at a moment: round one binds its leaf, and round two opens it
 abbrev pub entry_of : Ask → ℕ → Entry
 entry_of ask moment = entry_by ask.second ask moment
 

@@ -1,6 +1,6 @@
 //! The trustee.
 
-ghost use Rattle.std.specs.Prelude.{◌≡◌, ◌≢◌, ◌≤◌, ◌^◌, [], List, length, IfOk, IfErr, IfSome, OnOk, None, Some, Ok, Err};
+ghost use Rattle.std.specs.Prelude.{◌≡◌, ◌≢◌, ◌≤◌, ◌^◌, [], length, IfOk, IfErr, IfSome, OnOk, None, Some, Ok, Err};
 ghost use Rattle.opening_journal.specs.Entries.{JournalState, StandsFor};
 ghost use Rattle.lms_bytes.specs.declared.ask.Second.{Second};
 ghost use Rattle.opening_journal.specs.Opening.{Binds, Opens};

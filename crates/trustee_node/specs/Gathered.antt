@@ -51,8 +51,8 @@ pub record Gathered (share : Share) (ids : Option (List (List ℕ))) (asked : �
   pub before : map (λ (run : PortRun). run.before) runs ≡ ports_old
   pub after : map (λ (run : PortRun). run.after) runs ≡ ports_new
   pub by_clocks : map (λ (run : PortRun). run.clock) runs ≡ clocks
-  pub are : pass.greatest < 2 ^ 62 →
-      All (IsPortRun share ids asked (entries_in lock.opening_log) (entries_in pass.log)) runs
+  pub are : pass.greatest < 2 ^ 62
+      → All (IsPortRun share ids asked (entries_in lock.opening_log) (entries_in pass.log)) runs
   pub same : SamePass (first_pass lock) pass
   pub draws : Draws (first_pass lock) pass (turns_in runs)
   pub faults : Faults (first_pass lock) pass (turns_in runs)

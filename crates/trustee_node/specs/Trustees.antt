@@ -9,7 +9,8 @@ use Rattle.trustee_core.specs.declared.kept.TrusteeName.{TrusteeName}
 use Rattle.trustee_core.specs.declared.note.Note.{Note}
 use Rattle.trustee_core.specs.declared.trustee.Trustee.{Trustee}
 
--- the entries of its journal, the one in doubt, its notes, the count of faults of its disk, and its share and what its disk is for good
+-- the entries of its journal, the one in doubt, its notes, the count of faults of its disk, and its share and what its
+-- disk is for good
 pub record TrusteeState : Type 0 where
   pub entries : List Entry
   pub doubt : Option Entry

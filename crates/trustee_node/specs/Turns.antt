@@ -115,6 +115,7 @@ pub record Faults (old new : Seen Note TrusteeName) (turns : List Turn) : Type 0
 abbrev pub asked_by : List Turn → List Entry
 asked_by turns = map (λ (turn : Turn). entry_of turn.ask turn.moment) turns
 
+-- one of these turns asked for the entry
 abbrev pub IsAsked : List Turn → Entry → Type 0
 IsAsked turns entry = Contains (asked_by turns) entry
 
