@@ -1,3 +1,4 @@
+mod Asked
 pub mod Booking
 pub mod Lasts
 mod Lives

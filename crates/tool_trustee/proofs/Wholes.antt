@@ -1,5 +1,6 @@
 -- The whole command, from what a service with its book says.
 use Rattle.std.proofs.Common.{◌≡◌, ◌+◌, ◌-◌, ◌^◌, ◌≤◌, min, ℕ, List, [], ◌∷◌, Option, Some, None, All, IsTrue, refl, arith}
+use Rattle.std.specs.Prelude.{Contains}
 use Rattle.std.proofs.lemmas.List.Elements.{All-cons, All-nil, All-weaker}
 use Rattle.opening_journal.specs.declared.entry.Entry.{Entry}
 use Rattle.share_files.specs.declared.share.Share.{Share}
@@ -14,6 +15,7 @@ use Rattle.tool_base.proofs.Outs.{IsBackAs}
 use Rattle.tool_base.specs.Loads.{FailsToLoad}
 use Rattle.tool_base.proofs.Takes.{other_gone, other_not_loaded, other_reads_as, other_stays}
 use Rattle.tool_base.specs.Headers.{book_header}
+use Rattle.tool_trustee.proofs.Asked.{only_asked}
 use Rattle.tool_trustee.specs.Journals.{HasBook, IsBook, LeavesJournal, book, no_book}
 use Rattle.tool_trustee.specs.Nets.{NetEnds}
 use Rattle.tool_trustee.specs.Nets as nets
@@ -23,6 +25,8 @@ use Rattle.tool_trustee.specs.Trustee.{HasNoBook, IsTrustee, TrusteeEnds, Truste
 use Rattle.tool_trustee.specs.Trustee as trustee
 use Rattle.tool_words.specs.Words.{TrusteeWords}
 use Rattle.trustee_core.specs.Trustee.{journal_header}
+use Rattle.trustee_core.specs.declared.note.Note.TheVariants.{Doubted}
+use Rattle.trustee_node.specs.Ports.{turns_in}
 use Rattle.trustee_node.specs.Trustees.{TrusteeState}
 use Rattle.tool_base.proofs.Nets.{net_none}
 use Rattle.tool_base.proofs.Heard.{heard_none}
@@ -74,7 +78,7 @@ module _ (words : TrusteeWords) (a b c e : StoreState) (net_old net_new : NetSta
       (trustee_is : IsTrustee words before after share old.entries) (stays_journal : same → Stays (from_to a e) words.journal)
       (fresh : old.faults ≡ 0) (tells : IsTrue a.told → IsTrue old.name.told) (steadies : IsTrue a.steady → IsTrue old.name.steady) (name_is : new.name ≡ old.name) (kind : IsTrue a.told → a.disks words.journal ≡ handed_of old.name)
       (left : LeavesJournal (from_to a e) words.journal share (record { entries = new.entries; doubt = doubt }))
-      (sure : new.faults ≡ 0 → doubt ≡ None) (rise : min (a.disk_count + new.faults) (2 ^ 64 - 1) ≤ e.disk_count) where
+      (sure : new.faults ≡ 0 → doubt ≡ None) (settled : (entry : Entry) → Contains old.notes (Doubted entry) → ⊥) (doubt_is : doubt ≡ new.doubt) (rise : min (a.disk_count + new.faults) (2 ^ 64 - 1) ≤ e.disk_count) where
     with_stays : (names : List (List ℕ)) → same → All (StaysThere (from_to b c)) names → All (Stays (from_to a e)) (words.journal ∷ names)
     with_stays names is there = All-cons (Stays (from_to a e)) words.journal names (stays_journal is) (all_stay names there)
 
@@ -100,6 +104,7 @@ module _ (words : TrusteeWords) (a b c e : StoreState) (net_old net_new : NetSta
       ids = ids;
       book = has_book share words.book ids has;
       net = net;
+      asked_for = only_asked old new doubt (turns_in net.served.runs) settled doubt_is net.served.asked_for;
     }) (all_stay names there)
 
     pub ends_whole : (end : Ending) (names : List (List ℕ))

@@ -1,9 +1,10 @@
 -- How `trustee` ends: it reads the share, loads the journal and the book, if there is one, makes ports, serves, and
 -- gives all back.
 use Rattle.std.specs.Prelude.{◌≡◌, ◌⊎◌, ◌+◌, ◌-◌, ◌^◌, ◌≤◌, ℕ, true, false, List, [], ◌∷◌, All, min, Option, Some, None}
-use Rattle.std.specs.Prelude.{IsTrue}
+use Rattle.std.specs.Prelude.{Contains, IsTrue}
 use Rattle.std.specs.Str.{bytes_eq}
 use Rattle.disk_trait.specs.Faults.{Rose}
+use Rattle.opening_journal.specs.Entries.{JournalState}
 use Rattle.opening_journal.specs.declared.entry.Entry.{Entry}
 use Rattle.share_files.specs.declared.share.Share.{Share}
 use Rattle.stream_io.specs.Store.{Handed}
@@ -21,7 +22,9 @@ use Rattle.tool_trustee.specs.Nets.{ServedNet}
 use Rattle.tool_words.specs.Words.{TrusteeWords}
 use Rattle.trustee_core.specs.Trustee.{journal_header}
 use Rattle.trustee_core.specs.declared.kept.TrusteeName.{TrusteeName}
+use Rattle.trustee_node.specs.Ports.{turns_in}
 use Rattle.trustee_node.specs.Trustees.{TrusteeState}
+use Rattle.trustee_node.specs.Turns.{IsAsked, Turn}
 
 -- the store between two states of the outside
 abbrev pub store_of : Outside → Outside → StoreRun
@@ -45,8 +48,14 @@ pub record HasNoBook (words : TrusteeWords) (before after : Outside) (name : Lis
   pub absent : IsTrue before.store.told → IsTrue before.store.steady
       → (bytes_eq name words.journal ≡ true) ⊎ (before.store.file name ≡ None)
 
+-- each entry of the journal, and the one in doubt, was there before or is that of one of these turns' asks
+pub record OnlyAsked (old : List Entry) (new : JournalState) (turns : List Turn) : Type 0 where
+  pub entries : (entry : Entry) → Contains new.entries entry → Contains old entry ⊎ IsAsked turns entry
+  pub doubt : (entry : Entry) → new.doubt ≡ Some entry → Contains old entry ⊎ IsAsked turns entry
+
 -- The trustee of the words was served, from the entries of its journal to those that the journal has at the end. An
--- entry is in doubt only where the disk has failed, and the disk's faults are among those of the store's disks.
+-- entry is in doubt only where the disk has failed, and the disk's faults are among those of the store's disks. Nothing
+-- is bound that was not asked for, whatever the disk does.
 pub record ServedTrustee (words : TrusteeWords) (before after : Outside) (end : Ending) : Type 0 where
   pub share : Share
   pub old : TrusteeState
@@ -65,6 +74,7 @@ pub record ServedTrustee (words : TrusteeWords) (before after : Outside) (end : 
   pub ids : Option (List (List ℕ))
   pub book : HasBook (store_of before after) share words.book ids
   pub net : ServedNet words share ids old new before.net after.net before.time end
+  pub asked_for : OnlyAsked old.entries (record { entries = new.entries; doubt = doubt }) (turns_in net.served.runs)
 
 -- how the command ends, with the names that it touched
 pub data TrusteeEnds (words : TrusteeWords) (before after : Outside) : Ending → List (List ℕ) → Type 0 where

@@ -14,10 +14,11 @@ use Rattle.tool_base.proofs.Outs.{out_here, taken_out}
 use Rattle.tool_base.proofs.Takes.{back, journal_not_loaded, round_rise, round_stays, stays, taken_calm, whole}
 use Rattle.tool_trustee.specs.Journals.{IsJournal}
 use Rattle.tool_trustee.specs.Trustee.{IsTrustee, handed_of}
+use Rattle.tool_trustee.proofs.Asked.{no_doubts}
 use Rattle.tool_trustee.proofs.Lasts.{has_entries, leaves_journal, run_unread, run_untaken}
 use Rattle.tool_trustee.proofs.Wholes.{ends_whole, run_refused}
 use Rattle.tool_words.specs.Rows.{trustee_words}
-use Rattle.trustee_core.specs.Trustee.{journal_header, journal_of, share_of}
+use Rattle.trustee_core.specs.Trustee.{journal_header, journal_of, notes_of, share_of}
 use Rattle.trustee_core.specs.declared.kept.TrusteeName.{TrusteeName}
 use Rattle.trustee_node.specs.Trustees.{trustee_state}
 use Rattle.tool_trustee.proofs.trustee.serve_trustee.Goals as goal
@@ -175,6 +176,7 @@ returns g c =
       touched = name ∷ touched;
       ends = ends_whole words first out_state served_state last _ _ _ _ _ touched disk now taken goes keeps step comes told honest steady
           share old new (state_of (journal_of done)).doubt same trustee_is stays_journal fresh (λ t. subst (λ b. IsTrue b) (sym told_first) (taken.given.told t)) (λ s. subst (λ b. IsTrue b) (sym steady_first) (taken.given.steady s)) named (λ t. taken.kind t ∙ handed_first) left ended.holds.cause
+          (no_doubts (notes_of trustee) (state_of journal) c.new-trustee.ensures.notes ((holds journal).cause (loaded.faults ∙ taken.given.fresh))) refl
           (omega (arith, rises, counted)) _ touched served.ended.cause;
       keeps = round.keeps;
       net = served.net;
