@@ -86,18 +86,20 @@ module _ (share : Share) (ids : Option (List (List ℕ))) (asked : ℕ) (log las
 module _ (words : TrusteeWords) (share : Share) (ids : Option (List (List ℕ))) (same : Type 0) (old new : TrusteeState)
     (net_old net_new : NetState) (time : TimeState) where
   pub net_ends : (ports_old ports_new : List PortState) (clocks : List ClockState) (totals : Result Totals NoMemory) (end : Ending)
-      → length ports_old ≡ words.workers → All (IsNewPort net_old (Some words.place)) ports_old → All (IsNewClock time) clocks
+      → length ports_old ≡ words.workers → (IsTrue net_old.told → IsTrue (net_old.offers words.place))
+      → All (IsNewPort net_old (Some words.place)) ports_old → All (IsNewClock time) clocks
       → IfOk totals (λ totals. ServedPorts share ids words.connections old new ports_old ports_new clocks totals)
       → (IsTrue net_old.told → net_new.kept ≡ net_old.kept ++ ports_new)
       → (SomeUnaccepted ports_new → Rose net_old.port_count net_new.port_count)
       → (rest : Type 0) → OnErr totals (same × rest) → (rest → ports_new ≡ ports_old) → ServiceEnds ports_new totals end
       → NetEnds words share ids same old new net_old net_new time end
-  net_ends ports_old ports_new clocks (Ok totals) end many made dated serves kept deaf rest refused back ends = served end (record {
+  net_ends ports_old ports_new clocks (Ok totals) end many offered made dated serves kept deaf rest refused back ends = served end (record {
     ports_old = ports_old;
     ports_new = ports_new;
     clocks = clocks;
     totals = totals;
     many = many;
+    offered = offered;
     made = made;
     dated = dated;
     served = serves;
@@ -107,7 +109,7 @@ module _ (words : TrusteeWords) (share : Share) (ids : Option (List (List ℕ)))
     hears = λ is. subst (All HasAccepted) serves.after (all-accepted share ids words.connections old.entries new.entries net_old (Some words.place) is serves.runs serves.are
         (subst (All (IsNewPort net_old (Some words.place))) (sym serves.before) made));
   })
-  net_ends ports_old ports_new clocks (Err none) end many made dated serves kept deaf rest refused back ends =
+  net_ends ports_old ports_new clocks (Err none) end many offered made dated serves kept deaf rest refused back ends =
       rw ends (no_memory refused.0 (heard_new net_old net_new words.place ports_old made (λ told. kept told ∙ ap (λ l. net_old.kept ++ l) (back refused.1))))
 
   pub ports_many : {P : Type 0} (state : P → PortState) (ports_old ports_new : List P) (clocks : List ClockState) (totals : Result Totals NoMemory)

@@ -30,8 +30,8 @@ ServiceEnds ports (Ok totals) end = (All HasAccepted ports × (end ≡ ending.Se
     ⊎ (SomeUnaccepted ports × (end ≡ ending.NetFailed))
 ServiceEnds ports (Err none) end = end ≡ ending.NoMemory
 
--- Ports were made at the place of the words, one for each worker, and the trustee was served over them; then all were
--- given back, and the net keeps them. The end says what was served, or that accepting failed.
+-- Ports were made at the place of the words, which the net offers, one for each worker, and the trustee was served over
+-- them; then all were given back, and the net keeps them. The end says what was served, or that accepting failed.
 pub record ServedNet (words : TrusteeWords) (share : Share) (ids : Option (List (List ℕ))) (old new : TrusteeState)
     (net_old net_new : NetState) (time : TimeState) (end : Ending) : Type 0 where
   pub ports_old : List PortState
@@ -39,6 +39,7 @@ pub record ServedNet (words : TrusteeWords) (share : Share) (ids : Option (List 
   pub clocks : List ClockState
   pub totals : Totals
   pub many : length ports_old ≡ words.workers
+  pub offered : IsTrue net_old.told → IsTrue (net_old.offers words.place)
   pub made : All (IsNewPort net_old (Some words.place)) ports_old
   pub dated : All (IsNewClock time) clocks
   pub served : ServedPorts share ids words.connections old new ports_old ports_new clocks totals

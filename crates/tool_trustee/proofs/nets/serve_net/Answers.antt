@@ -40,7 +40,7 @@ returns-clause-ends g c =
     (g.N.Net.state c.args.net.now) (g.N.Net.state c.gather-2.new.self) (g.T.Clocks.state c.args.time.now)
     (map state c.in-Ok.ports.items) (map state c.serve_ports-trustee.new.ports.items) (map (clock_state clock.told clock.answers) c.in-Ok-clocks.clocks.items)
     c.serve_ports-trustee.result.1 (ending c.end_of_service-end.result)
-    made.many made.new_ports (dated_by clock.told clock.answers _ _ c.in-Ok-clocks.ensures.tell (λ told j. c.in-Ok-clocks.ensures.answers told j))
+    made.many made.offered made.new_ports (dated_by clock.told clock.answers _ _ c.in-Ok-clocks.ensures.tell (λ told j. c.in-Ok-clocks.ensures.answers told j))
     serves.served
     (λ told. gathers.kept (rw onward.told told) ∙ ap (λ kept. kept ++ map state c.serve_ports-trustee.new.ports.items) made.kept)
     (λ deaf. let rose = gathers.port_count.rose deaf in let later = onward.port_count in omega (arith, rose, later))
