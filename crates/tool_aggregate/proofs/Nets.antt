@@ -26,25 +26,27 @@ module _ {X P : Type 0} (c : cells.Ghosts X) (f : faults.Ghosts X) (state : P �
   abbrev places_after : List Place
   places_after = places_of c f state ports_new own_new
 
-  pub net_ends : (totals : Result Totals NoMemory) (end : Ending) → length (map state ports_old) ≡ words.workers → All (IsNewPort net.before (Some words.place)) (map state ports_old)
+  pub net_ends : (totals : Result Totals NoMemory) (end : Ending) → length (map state ports_old) ≡ words.workers → (IsTrue net.before.told → IsTrue (net.before.offers words.place))
+      → All (IsNewPort net.before (Some words.place)) (map state ports_old)
       → IfOk totals (λ totals. ServedClients desk words.connections old new places_before places_after totals)
       → (IsTrue net.before.told → net.after.kept ≡ net.before.kept ++ map state ports_new)
       → (SomeUnaccepted (map state ports_new) → Rose net.before.port_count net.after.port_count)
       → OnErr totals (table_same × ports_same × cells_same) → (ports_same → map state ports_new ≡ map state ports_old) → ServiceEnds (map state ports_new) totals end
       → NetEnds c f words desk (table_same × cells_same) old new own_old own_new net end
-  net_ends (Ok totals) end many made serves kept deaf refused back ends =
+  net_ends (Ok totals) end many offered made serves kept deaf refused back ends =
       let was = ports_are c f state ports_old own_old before in
       let now = ports_are c f state ports_new own_new after in
       served places_before places_after end (have_cells c f state ports_old ports_new own_old own_new before after) (record {
         totals = totals;
         many = sym (length-map places_before (λ (place : Place). place.port)) ∙ ap length was ∙ many;
+        offered = offered;
         made = subst (All (IsNewPort net.before (Some words.place))) (sym was) made;
         served = serves;
         kept = λ told. kept told ∙ ap (λ (l : List PortState). net.before.kept ++ l) (sym now);
         ends = subst (λ (l : List PortState). ServiceEnds l (Ok totals) end) (sym now) ends;
         deaf = λ some. deaf (subst SomeUnaccepted now some);
       })
-  net_ends (Err none) end many made serves kept deaf refused back ends =
+  net_ends (Err none) end many offered made serves kept deaf refused back ends =
       rw ends (no_memory (refused.0, refused.2)
       (heard_new net.before net.after words.place (map state ports_old) made
       (λ told. kept told ∙ ap (λ (l : List PortState). net.before.kept ++ l) (back refused.1))))

@@ -30,12 +30,13 @@ ports_of places = map (λ (place : Place). place.port) places
 abbrev pub faults_of : List Place → ℕ
 faults_of places = sum_by (λ (place : Place). place.faults) places
 
--- Ports were made at the place of the words, one for each worker, and clients were served over them; then all were
--- given back, and the net keeps them. The end says what was served, or that accepting failed.
+-- Ports were made at the place of the words, which the net offers, one for each worker, and clients were served over
+-- them; then all were given back, and the net keeps them. The end says what was served, or that accepting failed.
 pub record ServedNet (words : AggregateWords) (desk : DeskState) (old new : TableSeen)
     (places_old places_new : List Place) (net : NetRun) (end : Ending) : Type 0 where
   pub totals : Totals
   pub many : length places_old ≡ words.workers
+  pub offered : IsTrue net.before.told → IsTrue (net.before.offers words.place)
   pub made : All (IsNewPort net.before (Some words.place)) (ports_of places_old)
   pub served : ServedClients desk words.connections old new places_old places_new totals
   pub kept : IsTrue net.before.told → net.after.kept ≡ net.before.kept ++ ports_of places_new

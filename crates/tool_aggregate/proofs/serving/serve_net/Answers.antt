@@ -44,7 +44,7 @@ returns-clause-ends g c =
     (table_seen c.args.table) (table_seen c.serve_clients-table.result.0)
     (over_net (g.N.Net.state c.args.net.now) (g.N.Net.state c.gather.new.self)) ports.items after.ports.items c.args.cells.now.items after.cells.items
     (omega (arith, many, sizes, asked, one)) (omega (arith, many, sizes, asked, one, two, three, four, counts.0, counts.1))
-    c.serve_clients-table.result.1 (ending c.end_of_service-end.result) many made.new_ports serves.served
+    c.serve_clients-table.result.1 (ending c.end_of_service-end.result) many made.offered made.new_ports serves.served
     (λ told. gathers.kept (rw onward.told told) ∙ ap (λ kept. kept ++ map state after.ports.items) made.kept)
     (λ deaf. let rose = gathers.port_count.rose deaf in let later = onward.port_count in omega (arith, rose, later))
     serves.refused (λ same. ap (map state) same) (rw (← c.deref.ensures.value) c.end_of_service-end.ensures.ends)
