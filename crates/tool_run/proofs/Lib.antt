@@ -1,7 +1,10 @@
 mod Accepting
 pub mod Dealing
+mod Finding
+mod Found
 pub mod Names
 pub mod Naming
+mod Offering
 pub mod Plans
 pub mod Rehearsing
 pub mod Running

@@ -1,5 +1,6 @@
 -- How a call ends over objects that do not fail but for their arguments.
-use Rattle.std.proofs.Common.{◌≡◌, ◌≢◌, ◌⊎◌, ◌≤◌, ◌<◌, Bool, ℕ, suc, List, [], ◌∷◌, ◌==◌, Contains, Option, None, Some, IsTrue, false, true, length, inl, inr, refl, sym, ap, ◌∙◌, subst, arith, if◌then◌else◌}
+use Rattle.std.proofs.Common.{◌≡◌, ◌≢◌, ◌⊎◌, ◌≤◌, ◌<◌, Bool, ℕ, suc, List, [], ◌∷◌, ◌==◌, All, Contains, IsSome, Option, None, Some, IsTrue, false, true, length, inl, inr, refl, sym, ap, ◌∙◌, subst, arith, if◌then◌else◌}
+use Rattle.std.proofs.lemmas.List.Elements.{All-nil}
 use Rattle.dealer.specs.declared.faults.DealFault.{DealFault}
 use Rattle.dealer.specs.declared.faults.DealFault.TheVariants.{BadEntropy, NoMemory, SameKeys, TooHigh, TooWide}
 use Rattle.hss_levels.specs.declared.verification.HssVerdict.TheVariants as levels
@@ -41,8 +42,10 @@ use Rattle.tool_run.specs.HssCheck.{HssCheckEnds}
 use Rattle.tool_run.specs.HssCheck as check
 use Rattle.tool_run.specs.Rehearse.{IsNotRehearsed, RehearseEnds}
 use Rattle.tool_run.specs.Rehearse as rehearse
-use Rattle.tool_run.specs.Steady.{HasCauses, IsSteadyWorld, IsUnoffered, Lacks, book_of, names_read, no_file, one_file}
-use Rattle.tool_run.specs.ToolRun.{CommandRun, IsAnswered, ToolRun, WordsRun}
+use Rattle.tool_run.proofs.Finding.{command-found}
+use Rattle.tool_run.proofs.Offering.{command-offered}
+use Rattle.tool_run.specs.Steady.{HasCauses, IsSteadyWorld, IsUnoffered, Lacks, book_of, names_found, names_read, no_file, one_file, place_of}
+use Rattle.tool_run.specs.ToolRun.{CommandRun, IsAnswered, IsPrinted, ToolRun, WordsRun}
 use Rattle.tool_run.specs.Verify.{VerifyEnds}
 use Rattle.tool_run.specs.Verify as verify
 use Rattle.tool_show.specs.Show.{IsNotShown, ShowEnds}
@@ -376,36 +379,51 @@ one_of (ending.Exists name) = none_of _ 15 refl (λ is. omega (arith, is)) (λ i
 one_of ending.NetFailed = record { store = λ is. absurd (omega (arith, is)); device = λ is. absurd (omega (arith, is)); net = λ is. refl }
 one_of ending.BookFull = none_of _ 19 refl (λ is. omega (arith, is)) (λ is. omega (arith, is)) (λ is. omega (arith, is))
 
--- an end that the command came to, and its status
-by_end : (before after : Outside) (told : IsTrue before.store.told) (steady : IsTrue before.store.steady) (net_told : IsTrue before.net.told) (net_steady : IsTrue before.net.steady)
-    (row : Row) (end : Ending) (status : ℕ) → Steady before after told steady net_told net_steady row end → status ≡ status_of end → HasCauses before.store before.net row status
-by_end before after told steady_store net_told net_steady row end status steady is =
-    let ends = one_of end in
-    record {
-      lacks = λ e. steady.store (ends.store (sym is ∙ e));
-      no_device = λ e. steady.device (ends.device (sym is ∙ e));
-      unoffered = λ e. steady.net (ends.net (sym is ∙ e));
-    }
-
 -- the line was printed whole, since there was room
-printed : (output : OutputRun) (shown : Ending) (status : ℕ) → IsTrue output.steady → length (line_of shown) ≤ output.room → IsAnswered output shown status → status ≡ status_of shown
-printed output shown status steady room (inl whole) = whole.1
+printed : (output : OutputRun) (shown : Ending) (status : ℕ) → IsTrue output.steady → length (line_of shown) ≤ output.room → IsAnswered output shown status
+    → IsPrinted output (line_of shown) × (status ≡ status_of shown)
+printed output shown status steady room (inl whole) = whole
 printed output shown status steady room (inr cut) = let less = cut.0.no_room steady in absurd (omega (arith, less, room))
 
 module _ (words : List (List ℕ)) (row : Row) (world : World) (status : ℕ) where
-  pub steady-run : command_of words ≡ Some row → ToolRun words world status → IsSteadyWorld words world → HasCauses world.before.store world.before.net row status
+  -- an end that the command came to, or want of memory, whose line was printed
+  by_end : (firm : IsSteadyWorld words world) (end : Ending) → IsPrinted world.output (line_of end) × (status ≡ status_of end)
+      → Steady world.before world.after firm.store_told firm.store_steady firm.net_told firm.net_steady row end
+      → All (λ name. IsSome (world.before.store.file name)) (names_found row end)
+      → ((place : List ℕ) (connections frames : ℕ) → place_of row ≡ Some place → end ≡ ending.Served connections frames → IsTrue (world.before.net.offers place))
+      → HasCauses world row status
+  by_end firm end said steady found offered =
+      let ends = one_of end in
+      record {
+        end = end;
+        is_printed = said.0;
+        status_is = said.1;
+        lacks = λ e. steady.store (ends.store (sym said.1 ∙ e));
+        no_device = λ e. steady.device (ends.device (sym said.1 ∙ e));
+        unoffered = λ e. steady.net (ends.net (sym said.1 ∙ e));
+        found = found;
+        offered = offered;
+      }
+
+  pub steady-run : command_of words ≡ Some row → ToolRun words world status → IsSteadyWorld words world → HasCauses world row status
   steady-run is ran steady =
       let ended : CommandRun row world.before world.after ran.end = subst (λ (command : Option Row). WordsRun command world.before world.after ran.end) is ran.ended in
-      let calm = command-steady world.before world.after steady.store_told steady.store_steady steady.net_told steady.net_steady row ran.end ended in
       let so = ran.answered in
       elim so.is [
         | inl none ↦
-            let whole = printed world.output so.shown status steady.output_steady (steady.room so.shown (inl none)) so.answered in
-            let calm_none = of-row world.before world.after steady.store_told steady.store_steady steady.net_told steady.net_steady row ending.NoMemory
+            let calm = of-row world.before world.after steady.store_told steady.store_steady steady.net_told steady.net_steady row ending.NoMemory
             (plain (Lacks world.before.store row) (IsUnoffered world.before.net row) ending.NoMemory (λ is. cc) (λ is. cc) (λ is. cc)) in
-            by_end world.before world.after steady.store_told steady.store_steady steady.net_told steady.net_steady row ending.NoMemory status calm_none (whole ∙ ap status_of none)
+            by_end steady so.shown (printed world.output so.shown status steady.output_steady (steady.room so.shown (inl none)) so.answered)
+            (subst (Steady world.before world.after steady.store_told steady.store_steady steady.net_told steady.net_steady row) (sym none) calm)
+            (subst (λ (end : Ending). All (λ name. IsSome (world.before.store.file name)) (names_found row end)) (sym none) (All-nil (λ name. IsSome (world.before.store.file name))))
+            (λ place connections frames at served. absurd (cc))
         | inr same ↦
-            let room = steady.room so.shown (inr (subst (WordsRun (command_of words) world.before world.after) (sym same) ran.ended)) in
-            let whole = printed world.output so.shown status steady.output_steady room so.answered in
-            by_end world.before world.after steady.store_told steady.store_steady steady.net_told steady.net_steady row ran.end status calm (whole ∙ ap status_of same)
+            let came : CommandRun row world.before world.after so.shown = subst (CommandRun row world.before world.after) (sym same) ended in
+            by_end steady so.shown
+            (printed world.output so.shown status steady.output_steady
+            (steady.room so.shown (inr (subst (WordsRun (command_of words) world.before world.after) (sym same) ran.ended))) so.answered)
+            (command-steady world.before world.after steady.store_told steady.store_steady steady.net_told steady.net_steady row so.shown came)
+            (command-found world.before world.after steady.store_told row so.shown came)
+            (λ place connections frames at served.
+            command-offered world.before world.after steady.net_told connections frames row so.shown came place at served)
       ]

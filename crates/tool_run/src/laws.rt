@@ -24,13 +24,14 @@ pub fn accepted_is_said<S: Store>(before: &S, after: &S)
 {}
 
 /// Over objects that tell their content and do not fail but for their arguments, and an output with room for its line,
-/// a call with a command's words has status 3 only where nothing is read under a name that the command reads, takes or
-/// views, status 17 only where the net does not offer its place, and status 10 never.
+/// a call with a command's words has statuses 3 and 17 exactly where it should, and status 10 never. Status 3 comes
+/// only where nothing is read under a name that the command reads, takes or views, and 17 only where the net does not
+/// offer its place. And the end whose line is printed tells that each name is there which the command asks for before
+/// the test that this end shows; where a command served, its place is offered.
 pub fn steady<S: Store>(before: &S, after: &S)
     ensures { (words : List (List ℕ)) (row : Row) (net_old net_new : NetState) (time later : TimeState)
         (output : OutputRun) (status : ℕ) → command_of words ≡ Some row
         → let world = world_of (outside_of (S.state before.now) net_old time)
         (outside_of (S.state after.now) net_new later) output in
-        ToolRun words world status → IsSteadyWorld words world
-        → HasCauses (S.state before.now) net_old row status }
+        ToolRun words world status → IsSteadyWorld words world → HasCauses world row status }
 {}
