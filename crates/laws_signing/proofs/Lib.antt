@@ -21,3 +21,8 @@ pub mod Desks
 pub mod LeaseTurns
 pub mod Answered
 pub mod Every
+pub mod Heard
+pub mod Rooms
+pub mod Runs
+pub mod Serving
+pub mod Signing

@@ -4,3 +4,4 @@ pub mod LevelsAreWell
 pub mod Uses
 pub mod Requests
 pub mod Every
+pub mod Witness

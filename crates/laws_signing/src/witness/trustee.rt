@@ -1,0 +1,76 @@
+//! A trustee that is served over objects in memory.
+
+ghost use Rattle.std.specs.Prelude.{◌≡◌, true, IsTrue, Ok};
+ghost use Rattle.tool_words.specs.Rows.{trustee_words};
+ghost use Rattle.laws_signing.specs.Witness.{IsNewNet, IsSteadyStore, SteadyTrustee};
+
+use crate::witness::links::waiting_net;
+use memory::NoMemory;
+use std::alloc::Global;
+use std::sync::Wait;
+use std::thread::Threads;
+use stream_io::{Net, Store};
+use stream_memory::{MemNet, MemStore};
+use tool_base::{Clocks, Ending, MemClocks};
+use tool_trustee::serve_trustee;
+use tool_words::TrusteeWords;
+
+/// Room for 65,536 of the longest replies of any parameter set: each has at most 99 bytes beside 8,480 of masks.
+const ROOM: usize = 562_233_344;
+
+/// Serves a trustee of these words over a store of these files, at a port where a link waits that gives these asks, and
+/// says whether it came to its end. Where it did, the premises of `tool_trustee::laws::steady_trustee` hold of the run:
+/// store and net tell their content and do not fail, and the link has room for all replies.
+pub fn served_steadily<R: Threads + Wait + Sync>(
+    rt: &R,
+    alloc: Global,
+    words: &TrusteeWords,
+    files: Vec<(String, Vec<u8>)>,
+    asks: &[u8],
+) -> Result<bool, NoMemory>
+    ensures { result ≡ Ok true → (store : MemStore) × (later : MemStore) × (net : MemNet) × (after : MemNet)
+        × (time : MemClocks) × SteadyTrustee (trustee_words words.now)
+        (record {
+          store = ⟦<MemStore as Store>⟧.state store;
+          net = ⟦<MemNet as Net>⟧.state net;
+          time = ⟦<MemClocks as Clocks>⟧.state time;
+        })
+        (record {
+          store = ⟦<MemStore as Store>⟧.state later;
+          net = ⟦<MemNet as Net>⟧.state after;
+          time = ⟦<MemClocks as Clocks>⟧.state time;
+        }) }
+{
+    let mut store = MemStore::of_files(alloc, files, Vec::new(alloc))?;
+    let mut net = waiting_net(alloc, words.place, asks, ROOM)?;
+    Ok(is_served(rt, alloc, words, &mut store, &mut net))
+}
+
+/// Serves a trustee over objects that do not fail, and says whether it came to its end.
+fn is_served<R: Threads + Wait + Sync>(
+    rt: &R,
+    alloc: Global,
+    words: &TrusteeWords,
+    store: &mut MemStore,
+    net: &mut MemNet,
+) -> bool
+    requires store { IsSteadyStore (⟦<MemStore as Store>⟧.state store.old) }
+    requires net { IsNewNet 562233344 (⟦<MemNet as Net>⟧.state net.old) }
+    ensures { IsTrue result → (time : MemClocks) × SteadyTrustee (trustee_words words.now)
+        (record {
+          store = ⟦<MemStore as Store>⟧.state store.old;
+          net = ⟦<MemNet as Net>⟧.state net.old;
+          time = ⟦<MemClocks as Clocks>⟧.state time;
+        })
+        (record {
+          store = ⟦<MemStore as Store>⟧.state store.new;
+          net = ⟦<MemNet as Net>⟧.state net.new;
+          time = ⟦<MemClocks as Clocks>⟧.state time;
+        }) }
+{
+    let mut time = MemClocks::new(0);
+    match serve_trustee(rt, alloc, words, store, net, &mut time) {
+        Ending::Served { .. } => true,
+        _ => false,
+    }
+}
