@@ -3,6 +3,7 @@ pub mod Dealing
 pub mod Deliveries
 pub mod Judging
 pub mod Replies
+pub mod Rounds
 pub mod SeatInside
 pub mod Seats
 pub mod SessionInside

@@ -1,23 +1,19 @@
 //! The ends of the rounds.
 
 ghost use Rattle.std.specs.Prelude.{◌≡◌, ◌≢◌, ◌⊎◌, ℕ, List, [], ◌+◌, ◌*◌, ◌<◌, None, Some};
-ghost use Rattle.std.specs.Prelude.{Err, IfErr, IfOk, IsOk, IsSome, IsTrue, MatchResult, OnErr, OnOk, length};
+ghost use Rattle.std.specs.Prelude.{Err, IfErr, IfOk, IsOk, IsSome, IsTrue, OnErr, OnOk, length};
 ghost use Rattle.disk_trait.specs.Faults.{Rose};
 ghost use Rattle.lms_bytes.specs.MessageId.{message_id};
 ghost use Rattle.lms_bytes.specs.Signature.{signature_bytes};
 ghost use Rattle.lms_verify.specs.Accepts.{AcceptsAt};
-ghost use Rattle.lms_verify.specs.UndividedKey.{UndividedKey, rfc_signature};
 ghost use Rattle.merkle_path.specs.Tree.{path_at};
-ghost use Rattle.reference_value.specs.Dealing.{Dealing, leaf_randomizer, reference};
 ghost use Rattle.reference_value.specs.Stay.{CellsOnward};
-ghost use Rattle.session_core.specs.Dealing.{FirstMasks, IsAnswered, IsOfDealing};
 ghost use Rattle.session_core.specs.Judging.{round_fault};
-ghost use Rattle.session_core.specs.State.{IsSession, asked_c, turned};
-ghost use Rattle.session_core.specs.Verdicts.{AreMasks, FinishFails, IsDigest, JoinFails, LaysOut, LeadsAstray, Turned};
-ghost use Rattle.session_core.specs.Verdicts.{Unread, digest_of, joined_bytes, joined_c, joined_values};
+ghost use Rattle.session_core.specs.Rounds.{Finishes, GiveAll, Joins, TurnsTo};
+ghost use Rattle.session_core.specs.State.{IsSession, asked_c};
+ghost use Rattle.session_core.specs.Verdicts.{AreMasks, IsDigest, JoinFails, LaysOut, LeadsAstray};
+ghost use Rattle.session_core.specs.Verdicts.{Unread, digest_of, joined_c, joined_values};
 ghost use Rattle.session_core.specs.declared.faults.SessionFault.{SessionFault};
-ghost use Rattle.session_core.specs.declared.faults.SessionFault.TheVariants.{NoMemory};
-ghost use Rattle.share_files.specs.Reference.{leaves_length};
 
 use crate::faults::SessionFault;
 use crate::joining::{add_bodies, sum_of_values};
@@ -39,16 +35,10 @@ impl Session {
         ensures fault { (fault : SessionFault) → round_fault self.old [] ≡ Some fault → result ≡ Err fault }
         ensures cause { IfErr result (λ fault. (round_fault self.old [] ≡ Some fault)
             ⊎ Unread self.old [] (R.count cells.old) (R.count cells.new) fault) }
-        ensures turned { OnOk result (Turned self.old self.new) }
-        ensures joined { IsTrue (R.told cells.old)
-            → OnOk result (self.new ≡ turned self.old (joined_c self.old (R.leaves cells.old))) }
-        ensures dealt { (d : Dealing) (key : UndividedKey) → IsTrue (R.told cells.old)
-            → R.leaves cells.old ≡ reference d → IsOfDealing d key self.old → FirstMasks d self.old
-            → OnOk result (self.new ≡ turned self.old (leaf_randomizer d self.old.leaf)) }
+        ensures turns { OnOk result (TurnsTo R.Cells.own cells.old self.old self.new) }
         ensures same { OnErr result (self.new ≡ self.old) }
-        ensures succeeds { IsTrue (R.steady cells.old) → IsTrue (R.told cells.old)
-            → length (R.leaves cells.old) ≡ leaves_length self.old.key.params self.old.plan
-            → round_fault self.old [] ≡ None → IsOk result }
+        ensures succeeds { GiveAll R.Cells.own R.Faults cells.old self.old → round_fault self.old [] ≡ None
+            → IsOk result }
         ensures onward { CellsOnward R.Cells.own R.Faults cells.old cells.new }
     {
         let zeros = self.asked_c();
@@ -69,8 +59,7 @@ impl Session {
         ensures length { IfOk result (λ c. length c ≡ self.now.key.params.n) }
         ensures cause { IfErr result (λ fault. (fault ≡ SessionFault.Reference)
             × Rose (R.count cells.old) (R.count cells.new)) }
-        ensures succeeds { IsTrue (R.steady cells.old) → IsTrue (R.told cells.old)
-            → length (R.leaves cells.old) ≡ leaves_length self.now.key.params self.now.plan → IsOk result }
+        ensures succeeds { GiveAll R.Cells.own R.Faults cells.old self.now → IsOk result }
         ensures onward { CellsOnward R.Cells.own R.Faults cells.old cells.new }
     {
         let sum = sum_of_values(&self.first, self.key.params.n);
@@ -90,24 +79,8 @@ impl Session {
         requires message { message_id message.now ≡ self.now.message }
         requires cells { (R.set cells.old ≡ self.now.key.params) × (R.plan cells.old ≡ self.now.plan) }
         requires tree { (tree.now.n ≡ self.now.key.params.n) × (tree.now.h ≡ self.now.key.params.h) }
-        ensures accepted { IfOk result (λ bytes. AcceptsAt self.now.key message.now bytes.items self.now.leaf) }
-        ensures joined { IsTrue (R.told cells.old) → IfOk result (λ bytes. bytes.items
-            ≡ joined_bytes self.now (R.leaves cells.old) tree.now message.now) }
-        ensures fault { (fault : SessionFault)
-            → round_fault self.now (digest_of self.now message.now) ≡ Some fault → result ≡ Err fault }
-        ensures cause { IfErr result (FinishFails self.now message.now (R.told cells.old)
-            (joined_bytes self.now (R.leaves cells.old) tree.now message.now)
-            (R.count cells.old) (R.count cells.new)) }
-        ensures read { IsTrue (R.steady cells.old) → IsTrue (R.told cells.old)
-            → length (R.leaves cells.old) ≡ leaves_length self.now.key.params self.now.plan
-            → round_fault self.now (digest_of self.now message.now) ≡ None
-            → IfErr result (λ fault. fault ≢ SessionFault.Reference) }
+        ensures finishes { Finishes R.Cells.own R.Faults cells.old cells.new self.now tree.now message.now result }
         ensures onward { CellsOnward R.Cells.own R.Faults cells.old cells.new }
-        ensures dealt { (d : Dealing) (key : UndividedKey) → IsTrue (R.told cells.old)
-            → IsAnswered d key self.now (digest_of self.now message.now) (R.leaves cells.old) tree.now
-            → MatchResult result
-            (λ bytes. bytes.items ≡ rfc_signature key self.now.leaf (leaf_randomizer d self.now.leaf) message.now)
-            (JoinFails (R.count cells.old) (R.count cells.new)) }
     {
         let digest = self.digest_of(message);
         self.finish_with(alloc, cells, tree, &digest)
@@ -134,26 +107,9 @@ impl Session {
         requires digest { IsDigest self.now digest.now }
         requires cells { (R.set cells.old ≡ self.now.key.params) × (R.plan cells.old ≡ self.now.plan) }
         requires tree { (tree.now.n ≡ self.now.key.params.n) × (tree.now.h ≡ self.now.key.params.h) }
-        ensures accepted { (message : List ℕ) → digest.now ≡ digest_of self.now message
-            → IfOk result (λ bytes. AcceptsAt self.now.key message bytes.items self.now.leaf) }
-        ensures joined { (message : List ℕ) → digest.now ≡ digest_of self.now message → IsTrue (R.told cells.old)
-            → IfOk result (λ bytes. bytes.items ≡ joined_bytes self.now (R.leaves cells.old) tree.now message) }
-        ensures fault { (fault : SessionFault) → round_fault self.now digest.now ≡ Some fault → result ≡ Err fault }
-        ensures cause { (message : List ℕ) → digest.now ≡ digest_of self.now message
-            → IfErr result (FinishFails self.now message (R.told cells.old)
-            (joined_bytes self.now (R.leaves cells.old) tree.now message)
-            (R.count cells.old) (R.count cells.new)) }
-        ensures read { IsTrue (R.steady cells.old) → IsTrue (R.told cells.old)
-            → length (R.leaves cells.old) ≡ leaves_length self.now.key.params self.now.plan
-            → round_fault self.now digest.now ≡ None
-            → IfErr result (λ fault. fault ≢ SessionFault.Reference) }
+        ensures finishes { (message : List ℕ) → digest.now ≡ digest_of self.now message
+            → Finishes R.Cells.own R.Faults cells.old cells.new self.now tree.now message result }
         ensures onward { CellsOnward R.Cells.own R.Faults cells.old cells.new }
-        ensures dealt { (message : List ℕ) → digest.now ≡ digest_of self.now message
-            → (d : Dealing) (key : UndividedKey) → IsTrue (R.told cells.old)
-            → IsAnswered d key self.now digest.now (R.leaves cells.old) tree.now
-            → MatchResult result
-            (λ bytes. bytes.items ≡ rfc_signature key self.now.leaf (leaf_randomizer d self.now.leaf) message)
-            (JoinFails (R.count cells.old) (R.count cells.new)) }
     {
         self.join_signature(alloc, cells, tree, digest)
     }
@@ -171,19 +127,8 @@ impl Session {
         requires cells { (R.set cells.old ≡ self.now.key.params) × (R.plan cells.old ≡ self.now.plan) }
         requires tree { (tree.now.n ≡ self.now.key.params.n) × (tree.now.h ≡ self.now.key.params.h) }
         ensures session { IsSession self.now }
-        ensures accepted { (message : List ℕ) → digest.now ≡ digest_of self.now message
-            → IfOk result (λ bytes. AcceptsAt self.now.key message bytes.items self.now.leaf) }
-        ensures joined { (message : List ℕ) → digest.now ≡ digest_of self.now message → IsTrue (R.told cells.old)
-            → IfOk result (λ bytes. bytes.items ≡ joined_bytes self.now (R.leaves cells.old) tree.now message) }
-        ensures fault { (fault : SessionFault) → round_fault self.now digest.now ≡ Some fault → result ≡ Err fault }
-        ensures cause { (message : List ℕ) → digest.now ≡ digest_of self.now message
-            → IfErr result (FinishFails self.now message (R.told cells.old)
-            (joined_bytes self.now (R.leaves cells.old) tree.now message)
-            (R.count cells.old) (R.count cells.new)) }
-        ensures read { IsTrue (R.steady cells.old) → IsTrue (R.told cells.old)
-            → length (R.leaves cells.old) ≡ leaves_length self.now.key.params self.now.plan
-            → round_fault self.now digest.now ≡ None
-            → IfErr result (λ fault. fault ≢ SessionFault.Reference) }
+        ensures joins { (message : List ℕ) → digest.now ≡ digest_of self.now message
+            → Joins R.Cells.own R.Faults cells.old cells.new self.now tree.now message result }
         ensures onward { CellsOnward R.Cells.own R.Faults cells.old cells.new }
     {
         let c = self.asked_c();
@@ -209,8 +154,7 @@ impl Session {
             ≡ joined_values self.now (R.leaves cells.old) digest.now) }
         ensures length { IfOk result (λ values. length values.items ≡ self.now.key.params.n * self.now.key.params.p) }
         ensures cause { IfErr result (JoinFails (R.count cells.old) (R.count cells.new)) }
-        ensures read { IsTrue (R.steady cells.old) → IsTrue (R.told cells.old)
-            → length (R.leaves cells.old) ≡ leaves_length self.now.key.params self.now.plan
+        ensures read { GiveAll R.Cells.own R.Faults cells.old self.now
             → IfErr result (λ fault. fault ≢ SessionFault.Reference) }
         ensures onward { CellsOnward R.Cells.own R.Faults cells.old cells.new }
     {

@@ -18,7 +18,7 @@ returns-in-Some-clause-cause g c =
     inl (round-one-fault c.args.self.now [] c.asked_c-zeros.result c.requires.round ∙ (sym c.round_fault.ensures ∙ c.in-Some.is))
 
 pub returns-in-Some-clause-succeeds : goal.returns-in-Some-clause-succeeds
-returns-in-Some-clause-succeeds g c = λ steady told whole none.
+returns-in-Some-clause-succeeds g c = λ all none.
     let same = round-one-fault c.args.self.now [] c.asked_c-zeros.result c.requires.round in
     let found = sym c.in-Some.is ∙ (c.round_fault.ensures ∙ (sym same ∙ none)) in
     absurd (cc)
@@ -49,17 +49,19 @@ returns-clause-fault g c = λ fault e.
     let none = sym c.in_default.is ∙ (c.round_fault.ensures ∙ (sym same ∙ e)) in
     absurd (cc)
 
-pub returns-clause-turned : goal.returns-clause-turned
-returns-clause-turned g c = record {
-  masks = faultless-first c.args.self.now c.asked_c-zeros.result c.requires.round (sym c.round_fault.ensures ∙ c.in_default.is);
-  c = c.in_ok-c.c;
-  c_length = c.in_ok-c.ensures.length;
-  same = rw (← c.self.view_is) refl;
-}
-
-pub returns-clause-dealt : goal.returns-clause-dealt
-returns-clause-dealt g c = λ d key told leaves of masks.
+pub returns-clause-turns : goal.returns-clause-turns
+returns-clause-turns g c =
     let session : IsSession c.args.self.now = rw (← c.self.view_is) c.self.invariant in
-    let at : joined_c c.args.self.now (reference d) ≡ leaf_randomizer d c.args.self.now.leaf = randomizer-is d key c.args.self.now session of masks in
-    let is : c.in_ok-c.c ≡ leaf_randomizer d c.args.self.now.leaf = rw leaves at (c.in_ok-c.ensures.c told) ∙ at in
-    rw (← is, ← c.self.view_is) refl
+    record {
+      turned = record {
+        masks = faultless-first c.args.self.now c.asked_c-zeros.result c.requires.round (sym c.round_fault.ensures ∙ c.in_default.is);
+        c = c.in_ok-c.c;
+        c_length = c.in_ok-c.ensures.length;
+        same = rw (← c.self.view_is) refl;
+      };
+      joined = λ told. rw (← c.in_ok-c.ensures.c told, ← c.self.view_is) refl;
+      dealt = λ d key told leaves of masks.
+          let at : joined_c c.args.self.now (reference d) ≡ leaf_randomizer d c.args.self.now.leaf = randomizer-is d key c.args.self.now session of masks in
+          let is : c.in_ok-c.c ≡ leaf_randomizer d c.args.self.now.leaf = rw leaves at (c.in_ok-c.ensures.c told) ∙ at in
+          rw (← is, ← c.self.view_is) refl;
+    }
