@@ -1,10 +1,12 @@
 -- Commitments on pages, and what reads leave of the pages.
-use Rattle.std.specs.Prelude.{◌≡◌, ℕ, List, IsTrue, drop}
+use Rattle.std.specs.Prelude.{◌≡◌, ℕ, List, IsTrue, IsOk, Result, drop, length}
 use Rattle.coalition_map.specs.Coalitions.{PlanNumbers}
 use Rattle.disk_trait.specs.Disks.{SameKind}
+use Rattle.disk_trait.specs.Faults.{HasCause}
 use Rattle.disk_trait.specs.declared.disk.Pages as pages
 use Rattle.disk_trait.specs.declared.faults.Faults as faults
 use Rattle.lms_bytes.specs.declared.params.Params.{Params}
+use Rattle.share_files.specs.Commits.{all_commits_length}
 use Rattle.share_blame.specs.declared.commits.Commits.{Commits}
 
 -- the pages that commitments are read from
@@ -31,3 +33,13 @@ pub record PagesStay {V : Type 0} (p : pages.Ghosts V) (f : faults.Ghosts V) (ol
 -- the leaves of the commitment file on pages that are told
 abbrev pub leaves_on : {V : Type 0} → pages.Ghosts V → V → List ℕ
 leaves_on p pages = drop 32 (p.reads pages)
+
+-- Commitments of this set and plan were read: they are so still, and their pages are as they were. The call fails only
+-- where the count of faults rose, and not where the pages are steady and tell all commitments of the plan.
+pub record Looks {V X E : Type 0} (p : pages.Ghosts V) (f : faults.Ghosts V) (params : Params)
+    (numbers : PlanNumbers) (old new : Commits V) (result : Result X E) : Type 0 where
+  pub succeeds : IsTrue (f.steady (pages_of old)) → IsTrue (p.told (pages_of old))
+      → length (leaves_on p (pages_of old)) ≡ all_commits_length params numbers → IsOk result
+  pub cause : HasCause (f.count (pages_of old)) (f.count (pages_of new)) result
+  pub stays : PagesStay p f (pages_of old) (pages_of new)
+  pub same : AreOf params numbers new

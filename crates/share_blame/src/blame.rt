@@ -9,7 +9,7 @@ ghost use Rattle.session_core.specs.State.{IsSession};
 ghost use Rattle.sha2.specs.Sha256.{sha256};
 ghost use Rattle.share_files.specs.Commits.{all_commits_length};
 ghost use Rattle.share_blame.specs.Blamed.{AreBlamed, ChainsDiffer, FirstDiffers, IsBlamed, SecondDiffers};
-ghost use Rattle.share_blame.specs.Commits.{AreOf, PagesStay, leaves_on, pages_of, plan_of, set_of};
+ghost use Rattle.share_blame.specs.Commits.{AreOf, Looks, leaves_on, pages_of, plan_of, set_of};
 
 use crate::commits::{Commits, is_other};
 use crate::places::Places;
@@ -33,12 +33,7 @@ pub fn blamed<V: Pages>(
     requires digest { length digest.now ≡ params.now.n }
     ensures blamed { IsTrue (V.told (pages_of commits.old))
         → IfOk result (AreBlamed (leaves_on V.Pages.own (pages_of commits.old)) session.now digest.now) }
-    ensures succeeds { IsTrue (V.steady (pages_of commits.old)) → IsTrue (V.told (pages_of commits.old))
-        → length (leaves_on V.Pages.own (pages_of commits.old)) ≡ all_commits_length params.now session.now.plan
-        → IsOk result }
-    ensures cause { HasCause (V.count (pages_of commits.old)) (V.count (pages_of commits.new)) result }
-    ensures stays { PagesStay V.Pages.own V.Faults (pages_of commits.old) (pages_of commits.new) }
-    ensures same { AreOf params.now session.now.plan commits.new }
+    ensures looks { Looks V.Pages.own V.Faults params.now session.now.plan commits.old commits.new result }
 {
     let q = session.leaf();
     let mut bits = 0;
@@ -64,12 +59,7 @@ fn is_blamed<V: Pages>(
     requires digest { length digest.now ≡ session.now.key.params.n }
     ensures blamed { IsTrue (V.told (pages_of commits.old)) → IfOk result (λ b. IsTrue b
         ↔ IsBlamed (leaves_on V.Pages.own (pages_of commits.old)) session.now digest.now t) }
-    ensures succeeds { IsTrue (V.steady (pages_of commits.old)) → IsTrue (V.told (pages_of commits.old))
-        → length (leaves_on V.Pages.own (pages_of commits.old))
-        ≡ all_commits_length session.now.key.params session.now.plan → IsOk result }
-    ensures cause { HasCause (V.count (pages_of commits.old)) (V.count (pages_of commits.new)) result }
-    ensures stays { PagesStay V.Pages.own V.Faults (pages_of commits.old) (pages_of commits.new) }
-    ensures same { AreOf session.now.key.params session.now.plan commits.new }
+    ensures looks { Looks V.Pages.own V.Faults session.now.key.params session.now.plan commits.old commits.new result }
 {
     if first_differs(commits, session, q, t)? {
         return Ok(true);
@@ -90,12 +80,7 @@ fn first_differs<V: Pages>(
     requires leaf { q ≡ session.now.leaf }
     ensures differs { IsTrue (V.told (pages_of commits.old)) → IfOk result (λ b. IsTrue b
         ↔ FirstDiffers (leaves_on V.Pages.own (pages_of commits.old)) session.now t) }
-    ensures succeeds { IsTrue (V.steady (pages_of commits.old)) → IsTrue (V.told (pages_of commits.old))
-        → length (leaves_on V.Pages.own (pages_of commits.old))
-        ≡ all_commits_length session.now.key.params session.now.plan → IsOk result }
-    ensures cause { HasCause (V.count (pages_of commits.old)) (V.count (pages_of commits.new)) result }
-    ensures stays { PagesStay V.Pages.own V.Faults (pages_of commits.old) (pages_of commits.new) }
-    ensures same { AreOf session.now.key.params session.now.plan commits.new }
+    ensures looks { Looks V.Pages.own V.Faults session.now.key.params session.now.plan commits.old commits.new result }
 {
     match session.kept_reply(1, t) {
         None => Ok(false),
@@ -120,12 +105,7 @@ fn second_differs<V: Pages>(
     requires digest { length digest.now ≡ session.now.key.params.n }
     ensures differs { IsTrue (V.told (pages_of commits.old)) → IfOk result (λ b. IsTrue b
         ↔ SecondDiffers (leaves_on V.Pages.own (pages_of commits.old)) session.now digest.now t) }
-    ensures succeeds { IsTrue (V.steady (pages_of commits.old)) → IsTrue (V.told (pages_of commits.old))
-        → length (leaves_on V.Pages.own (pages_of commits.old))
-        ≡ all_commits_length session.now.key.params session.now.plan → IsOk result }
-    ensures cause { HasCause (V.count (pages_of commits.old)) (V.count (pages_of commits.new)) result }
-    ensures stays { PagesStay V.Pages.own V.Faults (pages_of commits.old) (pages_of commits.new) }
-    ensures same { AreOf session.now.key.params session.now.plan commits.new }
+    ensures looks { Looks V.Pages.own V.Faults session.now.key.params session.now.plan commits.old commits.new result }
 {
     match session.kept_reply(2, t) {
         None => Ok(false),
@@ -148,12 +128,8 @@ fn chains_differ<V: Pages>(
     ensures differs { IsTrue (V.told (pages_of commits.old)) → IfOk result (λ b. IsTrue b
         ↔ ChainsDiffer (set_of commits.old) (plan_of commits.old) (leaves_on V.Pages.own (pages_of commits.old)) q
         digest.now masks.now t) }
-    ensures succeeds { IsTrue (V.steady (pages_of commits.old)) → IsTrue (V.told (pages_of commits.old))
-        → length (leaves_on V.Pages.own (pages_of commits.old))
-        ≡ all_commits_length (set_of commits.old) (plan_of commits.old) → IsOk result }
-    ensures cause { HasCause (V.count (pages_of commits.old)) (V.count (pages_of commits.new)) result }
-    ensures stays { PagesStay V.Pages.own V.Faults (pages_of commits.old) (pages_of commits.new) }
-    ensures same { AreOf (set_of commits.old) (plan_of commits.old) commits.new }
+    ensures looks { Looks V.Pages.own V.Faults (set_of commits.old) (plan_of commits.old) commits.old commits.new
+        result }
 {
     let Places { params, .. } = commits.places;
     let n = params.n as usize;
@@ -183,12 +159,8 @@ fn chain_differs<V: Pages>(
     ensures differs { IsTrue (V.told (pages_of commits.old)) → IfOk result (λ b. IsTrue b ↔ (sha256 mask.now
         ≢ cell_commitment_in (set_of commits.old) (plan_of commits.old)
         (leaves_on V.Pages.own (pages_of commits.old)) q i (digit_of (set_of commits.old) digest.now i) t)) }
-    ensures succeeds { IsTrue (V.steady (pages_of commits.old)) → IsTrue (V.told (pages_of commits.old))
-        → length (leaves_on V.Pages.own (pages_of commits.old))
-        ≡ all_commits_length (set_of commits.old) (plan_of commits.old) → IsOk result }
-    ensures cause { HasCause (V.count (pages_of commits.old)) (V.count (pages_of commits.new)) result }
-    ensures stays { PagesStay V.Pages.own V.Faults (pages_of commits.old) (pages_of commits.new) }
-    ensures same { AreOf (set_of commits.old) (plan_of commits.old) commits.new }
+    ensures looks { Looks V.Pages.own V.Faults (set_of commits.old) (plan_of commits.old) commits.old commits.new
+        result }
 {
     let j = digit(&commits.places.params, digest, i);
     let place = commits.places.cell(q, i, j, t);

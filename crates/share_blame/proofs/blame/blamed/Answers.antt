@@ -24,19 +24,19 @@ trustees-preserved g c =
     let few : t ≤ 12 = omega (arith, c.n-t-end.ensures.value, plan.n_within) in
     let P = IsBlamed (leaves_on g.V.Pages (pages_of c.args.commits.now)) c.args.session.now c.args.digest.now in
     let stays : PagesStay g.V.Pages g.V.Faults (pages_of c.args.commits.now) (pages_of c.is_blamed.new.commits) = record {
-      same = λ told. call.stays.same (rw before.stays.kind.told told) ∙ before.stays.same told;
+      same = λ told. call.looks.stays.same (rw before.stays.kind.told told) ∙ before.stays.same told;
       kind = record {
-        told = call.stays.kind.told ∙ before.stays.kind.told;
-        honest = call.stays.kind.honest ∙ before.stays.kind.honest;
-        steady = call.stays.kind.steady ∙ before.stays.kind.steady;
-        room = call.stays.kind.room ∙ before.stays.kind.room;
+        told = call.looks.stays.kind.told ∙ before.stays.kind.told;
+        honest = call.looks.stays.kind.honest ∙ before.stays.kind.honest;
+        steady = call.looks.stays.kind.steady ∙ before.stays.kind.steady;
+        room = call.looks.stays.kind.room ∙ before.stays.kind.room;
       };
     } in
-    let count = call.cause.succeeded ∙ before.count in
+    let count = call.looks.cause.succeeded ∙ before.count in
     elim c.if-branch.branch [
       | then-branch w ↦
           record {
-            of = call.same;
+            of = call.looks.same;
             stays = stays;
             count = count;
             below = below-more t c.trustees.bits _ before.below few w.bits-is;
@@ -47,7 +47,7 @@ trustees-preserved g c =
           }
       | else-branch w ↦
           rw w.bits-is (record {
-            of = call.same;
+            of = call.looks.same;
             stays = stays;
             count = count;
             below = below-other t c.trustees.bits before.below few;

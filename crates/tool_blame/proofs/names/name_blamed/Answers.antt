@@ -6,4 +6,4 @@ pub returns-in-Ok-clause-names : goal.returns-in-Ok-clause-names
 returns-in-Ok-clause-names g c = named c.in-Ok.members (λ told. rw (← c.session_digest-digest.ensures.digest) (c.in-Ok.ensures.blamed told))
 
 pub returns-in-Err-clause-names : goal.returns-in-Err-clause-names
-returns-in-Err-clause-names g c = unread c.in-Err.ensures.cause.failed (λ told steady. false≢true (c.in-Err.ensures.succeeds steady told (c.requires.whole told)))
+returns-in-Err-clause-names g c = unread c.in-Err.ensures.looks.cause.failed (λ told steady. false≢true (c.in-Err.ensures.looks.succeeds steady told (c.requires.whole told)))
