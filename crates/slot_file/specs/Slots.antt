@@ -1,14 +1,16 @@
 -- The parts of a file of slots that is open, and what its calls leave.
-use Rattle.std.specs.Prelude.{◌≡◌, ◌↔◌, ℕ, List, IsTrue}
-use Rattle.disk_trait.specs.Images.{Only}
+use Rattle.std.specs.Prelude.{◌≡◌, ◌↔◌, ℕ, List, IsTrue, OnOk, Result, if◌then◌else◌, is_ok}
+use Rattle.disk_trait.specs.Images.{Follows, Only}
 use Rattle.disk_trait.specs.declared.disk.Pages as pages
 use Rattle.disk_trait.specs.declared.faults.Faults as faults
 use Rattle.slot_file.specs.declared.header.Header.{Header}
 use Rattle.slot_file.specs.declared.slot.Slot.{Slot}
 use Rattle.slot_file.specs.declared.slots.Doubt.{Doubt}
-use Rattle.slot_file.specs.declared.slots.Doubt.TheVariants.{Nowhere}
+use Rattle.slot_file.specs.declared.slots.Doubt.TheVariants.{Nowhere, Refused}
 use Rattle.slot_file.specs.declared.slots.Slots.{Slots}
 use Rattle.slot_file.specs.Disks.{SameDisk}
+use Rattle.slot_file.specs.Files.{IsPut}
+use Rattle.slot_file.specs.Gated.{Gated, gated}
 use Rattle.slot_file.specs.Layout.{slot_at}
 
 module _ {D : Type 0} {p : pages.Ghosts D} {f : faults.Ghosts D} where
@@ -63,3 +65,22 @@ module _ {D : Type 0} {p : pages.Ghosts D} {f : faults.Ghosts D} where
     pub images : IsHonest old → (image : List ℕ) → MayLeave new image ↔ MayLeave old image
     pub doubt : doubt_of old ≡ Nowhere → doubt_of new ≡ Nowhere
     pub stays : Stays old new
+
+  -- A slot was put. What a read gives, and each image that a crash may leave, is as before or has the whole slot. After
+  -- a call that was done both have it; after a refusal the slot is in doubt.
+  pub record HasPut {R E : Type 0} (slot : ℕ) (value : Slot) (old new : Slots D p f) (result : Result R E)
+      : Type 0 where
+    pub put : IsTold old → OnOk result (slot_now new slot ≡ value)
+    pub file : IsTold old → IsPut (header_of old).version slot value (file_of old) (file_of new)
+    pub images : IsTold old → IsHonest old
+        → Follows (IsPut (header_of old).version slot value) (MayLeave old) (MayLeave new)
+    pub stable : OnOk result (IsStable new)
+    pub doubt : doubt_of new ≡ (if is_ok result then doubt_of old else Refused slot)
+
+  -- internal: A body was written, and then the gate of one byte before it, each made stable.
+  pub record HasGated {R E : Type 0} (at : ℕ) (body : List ℕ) (gate_at gate : ℕ) (old new : Slots D p f)
+      (result : Result R E) : Type 0 where
+    pub bytes : IsTold old → OnOk result (file_of new ≡ gated at body gate_at gate (file_of old))
+    pub file : IsTold old → Gated at body gate_at (file_of old) (file_of new)
+    pub images : IsTold old → IsHonest old → Follows (Gated at body gate_at) (MayLeave old) (MayLeave new)
+    pub stable : OnOk result (IsStable new)

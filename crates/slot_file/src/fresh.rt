@@ -57,8 +57,7 @@ pub(crate) fn open_gate<D: Disk>(disk: &mut D) -> Result<(), DiskFault>
     ensures shows { IsTrue (D.told disk.old) → IsTrue (D.honest disk.old)
         → (D.reads disk.new ≡ D.reads disk.old) ⊎ AllBut (D.reads disk.old) (D.may_leave disk.new) }
 
-    ensures succeeds { IsTrue (D.steady disk.old) → IsTrue (D.told disk.old)
-        → 1 ≤ D.room disk.old → IsOk result }
+    ensures succeeds { IsTrue (D.steady disk.old) → IsTrue (D.told disk.old) → 1 ≤ D.room disk.old → IsOk result }
     ensures cause { HasCause (D.count disk.old) (D.count disk.new) result }
     ensures stays { SameDisk D.Pages.own D.Faults disk.old disk.new }
 {

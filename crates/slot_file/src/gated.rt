@@ -19,8 +19,7 @@ pub(crate) fn write_gated<D: Disk>(
 ) -> Result<(), DiskFault>
     ensures bytes { IsTrue (D.told disk.old)
         → OnOk result (D.reads disk.new ≡ gated at body.now gate_at gate (D.reads disk.old)) }
-    ensures file { IsTrue (D.told disk.old)
-        → Gated at body.now gate_at (D.reads disk.old) (D.reads disk.new) }
+    ensures file { IsTrue (D.told disk.old) → Gated at body.now gate_at (D.reads disk.old) (D.reads disk.new) }
     ensures images { IsTrue (D.told disk.old) → IsTrue (D.honest disk.old)
         → Follows (Gated at body.now gate_at) (D.may_leave disk.old) (D.may_leave disk.new) }
     ensures stable { IsTrue (D.told disk.old) → IsTrue (D.honest disk.old)

@@ -4,11 +4,11 @@ ghost use Rattle.std.specs.Prelude.{◌≡◌, ◌≢◌, ◌⊎◌, ◌≤◌, 
 ghost use Rattle.std.specs.Prelude.{IsOk, IfOk, IfErr, OnOk, OnErr, Ok, Err, if◌then◌else◌, is_ok};
 ghost use Rattle.disk_trait.specs.Faults.{HasCause};
 ghost use Rattle.slot_file.specs.Doubts.{IsSure, looked_run};
-ghost use Rattle.disk_trait.specs.Images.{Only, Follows};
+ghost use Rattle.disk_trait.specs.Images.{Only};
 ghost use Rattle.slot_file.specs.Disks.{RisesAt, Unwritten};
-ghost use Rattle.slot_file.specs.Gated.{Gated, gated, second_body};
+ghost use Rattle.slot_file.specs.Gated.{second_body};
 ghost use Rattle.slot_file.specs.Layout.{file_size, slot_size, slot_start, load_fault, IsShown};
-ghost use Rattle.slot_file.specs.Files.{IsFile, IsHalf, IsPut, with_b};
+ghost use Rattle.slot_file.specs.Files.{IsFile, IsHalf, with_b};
 
 use crate::gated::write_gated;
 use crate::header::BLOCK;
@@ -114,8 +114,9 @@ fn check_file<D: Disk>(disk: &mut D, header: &Header, count: u32) -> Result<(), 
 
 impl<D: Disk> Slots<D> {
     ghost use Rattle.slot_file.specs.Opened.{IsOpened};
-    ghost use Rattle.slot_file.specs.Slots.{disk_of, header_of, count_of, doubt_of, faults_of, file_of, slot_now};
-    ghost use Rattle.slot_file.specs.Slots.{IsTold, IsHonest, IsSteady, MayLeave, IsStable, OnlyLooked, Stays};
+    ghost use Rattle.slot_file.specs.Slots.{HasGated, HasPut, IsHonest, IsStable, IsSteady, IsTold, MayLeave};
+    ghost use Rattle.slot_file.specs.Slots.{OnlyLooked, Stays, count_of, disk_of, doubt_of, faults_of, file_of};
+    ghost use Rattle.slot_file.specs.Slots.{header_of, slot_now};
     ghost use Rattle.slot_file.specs.Runs.{AreShown, IsRun};
     ghost use Rattle.slot_file.specs.Doubts.{settled, looked};
 
@@ -211,15 +212,7 @@ impl<D: Disk> Slots<D> {
         requires sure { doubt_of self.old ≡ Doubt.Nowhere }
         requires free { IsTold self.old → slot_now self.old slot ≡ Slot.Free }
 
-        ensures put { IsTold self.old → OnOk result (slot_now self.new slot ≡ Slot.Half body.now) }
-        ensures file { IsTold self.old
-            → IsPut (header_of self.old).version slot (Slot.Half body.now) (file_of self.old) (file_of self.new) }
-        ensures images { IsTold self.old → IsHonest self.old
-            → Follows (IsPut (header_of self.old).version slot (Slot.Half body.now))
-            (MayLeave self.old) (MayLeave self.new) }
-        ensures stable { OnOk result (IsStable self.new) }
-        ensures doubt { doubt_of self.new ≡ (if is_ok result then doubt_of self.old else Doubt.Refused slot) }
-
+        ensures made { HasPut slot (Slot.Half body.now) self.old self.new result }
         ensures succeeds { IsSteady self.old → IsTold self.old → IsOk result }
         ensures cause { HasCause (faults_of self.old) (faults_of self.new) result }
         ensures stays { Stays self.old self.new }
@@ -235,17 +228,7 @@ impl<D: Disk> Slots<D> {
         requires half { IsTold self.old → IsHalf (slot_now self.old slot) }
         requires moment { (header_of self.old).version ≢ 2 → moment ≡ 0 }
 
-        ensures put { IsTold self.old
-            → OnOk result (slot_now self.new slot ≡ with_b (slot_now self.old slot) body.now moment) }
-        ensures file { IsTold self.old
-            → IsPut (header_of self.old).version slot (with_b (slot_now self.old slot) body.now moment)
-            (file_of self.old) (file_of self.new) }
-        ensures images { IsTold self.old → IsHonest self.old
-            → Follows (IsPut (header_of self.old).version slot (with_b (slot_now self.old slot) body.now moment))
-            (MayLeave self.old) (MayLeave self.new) }
-        ensures stable { OnOk result (IsStable self.new) }
-        ensures doubt { doubt_of self.new ≡ (if is_ok result then doubt_of self.old else Doubt.Refused slot) }
-
+        ensures made { HasPut slot (with_b (slot_now self.old slot) body.now moment) self.old self.new result }
         ensures succeeds { IsSteady self.old → IsTold self.old → IsOk result }
         ensures cause { HasCause (faults_of self.old) (faults_of self.new) result }
         ensures stays { Stays self.old self.new }
@@ -267,16 +250,8 @@ impl<D: Disk> Slots<D> {
         requires fits { at + length body.now ≤ slot_size (header_of self.old).version }
         requires gate_fits { gate_at < slot_size (header_of self.old).version }
 
-        ensures bytes { let start = slot_start (header_of self.old).version slot in
-            IsTold self.old
-            → OnOk result (file_of self.new ≡ gated (start + at) body.now (start + gate_at) gate (file_of self.old)) }
-        ensures file { let start = slot_start (header_of self.old).version slot in
-            IsTold self.old
-            → Gated (start + at) body.now (start + gate_at) (file_of self.old) (file_of self.new) }
-        ensures images { let start = slot_start (header_of self.old).version slot in
-            IsTold self.old → IsHonest self.old
-            → Follows (Gated (start + at) body.now (start + gate_at)) (MayLeave self.old) (MayLeave self.new) }
-        ensures stable { OnOk result (IsStable self.new) }
+        ensures gated { let start = slot_start (header_of self.old).version slot in
+            HasGated (start + at) body.now (start + gate_at) gate self.old self.new result }
         ensures doubt { doubt_of self.new ≡ (if is_ok result then doubt_of self.old else Doubt.Refused slot) }
 
         ensures succeeds { IsSteady self.old → IsTold self.old → IsOk result }

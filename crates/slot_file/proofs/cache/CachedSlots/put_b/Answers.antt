@@ -29,12 +29,12 @@ invariant_of-self g c =
     let same : IsTold self.slots → with_b (slot_at header.version place (file_of self.slots)) body moment ≡ after = λ told.
     ap (λ (s : Slot). with_b s body moment) ((has-sure header items self.doubt (file_of self.slots) (self.reads told) c.requires.settled).shows place c.requires.within) ∙ sym is in
     let list = set items place after in
-    let nowhere : doubt_of new ≡ Nowhere = c.in-Ok.ensures.doubt ∙ self.in_doubt.nowhere c.requires.settled in
+    let nowhere : doubt_of new ≡ Nowhere = c.in-Ok.ensures.made.doubt ∙ self.in_doubt.nowhere c.requires.settled in
     let made : IsTold new → HasSlots header list (file_of new) = λ told_new.
     let told = sym call.stays.disk.told ∙ told_new in
     let has = has-sure header items self.doubt (file_of self.slots) (self.reads told) c.requires.settled in
-    let here = ap (λ (h : Header). slot_at h.version place (file_of new)) (sym call.stays.header) ∙ c.in-Ok.ensures.put told in
-    put-made header items (file_of self.slots) has place after (file_of new) (subst (λ (s : Slot). IsPut header.version place s (file_of self.slots) (file_of new)) (same told) (call.file told)) c.requires.within whole (here ∙ same told) in
+    let here = ap (λ (h : Header). slot_at h.version place (file_of new)) (sym call.stays.header) ∙ c.in-Ok.ensures.made.put told in
+    put-made header items (file_of self.slots) has place after (file_of new) (subst (λ (s : Slot). IsPut header.version place s (file_of self.slots) (file_of new)) (same told) (call.made.file told)) c.requires.within whole (here ∙ same told) in
     record {
       count = call.stays.count ∙ self.count ∙ sym (length-set items place after);
       whole = whole-set items place after self.whole whole;
@@ -63,17 +63,17 @@ invariant_of-self-in-Err g c =
     record {
       count = call.stays.count ∙ self.count;
       whole = self.whole;
-      in_doubt = doubt-put _ (doubt_of new) put c.in-Err.ensures.doubt c.requires.within whole;
+      in_doubt = doubt-put _ (doubt_of new) put c.in-Err.ensures.made.doubt c.requires.within whole;
       faulted = λ none. absurd (omega (arith, c.in-Err.ensures.cause.failed, none));
       reads = λ told_new.
           let told = sym call.stays.disk.told ∙ told_new in
           let has = has-sure header items self.doubt (file_of self.slots) (self.reads told) c.requires.settled in
           renamed _ header _ _ _ call.stays.header
-          (put-shown header items (file_of self.slots) has place after (file_of new) (subst (λ (s : Slot). IsPut header.version place s (file_of self.slots) (file_of new)) (same told) (call.file told)) c.requires.within whole put refl refl);
+          (put-shown header items (file_of self.slots) has place after (file_of new) (subst (λ (s : Slot). IsPut header.version place s (file_of self.slots) (file_of new)) (same told) (call.made.file told)) c.requires.within whole put refl refl);
       images = λ told_new honest_new image leaves.
           let told = sym call.stays.disk.told ∙ told_new in
           let honest = sym call.stays.disk.honest ∙ honest_new in
-          let from = call.images told honest image leaves in
+          let from = call.made.images told honest image leaves in
           let has = has-sure header items self.doubt from.0 (self.images told honest from.0 from.1) c.requires.settled in
           renamed _ header _ _ _ call.stays.header
           (put-shown header items from.0 has place after image (subst (λ (s : Slot). IsPut header.version place s from.0 image) (same told) from.2) c.requires.within whole put refl refl);
