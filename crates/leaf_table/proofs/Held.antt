@@ -17,25 +17,10 @@ use Rattle.slot_file.specs.State.{CacheState, HasSlots, StandsFor as CacheStands
 use Rattle.slot_file.specs.declared.doubted.Doubted.{Doubted}
 use Rattle.slot_file.specs.Cache.{state_of as cache_state}
 use Rattle.slot_file.proofs.Held.{holds as cache_holds}
-use Rattle.slot_file.specs.Copies.{is_damaged}
+use Rattle.slot_file.proofs.Logs.{stands-whole}
 use Rattle.slot_file.specs.Layout.{slot_at}
 use Rattle.slot_file.specs.declared.header.Header.{Header}
 use Rattle.slot_file.specs.declared.slot.Slot.{Slot}
-
--- a file with slots opens, and none of its slots is damaged
-pub has-loads : (header : Header) (slots : List Slot) (file : List ℕ) → header.version ≡ 1 → HasSlots header slots file → IsTableFile header (length slots) file
-has-loads header slots file version has = record {
-  opens = has.opens;
-  whole = λ leaf below. ap (λ (v : ℕ). is_damaged (slot_at v leaf file)) (sym version) ∙ has.sound leaf below;
-}
-
-loads : (header : Header) (cache : CacheState) (file : List ℕ) → header.version ≡ 1 → CacheStandsFor header cache file → IsTableFile header (length cache.slots) file
-loads header cache file version stands_for = elim stands_for [
-  | inl has ↦ has-loads header cache.slots file version has
-  | inr put ↦
-      subst (λ (count : ℕ). IsTableFile header count file) (length-set cache.slots put.0.slot put.0.after)
-      (has-loads header (with_made cache.slots put.0) file version put.2)
-]
 
 shown : (header : Header) (slots : List Slot) (file : List ℕ) → header.version ≡ 1 → HasSlots header slots file
     → (entries : List Lease) → ((leaf : ℕ) → leaf < length slots → use_of_slot (slot_in slots leaf) ≡ map_of entries leaf)
@@ -78,7 +63,7 @@ module _ {D : Type 0} {p : pages.Ghosts D} {f : faults.Ghosts D} (table : Table 
       let cache = cache_state table.slots in
       let header = header_of table in
       record {
-        loads = subst (λ (count : ℕ). IsTableFile header count file) table.count (loads header cache file table.version stands_for);
+        loads = subst (λ (count : ℕ). IsTableFile header count file) table.count (stands-whole 1 header cache file table.version stands_for);
         stands = stands header cache table.entries.items file table.version table.sound stands_for;
       }
 

@@ -1,9 +1,9 @@
 -- The entries of a leaf table, and what they make of each leaf.
-use Rattle.std.specs.Prelude.{◌==◌, ◌≡◌, ◌<◌, ℕ, Bool, true, false, List, length, take, fold, slice_index_or}
-use Rattle.std.specs.Prelude.{if◌then◌else◌}
+use Rattle.std.specs.Prelude.{◌≡◌, ◌<◌, ℕ, Bool, true, false, List, length, take, fold, slice_index_or}
 use Rattle.lms_bytes.specs.MessageId.{message_id_bytes}
 use Rattle.leaf_table.specs.declared.lease.Lease.{Lease}
 use Rattle.leaf_table.specs.declared.lease.Lease.TheVariants.{Leased, Burnt}
+use Rattle.slot_file.specs.Logs.{with_entry}
 
 -- A leaf is free, leased for a message by its id of 36 bytes, or burnt. A slot whose gate B is open and gate A is not
 -- is torn.
@@ -23,13 +23,9 @@ abbrev pub use_after : Lease → LeafUse
 use_after (Leased leaf message) = IsLeased (message_id_bytes message)
 use_after (Burnt leaf) = IsBurnt
 
--- all leaves once one more entry was made
-abbrev pub with_entry : (ℕ → LeafUse) → Lease → ℕ → LeafUse
-with_entry map entry leaf = if leaf == leaf_of entry then use_after entry else map leaf
-
 -- all leaves once these entries were made, in this order
 unfoldable pub map_of : List Lease → ℕ → LeafUse
-map_of entries = fold with_entry (λ leaf. IsFree) entries
+map_of entries = fold (with_entry leaf_of use_after) (λ leaf. IsFree) entries
 
 -- an entry may be made of a leaf: a free one is leased, and a leased one is burnt
 abbrev pub may_follow : Lease → LeafUse → Bool

@@ -1,10 +1,9 @@
 -- The entries of a table's file, and which files are tables.
-use Rattle.std.specs.Prelude.{◌≡◌, ◌<◌, ℕ, List, None, false}
+use Rattle.std.specs.Prelude.{ℕ, List}
 use Rattle.std.specs.List.{flat_map, range_with_len}
 use Rattle.leaf_table.specs.Slots.{entries_of_slot}
 use Rattle.leaf_table.specs.declared.lease.Lease.{Lease}
-use Rattle.slot_file.specs.Copies.{is_damaged}
-use Rattle.slot_file.specs.Layout.{load_fault, slot_at}
+use Rattle.slot_file.specs.Logs.{IsWhole}
 use Rattle.slot_file.specs.declared.header.Header.{Header}
 use Rattle.slot_file.specs.declared.slot.Slot.{Slot}
 
@@ -12,7 +11,6 @@ use Rattle.slot_file.specs.declared.slot.Slot.{Slot}
 unfoldable pub entries_of : ℕ → (ℕ → Slot) → List Lease
 entries_of count slots = flat_map (λ leaf. entries_of_slot leaf (slots leaf)) (range_with_len 0 count)
 
--- the file opens, and no slot of it is damaged
-pub record IsTableFile (header : Header) (count : ℕ) (file : List ℕ) : Type 0 where
-  pub opens : load_fault header count file ≡ None
-  pub whole : (leaf : ℕ) → leaf < count → is_damaged (slot_at 1 leaf file) ≡ false
+-- the file opens as a table of this header, and no slot of it is damaged
+abbrev pub IsTableFile : Header → ℕ → List ℕ → Type 0
+IsTableFile header count file = IsWhole 1 header count file

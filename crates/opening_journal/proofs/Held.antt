@@ -1,6 +1,5 @@
 -- What holds of every journal.
-use Rattle.std.proofs.Common.{◌≡◌, ℕ, List, length, inl, inr, sym, ◌∙◌, ap, subst}
-use Rattle.std.proofs.lemmas.List.{length-set}
+use Rattle.std.proofs.Common.{ℕ, List, inl, inr, sym, subst}
 use Rattle.disk_trait.specs.declared.disk.Pages as pages
 use Rattle.disk_trait.specs.declared.faults.Faults as faults
 use Rattle.opening_journal.specs.Entries.{IsLegalList, StandsFor}
@@ -9,28 +8,10 @@ use Rattle.opening_journal.specs.Journal.{Holds, Keeps, header_of, state_of}
 use Rattle.opening_journal.specs.Loading.{IsJournalFile}
 use Rattle.opening_journal.specs.declared.journal.Journal.{Journal}
 use Rattle.opening_journal.proofs.Holding.{doubt-none, stands}
-use Rattle.slot_file.specs.State.{CacheState, HasSlots, StandsFor as CacheStandsFor, with_made}
+use Rattle.slot_file.specs.State.{StandsFor as CacheStandsFor}
 use Rattle.slot_file.specs.Cache.{state_of as cache_state}
 use Rattle.slot_file.proofs.Held.{holds as cache_holds}
-use Rattle.slot_file.specs.Copies.{is_damaged}
-use Rattle.slot_file.specs.Layout.{slot_at}
-use Rattle.slot_file.specs.declared.header.Header.{Header}
-use Rattle.slot_file.specs.declared.slot.Slot.{Slot}
-
--- a file with slots opens, and none of its slots is damaged
-pub has-loads : (header : Header) (slots : List Slot) (file : List ℕ) → header.version ≡ 2 → HasSlots header slots file → IsJournalFile header (length slots) file
-has-loads header slots file version has = record {
-  opens = has.opens;
-  whole = λ leaf below. ap (λ (v : ℕ). is_damaged (slot_at v leaf file)) (sym version) ∙ has.sound leaf below;
-}
-
-loads : (header : Header) (cache : CacheState) (file : List ℕ) → header.version ≡ 2 → CacheStandsFor header cache file → IsJournalFile header (length cache.slots) file
-loads header cache file version stands_for = elim stands_for [
-  | inl has ↦ has-loads header cache.slots file version has
-  | inr put ↦
-      subst (λ (count : ℕ). IsJournalFile header count file) (length-set cache.slots put.0.slot put.0.after)
-      (has-loads header (with_made cache.slots put.0) file version put.2)
-]
+use Rattle.slot_file.proofs.Logs.{stands-whole}
 
 module _ {D : Type 0} {p : pages.Ghosts D} {f : faults.Ghosts D} (journal : Journal D p f) where
   keeps : (file : List ℕ) → CacheStandsFor (header_of journal) (cache_state journal.slots) file → Keeps journal file
@@ -38,7 +19,7 @@ module _ {D : Type 0} {p : pages.Ghosts D} {f : faults.Ghosts D} (journal : Jour
       let cache = cache_state journal.slots in
       let header = header_of journal in
       record {
-        loads = subst (λ (count : ℕ). IsJournalFile header count file) journal.count (loads header cache file journal.version stands_for);
+        loads = subst (λ (count : ℕ). IsJournalFile header count file) journal.count (stands-whole 2 header cache file journal.version stands_for);
         stands = subst (λ (count : ℕ). StandsFor journal.params.n count file (state_of journal)) journal.count
             (stands journal.params.n header cache journal.entries.items file journal.version journal.doubt (cache_holds journal.slots).within journal.held stands_for);
       }

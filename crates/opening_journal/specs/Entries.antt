@@ -1,10 +1,11 @@
 -- What a journal keeps of each leaf: by its entries, and by the slots of its file.
-use Rattle.std.specs.Prelude.{◌==◌, ◌≡◌, ◌<◌, ◌⊎◌, ℕ, List, ◌∷◌, ◌++◌, [], length, take, drop, fold, slice_index_or}
-use Rattle.std.specs.Prelude.{Option, Some, if◌then◌else◌}
+use Rattle.std.specs.Prelude.{◌≡◌, ◌<◌, ◌⊎◌, ℕ, List, ◌∷◌, ◌++◌, [], length, take, drop, fold, slice_index_or}
+use Rattle.std.specs.Prelude.{Option, Some}
 use Rattle.lms_bytes.specs.MessageId.{message_id_bytes}
 use Rattle.opening_journal.specs.declared.entry.Entry.{Entry}
 use Rattle.opening_journal.specs.declared.entry.Entry.TheVariants.{Bound, Opened}
 use Rattle.slot_file.specs.Layout.{slot_at}
+use Rattle.slot_file.specs.Logs.{with_entry}
 use Rattle.slot_file.specs.declared.slot.Slot.{Slot}
 use Rattle.slot_file.specs.declared.slot.Slot.TheVariants.{Free, Half, Full, Damaged}
 
@@ -30,13 +31,9 @@ abbrev pub state_after : Entry → LeafState
 state_after (Bound leaf message) = IsBound (message_id_bytes message)
 state_after (Opened leaf message c digest moment) = IsOpened (message_id_bytes message) c digest moment
 
--- all leaves once one more entry was made
-abbrev pub with_entry : (ℕ → LeafState) → Entry → ℕ → LeafState
-with_entry map entry leaf = if leaf == leaf_of entry then state_after entry else map leaf
-
 -- all leaves once these entries were made, in this order
 unfoldable pub map_of : List Entry → ℕ → LeafState
-map_of entries = fold with_entry (λ leaf. IsFree) entries
+map_of entries = fold (with_entry leaf_of state_after) (λ leaf. IsFree) entries
 
 -- the entry may follow where its leaf is this
 abbrev pub Adds : Entry → LeafState → Type 0

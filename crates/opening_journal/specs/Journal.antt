@@ -47,7 +47,7 @@ module _ {D : Type 0} {p : pages.Ghosts D} {f : faults.Ghosts D} where
 
   -- What holds of every journal: what a read gives and each image that a crash may leave is a file that loads and
   -- stands for it, an entry is in doubt only where a call of the disk has failed, and each entry may follow those
-  -- before.
+  -- before it, the one in doubt too.
   pub record Holds (journal : Journal D p f) : Type 0 where
     pub reads : IsTold journal → Keeps journal (p.reads (disk_of journal))
     pub images : IsTold journal → IsHonest journal → (image : List ℕ) → p.may_leave (disk_of journal) image

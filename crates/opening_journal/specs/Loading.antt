@@ -1,13 +1,14 @@
 -- The entries of a journal's file, and why it is not loaded.
-use Rattle.std.specs.Prelude.{◌≡◌, ◌<◌, ℕ, List, [], ◌∷◌, Some, None, take, drop, false}
+use Rattle.std.specs.Prelude.{◌≡◌, ℕ, List, [], ◌∷◌, Some, None, take, drop}
 use Rattle.std.specs.List.{flat_map, range_with_len}
 use Rattle.lms_bytes.specs.MessageId.{message_id_of}
 use Rattle.opening_journal.specs.declared.entry.Entry.{Entry}
 use Rattle.opening_journal.specs.declared.entry.Entry.TheVariants.{Bound, Opened}
 use Rattle.opening_journal.specs.declared.faults.JournalLoad.{JournalLoad}
 use Rattle.opening_journal.specs.declared.faults.JournalLoad.TheVariants as load
-use Rattle.slot_file.specs.Copies.{IsFirstDamaged, is_damaged}
+use Rattle.slot_file.specs.Copies.{IsFirstDamaged}
 use Rattle.slot_file.specs.Layout.{load_fault, slot_at}
+use Rattle.slot_file.specs.Logs.{IsWhole}
 use Rattle.slot_file.specs.declared.header.Header.{Header}
 use Rattle.slot_file.specs.declared.header.LoadFault.{LoadFault}
 use Rattle.slot_file.specs.declared.slot.Slot.{Slot}
@@ -29,10 +30,9 @@ entries_of n count slots = flat_map (λ leaf. entries_of_slot n leaf (slots leaf
 abbrev pub entries_of_file : ℕ → ℕ → List ℕ → List Entry
 entries_of_file n count file = entries_of n count (λ leaf. slot_at 2 leaf file)
 
--- the file opens, and no slot of it is damaged
-pub record IsJournalFile (header : Header) (count : ℕ) (file : List ℕ) : Type 0 where
-  pub opens : load_fault header count file ≡ None
-  pub whole : (leaf : ℕ) → leaf < count → is_damaged (slot_at 2 leaf file) ≡ false
+-- the file opens as a journal of this header, and no slot of it is damaged
+abbrev pub IsJournalFile : Header → ℕ → List ℕ → Type 0
+IsJournalFile header count file = IsWhole 2 header count file
 
 -- why a file is not loaded, by the first test that fails
 pub data LoadRefused (header : Header) (count : ℕ) (file : List ℕ) : JournalLoad → Type 0 where

@@ -2,6 +2,7 @@ mod Blank
 mod Copied
 mod Kept
 mod Loads
+pub mod Logs
 mod Parts
 mod PutA
 mod PutB
@@ -9,6 +10,7 @@ mod Puts
 mod Runs
 mod Shown
 mod Shut
+mod SlotsLaws
 pub mod Unwritten
 mod Files
 pub mod Held

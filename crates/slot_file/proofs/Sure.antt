@@ -7,7 +7,7 @@ use Rattle.slot_file.specs.State.{HasSlots}
 use Rattle.slot_file.specs.declared.doubted.Doubted.{Doubted}
 use Rattle.slot_file.specs.Doubts.{IsSure}
 use Rattle.slot_file.specs.Slots.{IsHonest, IsTold, MayLeave, doubt_of, file_of, header_of}
-use Rattle.slot_file.specs.SlotsLaws.{stable_where_sure}
+use Rattle.slot_file.proofs.SlotsLaws.{stable_where_sure}
 use Rattle.slot_file.specs.declared.header.Header.{Header}
 use Rattle.slot_file.specs.declared.slot.Slot.{Slot}
 use Rattle.slot_file.specs.declared.slots.Doubt.{Doubt}

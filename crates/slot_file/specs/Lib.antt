@@ -9,10 +9,10 @@ pub mod Layout
 pub mod Opened
 pub mod Runs
 pub mod Slots
-pub mod SlotsLaws
 pub mod Cache
 pub mod Calls
 pub mod Inside
 pub mod Loading
+pub mod Logs
 pub mod Reading
 pub mod State

@@ -1,7 +1,7 @@
 use Rattle.std.proofs.Common.{◌≡◌, ◌<◌, ◌^◌, ℕ, length, refl, sym, ◌∙◌, ap, subst}
 use Rattle.opening_journal.specs.Loading.{IsJournalFile, LoadRefused, entries_of, no_memory}
 use Rattle.opening_journal.specs.Opening.{settled_with}
-use Rattle.opening_journal.proofs.Held.{has-loads}
+use Rattle.slot_file.proofs.Logs.{has-whole}
 use Rattle.opening_journal.proofs.Listed.{entries-same, refused-load}
 use Rattle.slot_file.specs.Cache.{state_of}
 use Rattle.slot_file.specs.State.{slot_in}
@@ -25,7 +25,7 @@ returns-in-Ok-entries_of-clause-loaded g c =
     let loaded = c.in-Ok.ensures.loaded in
     let size : length slots ≡ 2 ^ c.args.params.now.h = loaded.size ∙ c.leaves.ensures in
     record {
-      file = λ told. subst (λ (count : ℕ). IsJournalFile header count file) size (has-loads header slots file c.requires.version (loaded.file told));
+      file = λ told. subst (λ (count : ℕ). IsJournalFile header count file) size (has-whole 2 header slots file c.requires.version (loaded.file told));
       entries = λ told.
           let here : (leaf : ℕ) → leaf < length slots → slot_in slots leaf ≡ slot_at 2 leaf file =
           λ leaf below. sym ((loaded.file told).shows leaf below) ∙ ap (λ (v : ℕ). slot_at v leaf file) c.requires.version in

@@ -7,7 +7,6 @@ use Rattle.slot_file.specs.State.{CacheState, settled_with, with_made}
 use Rattle.slot_file.specs.Calls.{Settles}
 use Rattle.slot_file.specs.declared.doubted.Doubted.{Doubted}
 use Rattle.slot_file.specs.declared.faults.Settled.{Settled}
-use Rattle.slot_file.specs.declared.faults.Settled.TheVariants.{Made}
 use Rattle.slot_file.proofs.Held.{holds}
 use Rattle.opening_journal.proofs.Holding.{held-made, put-is, put_of, room-made}
 use Rattle.opening_journal.proofs.journal.Journal.settle_entry.Goals as goal
