@@ -1,5 +1,5 @@
 -- What a trustee decides: the tests that need no journal, in their order, and then the journal.
-use Rattle.std.specs.Prelude.{◌≡◌, ◌≢◌, ◌<◌, ◌≤◌, ◌^◌, ℕ, None, Some, Contains, Result, Ok, Err}
+use Rattle.std.specs.Prelude.{◌≡◌, ◌≢◌, ◌<◌, ◌≤◌, ◌^◌, ℕ, None, Some, Contains, Result, Ok, Err, IfSome, length}
 use Rattle.coalition_map.specs.Coalitions.{leaf_members}
 use Rattle.lms_bytes.specs.declared.ask.Ask.{Ask}
 use Rattle.lms_bytes.specs.declared.ask.Second.{Second}
@@ -29,6 +29,13 @@ pub record IsForLeaf (share : Share) (ask : Ask) : Type 0 where
 -- the check tag is the trustee's own for this randomizer
 abbrev pub HasTag : Share → Ask → Second → Type 0
 HasTag share ask second = second.tag ≡ check_tag_of share.key share.id ask.leaf second.c
+
+-- internal: the ask passes the tests that need no journal, and its randomizer and digest have n bytes
+pub record PassesTests (share : Share) (ask : Ask) : Type 0 where
+  pub own : IsForLeaf share ask
+  pub tag : IfSome ask.second (HasTag share ask)
+  pub c : IfSome ask.second (λ second. length second.c ≡ share.params.n)
+  pub digest : IfSome ask.second (λ second. length second.digest ≡ share.params.n)
 
 -- the first test that fails
 pub data FailsTest (share : Share) (ask : Ask) : Refusal → Type 0 where

@@ -7,7 +7,8 @@ ghost use Rattle.opening_journal.specs.Opening.{Binds, Opens};
 ghost use Rattle.opening_journal.specs.declared.entry.Entry.{Entry};
 ghost use Rattle.opening_journal.specs.Journal.{Enters, Holds, IsTold, disk_of, header_of, params_of, state_of};
 ghost use Rattle.trustee_core.specs.Codes.{refusal_code};
-ghost use Rattle.trustee_core.specs.Decisions.{Decides, FailsTest, HasTag, IsForLeaf, answer_in, answer_of, refusal_of};
+ghost use Rattle.trustee_core.specs.Decisions.{Decides, FailsTest, HasTag, IsForLeaf, PassesTests, answer_in};
+ghost use Rattle.trustee_core.specs.Decisions.{answer_of, refusal_of};
 ghost use Rattle.trustee_core.specs.Grants.{ask_of};
 ghost use Rattle.trustee_core.specs.Lives.{Lives};
 ghost use Rattle.trustee_core.specs.Notes.{HasNote, Notes, entries_in, first_notes};
@@ -93,10 +94,7 @@ impl<D: Disk> Trustee<D> {
 
     // Enters an ask that passes the tests into the journal, and notes what came of it.
     fn enter(&mut self, ask: &Ask, moment: u64) -> Result<Entered, JournalFault>
-        requires own { IsForLeaf (share_of self.old) ask.now }
-        requires tag { IfSome ask.now.second (HasTag (share_of self.old) ask.now) }
-        requires c { IfSome ask.now.second (λ second. length second.c ≡ (share_of self.old).params.n) }
-        requires digest { IfSome ask.now.second (λ second. length second.digest ≡ (share_of self.old).params.n) }
+        requires ask { PassesTests (share_of self.old) ask.now }
         ensures event { Decides (share_of self.old) (state_of (journal_of self.old)) ask.now moment (answer_of result)
             (state_of (journal_of self.new)) }
         ensures idle { (state_of (journal_of self.old)).doubt ≡ None → result ≢ Ok Entered.New
@@ -150,10 +148,7 @@ fn enter_journal<D: Disk>(
     moment: u64,
 ) -> Result<Entered, JournalFault>
     requires params { params_of journal.old ≡ share.now.params }
-    requires own { IsForLeaf share.now ask.now }
-    requires tag { IfSome ask.now.second (HasTag share.now ask.now) }
-    requires c { IfSome ask.now.second (λ second. length second.c ≡ share.now.params.n) }
-    requires digest { IfSome ask.now.second (λ second. length second.digest ≡ share.now.params.n) }
+    requires ask { PassesTests share.now ask.now }
     ensures event { Decides share.now (state_of journal.old) ask.now moment (answer_of result) (state_of journal.new) }
     ensures idle { (state_of journal.old).doubt ≡ None → result ≢ Ok Entered.New → result ≢ Err JournalFault.Device
         → journal.new ≡ journal.old }

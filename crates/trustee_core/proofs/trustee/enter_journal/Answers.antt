@@ -7,13 +7,13 @@ use Rattle.trustee_core.proofs.Extending.{binds-adds, opens-adds}
 use Rattle.trustee_core.proofs.trustee.enter_journal.Goals as goal
 
 pub returns-in-None-clause-event : goal.returns-in-None-clause-event
-returns-in-None-clause-event g c = first _ _ c.requires.own c.in-None.is c.bind.ensures.event
+returns-in-None-clause-event g c = first _ _ c.requires.ask.own c.in-None.is c.bind.ensures.event
 
 pub returns-in-Some-clause-event : goal.returns-in-Some-clause-event
 returns-in-Some-clause-event g c =
     let share = c.args.share.now in
-    let tag = subst (λ (o : Option Second). IfSome o (HasTag share c.args.ask.now)) c.in-Some.is c.requires.tag in
-    second _ _ c.in-Some.second c.requires.own c.in-Some.is tag c.open_leaf.ensures.event
+    let tag = subst (λ (o : Option Second). IfSome o (HasTag share c.args.ask.now)) c.in-Some.is c.requires.ask.tag in
+    second _ _ c.in-Some.second c.requires.ask.own c.in-Some.is tag c.open_leaf.ensures.event
 
 pub returns-in-None-clause-added : goal.returns-in-None-clause-added
 returns-in-None-clause-added g c = binds-adds _ _ _ c.bind.result _ c.bind.ensures.event
