@@ -1,5 +1,10 @@
 -- What a reader of frames answers, and what it has read of its source.
-use Rattle.std.specs.Prelude.{◌≡◌, ◌≢◌, ◌⊎◌, ◌<◌, ℕ, Bool, IsTrue, length, Result, Ok, Err}
+use Rattle.std.specs.Prelude.{◌≡◌, ◌≢◌, ◌⊎◌, ◌<◌, ℕ, Bool, IsTrue, List, length, Result, Ok, Err}
+use Rattle.lms_bytes.specs.IdHash.{HasTaken as IdTaken}
+use Rattle.lms_bytes.specs.declared.message.IdHash.{IdHash}
+use Rattle.lms_bytes.specs.declared.params.Params.{Params}
+use Rattle.ots_chain.specs.MessageHash.{HasTaken}
+use Rattle.ots_chain.specs.declared.message_hash.MessageHash.{MessageHash}
 use Rattle.stream_io.specs.Store.{RisesWhere}
 use Rattle.stream_io.specs.Talk.{OnlyRead, Talk, Took}
 use Rattle.round_frames.specs.Frames.{Says}
@@ -34,3 +39,10 @@ pub record OnlyTakes {V : Type 0} (was_steady is_steady : Bool) (old new : Talk)
   pub cause : RisesWhere (result ≡ Err ReadFault) old.count new.count
   pub answers : IsTrue was_steady → result ≢ Err ReadFault
   pub steady : is_steady ≡ was_steady
+
+-- internal: both hashes of a message in the making had taken some bytes of it, and have now taken these
+pub record Hashed (old_id : IdHash) (old_digest : MessageHash) (new_id : IdHash) (new_digest : MessageHash)
+    (before after : List ℕ) : Type 0 where
+  pub id : IdTaken old_id before → IdTaken new_id after
+  pub digest : (params : Params) (key : List ℕ) (q : ℕ) (c : List ℕ) → HasTaken old_digest params key q c before
+      → HasTaken new_digest params key q c after

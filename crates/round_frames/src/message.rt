@@ -1,10 +1,10 @@
 //! Messages that are hashed piece by piece.
 
 ghost use Rattle.std.specs.Prelude.{◌≡◌, ◌+◌, ◌<◌, ◌^◌, ◌++◌, ◌⊎◌, ℕ, List, [], length, take, IsTrue, IfErr, OnOk};
-ghost use Rattle.lms_bytes.specs.IdHash.{HasTaken as IdTaken, taken_length};
+ghost use Rattle.lms_bytes.specs.IdHash.{taken_length};
 ghost use Rattle.lms_bytes.specs.declared.params.Params.{Params};
 ghost use Rattle.ots_chain.specs.MessageHash.{HasTaken};
-ghost use Rattle.round_frames.specs.Reads.{OnlyTakes, Passed};
+ghost use Rattle.round_frames.specs.Reads.{Hashed, OnlyTakes, Passed};
 ghost use Rattle.round_frames.specs.declared.fault.FrameFault.TheVariants.{Cut, ReadFault};
 
 use crate::fault::FrameFault;
@@ -31,11 +31,8 @@ pub(crate) fn take_message<S: Source>(
     size: u32,
 ) -> Result<(), FrameFault>
     requires { taken_length hashes.old.id ≡ 0 }
-    ensures id { IsTrue (S.talk source.old).told → OnOk result (
-        IdTaken hashes.old.id [] → IdTaken hashes.new.id (take size (S.talk source.old).left)) }
-    ensures digest { IsTrue (S.talk source.old).told → OnOk result (
-        (params : Params) (key : List ℕ) (q : ℕ) (c : List ℕ) → HasTaken hashes.old.digest params key q c []
-        → HasTaken hashes.new.digest params key q c (take size (S.talk source.old).left)) }
+    ensures hashed { IsTrue (S.talk source.old).told → OnOk result (Hashed hashes.old.id hashes.old.digest
+        hashes.new.id hashes.new.digest [] (take size (S.talk source.old).left)) }
     ensures some { OnOk result ((params : Params) (key : List ℕ) (q : ℕ) (c : List ℕ)
         → HasTaken hashes.old.digest params key q c []
         → (xs : List ℕ) × HasTaken hashes.new.digest params key q c xs) }
@@ -62,11 +59,9 @@ fn take_piece<S: Source>(
 ) -> Result<(), FrameFault>
     requires { taken_length hashes.old.id + length room.old < 2 ^ 32 }
     ensures length { OnOk result (taken_length hashes.new.id ≡ taken_length hashes.old.id + length room.old) }
-    ensures id { IsTrue (S.talk source.old).told → OnOk result ((xs : List ℕ)
-        → IdTaken hashes.old.id xs → IdTaken hashes.new.id (xs ++ take (length room.old) (S.talk source.old).left)) }
-    ensures digest { IsTrue (S.talk source.old).told → OnOk result (
-        (params : Params) (key : List ℕ) (q : ℕ) (c xs : List ℕ) → HasTaken hashes.old.digest params key q c xs
-        → HasTaken hashes.new.digest params key q c (xs ++ take (length room.old) (S.talk source.old).left)) }
+    ensures hashed { IsTrue (S.talk source.old).told → OnOk result ((xs : List ℕ)
+        → Hashed hashes.old.id hashes.old.digest hashes.new.id hashes.new.digest xs
+        (xs ++ take (length room.old) (S.talk source.old).left)) }
     ensures some { OnOk result ((params : Params) (key : List ℕ) (q : ℕ) (c xs : List ℕ)
         → HasTaken hashes.old.digest params key q c xs
         → (ys : List ℕ) × HasTaken hashes.new.digest params key q c ys) }

@@ -10,6 +10,7 @@ ghost use Rattle.round_frames.specs.Frames.{frame, header_bytes};
 ghost use Rattle.round_frames.specs.Replies.{IsHead, head_parts, kind_of, payload_length, reply_front};
 ghost use Rattle.round_frames.specs.Requests.{request_frame};
 ghost use Rattle.round_frames.specs.Results.{failure_frame, signature_frame};
+ghost use Rattle.round_frames.specs.Writes.{Writes};
 
 use crate::outcome::Failure;
 use crate::reply::kept_length;
@@ -90,8 +91,7 @@ pub fn write_ask<K: Sink>(
         (λ _. WrotePart (K.talk sink.old) (K.talk sink.new) (ask_frame ask.now message.now)) }
     ensures only { OnlyWrote (K.talk sink.old) (K.talk sink.new) }
     ensures cause { HasCause (K.talk sink.old).count (K.talk sink.new).count result }
-    ensures succeeds { IsTrue (K.steady sink.old)
-        → length (ask_frame ask.now message.now) ≤ K.room sink.old → IsOk result }
+    ensures succeeds { IsTrue (K.steady sink.old) → length (ask_frame ask.now message.now) ≤ K.room sink.old → IsOk result }
     ensures room { K.room sink.old ≤ K.room sink.new + length (ask_frame ask.now message.now) }
     ensures length { length (ask_frame ask.now message.now) ≡ ask_length params.now ask.now message.now }
     ensures steady { K.steady sink.new ≡ K.steady sink.old }
@@ -142,19 +142,10 @@ fn write_second<K: Sink>(
 ) -> Result<(), Failed>
     requires c { length second.now.c ≡ params.now.n }
     requires limit { length message.now ≤ 16777216 }
-    ensures wrote { let bytes = second_front ask.now second.now message.now ++ message.now in
-        IsTrue (K.talk sink.old).told → MatchResult result
-        (λ _. (K.talk sink.new).written ≡ (K.talk sink.old).written ++ bytes)
-        (λ _. WrotePart (K.talk sink.old) (K.talk sink.new) bytes) }
-    ensures only { OnlyWrote (K.talk sink.old) (K.talk sink.new) }
-    ensures cause { HasCause (K.talk sink.old).count (K.talk sink.new).count result }
-    ensures succeeds { IsTrue (K.steady sink.old)
-        → length (second_front ask.now second.now message.now ++ message.now) ≤ K.room sink.old → IsOk result }
-    ensures room { K.room sink.old
-        ≤ K.room sink.new + length (second_front ask.now second.now message.now ++ message.now) }
+    ensures writes { Writes K.talk K.steady K.room sink.old sink.new
+        (second_front ask.now second.now message.now ++ message.now) result }
     ensures length { length (second_front ask.now second.now message.now ++ message.now)
         ≡ 60 + params.now.n + length message.now }
-    ensures steady { K.steady sink.new ≡ K.steady sink.old }
 {
     let mut room = [0; 92];
     put_second(&mut room, ask, second, message);

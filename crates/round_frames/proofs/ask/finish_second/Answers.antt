@@ -26,8 +26,8 @@ returns-clause-told g c told =
     (ap (λ ask. Ok ask) (ask-is params head (take size rest) key leaf rand c.copy_from_slice-2.new.self c.finish.result c.finish-2.result
     (c.copy_from_slice.ensures.after ∙ c.part.ensures.bytes) c.u32_at-leaf.ensures.number (c.of-c.ensures ∙ c.part-3.ensures.bytes)
     (c.copy_from_slice-2.ensures.after ∙ c.part-2.ensures.bytes)
-    (c.finish.ensures (take size rest) (t.id told c.new.ensures.taken))
-    (c.finish-2.ensures.digest params key leaf rand (take size rest) (t.digest told params key leaf rand c.new-2.ensures))))
+    (c.finish.ensures (take size rest) ((t.hashed told).id c.new.ensures.taken))
+    (c.finish-2.ensures.digest params key leaf rand (take size rest) ((t.hashed told).digest params key leaf rand c.new-2.ensures))))
 
 pub returns-clause-sizes : goal.returns-clause-sizes
 returns-clause-sizes g c =

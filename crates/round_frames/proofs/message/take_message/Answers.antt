@@ -41,18 +41,23 @@ pieces-preserved g c =
       quiet = r.takes.cause.same (λ is. absurd (cc)) ∙ v.quiet;
       steady = r.takes.steady ∙ v.steady;
       id = λ is start. subst (IdTaken c.take_piece.new.hashes.id) (piece at n _ _ (v.took is))
-          (subst (λ k. IdTaken c.take_piece.new.hashes.id (take at xs ++ take k left)) full (r.id (v.only.told ∙ is) (take at xs) (v.id is start)));
+          (subst (λ k. IdTaken c.take_piece.new.hashes.id (take at xs ++ take k left)) full ((r.hashed (v.only.told ∙ is) (take at xs)).id (v.id is start)));
       digest = λ is params key q rand start. subst (HasTaken c.take_piece.new.hashes.digest params key q rand) (piece at n _ _ (v.took is))
-          (subst (λ k. HasTaken c.take_piece.new.hashes.digest params key q rand (take at xs ++ take k left)) full (r.digest (v.only.told ∙ is) params key q rand (take at xs) (v.digest is params key q rand start)));
+          (subst (λ k. HasTaken c.take_piece.new.hashes.digest params key q rand (take at xs ++ take k left)) full ((r.hashed (v.only.told ∙ is) (take at xs)).digest params key q rand (v.digest is params key q rand start)));
       some = λ params key q rand start. let before = v.some params key q rand start in r.some params key q rand before.0 before.1;
       took = λ is. took-then at n _ _ _ (v.took is) (subst (Took (talk c.pieces.source) (talk c.take_piece.new.source)) full (r.passed (v.only.told ∙ is)));
     }
 
-pub returns-clause-digest : goal.returns-clause-digest
-returns-clause-digest g c told params key q r taken =
+pub returns-clause-hashed : goal.returns-clause-hashed
+returns-clause-hashed g c told =
     let v = c.pieces.invariant in
-    let whole : c.pieces.at ≡ c.args.size = (let a = c.pieces-test.false in let b = v.within in omega arith) in
-    subst (λ n. HasTaken c.pieces.hashes.digest params key q r (take n (g.S.Stream.talk c.args.source.now).left)) whole (v.digest told params key q r taken)
+    let xs = (g.S.Stream.talk c.args.source.now).left in
+    let whole : c.pieces.at ≡ c.args.size = (let a = c.pieces-test.false in let b = v.within in omega (arith, a, b)) in
+    record {
+      id = λ start. subst (λ n. IdTaken c.pieces.hashes.id (take n xs)) whole (v.id told start);
+      digest = λ params key q r taken.
+          subst (λ n. HasTaken c.pieces.hashes.digest params key q r (take n xs)) whole (v.digest told params key q r taken);
+    }
 
 pub returns-in_err-take_piece-clause-passed : goal.returns-in_err-take_piece-clause-passed
 returns-in_err-take_piece-clause-passed g c told =
