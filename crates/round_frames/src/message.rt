@@ -63,8 +63,7 @@ fn take_piece<S: Source>(
         → Hashed hashes.old.id hashes.old.digest hashes.new.id hashes.new.digest xs
         (xs ++ take (length room.old) (S.talk source.old).left)) }
     ensures some { OnOk result ((params : Params) (key : List ℕ) (q : ℕ) (c xs : List ℕ)
-        → HasTaken hashes.old.digest params key q c xs
-        → (ys : List ℕ) × HasTaken hashes.new.digest params key q c ys) }
+        → HasTaken hashes.old.digest params key q c xs → (ys : List ℕ) × HasTaken hashes.new.digest params key q c ys) }
     ensures passed { IsTrue (S.talk source.old).told
         → Passed (S.talk source.old) (S.talk source.new) result (length room.old) }
     ensures faults { IfErr result (λ fault. (fault ≡ Cut) ⊎ (fault ≡ ReadFault)) }

@@ -1,16 +1,16 @@
 //! Frames that are written.
 
-ghost use Rattle.std.specs.Prelude.{◌≡◌, ◌+◌, ◌≤◌, ◌++◌, ◌^◌, ◌<◌, ⊤, length, take, IsTrue, IsOk, MatchResult};
+ghost use Rattle.std.specs.Prelude.{◌≡◌, ◌+◌, ◌≤◌, ◌++◌, ◌^◌, ◌<◌, ⊤, length, take, IsTrue, IsOk};
 ghost use Rattle.std.specs.Prelude.{MatchOption};
 ghost use Rattle.disk_trait.specs.Faults.{HasCause};
 ghost use Rattle.lms_bytes.specs.MessageId.{message_id};
-ghost use Rattle.stream_io.specs.Talk.{OnlyWrote, WrotePart};
+ghost use Rattle.stream_io.specs.Talk.{OnlyWrote};
 ghost use Rattle.round_frames.specs.Asks.{ask_frame, ask_length, first_payload, second_front};
 ghost use Rattle.round_frames.specs.Frames.{frame, header_bytes};
 ghost use Rattle.round_frames.specs.Replies.{IsHead, head_parts, kind_of, payload_length, reply_front};
 ghost use Rattle.round_frames.specs.Requests.{request_frame};
 ghost use Rattle.round_frames.specs.Results.{failure_frame, signature_frame};
-ghost use Rattle.round_frames.specs.Writes.{Writes};
+ghost use Rattle.round_frames.specs.Writes.{Writes, Wrote};
 
 use crate::outcome::Failure;
 use crate::reply::kept_length;
@@ -34,9 +34,7 @@ const ROOM: usize = 4096;
 
 /// Writes a head, and then what follows it: by one call of the sink where both are short.
 fn write_both<K: Sink>(head: &[u8], rest: &[u8], sink: &mut K) -> Result<(), Failed>
-    ensures wrote { IsTrue (K.talk sink.old).told → MatchResult result
-        (λ _. (K.talk sink.new).written ≡ (K.talk sink.old).written ++ (head.now ++ rest.now))
-        (λ _. WrotePart (K.talk sink.old) (K.talk sink.new) (head.now ++ rest.now)) }
+    ensures wrote { Wrote (K.talk sink.old) (K.talk sink.new) (head.now ++ rest.now) result }
     ensures only { OnlyWrote (K.talk sink.old) (K.talk sink.new) }
     ensures cause { HasCause (K.talk sink.old).count (K.talk sink.new).count result }
     ensures succeeds { IsTrue (K.steady sink.old) → length head.now + length rest.now ≤ K.room sink.old → IsOk result }
@@ -63,9 +61,7 @@ fn join(head: &[u8], rest: &[u8]) -> [u8; ROOM]
 
 /// Writes a head, and then what follows it by a call of its own.
 fn write_apart<K: Sink>(head: &[u8], rest: &[u8], sink: &mut K) -> Result<(), Failed>
-    ensures wrote { IsTrue (K.talk sink.old).told → MatchResult result
-        (λ _. (K.talk sink.new).written ≡ (K.talk sink.old).written ++ (head.now ++ rest.now))
-        (λ _. WrotePart (K.talk sink.old) (K.talk sink.new) (head.now ++ rest.now)) }
+    ensures wrote { Wrote (K.talk sink.old) (K.talk sink.new) (head.now ++ rest.now) result }
     ensures only { OnlyWrote (K.talk sink.old) (K.talk sink.new) }
     ensures cause { HasCause (K.talk sink.old).count (K.talk sink.new).count result }
     ensures succeeds { IsTrue (K.steady sink.old) → length head.now + length rest.now ≤ K.room sink.old → IsOk result }
@@ -86,12 +82,11 @@ pub fn write_ask<K: Sink>(
     requires id { ask.now.message ≡ message_id message.now }
     requires c { MatchOption ask.now.second ⊤ (λ second. length second.c ≡ params.now.n) }
     requires limit { MatchOption ask.now.second ⊤ (λ second. length message.now ≤ 16777216) }
-    ensures wrote { IsTrue (K.talk sink.old).told → MatchResult result
-        (λ _. (K.talk sink.new).written ≡ (K.talk sink.old).written ++ ask_frame ask.now message.now)
-        (λ _. WrotePart (K.talk sink.old) (K.talk sink.new) (ask_frame ask.now message.now)) }
+    ensures wrote { Wrote (K.talk sink.old) (K.talk sink.new) (ask_frame ask.now message.now) result }
     ensures only { OnlyWrote (K.talk sink.old) (K.talk sink.new) }
     ensures cause { HasCause (K.talk sink.old).count (K.talk sink.new).count result }
-    ensures succeeds { IsTrue (K.steady sink.old) → length (ask_frame ask.now message.now) ≤ K.room sink.old → IsOk result }
+    ensures succeeds { IsTrue (K.steady sink.old)
+        → length (ask_frame ask.now message.now) ≤ K.room sink.old → IsOk result }
     ensures room { K.room sink.old ≤ K.room sink.new + length (ask_frame ask.now message.now) }
     ensures length { length (ask_frame ask.now message.now) ≡ ask_length params.now ask.now message.now }
     ensures steady { K.steady sink.new ≡ K.steady sink.old }
@@ -104,9 +99,7 @@ pub fn write_ask<K: Sink>(
 
 /// Writes an ask of round one.
 fn write_first<K: Sink>(ask: &Ask, sink: &mut K) -> Result<(), Failed>
-    ensures wrote { IsTrue (K.talk sink.old).told → MatchResult result
-        (λ _. (K.talk sink.new).written ≡ (K.talk sink.old).written ++ frame 1 (first_payload ask.now))
-        (λ _. WrotePart (K.talk sink.old) (K.talk sink.new) (frame 1 (first_payload ask.now))) }
+    ensures wrote { Wrote (K.talk sink.old) (K.talk sink.new) (frame 1 (first_payload ask.now)) result }
     ensures only { OnlyWrote (K.talk sink.old) (K.talk sink.new) }
     ensures cause { HasCause (K.talk sink.old).count (K.talk sink.new).count result }
     ensures succeeds { IsTrue (K.steady sink.old)
@@ -172,9 +165,7 @@ pub fn write_reply_head<K: Sink>(
     sink: &mut K,
 ) -> Result<(), Failed>
     requires { IsHead params.now head.now }
-    ensures wrote { IsTrue (K.talk sink.old).told → MatchResult result
-        (λ _. (K.talk sink.new).written ≡ (K.talk sink.old).written ++ reply_front params.now head.now)
-        (λ _. WrotePart (K.talk sink.old) (K.talk sink.new) (reply_front params.now head.now)) }
+    ensures wrote { Wrote (K.talk sink.old) (K.talk sink.new) (reply_front params.now head.now) result }
     ensures only { OnlyWrote (K.talk sink.old) (K.talk sink.new) }
     ensures cause { HasCause (K.talk sink.old).count (K.talk sink.new).count result }
     ensures succeeds { IsTrue (K.steady sink.old)
@@ -251,9 +242,7 @@ fn put_parts(out: &mut [u8], head: &ReplyHead)
 /// Writes a request.
 pub fn write_request<K: Sink>(members: Members, message: &[u8], sink: &mut K) -> Result<(), Failed>
     requires { length message.now ≤ 16777216 }
-    ensures wrote { IsTrue (K.talk sink.old).told → MatchResult result
-        (λ _. (K.talk sink.new).written ≡ (K.talk sink.old).written ++ request_frame members message.now)
-        (λ _. WrotePart (K.talk sink.old) (K.talk sink.new) (request_frame members message.now)) }
+    ensures wrote { Wrote (K.talk sink.old) (K.talk sink.new) (request_frame members message.now) result }
     ensures only { OnlyWrote (K.talk sink.old) (K.talk sink.new) }
     ensures cause { HasCause (K.talk sink.old).count (K.talk sink.new).count result }
     ensures succeeds { IsTrue (K.steady sink.old)
@@ -270,9 +259,7 @@ pub fn write_request<K: Sink>(members: Members, message: &[u8], sink: &mut K) ->
 /// Writes the bytes of a signature.
 pub fn write_signature<K: Sink>(bytes: &[u8], sink: &mut K) -> Result<(), Failed>
     requires { length bytes.now < 2 ^ 32 }
-    ensures wrote { IsTrue (K.talk sink.old).told → MatchResult result
-        (λ _. (K.talk sink.new).written ≡ (K.talk sink.old).written ++ signature_frame bytes.now)
-        (λ _. WrotePart (K.talk sink.old) (K.talk sink.new) (signature_frame bytes.now)) }
+    ensures wrote { Wrote (K.talk sink.old) (K.talk sink.new) (signature_frame bytes.now) result }
     ensures only { OnlyWrote (K.talk sink.old) (K.talk sink.new) }
     ensures cause { HasCause (K.talk sink.old).count (K.talk sink.new).count result }
     ensures succeeds { IsTrue (K.steady sink.old)
@@ -287,9 +274,7 @@ pub fn write_signature<K: Sink>(bytes: &[u8], sink: &mut K) -> Result<(), Failed
 
 /// Writes why there is no signature.
 pub fn write_failure<K: Sink>(failure: &Failure, sink: &mut K) -> Result<(), Failed>
-    ensures wrote { IsTrue (K.talk sink.old).told → MatchResult result
-        (λ _. (K.talk sink.new).written ≡ (K.talk sink.old).written ++ failure_frame failure.now)
-        (λ _. WrotePart (K.talk sink.old) (K.talk sink.new) (failure_frame failure.now)) }
+    ensures wrote { Wrote (K.talk sink.old) (K.talk sink.new) (failure_frame failure.now) result }
     ensures only { OnlyWrote (K.talk sink.old) (K.talk sink.new) }
     ensures cause { HasCause (K.talk sink.old).count (K.talk sink.new).count result }
     ensures succeeds { IsTrue (K.steady sink.old)
