@@ -67,6 +67,12 @@ pub record IsPart (first before after last : StoreState) : Type 0 where
   pub earlier : IsCalm first before
   pub later : StoreOnward after last
 
+-- In any run that a call is a part of, which took the store from one of these objects to the other: whatever the first
+-- and the last object of the run, this holds of it.
+abbrev pub InAnyRun : {S : Type 0} → (S → StoreState) → S → S → (StoreRun → Type 0) → Type 0
+InAnyRun {S} state before after holds = (first last : S)
+    → IsPart (state first) (state before) (state after) (state last) → holds (from_to (state first) (state last))
+
 -- what a command makes of a store: no count fell, and all that was handed out is back
 pub record IsBack (old new : StoreState) : Type 0 where
   pub onward : StoreOnward old new

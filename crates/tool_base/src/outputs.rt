@@ -6,7 +6,7 @@ ghost use Rattle.tool_base.specs.Ending as spec;
 ghost use Rattle.tool_base.specs.Endings.{ending};
 ghost use Rattle.tool_base.specs.OutputOf.{output_of};
 ghost use Rattle.tool_base.specs.Outputs.{AreDifferent, EndsWith, FirstNotNew, IsLeft, IsNew, IsNotNew, StopsAfter};
-ghost use Rattle.tool_base.specs.World.{IsBack, IsCalm, IsPart, from_to};
+ghost use Rattle.tool_base.specs.World.{InAnyRun, IsBack, IsCalm, from_to};
 
 use crate::ending::Ending;
 use std::alloc::{AllocError, Global};
@@ -35,12 +35,9 @@ fn exists(alloc: Global, name: &str) -> Ending
 
 /// Tests that a name is not in the store.
 pub fn test_new<S: Store>(alloc: Global, store: &mut S, name: &str) -> Result<(), Ending>
-    ensures new { (first last : S)
-        → IsPart (S.state first) (S.state store.old) (S.state store.new) (S.state last)
-        → OnOk result (IsNew (from_to (S.state first) (S.state last)) name.now) }
-    ensures refused { (first last : S)
-        → IsPart (S.state first) (S.state store.old) (S.state store.new) (S.state last)
-        → IfErr result (λ end. IsNotNew (from_to (S.state first) (S.state last)) name.now (ending end)) }
+    ensures new { InAnyRun S.state store.old store.new (λ run. OnOk result (IsNew run name.now)) }
+    ensures refused { InAnyRun S.state store.old store.new (λ run.
+        IfErr result (λ end. IsNotNew run name.now (ending end))) }
     ensures calm { IsCalm (S.state store.old) (S.state store.new) }
 {
     match store.has(name) {
@@ -57,14 +54,10 @@ pub fn test_all_new<S: Store>(
     store: &mut S,
     outputs: &[Output],
 ) -> Result<(), Ending>
-    ensures new { (first last : S)
-        → IsPart (S.state first) (S.state store.old) (S.state store.new) (S.state last)
-        → OnOk result (All (IsNew (from_to (S.state first) (S.state last)))
-        (map (λ output. string_bytes output.name) outputs.now)) }
-    ensures refused { (first last : S)
-        → IsPart (S.state first) (S.state store.old) (S.state store.new) (S.state last)
-        → IfErr result (λ end. FirstNotNew (from_to (S.state first) (S.state last))
-        (map (λ output. string_bytes output.name) outputs.now) (ending end)) }
+    ensures new { InAnyRun S.state store.old store.new (λ run.
+        OnOk result (All (IsNew run) (map (λ output. string_bytes output.name) outputs.now))) }
+    ensures refused { InAnyRun S.state store.old store.new (λ run.
+        IfErr result (λ end. FirstNotNew run (map (λ output. string_bytes output.name) outputs.now) (ending end))) }
     ensures calm { IsCalm (S.state store.old) (S.state store.new) }
 {
     'outputs: for output in outputs {

@@ -4,7 +4,7 @@ ghost use Rattle.std.specs.Prelude.{◌≡◌, ◌⊎◌, IfOk, IfErr};
 ghost use Rattle.tool_base.specs.Ending as spec;
 ghost use Rattle.tool_base.specs.Endings.{ending};
 ghost use Rattle.tool_base.specs.Reads.{FailsUpTo};
-ghost use Rattle.tool_base.specs.World.{Bytes, IsCalm, IsPart, IsReadUpTo, from_to};
+ghost use Rattle.tool_base.specs.World.{Bytes, InAnyRun, IsCalm, IsReadUpTo};
 
 use crate::ending::Ending;
 use std::alloc::{AllocError, Global};
@@ -27,13 +27,10 @@ pub fn read_file<S: Store>(
     name: &str,
     limit: u64,
 ) -> Result<Vec<u8>, Ending>
-    ensures bytes { (first last : S)
-        → IsPart (S.state first) (S.state store.old) (S.state store.new) (S.state last)
-        → IfOk result (λ bytes.
-        IsReadUpTo limit (from_to (S.state first) (S.state last)) name.now (Bytes bytes.items)) }
-    ensures refused { (first last : S)
-        → IsPart (S.state first) (S.state store.old) (S.state store.new) (S.state last)
-        → IfErr result (λ end. FailsUpTo limit (from_to (S.state first) (S.state last)) name.now (ending end)) }
+    ensures bytes { InAnyRun S.state store.old store.new (λ run.
+        IfOk result (λ bytes. IsReadUpTo limit run name.now (Bytes bytes.items))) }
+    ensures refused { InAnyRun S.state store.old store.new (λ run.
+        IfErr result (λ end. FailsUpTo limit run name.now (ending end))) }
     ensures calm { IsCalm (S.state store.old) (S.state store.new) }
 {
     match store.read_all(alloc, name, limit) {

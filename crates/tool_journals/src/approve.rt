@@ -7,7 +7,7 @@ ghost use Rattle.stream_io.specs.Store.{pages_state};
 ghost use Rattle.tool_base.specs.Endings.{ending};
 ghost use Rattle.tool_base.specs.Reads.{FailsToRead};
 ghost use Rattle.tool_base.specs.Touched.{EndsTouching};
-ghost use Rattle.tool_base.specs.World.{IsCalm, IsPart, from_to};
+ghost use Rattle.tool_base.specs.World.{InAnyRun, IsCalm, from_to};
 ghost use Rattle.tool_journals.specs.Adding.{AddEnds, DiskFails, disk_run};
 ghost use Rattle.tool_journals.specs.Approve.{ApproveEnds, IsBookDisk, IsMessageRead, IsNotOpened};
 
@@ -53,13 +53,10 @@ pub fn approve_message<S: Store>(
 
 /// Reads a message for its id.
 fn read_message<S: Store>(alloc: Global, store: &mut S, name: &str) -> Result<MessageId, Ending>
-    ensures id { (first last : S)
-        → IsPart (S.state first) (S.state store.old) (S.state store.new) (S.state last)
-        → IfOk result (λ id.
-        IsMessageRead (from_to (S.state first) (S.state last)) name.now (message_id_bytes id)) }
-    ensures refused { (first last : S)
-        → IsPart (S.state first) (S.state store.old) (S.state store.new) (S.state last)
-        → IfErr result (λ end. FailsToRead (from_to (S.state first) (S.state last)) name.now (ending end)) }
+    ensures id { InAnyRun S.state store.old store.new (λ run.
+        IfOk result (λ id. IsMessageRead run name.now (message_id_bytes id))) }
+    ensures refused { InAnyRun S.state store.old store.new (λ run.
+        IfErr result (λ end. FailsToRead run name.now (ending end))) }
     ensures calm { IsCalm (S.state store.old) (S.state store.new) }
 {
     let text = read_file(alloc, store, name, FILE_LIMIT)?;

@@ -4,7 +4,7 @@ ghost use Rattle.std.specs.Prelude.{◌≡◌, ◌^◌, None, Some, IfOk, OnOk, 
 ghost use Rattle.tool_base.specs.Endings.{ending};
 ghost use Rattle.tool_base.specs.Grammars.{FailsGrammar};
 ghost use Rattle.tool_base.specs.Touched.{EndsTouching};
-ghost use Rattle.tool_base.specs.World.{IsCalm, IsPart, from_to};
+ghost use Rattle.tool_base.specs.World.{InAnyRun, IsCalm, from_to};
 ghost use Rattle.tool_journals.specs.Enrol.{EnrolEnds, GoWith, IsEnrolled, enrol_fault};
 ghost use Rattle.tool_journals.specs.Enrol.{enrol_fault_number, table_header};
 
@@ -37,14 +37,10 @@ pub fn enrol_file<S: Store>(alloc: Global, store: &mut S, file: &str, journal: &
 
 /// Reads the file that the blank file is to go with.
 fn read_blank<S: Store>(alloc: Global, store: &mut S, file: &str) -> Result<Blank, Ending>
-    ensures blank { (first last : S)
-        → IsPart (S.state first) (S.state store.old) (S.state store.new) (S.state last)
-        → IfOk result (λ blank.
-        IsEnrolled (from_to (S.state first) (S.state last)) file.now blank.header blank.count) }
-    ensures refused { (first last : S)
-        → IsPart (S.state first) (S.state store.old) (S.state store.new) (S.state last)
-        → IfErr result (λ end.
-        FailsGrammar enrol_fault_number (from_to (S.state first) (S.state last)) file.now (ending end)) }
+    ensures blank { InAnyRun S.state store.old store.new (λ run.
+        IfOk result (λ blank. IsEnrolled run file.now blank.header blank.count)) }
+    ensures refused { InAnyRun S.state store.old store.new (λ run.
+        IfErr result (λ end. FailsGrammar enrol_fault_number run file.now (ending end))) }
     ensures calm { IsCalm (S.state store.old) (S.state store.new) }
 {
     let bytes = read_file(alloc, store, file, FILE_LIMIT)?;

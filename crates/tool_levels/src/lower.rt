@@ -5,7 +5,7 @@ ghost use Rattle.stream_io.specs.Net.{NetState};
 ghost use Rattle.stream_io.specs.Store.{StoreOnward};
 ghost use Rattle.tool_base.specs.Endings.{ending};
 ghost use Rattle.tool_base.specs.Outputs.{FirstNotNew, IsNew};
-ghost use Rattle.tool_base.specs.World.{IsCalm, IsPart, from_to};
+ghost use Rattle.tool_base.specs.World.{InAnyRun, IsCalm, from_to};
 ghost use Rattle.tool_levels.specs.HssSign.{HssSigningRun};
 ghost use Rattle.tool_levels.specs.Lower.{FailsLower, IsLower, IsReady, lower_of, output_names};
 ghost use Rattle.tool_sign.specs.Ports.{over_net};
@@ -50,14 +50,10 @@ pub(crate) fn accepted_lower<S: Store>(
 
 /// Tests that the names of both outputs are new.
 fn test_outputs<S: Store>(alloc: Global, words: &HssSignWords, store: &mut S) -> Result<(), Ending>
-    ensures new { (first last : S)
-        → IsPart (S.state first) (S.state store.old) (S.state store.new) (S.state last)
-        → OnOk result (All (IsNew (from_to (S.state first) (S.state last)))
-        (output_names (hss_sign_words words.now))) }
-    ensures refused { (first last : S)
-        → IsPart (S.state first) (S.state store.old) (S.state store.new) (S.state last)
-        → IfErr result (λ end. FirstNotNew (from_to (S.state first) (S.state last))
-        (output_names (hss_sign_words words.now)) (ending end)) }
+    ensures new { InAnyRun S.state store.old store.new (λ run.
+        OnOk result (All (IsNew run) (output_names (hss_sign_words words.now)))) }
+    ensures refused { InAnyRun S.state store.old store.new (λ run.
+        IfErr result (λ end. FirstNotNew run (output_names (hss_sign_words words.now)) (ending end))) }
     ensures calm { IsCalm (S.state store.old) (S.state store.new) }
 {
     test_new(alloc, store, words.key_out)?;
@@ -66,14 +62,10 @@ fn test_outputs<S: Store>(alloc: Global, words: &HssSignWords, store: &mut S) ->
 
 /// Reads the lower key, its signature and the message.
 fn read_lower<S: Store>(alloc: Global, words: &HssSignWords, store: &mut S) -> Result<Lower, Ending>
-    ensures lower { (first last : S)
-        → IsPart (S.state first) (S.state store.old) (S.state store.new) (S.state last)
-        → IfOk result (λ lower.
-        IsLower (hss_sign_words words.now) (from_to (S.state first) (S.state last)) (lower_of lower)) }
-    ensures refused { (first last : S)
-        → IsPart (S.state first) (S.state store.old) (S.state store.new) (S.state last)
-        → IfErr result (λ end.
-        FailsLower (hss_sign_words words.now) (from_to (S.state first) (S.state last)) (ending end)) }
+    ensures lower { InAnyRun S.state store.old store.new (λ run.
+        IfOk result (λ lower. IsLower (hss_sign_words words.now) run (lower_of lower))) }
+    ensures refused { InAnyRun S.state store.old store.new (λ run.
+        IfErr result (λ end. FailsLower (hss_sign_words words.now) run (ending end))) }
     ensures calm { IsCalm (S.state store.old) (S.state store.new) }
 {
     let key = read_key_file(alloc, store, words.low_key)?;

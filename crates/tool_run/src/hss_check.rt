@@ -5,7 +5,7 @@ ghost use Rattle.tool_base.specs.Ending as spec;
 ghost use Rattle.tool_base.specs.Endings.{ending};
 ghost use Rattle.tool_base.specs.Grammars.{FailsGrammar};
 ghost use Rattle.tool_run.specs.HssCheck.{HssCheckEnds, IsHssKeyRead, hss_key_file_fault};
-ghost use Rattle.tool_base.specs.World.{IsCalm, IsPart, from_to};
+ghost use Rattle.tool_base.specs.World.{InAnyRun, IsCalm, from_to};
 
 use hss_levels::{HssKey, HssVerdict, hss_verify, read_hss_key};
 use std::alloc::Global;
@@ -52,13 +52,9 @@ fn read_and_check<S: Store>(
 
 /// Reads an HSS key.
 fn read_hss_key_file<S: Store>(alloc: Global, store: &mut S, name: &str) -> Result<HssKey, Ending>
-    ensures key { (first last : S)
-        → IsPart (S.state first) (S.state store.old) (S.state store.new) (S.state last)
-        → IfOk result (IsHssKeyRead (from_to (S.state first) (S.state last)) name.now) }
-    ensures refused { (first last : S)
-        → IsPart (S.state first) (S.state store.old) (S.state store.new) (S.state last)
-        → IfErr result (λ end. FailsGrammar hss_key_file_fault (from_to (S.state first) (S.state last)) name.now
-        (ending end)) }
+    ensures key { InAnyRun S.state store.old store.new (λ run. IfOk result (IsHssKeyRead run name.now)) }
+    ensures refused { InAnyRun S.state store.old store.new (λ run.
+        IfErr result (λ end. FailsGrammar hss_key_file_fault run name.now (ending end))) }
     ensures calm { IsCalm (S.state store.old) (S.state store.new) }
 {
     let bytes = read_file(alloc, store, name, FILE_LIMIT)?;
