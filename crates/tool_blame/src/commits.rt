@@ -8,7 +8,7 @@ ghost use Rattle.stream_io.specs.Store.{StoreOnward, Viewed, pages_state};
 ghost use Rattle.tool_base.specs.Ending as spec;
 ghost use Rattle.tool_base.specs.Endings.{ending};
 ghost use Rattle.tool_base.specs.Touched.{Keeps};
-ghost use Rattle.tool_base.specs.World.{IsPart, from_to};
+ghost use Rattle.tool_base.specs.World.{InAnyRun};
 ghost use Rattle.tool_blame.specs.Commits.{AreCommitsViewed, FailsCommits, commits_name, end_of_commits};
 
 use share_blame::{Commits, CommitsFault};
@@ -26,9 +26,8 @@ pub fn view_commits<S: Store>(
     prefix: &str,
     header: &RefHeader,
 ) -> Result<Commits<S::View>, Ending>
-    ensures commits { (first last : S)
-        → IsPart (S.state first) (S.state store.old) (S.state store.new) (S.state last)
-        → OnOk result (AreCommitsViewed (from_to (S.state first) (S.state last)) (commits_name prefix.now) header.now) }
+    ensures commits { InAnyRun S.state store.old store.new (λ run.
+        OnOk result (AreCommitsViewed run (commits_name prefix.now) header.now)) }
     ensures whole { IfOk result (λ commits. IsTrue (S.View.told (pages_of commits))
         → length (drop 32 (S.View.reads (pages_of commits))) ≡ all_commits_length header.now.params header.now.plan) }
     ensures fits { IfOk result (AreOf header.now.params header.now.plan) }
@@ -37,10 +36,8 @@ pub fn view_commits<S: Store>(
         (pages_of commits)) (S.state store.new)) }
     ensures faultless { IfOk result (λ commits. IsTrue (S.View.told (pages_of commits))
         → commits_fault header.now (S.View.reads (pages_of commits)) ≡ None) }
-    ensures refused { (first last : S)
-        → IsPart (S.state first) (S.state store.old) (S.state store.new) (S.state last)
-        → IfErr result (λ end. FailsCommits (from_to (S.state first) (S.state last)) (commits_name prefix.now)
-        header.now (ending end)) }
+    ensures refused { InAnyRun S.state store.old store.new (λ run.
+        IfErr result (λ end. FailsCommits run (commits_name prefix.now) header.now (ending end))) }
     ensures keeps { OnErr result (Keeps [] (S.state store.old) (S.state store.new)) }
     ensures onward { StoreOnward (S.state store.old) (S.state store.new) }
 {

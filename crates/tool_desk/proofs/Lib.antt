@@ -4,3 +4,4 @@ pub mod Keys
 pub mod Placing
 pub mod Viewing
 pub mod Outs
+pub mod Taking

@@ -1,18 +1,40 @@
--- Views of the reference of a dealing: several of one name, while they are out and once they are back.
-use Rattle.std.specs.Prelude.{◌≡◌, ◌≢◌, ◌↔◌, ◌+◌, ◌-◌, ◌^◌, ◌≤◌, ◌++◌, min, ℕ, List, All, length, Some}
-use Rattle.std.specs.Prelude.{IsTrue}
+-- Views of the files of a dealing: how they are taken, several of one name too, while they are out and once they are
+-- back.
+use Rattle.std.specs.Prelude.{◌≡◌, ◌≢◌, ◌↔◌, ◌+◌, ◌-◌, ◌^◌, ◌≤◌, ◌++◌, min, ℕ, List, [], All, length, Some}
+use Rattle.std.specs.Prelude.{Result, IfErr, IfOk, IsTrue, OnErr}
 use Rattle.std.specs.List.{sum_by}
+use Rattle.coalition_map.specs.Coalitions.{PlanNumbers}
+use Rattle.disk_trait.specs.declared.disk.Pages as pages
+use Rattle.disk_trait.specs.declared.faults.Faults as faults
+use Rattle.lms_bytes.specs.declared.params.Params.{Params}
 use Rattle.reference_value.specs.Paged.{pages_of}
 use Rattle.reference_value.specs.declared.paged.Paged.{Paged}
 use Rattle.share_files.specs.declared.reference.RefHeader.{RefHeader}
-use Rattle.stream_io.specs.Store.{HandsOut, PagesState, SameNames, StoreOnward, StoreState}
+use Rattle.stream_io.specs.Store.{HandsOut, PagesState, SameNames, StoreOnward, StoreState, pages_state}
 use Rattle.tool_base.specs.Ending as ending
 use Rattle.tool_base.specs.Ending.{Ending}
-use Rattle.tool_base.specs.World.{StoreRun}
+use Rattle.tool_base.specs.Endings as endings
+use Rattle.tool_base.specs.Touched.{Keeps}
+use Rattle.tool_base.specs.World.{InAnyRun, StoreRun, from_to}
+use Rattle.tool_base.specs.declared.ending.Ending as declared
 use Rattle.tool_desk.specs.Files.{IsOfOtherKey, reference_name}
 use Rattle.tool_desk.specs.Reference.{FailsReference, IsReferenceOf, IsReferenceViewed}
 use Rattle.tool_desk.specs.declared.files.KeyFiles.{KeyFiles}
 use Rattle.tool_base.specs.Loads.{ReadsAs}
+
+-- a view in one state, by the words of its traits
+abbrev pub view_state : {V : Type 0} → pages.Ghosts V → faults.Ghosts V → V → PagesState
+view_state p f = pages_state p.told p.honest f.steady f.count p.room p.reads p.may_leave
+
+-- What a call that takes views of a file comes to. Where it hands something out, this was found in any run that the call
+-- is a part of; where it refuses, its end is such a failure there, all views that it took are back, and every name
+-- stands for what it stood for. No count falls.
+pub record TakesViews {S T : Type 0} (state : S → StoreState) (old new : S) (result : Result T declared.Ending)
+    (Found : StoreRun → T → Type 0) (Fails : StoreRun → Ending → Type 0) : Type 0 where
+  pub found : InAnyRun state old new (λ run. IfOk result (Found run))
+  pub refused : InAnyRun state old new (λ run. IfErr result (λ end. Fails run (endings.ending end)))
+  pub keeps : OnErr result (Keeps [] (state old) (state new))
+  pub onward : StoreOnward (state old) (state new)
 
 -- a view of this name that a store handed out
 pub record IsViewOf (store : StoreState) (name : List ℕ) (view : PagesState) : Type 0 where
@@ -32,6 +54,15 @@ pub record CellsOut {V : Type 0} (store : StoreState) (name : List ℕ) (pages :
     (new : StoreState) : Type 0 where
   pub are : All (λ one. IsViewOf store name (pages (pages_of one))) cells
   pub out : ViewsOut store (length cells) new
+
+-- the cells have this parameter set and this plan
+abbrev pub AreOfSet : {V : Type 0} → Params → PlanNumbers → List (Paged V) → Type 0
+AreOfSet params plan cells = All (λ own. (own.layout.params ≡ params) × (own.layout.plan ≡ plan)) cells
+
+-- internal: in any run that a call is a part of before which nothing changed but that views went out
+abbrev pub WithViewsOut : {S : Type 0} → (S → StoreState) → S → S → (StoreRun → Type 0) → Type 0
+WithViewsOut {S} state before after holds = (first last : S) (out : ℕ) → ViewsOut (state first) out (state before)
+    → StoreOnward (state after) (state last) → holds (from_to (state first) (state last))
 
 -- internal: cells were put behind others
 pub record AddsCells {V : Type 0} (store : StoreState) (name : List ℕ) (pages : V → PagesState)

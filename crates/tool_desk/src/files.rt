@@ -3,7 +3,7 @@
 ghost use Rattle.std.specs.Prelude.{◌≡◌, ◌⊎◌, ◌↔◌, ◌++◌, string_bytes, IfOk, IfErr, OnOk, IsTrue};
 ghost use Rattle.tool_base.specs.Ending as spec;
 ghost use Rattle.tool_base.specs.Endings.{ending};
-ghost use Rattle.tool_base.specs.World.{IsCalm, IsPart, from_to};
+ghost use Rattle.tool_base.specs.World.{InAnyRun, IsCalm};
 ghost use Rattle.tool_desk.specs.Files.{AreKeyFiles, AreOfOneKey, FailsKeyFiles, HaveSizesOf, IsOfKey, IsOfOtherKey};
 
 use crate::reading::{read_key_file, read_tree_file};
@@ -29,12 +29,9 @@ pub fn read_key_and_tree<S: Store>(
     store: &mut S,
     prefix: &str,
 ) -> Result<KeyFiles, Ending>
-    ensures files { (first last : S)
-        → IsPart (S.state first) (S.state store.old) (S.state store.new) (S.state last)
-        → IfOk result (AreKeyFiles (from_to (S.state first) (S.state last)) prefix.now) }
-    ensures refused { (first last : S)
-        → IsPart (S.state first) (S.state store.old) (S.state store.new) (S.state last)
-        → IfErr result (λ end. FailsKeyFiles (from_to (S.state first) (S.state last)) prefix.now (ending end)) }
+    ensures files { InAnyRun S.state store.old store.new (λ run. IfOk result (AreKeyFiles run prefix.now)) }
+    ensures refused { InAnyRun S.state store.old store.new (λ run.
+        IfErr result (λ end. FailsKeyFiles run prefix.now (ending end))) }
     ensures calm { IsCalm (S.state store.old) (S.state store.new) }
 {
     let name = file_name(alloc, prefix, ".pub")?;

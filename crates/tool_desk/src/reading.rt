@@ -2,7 +2,7 @@
 
 ghost use Rattle.std.specs.Prelude.{IfOk, IfErr};
 ghost use Rattle.tool_base.specs.Endings.{ending};
-ghost use Rattle.tool_base.specs.World.{IsCalm, IsPart, from_to};
+ghost use Rattle.tool_base.specs.World.{InAnyRun, IsCalm};
 ghost use Rattle.tool_desk.specs.Key.{FailsKey, IsKeyRead};
 ghost use Rattle.tool_desk.specs.Tree.{FailsTree, IsTreeRead};
 
@@ -21,12 +21,9 @@ pub fn read_key_file<S: Store>(
     store: &mut S,
     name: &str,
 ) -> Result<PublicKey, Ending>
-    ensures key { (first last : S)
-        → IsPart (S.state first) (S.state store.old) (S.state store.new) (S.state last)
-        → IfOk result (IsKeyRead (from_to (S.state first) (S.state last)) name.now) }
-    ensures refused { (first last : S)
-        → IsPart (S.state first) (S.state store.old) (S.state store.new) (S.state last)
-        → IfErr result (λ end. FailsKey (from_to (S.state first) (S.state last)) name.now (ending end)) }
+    ensures key { InAnyRun S.state store.old store.new (λ run. IfOk result (IsKeyRead run name.now)) }
+    ensures refused { InAnyRun S.state store.old store.new (λ run.
+        IfErr result (λ end. FailsKey run name.now (ending end))) }
     ensures calm { IsCalm (S.state store.old) (S.state store.new) }
 {
     let bytes = read_file(alloc, store, name, FILE_LIMIT)?;
@@ -42,12 +39,9 @@ pub fn read_tree_file<S: Store>(
     store: &mut S,
     name: &str,
 ) -> Result<DealtTree, Ending>
-    ensures tree { (first last : S)
-        → IsPart (S.state first) (S.state store.old) (S.state store.new) (S.state last)
-        → IfOk result (IsTreeRead (from_to (S.state first) (S.state last)) name.now) }
-    ensures refused { (first last : S)
-        → IsPart (S.state first) (S.state store.old) (S.state store.new) (S.state last)
-        → IfErr result (λ end. FailsTree (from_to (S.state first) (S.state last)) name.now (ending end)) }
+    ensures tree { InAnyRun S.state store.old store.new (λ run. IfOk result (IsTreeRead run name.now)) }
+    ensures refused { InAnyRun S.state store.old store.new (λ run.
+        IfErr result (λ end. FailsTree run name.now (ending end))) }
     ensures calm { IsCalm (S.state store.old) (S.state store.new) }
 {
     let bytes = read_file(alloc, store, name, FILE_LIMIT)?;

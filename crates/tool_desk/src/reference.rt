@@ -1,16 +1,15 @@
 //! The reference of a dealing, which is read through a view.
 
-ghost use Rattle.std.specs.Prelude.{◌≡◌, ◌≢◌, ◌⊎◌, [], Err, IfOk, IfErr, OnErr, IsTrue};
+ghost use Rattle.std.specs.Prelude.{◌≡◌, ◌≢◌, ◌⊎◌, Err, IfOk, IsTrue};
 ghost use Rattle.share_files.specs.Sets.{CanBeDealt};
 ghost use Rattle.share_files.specs.declared.faults.FileFault.{FileFault};
-ghost use Rattle.stream_io.specs.Store.{RisesWhere, StoreOnward, Viewed, pages_state};
+ghost use Rattle.stream_io.specs.Store.{RisesWhere, Viewed};
 ghost use Rattle.tool_base.specs.Ending as spec;
 ghost use Rattle.tool_base.specs.Endings.{ending};
-ghost use Rattle.tool_base.specs.Touched.{Keeps};
-ghost use Rattle.tool_base.specs.World.{IsPart, from_to};
 ghost use Rattle.tool_desk.specs.Files.{reference_name};
 ghost use Rattle.tool_desk.specs.Heads.{end_of_head};
 ghost use Rattle.tool_desk.specs.Reference.{FailsReference, IsNoReference, IsReferenceOf, IsReferenceViewed};
+ghost use Rattle.tool_desk.specs.Views.{TakesViews, view_state};
 ghost use Rattle.tool_desk.specs.declared.reference.HeadFault.{HeadFault};
 
 use crate::files::file_name;
@@ -26,20 +25,12 @@ pub fn view_reference<S: Store>(
     store: &mut S,
     prefix: &str,
 ) -> Result<(S::View, RefHeader), Ending>
-    ensures reference { (first last : S)
-        → IsPart (S.state first) (S.state store.old) (S.state store.new) (S.state last)
-        → IfOk result (λ got.
-        IsReferenceViewed (from_to (S.state first) (S.state last)) (reference_name prefix.now) got.1) }
+    ensures taken { TakesViews S.state store.old store.new result
+        (λ run got. IsReferenceViewed run (reference_name prefix.now) got.1)
+        (λ run. FailsReference run (reference_name prefix.now)) }
     ensures viewed { IfOk result (λ got. Viewed (S.state store.old) (reference_name prefix.now)
-        (pages_state S.View.told S.View.honest S.View.steady S.View.count S.View.room S.View.reads S.View.may_leave
-        got.0) (S.state store.new)) }
+        (view_state S.View.Pages.own S.View.Faults got.0) (S.state store.new)) }
     ensures reads { IfOk result (λ got. IsTrue (S.View.told got.0) → IsReferenceOf got.1 (S.View.reads got.0)) }
-    ensures refused { (first last : S)
-        → IsPart (S.state first) (S.state store.old) (S.state store.new) (S.state last)
-        → IfErr result (λ end.
-        FailsReference (from_to (S.state first) (S.state last)) (reference_name prefix.now) (ending end)) }
-    ensures keeps { OnErr result (Keeps [] (S.state store.old) (S.state store.new)) }
-    ensures onward { StoreOnward (S.state store.old) (S.state store.new) }
 {
     let name = file_name(alloc, prefix, ".ref")?;
     let mut view = match store.view(alloc, name.as_str()) {

@@ -1,19 +1,16 @@
 //! Views of the reference of a dealing.
 
-ghost use Rattle.std.specs.Prelude.{◌≡◌, ◌≤◌, ◌+◌, ℕ, [], map, vec_capacity, vec_len, All, IfOk, IfErr, OnErr, OnOk};
-ghost use Rattle.std.specs.Prelude.{IsTrue};
+ghost use Rattle.std.specs.Prelude.{◌≡◌, ◌≤◌, ◌+◌, map, vec_capacity, vec_len, IfOk, IfErr, OnOk, IsTrue};
 ghost use Rattle.reference_value.specs.Paged.{pages_of};
-ghost use Rattle.stream_io.specs.Store.{StoreOnward, pages_state};
 ghost use Rattle.tool_base.specs.Endings.{ending};
-ghost use Rattle.tool_base.specs.Touched.{Keeps};
-ghost use Rattle.tool_base.specs.World.{IsPart, from_to};
+ghost use Rattle.tool_base.specs.Loads.{ReadsAs};
 ghost use Rattle.tool_desk.specs.Files.{AreOfOneKey, HaveSizesOf, reference_name};
 ghost use Rattle.tool_desk.specs.Reference.{IsReferenceOf, IsReferenceViewed};
-ghost use Rattle.tool_base.specs.Loads.{ReadsAs};
-ghost use Rattle.tool_desk.specs.Views.{AddsCells, CellsOut, FailsReferences, ViewsBack, ViewsOut};
+ghost use Rattle.tool_desk.specs.Views.{AddsCells, AreOfSet, CellsOut, FailsReferences, TakesViews, ViewsBack};
+ghost use Rattle.tool_desk.specs.Views.{WithViewsOut, view_state};
 
 use crate::{KeyFiles, other_key, test_same_key, view_reference};
-use reference_value::{Cells, Paged};
+use reference_value::Paged;
 use share_files::RefHeader;
 use std::alloc::Global;
 use stream_io::Store;
@@ -29,24 +26,15 @@ pub fn view_cells<S: Store>(
     count: u32,
 ) -> Result<(Vec<Paged<S::View>>, RefHeader), Ending>
     requires some { 1 ≤ count }
-    ensures reference { (first last : S)
-        → IsPart (S.state first) (S.state store.old) (S.state store.new) (S.state last)
-        → IfOk result (λ got.
-        IsReferenceViewed (from_to (S.state first) (S.state last)) (reference_name prefix.now) got.1) }
+    ensures taken { TakesViews S.state store.old store.new result
+        (λ run got. IsReferenceViewed run (reference_name prefix.now) got.1)
+        (λ run. FailsReferences run prefix.now files.now) }
     ensures key { IfOk result (λ got. AreOfOneKey files.now got.1 × HaveSizesOf files.now got.1) }
     ensures cells { IfOk result (λ got. CellsOut (S.state store.old) (reference_name prefix.now)
-        (pages_state S.View.told S.View.honest S.View.steady S.View.count S.View.room S.View.reads S.View.may_leave)
-        got.0.items (S.state store.new)) }
-    ensures fit { IfOk result (λ got. All (λ own. (⟦<Paged<S::View> as Cells>⟧.set own ≡ files.now.key.params)
-        × (⟦<Paged<S::View> as Cells>⟧.plan own ≡ got.1.plan)) got.0.items) }
+        (view_state S.View.Pages.own S.View.Faults) got.0.items (S.state store.new)) }
+    ensures fit { IfOk result (λ got. AreOfSet files.now.key.params got.1.plan got.0.items) }
     ensures counts { IfOk result (λ got. (vec_len got.0 ≡ count)
         × ((S.state store.new).disk_count ≡ (S.state store.old).disk_count)) }
-    ensures refused { (first last : S)
-        → IsPart (S.state first) (S.state store.old) (S.state store.new) (S.state last)
-        → IfErr result (λ end.
-        FailsReferences (from_to (S.state first) (S.state last)) prefix.now files.now (ending end)) }
-    ensures keeps { OnErr result (Keeps [] (S.state store.old) (S.state store.new)) }
-    ensures onward { StoreOnward (S.state store.old) (S.state store.new) }
 {
     let Ok(mut cells) = Vec::with_capacity(alloc, count as usize) else {
         return Err(Ending::NoMemory);
@@ -85,20 +73,15 @@ fn view_others<S: Store>(
 ) -> Result<(), Ending>
     requires room { vec_len cells.old + count ≤ vec_capacity cells.old }
     requires sizes { HaveSizesOf files.now header.now }
-    requires fit { All (λ own. (⟦<Paged<S::View> as Cells>⟧.set own ≡ files.now.key.params)
-        × (⟦<Paged<S::View> as Cells>⟧.plan own ≡ header.now.plan)) cells.old.items }
+    requires fit { AreOfSet files.now.key.params header.now.plan cells.old.items }
     ensures adds { AddsCells (S.state store.old) (reference_name prefix.now)
-        (pages_state S.View.told S.View.honest S.View.steady S.View.count S.View.room S.View.reads S.View.may_leave)
-        cells.old.items cells.new.items (S.state store.new) }
-    ensures fit { All (λ own. (⟦<Paged<S::View> as Cells>⟧.set own ≡ files.now.key.params)
-        × (⟦<Paged<S::View> as Cells>⟧.plan own ≡ header.now.plan)) cells.new.items }
+        (view_state S.View.Pages.own S.View.Faults) cells.old.items cells.new.items (S.state store.new) }
+    ensures fit { AreOfSet files.now.key.params header.now.plan cells.new.items }
     ensures counts { OnOk result ((vec_len cells.new ≡ vec_len cells.old + count)
         × ((S.state store.new).disk_count ≡ (S.state store.old).disk_count)) }
-    ensures refused { (first last : S) (out : ℕ) → ViewsOut (S.state first) out (S.state store.old)
-        → StoreOnward (S.state store.new) (S.state last)
-        → ReadsAs (from_to (S.state first) (S.state last)) (reference_name prefix.now) (IsReferenceOf header.now)
-        → IfErr result (λ end.
-        FailsReferences (from_to (S.state first) (S.state last)) prefix.now files.now (ending end)) }
+    ensures refused { WithViewsOut S.state store.old store.new (λ run.
+        ReadsAs run (reference_name prefix.now) (IsReferenceOf header.now)
+        → IfErr result (λ end. FailsReferences run prefix.now files.now (ending end))) }
 {
     for _ in 0..count {
         let (view, other) = view_reference(alloc, store, prefix)?;

@@ -20,7 +20,7 @@ pub returns-in_err-view-clause-adds : goal.returns-in_err-view-clause-adds
 returns-in_err-view-clause-adds g c =
     let view = g.S.View in
     let pages = pages_state view.Pages.told view.Pages.honest view.Faults.steady view.Faults.count view.Pages.room view.Pages.reads view.Pages.may_leave in
-    adds_kept pages _ _ _ _ _ c.loop.invariant.adds _ c.in_err-view.ensures.keeps
+    adds_kept pages _ _ _ _ _ c.loop.invariant.adds _ c.in_err-view.ensures.taken.keeps
 
 pub returns-in_err-view-clause-refused : goal.returns-in_err-view-clause-refused
 returns-in_err-view-clause-refused g c =
@@ -29,14 +29,14 @@ returns-in_err-view-clause-refused g c =
     λ first last out goes later reads.
     rw (p.1, p.2)
     (not_viewed _ (fails_out _ _ _ _ _ (out_on _ _ _ _ _ goes adds.cells.out) later _ _
-    (c.in_err-view.ensures.refused c.loop.store c.view_reference.new.store (part_of _ _ _ _ (calm_none _) (onward_none _)))))
+    (c.in_err-view.ensures.taken.refused c.loop.store c.view_reference.new.store (part_of _ _ _ _ (calm_none _) (onward_none _)))))
 
 pub returns-then-not-is_same-clause-adds : goal.returns-then-not-is_same-clause-adds
 returns-then-not-is_same-clause-adds g c =
     let view = g.S.View in
     let pages = pages_state view.Pages.told view.Pages.honest view.Faults.steady view.Faults.count view.Pages.room view.Pages.reads view.Pages.may_leave in
     let viewed = c.in_ok-view.ensures in
-    adds_ended pages _ _ _ _ _ c.loop.invariant.adds _ _ _ _ viewed.viewed viewed.onward c.end_view.ensures.ended c.end_view.ensures.onward
+    adds_ended pages _ _ _ _ _ c.loop.invariant.adds _ _ _ _ viewed.viewed viewed.taken.onward c.end_view.ensures.ended c.end_view.ensures.onward
 
 pub returns-then-not-is_same-clause-refused : goal.returns-then-not-is_same-clause-refused
 returns-then-not-is_same-clause-refused g c =
@@ -58,7 +58,7 @@ loop-preserved g c =
     let viewed = c.in_ok-view.ensures in
     let v = c.loop.invariant in
     record {
-      adds = rw c.push_reserved.ensures.items (adds_more pages _ _ _ _ _ v.adds _ c.new.result c.in_ok-view.view c.new.ensures.pages viewed.viewed viewed.onward);
+      adds = rw c.push_reserved.ensures.items (adds_more pages _ _ _ _ _ v.adds _ c.new.result c.in_ok-view.view c.new.ensures.pages viewed.viewed viewed.taken.onward);
       many = (let n = v.many in let p = c.push_reserved.ensures.len in omega (arith, n, p));
       sound = viewed.viewed.disk_count ∙ v.sound;
       fit = rw c.push_reserved.ensures.items (All-push (λ own. (own.layout.params ≡ c.args.files.now.key.params) × (own.layout.plan ≡ c.args.header.now.plan)) c.loop.cells.items c.new.result v.fit
