@@ -26,8 +26,8 @@ use Rattle.tool_base.specs.Loads.{ReadsAs}
 abbrev pub view_state : {V : Type 0} → pages.Ghosts V → faults.Ghosts V → V → PagesState
 view_state p f = pages_state p.told p.honest f.steady f.count p.room p.reads p.may_leave
 
--- What a call that takes views of a file comes to. Where it hands something out, this was found in any run that the call
--- is a part of; where it refuses, its end is such a failure there, all views that it took are back, and every name
+-- What a call that takes views of a file comes to. Where it hands something out, this was found in any run that the
+-- call is a part of; where it refuses, its end is such a failure there, all views that it took are back, and every name
 -- stands for what it stood for. No count falls.
 pub record TakesViews {S T : Type 0} (state : S → StoreState) (old new : S) (result : Result T declared.Ending)
     (Found : StoreRun → T → Type 0) (Fails : StoreRun → Ending → Type 0) : Type 0 where

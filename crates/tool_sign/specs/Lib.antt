@@ -9,5 +9,6 @@ pub mod Writes
 pub mod Sources
 pub mod Sessions
 pub mod Sign
+pub mod Causes
 pub mod Dealt
 pub mod Lost

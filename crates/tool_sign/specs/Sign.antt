@@ -38,7 +38,3 @@ pub record SigningRun (words : SignWords) (store : StoreRun) (net : NetRun) (end
   pub ends : SignEnds words store net end touched
   pub keeps : Keeps touched store.before store.after
   pub ports : IsNetBack net.before net.after
-
--- the command comes to this end over this run of the store only where this holds of its words and of its run of the net
-abbrev pub OnlyWhere : StoreRun → Ending → (SignWords → NetRun → Type 0) → Type 0
-OnlyWhere store end holds = (words : SignWords) (net : NetRun) → SigningRun words store net end → holds words net

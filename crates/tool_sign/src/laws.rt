@@ -13,33 +13,28 @@ ghost use Rattle.reference_value.specs.Dealing.{Dealing, leaf_randomizer};
 ghost use Rattle.session_core.specs.State.{State};
 ghost use Rattle.stream_io.specs.Net.{PortState};
 ghost use Rattle.tool_base.specs.Ending as ending;
-ghost use Rattle.tool_base.specs.Touched.{DeviceRose};
 ghost use Rattle.tool_base.specs.World.{from_to};
 ghost use Rattle.tool_base.specs.declared.unsigned.Unsigned.TheVariants.{Missing};
+ghost use Rattle.tool_sign.specs.Causes.{FailuresAreCounted, OnlyWhere};
 ghost use Rattle.tool_sign.specs.Dealt.{IsDealt};
 ghost use Rattle.tool_sign.specs.Ports.{NetRun, SignedOver, Signing};
 ghost use Rattle.tool_sign.specs.Lost.{LostByCall, MissesReply};
-ghost use Rattle.tool_sign.specs.Sign.{OnlyWhere};
+ghost use Rattle.tool_sign.specs.Sign.{SigningRun};
 
 use stream_io::Store;
 
 /// The causes of four ends of `sign`: the store fails only where its count of faults rose, a device only where that of
-/// its disks and views rose, and the net only where its count of failed ports rose. A member is lost only where the
-/// net's count of faults rose, or since its link ended before a reply, what it sent is no frame of a reply, or no
-/// address names it (`lost`): of a session, that it could not be dialled, written to or read is the cause only where
-/// that count rose (`links`). Over a steady net whose links have room for the asks of the longest message, a member is
-/// lost only since nobody could be dialled, since its link ended or what it sent is no frame of a reply, or since no
-/// address names it, and never by a write or a read that failed (`peer` of `MissesReply`).
+/// its disks and views rose, and the net only where its count of failed ports rose (`failed`). A member is lost only
+/// where the net's count of faults rose, or since its link ended before a reply, what it sent is no frame of a reply,
+/// or no address names it (`lost`): of a session, that it could not be dialled, written to or read is the cause only
+/// where that count rose (`links`). Over a steady net whose links have room for the asks of the longest message, a
+/// member is lost only since nobody could be dialled, since its link ended or what it sent is no frame of a reply, or
+/// since no address names it, and never by a write or a read that failed (`peer` of `MissesReply`).
 pub fn causes<S: Store>(before: &S, after: &S)
-    ensures store { OnlyWhere (from_to (S.state before.now) (S.state after.now)) ending.StoreFailed
-        (λ _ _. Rose (S.state before.now).count (S.state after.now).count) }
-    ensures device { OnlyWhere (from_to (S.state before.now) (S.state after.now)) ending.DeviceFailed
-        (λ _ _. DeviceRose (from_to (S.state before.now) (S.state after.now))) }
-    ensures net { OnlyWhere (from_to (S.state before.now) (S.state after.now)) ending.NetFailed
-        (λ _ net. Rose net.before.port_count net.after.port_count) }
-    ensures lost { (member round : ℕ)
-        → OnlyWhere (from_to (S.state before.now) (S.state after.now)) (ending.NotSigned (Missing member round))
-        (λ words net. MissesReply words (from_to (S.state before.now) (S.state after.now)) net member round) }
+    ensures failed { FailuresAreCounted SigningRun (from_to (S.state before.now) (S.state after.now)) }
+    ensures lost { (member round : ℕ) → let run = from_to (S.state before.now) (S.state after.now) in
+        OnlyWhere SigningRun run (ending.NotSigned (Missing member round))
+        (λ words net. MissesReply words run net member round) }
     ensures links { (signing : Signing) (old new : TableSeen) (net : NetRun) (outcome : Result Signature SignFault)
         → SignedOver signing old new net outcome → LostByCall outcome → Rose net.before.count net.after.count }
 {}

@@ -2,14 +2,12 @@ use Rattle.tool_sign.proofs.Causes.{device-rose, links-rose, net-rose, store-ros
 use Rattle.tool_sign.proofs.Losses.{loses-member, loses-peer}
 use Rattle.tool_sign.proofs.laws.causes.Goals as goal
 
-pub returns-clause-store : goal.returns-clause-store
-returns-clause-store g c = λ words net run. store-rose words _ net run
-
-pub returns-clause-device : goal.returns-clause-device
-returns-clause-device g c = λ words net run. device-rose words _ net run
-
-pub returns-clause-net : goal.returns-clause-net
-returns-clause-net g c = λ words net run. net-rose words _ net run
+pub returns-clause-failed : goal.returns-clause-failed
+returns-clause-failed g c = record {
+  store = λ words net run. store-rose words _ net run;
+  device = λ words net run. device-rose words _ net run;
+  net = λ words net run. net-rose words _ net run;
+}
 
 pub returns-clause-links : goal.returns-clause-links
 returns-clause-links g c = λ signing old new net outcome over lost. links-rose signing old new net outcome over lost

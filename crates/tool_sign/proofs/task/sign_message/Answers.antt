@@ -26,8 +26,8 @@ returns-in-Err-view_reference g c = λ first before.
     let read = c.in-Ok.ensures in
     let viewed = c.in-Err-view_reference.ensures in
     let calm = calm_on _ _ _ before read.calm in
-    unbegun (session_words c.args.words.now) (source_of c.args.message) _ _ _ _ (keeps_on [] _ _ _ calm viewed.keeps)
-    (no_reference c.in-Ok.files _ (read.files first last (part_of _ _ _ _ before viewed.onward)) (viewed.refused first last (part_of _ _ _ _ calm (onward_none _))))
+    unbegun (session_words c.args.words.now) (source_of c.args.message) _ _ _ _ (keeps_on [] _ _ _ calm viewed.taken.keeps)
+    (no_reference c.in-Ok.files _ (read.files first last (part_of _ _ _ _ before viewed.taken.onward)) (viewed.taken.refused first last (part_of _ _ _ _ calm (onward_none _))))
 
 pub returns-in-Err-read_task : goal.returns-in-Err-read_task
 returns-in-Err-read_task g c = λ first before.
@@ -42,11 +42,11 @@ returns-in-Err-read_task g c = λ first before.
     let calm = calm_on _ _ _ before read.calm in
     let later = onward_on _ _ _ lacks.calm.onward c.end_view.ensures.onward in
     let has : HasFiles words (from_to (state first) (state last)) c.in-Ok.files c.in-Ok-view_reference.viewed.1 = record {
-      files_are = read.files first last (part_of _ _ _ _ before (onward_on _ _ _ viewed.onward later));
-      reference_is = viewed.reference first last (part_of _ _ _ _ calm later);
+      files_are = read.files first last (part_of _ _ _ _ before (onward_on _ _ _ viewed.taken.onward later));
+      reference_is = viewed.taken.found first last (part_of _ _ _ _ calm later);
     } in
     run_lacking words c.args.message c.in-Ok.files c.in-Ok-view_reference.viewed.1 (state first) (state c.read_key_and_tree.new.store) (state c.view_reference.new.store) (state c.read_task.new.store) (state last)
-    (reference_name words.prefix) (pages c.in-Ok-view_reference.viewed.0) calm viewed.viewed viewed.onward lacks.calm c.end_view.ensures.ended c.end_view.ensures.onward
+    (reference_name words.prefix) (pages c.in-Ok-view_reference.viewed.0) calm viewed.viewed viewed.taken.onward lacks.calm c.end_view.ensures.ended c.end_view.ensures.onward
     (g.N.Net.state c.args.net.now) c.in-Err-read_task.end has lacks.refused
 
 pub returns : goal.returns
@@ -77,19 +77,19 @@ returns g c = λ first before.
     let net : NetRun = over_net (g.N.Net.state c.args.net.now) (g.N.Net.state c.sign_task-view.new.net) in
     let answer : Result Signature Ending = answer_by c.sign_task-view.result.1.outcome in
     let keeps = whole_keeps files header (state first) (state c.read_key_and_tree.new.store) (state c.view_reference.new.store) (state c.read_task.new.store) (reference_name words.prefix) view
-    calm viewed.viewed viewed.onward tasked.calm (state c.sign_task-view.new.store) (state last) now c.end_view-2.ensures.ended c.end_view-2.ensures.onward run.touched run.keeps in
+    calm viewed.viewed viewed.taken.onward tasked.calm (state c.sign_task-view.new.store) (state last) now c.end_view-2.ensures.ended c.end_view-2.ensures.onward run.touched run.keeps in
     let ends = whole_ends files header (state first) (state c.read_key_and_tree.new.store) (state c.view_reference.new.store) (state c.read_task.new.store) (reference_name words.prefix) view
-    calm viewed.viewed viewed.onward tasked.calm (state c.sign_task-view.new.store) (state last) now c.end_view-2.ensures.ended c.end_view-2.ensures.onward signing words.table net answer run.touched run.ends in
+    calm viewed.viewed viewed.taken.onward tasked.calm (state c.sign_task-view.new.store) (state last) now c.end_view-2.ensures.ended c.end_view-2.ensures.onward signing words.table net answer run.touched run.ends in
     let works = onward_on _ _ _ run.keeps.back.onward c.end_view-2.ensures.onward in
     let has : HasFiles words (from_to (state first) (state last)) files header = record {
-      files_are = read.files first last (part_of _ _ _ _ before (onward_on _ _ _ viewed.onward (onward_on _ _ _ tasked.calm.onward works)));
-      reference_is = viewed.reference first last (part_of _ _ _ _ calm (onward_on _ _ _ tasked.calm.onward works));
+      files_are = read.files first last (part_of _ _ _ _ before (onward_on _ _ _ viewed.taken.onward (onward_on _ _ _ tasked.calm.onward works)));
+      reference_is = viewed.taken.found first last (part_of _ _ _ _ calm (onward_on _ _ _ tasked.calm.onward works));
     } in
     let goes = goes_in words c.args.message files header (state first) (state c.read_key_and_tree.new.store) (state c.view_reference.new.store) (state c.read_task.new.store) (state last)
-    (reference_name words.prefix) view calm viewed.viewed viewed.onward tasked.calm task.message.items task.members task.addresses.items tasked.task in
+    (reference_name words.prefix) view calm viewed.viewed viewed.taken.onward tasked.calm task.message.items task.members task.addresses.items tasked.task in
     let task_is = is_task words files header tasked.sizes (state first) (state c.read_key_and_tree.new.store) (state c.view_reference.new.store) view calm viewed.viewed viewed.reads
     (source (from_to (state first) (state last))) (state c.read_task.new.store) (state c.sign_task-view.new.store) (state last) now task.message.items task.members task.addresses.items
-    viewed.onward tasked.calm run.keeps.back.onward c.end_view-2.ensures.ended has goes in
+    viewed.taken.onward tasked.calm run.keeps.back.onward c.end_view-2.ensures.ended has goes in
     record {
       touched = run.touched;
       ends = ended signing answer run.touched task_is ends.ends;
