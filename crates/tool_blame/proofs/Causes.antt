@@ -1,5 +1,5 @@
 -- Which count rose, by the end of the command.
-use Rattle.std.proofs.Common.{◌≡◌, ◌+◌, ◌-◌, ◌^◌, ◌≤◌, min, ℕ, Bool, List, [], Option, Result, Ok, Err, refl, ap, arith}
+use Rattle.std.proofs.Common.{◌≡◌, ◌+◌, ◌-◌, ◌^◌, ◌≤◌, min, ℕ, Bool, List, [], Option, Result, Err, refl, ap, arith}
 use Rattle.aggregator_session.specs.Runs.{CellsRead}
 use Rattle.disk_trait.specs.Faults.{Rose}
 use Rattle.aggregator_session.specs.Signing.{Signature}

@@ -1,5 +1,5 @@
 -- How the command ends over a steady store that tells its content, and over such a net.
-use Rattle.std.proofs.Common.{◌≡◌, ℕ, Bool, List, [], Option, Result, Ok, Err, IsTrue, refl, ap, subst}
+use Rattle.std.proofs.Common.{◌≡◌, ℕ, Bool, List, [], Option, Result, Err, IsTrue, refl, ap, subst}
 use Rattle.aggregator_session.specs.Runs.{CellsRead}
 use Rattle.aggregator_session.specs.Signing.{Signature}
 use Rattle.session_core.specs.State.{State}

@@ -1,5 +1,5 @@
 -- The whole command, from what its steps say.
-use Rattle.std.proofs.Common.{◌≡◌, ◌+◌, ◌-◌, ◌^◌, ◌≤◌, min, ℕ, Bool, false, List, [], ◌∷◌, drop, Option, None, Result, Ok, Err, IsTrue, refl, sym, ◌∙◌, subst, arith}
+use Rattle.std.proofs.Common.{◌≡◌, ℕ, Bool, false, List, [], ◌∷◌, drop, Option, None, Result, Ok, Err, IsTrue, refl, sym, ◌∙◌, subst, arith}
 use Rattle.aggregator_session.specs.Runs.{CellsRead}
 use Rattle.aggregator_session.specs.declared.desk.Address.{Address}
 use Rattle.aggregator_session.specs.Signing.{Signature}
@@ -14,7 +14,7 @@ use Rattle.tool_base.specs.Ending.{Ending}
 use Rattle.tool_base.specs.Endings as endings
 use Rattle.tool_base.specs.Outputs.{IsNew}
 use Rattle.tool_base.specs.Touched.{Keeps}
-use Rattle.tool_base.specs.World.{Bytes, Failed, IsBack, IsCalm, IsNetBack, StoreRun, file_limit, from_to}
+use Rattle.tool_base.specs.World.{Bytes, Failed, IsBack, IsCalm, IsNetBack, file_limit, from_to}
 use Rattle.tool_base.specs.declared.ending.Ending as declared
 use Rattle.tool_desk.specs.Files.{reference_name}
 use Rattle.tool_desk.specs.declared.files.KeyFiles.{KeyFiles}
@@ -35,9 +35,9 @@ use Rattle.tool_sign.specs.Sessions as sessions
 use Rattle.tool_sign.specs.Sign.{session_words}
 use Rattle.tool_sign.specs.Signs.{SignedTable, TableEnds}
 use Rattle.tool_sign.specs.Signs as signs
-use Rattle.tool_sign.specs.Tasks.{GoesWith, HasFiles, LacksTask, MessageSource, SessionWords, message_in, message_limit}
+use Rattle.tool_sign.specs.Tasks.{GoesWith, HasFiles, LacksTask, SessionWords, message_in, message_limit}
 use Rattle.tool_sign.specs.Tasks as tasks
-use Rattle.tool_sign.specs.Writes.{WriteEnds, one_output}
+use Rattle.tool_sign.specs.Writes.{WriteEnds}
 use Rattle.tool_sign.specs.Writes as writes
 use Rattle.tool_words.specs.Words.{SignWords}
 

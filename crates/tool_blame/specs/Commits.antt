@@ -1,9 +1,11 @@
 -- The commitments of a dealing, which are read through a view of their file, PREFIX.commit.
-use Rattle.std.specs.Prelude.{◌≡◌, ◌+◌, ◌-◌, ◌^◌, ◌≤◌, ℕ, Bool, List, Some, None, ◌++◌, codes, drop, min, IsTrue}
+use Rattle.std.specs.Prelude.{◌≡◌, ◌+◌, ◌-◌, ◌^◌, ◌≤◌, ℕ, Bool, List, Some, None, ◌++◌, codes, drop, length}
+use Rattle.std.specs.Prelude.{min, IsTrue}
 use Rattle.aggregator_session.specs.Runs.{CellsRead}
 use Rattle.share_blame.specs.Loads.{commits_fault}
 use Rattle.share_blame.specs.declared.faults.CommitsFault.{CommitsFault}
 use Rattle.share_blame.specs.declared.faults.CommitsFault.TheVariants.{Device, File}
+use Rattle.share_files.specs.Commits.{all_commits_length}
 use Rattle.share_files.specs.FaultNumbers.{file_fault_number}
 use Rattle.share_files.specs.declared.faults.FileFault.{FileFault}
 use Rattle.share_files.specs.declared.reference.RefHeader.{RefHeader}
@@ -21,6 +23,11 @@ commits_name prefix = prefix ++ codes ".commit"
 -- a file has the commitments that go with a reference of this header
 abbrev pub GoesWithReference : RefHeader → List ℕ → Type 0
 GoesWithReference header file = commits_fault header file ≡ None
+
+-- a file has the commitments that go with a reference of this header, and all of them
+pub record AreCommitsOf (header : RefHeader) (file : List ℕ) : Type 0 where
+  pub faultless : GoesWithReference header file
+  pub whole : length (drop 32 file) ≡ all_commits_length header.params header.plan
 
 -- the first fault of a file as such commitments
 abbrev pub AreNoCommits : RefHeader → FileFault → List ℕ → Type 0

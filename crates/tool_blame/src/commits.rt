@@ -1,15 +1,13 @@
 //! The commitments of a dealing, which are read through a view.
 
-ghost use Rattle.std.specs.Prelude.{◌≡◌, ◌⊎◌, [], drop, length, None, IfOk, IfErr, OnErr, OnOk, IsTrue};
+ghost use Rattle.std.specs.Prelude.{◌≡◌, ◌⊎◌, IfOk, IsTrue};
 ghost use Rattle.share_blame.specs.Commits.{AreOf, pages_of};
-ghost use Rattle.share_blame.specs.Loads.{commits_fault};
-ghost use Rattle.share_files.specs.Commits.{all_commits_length};
-ghost use Rattle.stream_io.specs.Store.{StoreOnward, Viewed, pages_state};
+ghost use Rattle.stream_io.specs.Store.{Viewed};
 ghost use Rattle.tool_base.specs.Ending as spec;
 ghost use Rattle.tool_base.specs.Endings.{ending};
-ghost use Rattle.tool_base.specs.Touched.{Keeps};
-ghost use Rattle.tool_base.specs.World.{InAnyRun};
-ghost use Rattle.tool_blame.specs.Commits.{AreCommitsViewed, FailsCommits, commits_name, end_of_commits};
+ghost use Rattle.tool_blame.specs.Commits.{AreCommitsOf, AreCommitsViewed, FailsCommits, commits_name};
+ghost use Rattle.tool_blame.specs.Commits.{end_of_commits};
+ghost use Rattle.tool_desk.specs.Views.{TakesViews, view_state};
 
 use share_blame::{Commits, CommitsFault};
 use share_files::RefHeader;
@@ -26,20 +24,14 @@ pub fn view_commits<S: Store>(
     prefix: &str,
     header: &RefHeader,
 ) -> Result<Commits<S::View>, Ending>
-    ensures commits { InAnyRun S.state store.old store.new (λ run.
-        OnOk result (AreCommitsViewed run (commits_name prefix.now) header.now)) }
-    ensures whole { IfOk result (λ commits. IsTrue (S.View.told (pages_of commits))
-        → length (drop 32 (S.View.reads (pages_of commits))) ≡ all_commits_length header.now.params header.now.plan) }
+    ensures taken { TakesViews S.state store.old store.new result
+        (λ run _. AreCommitsViewed run (commits_name prefix.now) header.now)
+        (λ run. FailsCommits run (commits_name prefix.now) header.now) }
     ensures fits { IfOk result (AreOf header.now.params header.now.plan) }
     ensures viewed { IfOk result (λ commits. Viewed (S.state store.old) (commits_name prefix.now)
-        (pages_state S.View.told S.View.honest S.View.steady S.View.count S.View.room S.View.reads S.View.may_leave
-        (pages_of commits)) (S.state store.new)) }
-    ensures faultless { IfOk result (λ commits. IsTrue (S.View.told (pages_of commits))
-        → commits_fault header.now (S.View.reads (pages_of commits)) ≡ None) }
-    ensures refused { InAnyRun S.state store.old store.new (λ run.
-        IfErr result (λ end. FailsCommits run (commits_name prefix.now) header.now (ending end))) }
-    ensures keeps { OnErr result (Keeps [] (S.state store.old) (S.state store.new)) }
-    ensures onward { StoreOnward (S.state store.old) (S.state store.new) }
+        (view_state S.View.Pages.own S.View.Faults (pages_of commits)) (S.state store.new)) }
+    ensures reads { IfOk result (λ commits. IsTrue (S.View.told (pages_of commits))
+        → AreCommitsOf header.now (S.View.reads (pages_of commits))) }
 {
     let name = file_name(alloc, prefix, ".commit")?;
     let view = match store.view(alloc, name.as_str()) {

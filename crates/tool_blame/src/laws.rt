@@ -1,12 +1,10 @@
 //! What follows from the definitions. No function here does anything.
 
-ghost use Rattle.disk_trait.specs.Faults.{Rose};
-ghost use Rattle.tool_base.specs.Ending as ending;
 ghost use Rattle.tool_base.specs.Ending.{Ending};
-ghost use Rattle.tool_base.specs.Touched.{DeviceRose};
 ghost use Rattle.tool_base.specs.World.{from_to};
 ghost use Rattle.tool_blame.specs.AsSign.{IsAsSign};
 ghost use Rattle.tool_blame.specs.Blame.{BlameRun};
+ghost use Rattle.tool_sign.specs.Causes.{FailuresAreCounted};
 ghost use Rattle.tool_sign.specs.Ports.{NetRun};
 ghost use Rattle.tool_words.specs.Words.{SignWords};
 
@@ -15,15 +13,7 @@ use stream_io::Store;
 /// The causes of three ends of `blame`: the store fails only where its count of faults rose, a device only where that
 /// of its disks and views rose, and the net only where its count of failed ports rose.
 pub fn causes<S: Store>(before: &S, after: &S)
-    ensures store { (words : SignWords) (net : NetRun)
-        → BlameRun words (from_to (S.state before.now) (S.state after.now)) net ending.StoreFailed
-        → Rose (S.state before.now).count (S.state after.now).count }
-    ensures device { (words : SignWords) (net : NetRun)
-        → BlameRun words (from_to (S.state before.now) (S.state after.now)) net ending.DeviceFailed
-        → DeviceRose (from_to (S.state before.now) (S.state after.now)) }
-    ensures net { (words : SignWords) (net : NetRun)
-        → BlameRun words (from_to (S.state before.now) (S.state after.now)) net ending.NetFailed
-        → Rose net.before.port_count net.after.port_count }
+    ensures { FailuresAreCounted BlameRun (from_to (S.state before.now) (S.state after.now)) }
 {}
 
 /// A run of `blame` is one of `sign`, but where there are no commitments, and but for the end in the place of status 8.

@@ -1,4 +1,4 @@
-use Rattle.std.proofs.Common.{arith, sym, ◌∙◌}
+use Rattle.std.proofs.Common.{sym, ◌∙◌}
 use Rattle.tool_blame.specs.Names.{as_ended, as_signed, by_names}
 use Rattle.tool_blame.proofs.names.told_outcome.Goals as goal
 
