@@ -21,7 +21,7 @@ use Rattle.trustee_core.specs.declared.refusal.Refusal.{Refusal}
 use Rattle.trustee_core.specs.declared.refusal.Refusal.TheVariants.{Device}
 use Rattle.trustee_node.proofs.Serving.{with_code-append}
 use Rattle.trustee_node.specs.Turns as turns
-use Rattle.trustee_node.specs.Turns.{Answers, InTurn, NoTurn, Outcome, ReachesJournal, ServedTurns, Turn, is_code, with_code}
+use Rattle.trustee_node.specs.Turns.{Answers, InTurn, Outcome, ReachesJournal, ServedTurns, Turn, is_code, with_code}
 use Rattle.trustee_node.specs.Workers.{turns_of}
 use Rattle.trustee_node.specs.Ports.{IsPortRun, PortRun, turns_in}
 use Rattle.std.proofs.lemmas.List.Elements.{All-head, All-tail}

@@ -8,6 +8,12 @@ use Rattle.opening_journal.specs.Entries.{IsBound, IsFree, IsOpened, LeafState, 
 use Rattle.opening_journal.specs.Opening.{AnswersFor}
 use Rattle.opening_journal.specs.declared.entry.Entry.{Entry}
 use Rattle.share_files.specs.declared.share.Share.{Share}
+use Rattle.stream_io.specs.Net.{NetState}
+use Rattle.stream_io.specs.Store.{StoreState}
+use Rattle.tool_base.specs.Ending.{Ending}
+use Rattle.tool_base.specs.World.{Outside, TimeState}
+use Rattle.tool_trustee.specs.Trustee.{ServedTrustee}
+use Rattle.tool_words.specs.Words.{TrusteeWords}
 use Rattle.trustee_core.specs.Decisions.{Granted}
 use Rattle.trustee_node.specs.Turns.{InTurn, ReachesJournal, Turn}
 
@@ -30,3 +36,16 @@ pub record MayGrant (share : Share) (ids : Option (List (List ℕ))) (entries : 
 abbrev pub GrantsAll : Share → Option (List (List ℕ)) → List Turn → Type 0
 GrantsAll share ids turns =
     All (λ (turn : Turn). MayGrant share ids turn.seen turn.ask → turn.outcome ≡ InTurn (Decided Granted)) turns
+
+-- the outside with this store, this net and this time
+abbrev pub outside : StoreState → NetState → TimeState → Outside
+outside store net time = record { store = store; net = net; time = time }
+
+-- In any service of a trustee over a store that goes from one state to the other, whatever its words, its net, its time
+-- and its end: this holds of the outside before and after it, of the end, and of what was served.
+abbrev pub InAnyService : StoreState → StoreState
+    → ((words : TrusteeWords) (before after : Outside) (end : Ending) → ServedTrustee words before after end → Type 0)
+    → Type 0
+InAnyService old new holds = (words : TrusteeWords) (net_old net_new : NetState) (time later : TimeState) (end : Ending)
+    (run : ServedTrustee words (outside old net_old time) (outside new net_new later) end)
+    → holds words (outside old net_old time) (outside new net_new later) end run

@@ -3,14 +3,9 @@
 ghost use Rattle.std.specs.Prelude.{◌≡◌, IsTrue, List};
 ghost use Rattle.opening_journal.specs.Entries.{JournalState};
 ghost use Rattle.share_files.specs.declared.share.Share.{Share};
-ghost use Rattle.stream_io.specs.Net.{NetState};
 ghost use Rattle.tool_base.specs.Ending as ending;
-ghost use Rattle.tool_base.specs.Ending.{Ending};
-ghost use Rattle.tool_base.specs.World.{TimeState};
 ghost use Rattle.tool_trustee.specs.Lives.{ServedRuns};
-ghost use Rattle.tool_trustee.specs.Steady.{GrantsAll};
-ghost use Rattle.tool_trustee.specs.Trustee.{ServedTrustee};
-ghost use Rattle.tool_words.specs.Words.{TrusteeWords};
+ghost use Rattle.tool_trustee.specs.Steady.{GrantsAll, InAnyService};
 ghost use Rattle.trustee_core.specs.Lives.{OneOpening};
 ghost use Rattle.trustee_node.specs.Places.{IsLegal, granted_by};
 ghost use Rattle.trustee_node.specs.Turns.{Turn};
@@ -30,17 +25,11 @@ pub fn one_opening<S: Store>()
 /// ends with the numbers of what was served; and where its links also have room for 65,536 of the longest replies, no
 /// connection ended by a link that failed.
 pub fn steady_trustee<S: Store>(before: &S, after: &S)
-    ensures grants { (words : TrusteeWords) (net_old net_new : NetState) (time later : TimeState) (end : Ending)
-        (run : ServedTrustee words (record { store = S.state before.now; net = net_old; time = time })
-        (record { store = S.state after.now; net = net_new; time = later }) end)
-        → IsTrue (S.state before.now).told → IsTrue (S.state before.now).steady
-        → GrantsAll run.share run.ids (turns_in run.net.served.runs) }
-    ensures ends { (words : TrusteeWords) (net_old net_new : NetState) (time later : TimeState) (end : Ending)
-        (run : ServedTrustee words (record { store = S.state before.now; net = net_old; time = time })
-        (record { store = S.state after.now; net = net_new; time = later }) end)
-        → IsTrue net_old.steady → end ≡ ending.Served run.net.totals.connections run.net.totals.frames }
-    ensures links { (words : TrusteeWords) (net_old net_new : NetState) (time later : TimeState) (end : Ending)
-        (run : ServedTrustee words (record { store = S.state before.now; net = net_old; time = time })
-        (record { store = S.state after.now; net = net_new; time = later }) end)
-        → IsTrue net_old.steady → TakesAll run.share.params net_old.room → NoLinkFails run.net.served.runs }
+    ensures grants { InAnyService (S.state before.now) (S.state after.now) (λ words old new end run.
+        IsTrue old.store.told → IsTrue old.store.steady
+        → GrantsAll run.share run.ids (turns_in run.net.served.runs)) }
+    ensures ends { InAnyService (S.state before.now) (S.state after.now) (λ words old new end run.
+        IsTrue old.net.steady → end ≡ ending.Served run.net.totals.connections run.net.totals.frames) }
+    ensures links { InAnyService (S.state before.now) (S.state after.now) (λ words old new end run.
+        IsTrue old.net.steady → TakesAll run.share.params old.net.room → NoLinkFails run.net.served.runs) }
 {}
