@@ -48,8 +48,8 @@ returns-in-Err-viewed g c =
     let viewed = c.in-Err-viewed.ensures in
     record {
       touched = [];
-      ends = no_desk _ (no_references c.in-Ok.files _ (read.files first last (part_of _ _ _ _ (calm_none _) viewed.onward)) (viewed.refused first last (part_of _ _ _ _ read.calm (onward_none _)))) refl;
-      keeps = keeps_on [] _ _ _ read.calm viewed.keeps;
+      ends = no_desk _ (no_references c.in-Ok.files _ (read.files first last (part_of _ _ _ _ (calm_none _) viewed.taken.onward)) (viewed.taken.refused first last (part_of _ _ _ _ read.calm (onward_none _)))) refl;
+      keeps = keeps_on [] _ _ _ read.calm viewed.taken.keeps;
       ports = net_none _;
     }
 
@@ -77,7 +77,7 @@ returns g c =
     let goes = out_on _ _ _ 0 _ (out_calm _ _ read.calm) viewed.cells.out in
     let same = viewed.counts.1 ∙ read.calm.same.loans.disk_count in
     let later = onward_on _ _ _ run.run.keeps.back.onward ends.onward in
-    let reference = viewed.reference first last (part_of _ _ _ _ read.calm later) in
+    let reference = viewed.taken.found first last (part_of _ _ _ _ read.calm later) in
     let sizes = length-map news count in
     let one = c.in-Ok-viewed.viewed.0.ok.0 in
     let two = c.serve_table-end.new.cells.ok.0 in
@@ -88,7 +88,7 @@ returns g c =
       touched = run.run.touched;
       ends = ended header desk _ run.run.touched (record {
         files = files;
-        files_are = read.files first last (part_of _ _ _ _ (calm_none _) (onward_on _ _ _ viewed.onward later));
+        files_are = read.files first last (part_of _ _ _ _ (calm_none _) (onward_on _ _ _ viewed.taken.onward later));
         reference_is = reference;
         one_key = viewed.key.0;
         addresses_are = ap (map address) c.deref.ensures.value ∙ c.in-Ok-addresses_of.ensures ∙ ap placed c.list.ensures;
