@@ -10,7 +10,6 @@ use Rattle.aggregator_session.specs.Signing as signing
 use Rattle.aggregator_session.specs.Tables.{TableSeen}
 use Rattle.session_core.specs.State.{State}
 use Rattle.session_core.specs.declared.faults.SessionFault.{SessionFault}
-use Rattle.session_core.specs.declared.faults.SessionFault.TheVariants as session
 use Rattle.share_blame.specs.Commits.{AreOf}
 use Rattle.share_blame.specs.declared.commits.Commits.{Commits}
 use Rattle.share_files.specs.Commits.{all_commits_length}
