@@ -26,5 +26,5 @@ returns-clause-goes c = λ own map leaves course all.
     let ended = c.ended.ensures in
     ends _ (GoesTo desk own.dealing i map leaves (steps_in s)) 0 0 c.leaf.result c.finish-signed.result c.ended.result ended.signed ended.memory
     (c.finish-signed.ensures.finishes.dealt own.dealing own.key refl given)
-    (c.finish-signed.ensures.finishes.joins.read (record { steady = refl; told = refl; whole = size; }) fine)
+    (c.finish-signed.ensures.finishes.joins.read (record { steady = refl; told = refl; whole = size }) fine)
     (subst (λ (q : ℕ). GoesTo desk own.dealing i map leaves (steps_in s) (Signed q)) (sym c.leaf.ensures.leaf) goes)

@@ -17,5 +17,5 @@ returns-in-Err-clause-goes c = λ own map leaves course all.
     let desk = c.args.desk.now in
     let of = c.requires.of in
     let size = ap (λ (l : List ℕ). length l) (c.new-cells.ensures.leaves ∙ c.deref.ensures.value) ∙ desk.exact ∙ sym (λ j. leaves_length (of.key_is j).params (of.plan_is j)) in
-    let fine = c.in-Err.ensures.succeeds (record { steady = refl; told = refl; whole = size; }) (no-fault desk own c.args.i map leaves c.args.session course all _) in
+    let fine = c.in-Err.ensures.succeeds (record { steady = refl; told = refl; whole = size }) (no-fault desk own c.args.i map leaves c.args.session course all _) in
     absurd (cc)
