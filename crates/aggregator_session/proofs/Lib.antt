@@ -1,3 +1,4 @@
+pub mod Adding
 pub mod Addressing
 pub mod Counting
 pub mod Digests

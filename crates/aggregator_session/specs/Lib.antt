@@ -1,4 +1,5 @@
 pub mod Addresses
+pub mod Desks
 pub mod Faults
 pub mod Hearing
 pub mod Reaching

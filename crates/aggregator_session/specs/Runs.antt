@@ -26,7 +26,7 @@ use Rattle.round_frames.specs.Replies.{Reply}
 use Rattle.session_core.specs.Asks.{ask_with}
 use Rattle.session_core.specs.Dealing.{FirstMasks, IsAnswered, IsOfDealing}
 use Rattle.session_core.specs.Judging.{round_fault}
-use Rattle.session_core.specs.State.{State}
+use Rattle.session_core.specs.State.{SameAsk, State}
 use Rattle.session_core.specs.Verdicts.{FinishFails, Turned, Unread, digest_of, joined_bytes, joined_c}
 use Rattle.session_core.specs.declared.faults.SessionFault.{SessionFault}
 use Rattle.session_core.specs.declared.faults.SessionFault.TheVariants.{Reference}
@@ -128,6 +128,7 @@ pub record HasCalled (addresses : List Address) (ask : List ℕ) (old new : Stat
   pub calls : Calls addresses ask old member before now talks answer
   pub links : news ≡ olds ++ talks
   pub state : new ≡ kept_in old answer
+  pub same : SameAsk old new
   pub told : result ≡ granted answer
 
 -- internal: a member was asked in round two, or the reference was not read

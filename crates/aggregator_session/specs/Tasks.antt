@@ -1,15 +1,18 @@
 -- What a session is run with.
-use Rattle.std.specs.Prelude.{◌≡◌, ◌≢◌, ◌+◌, ◌*◌, ◌≤◌, ◌++◌, ℕ, List, [], ◌∷◌, length, min, None, IfSome, IsTrue}
+use Rattle.std.specs.Prelude.{◌≡◌, ◌≢◌, ◌+◌, ◌*◌, ◌≤◌, ◌++◌, ⊤, ℕ, Bool, List, [], ◌∷◌, All, length, min, None, IfSome}
+use Rattle.std.specs.Prelude.{IsSome, IsTrue, MatchOption}
 use Rattle.std.specs.List.{sum_by}
 use Rattle.coalition_map.specs.Coalitions.{PlanNumbers, leaf_members}
 use Rattle.disk_trait.specs.Faults.{Rose}
 use Rattle.disk_trait.specs.declared.faults.Faults as faults
 use Rattle.aggregator_session.specs.declared.session.Task.{Task}
 use Rattle.lms_bytes.specs.MessageId.{message_id}
+use Rattle.lms_bytes.specs.declared.ask.Ask.{Ask}
 use Rattle.lms_bytes.specs.declared.params.Params.{Params}
 use Rattle.lms_bytes.specs.declared.public_key.PublicKey.{PublicKey}
 use Rattle.reference_value.specs.declared.cells.Cells as cells
 use Rattle.session_core.specs.State.{State}
+use Rattle.session_core.specs.Verdicts.{digest_of}
 use Rattle.share_files.specs.Reference.{leaves_length}
 use Rattle.stream_io.specs.Net.{PortOnward, PortState}
 use Rattle.stream_io.specs.Talk.{Ended, Talk}
@@ -36,6 +39,28 @@ pub record Stands (task : Task) (s : State) (params : Params) (numbers : PlanNum
   pub plan : numbers ≡ s.plan
   pub room : s.key.params.p * s.key.params.n ≤ size
 
+-- internal: the same of a session in round one
+pub record StandsFirst (task : Task) (s : State) (params : Params) (numbers : PlanNumbers) (size : ℕ) : Type 0 where
+  pub stands : Stands task s params numbers size
+  pub round : s.c ≡ None
+
+-- internal: the same of a session in round two, with the digest of the message under its randomizer
+pub record StandsAgain
+    (task : Task) (s : State) (params : Params) (numbers : PlanNumbers) (size : ℕ) (digest : List ℕ) : Type 0 where
+  pub stands : Stands task s params numbers size
+  pub round : IsSome s.c
+  pub digest_is : digest ≡ digest_of s task.message.now
+
+-- internal: A session of this set may send this ask, with this message behind it, and have the answer's body read into
+-- so many bytes of room: the ask is for the message and has a randomizer of the set's length, or none, and the room
+-- holds the masks of all chains.
+pub record MayAsk (params : Params) (s : State) (ask : Ask) (message : List ℕ) (size : ℕ) : Type 0 where
+  pub set : s.key.params ≡ params
+  pub room : params.p * params.n ≤ size
+  pub id : ask.message ≡ message_id message
+  pub c : MatchOption ask.second ⊤ (λ second. length second.c ≡ params.n)
+  pub limit : length message ≤ 16777216
+
 -- cells that give what they have whenever they are asked: steady ones that tell all leaves
 pub record IsExact {C : Type 0} (c : cells.Ghosts C) (f : faults.Ghosts C) (r : C) : Type 0 where
   pub steady : IsTrue (f.steady r)
@@ -47,6 +72,20 @@ pub record OnlyDials (old new : PortState) : Type 0 where
   pub onward : PortOnward old new
   pub talks : new.talks ≡ old.talks
   pub accepting : new.accept_count ≡ old.accept_count
+
+-- internal: links of this port on which an ask of round one was written: they are steady where the port is, and have
+-- its room but for the 64 bytes of the ask
+pub record AreAsked {L : Type 0} (is_steady : L → Bool) (room_of : L → ℕ) (port : PortState) (links : List L)
+    : Type 0 where
+  pub steady : IsTrue port.steady → All (λ link. IsTrue (is_steady link)) links
+  pub rooms : All (λ link. port.room ≤ room_of link + 64) links
+
+-- internal: such links were put behind others
+pub record AddsAsked {L : Type 0} (is_steady : L → Bool) (room_of : L → ℕ) (port : PortState) (olds news : List L)
+    : Type 0 where
+  pub added : List L
+  pub are : AreAsked is_steady room_of port added
+  pub news_are : news ≡ olds ++ added
 
 -- how many of these links have counted a fault
 abbrev pub faulty_links : List Talk → ℕ

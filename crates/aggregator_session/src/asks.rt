@@ -1,9 +1,9 @@
 //! One ask to one member.
 
-ghost use Rattle.std.specs.Prelude.{◌≡◌, ◌≢◌, ◌+◌, ◌*◌, ◌≤◌, ⊤, length, Err, IsTrue, MatchOption, if◌then◌else◌};
+ghost use Rattle.std.specs.Prelude.{◌≡◌, ◌≢◌, ◌+◌, ◌*◌, ◌≤◌, ⊤, length, Err, IsTrue, if◌then◌else◌};
 ghost use Rattle.aggregator_session.specs.Causes.{LinkCauses};
 ghost use Rattle.aggregator_session.specs.Hearing.{HasAsked, HasHeard, is_answer};
-ghost use Rattle.lms_bytes.specs.MessageId.{message_id};
+ghost use Rattle.aggregator_session.specs.Tasks.{MayAsk};
 ghost use Rattle.round_frames.specs.Asks.{ask_frame, ask_length};
 ghost use Rattle.session_core.specs.Replies.{with_delivery};
 ghost use Rattle.session_core.specs.State.{SameAsk};
@@ -30,11 +30,7 @@ pub(crate) fn ask_member<L: Source + Sink>(
     link: &mut L,
     room: &mut [u8],
 ) -> Result<bool, SignFault>
-    requires params { session.old.key.params ≡ params.now }
-    requires room { params.now.p * params.now.n ≤ length room.old }
-    requires id { ask.now.message ≡ message_id message.now }
-    requires c { MatchOption ask.now.second ⊤ (λ second. length second.c ≡ params.now.n) }
-    requires limit { length message.now ≤ 16777216 }
+    requires ask { MayAsk params.now session.old ask.now message.now (length room.old) }
     ensures asked { HasAsked session.old session.new member (ask_frame ask.now message.now)
         (L.talk link.old) (L.talk link.new) result }
     ensures links { LinkCauses (IsTrue (L.steady link.old))

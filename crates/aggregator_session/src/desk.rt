@@ -16,7 +16,8 @@ pub struct Address {
     pub place: String,
 }
 
-/// What an aggregator signs with: the key, its plan and tree, and where the members are dialled.
+/// What an aggregator signs with: the key, its plan and tree, and where the members are dialled. Plan and tree are as
+/// high as the key's tree, and the tree's nodes are as long as its hashes.
 #[derive(Clone, Copy)]
 pub struct Desk<'a> {
     /// The key that signatures are verified under.
@@ -27,6 +28,9 @@ pub struct Desk<'a> {
     pub tree: &'a Tree,
     /// Where the members are dialled.
     pub addresses: &'a [Address],
+    pub ghost plan_height: { plan.now.h ≡ key.now.params.h },
+    pub ghost tree_length: { tree.now.n ≡ key.now.params.n },
+    pub ghost tree_height: { tree.now.h ≡ key.now.params.h },
 }
 
 /// The place in the first address that names this member.

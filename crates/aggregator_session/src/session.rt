@@ -6,7 +6,8 @@ ghost use Rattle.aggregator_session.specs.Causes.{DialCauses, LinkCauses, PortCa
 ghost use Rattle.std.specs.Vec.{vec_capacity, vec_len};
 ghost use Rattle.aggregator_session.specs.Runs.{AskedAgain, First, HasCalled, HasRun, SameSession, Second, SignRun};
 ghost use Rattle.aggregator_session.specs.Runs.{bytes_in, first_frame, reads_of};
-ghost use Rattle.aggregator_session.specs.Tasks.{HangsUpAll, MayRun, Stands};
+ghost use Rattle.aggregator_session.specs.Desks.{ReadsFor};
+ghost use Rattle.aggregator_session.specs.Tasks.{AddsAsked, AreAsked, HangsUpAll, MayRun, StandsAgain, StandsFirst};
 ghost use Rattle.coalition_map.specs.Coalitions.{leaf_members};
 ghost use Rattle.session_core.specs.State.{SameAsk};
 ghost use Rattle.session_core.specs.Verdicts.{AreMasks, digest_of};
@@ -43,9 +44,7 @@ pub fn run_session<R: Cells, P: Port>(
     message: &[u8],
 ) -> Result<Vec<u8>, SignFault>
     requires session { MayRun desk.now.key.now desk.now.plan.now message.now session.old }
-    requires cells { (R.set cells.old ≡ desk.now.key.now.params) × (R.plan cells.old ≡ desk.now.plan.now) }
-    requires tree { (desk.now.tree.now.n ≡ desk.now.key.now.params.n)
-        × (desk.now.tree.now.h ≡ desk.now.key.now.params.h) }
+    requires cells { ReadsFor R.Cells.own desk.now cells.old }
     ensures ran { HasRun desk.now.addresses.now desk.now.tree.now
         (reads_of R.Cells.own R.Faults cells.old cells.new) message.now (P.state port.old) (P.state port.new)
         session.old session.new (bytes_in result) }
@@ -114,10 +113,7 @@ fn ask_all<R: Cells, P: Port>(
     links: &mut Vec<P::Link>,
     room: &mut [u8],
 ) -> Result<Vec<u8>, SignFault>
-    requires task { Stands task.now session.old (R.set cells.old) (R.plan cells.old) (length room.old) }
-    requires round { session.old.c ≡ None }
-    requires tree { (task.now.desk.now.tree.now.n ≡ session.old.key.params.n)
-        × (task.now.desk.now.tree.now.h ≡ session.old.key.params.h) }
+    requires task { StandsFirst task.now session.old (R.set cells.old) (R.plan cells.old) (length room.old) }
     requires none { links.old.items ≡ [] }
     requires space { length task.now.members.now ≤ vec_capacity links.old }
     ensures run { SignRun task.now.desk.now.addresses.now task.now.desk.now.tree.now
@@ -144,17 +140,14 @@ fn dial_all<R: Cells, P: Port>(
     links: &mut Vec<P::Link>,
     room: &mut [u8],
 ) -> Result<(), SignFault>
-    requires task { Stands task.now session.old (R.set cells.old) (R.plan cells.old) (length room.old) }
-    requires round { session.old.c ≡ None }
-    requires none { links.old.items ≡ [] }
-    requires space { length task.now.members.now ≤ vec_capacity links.old }
+    requires task { StandsFirst task.now session.old (R.set cells.old) (R.plan cells.old) (length room.old) }
+    requires room { (links.old.items ≡ []) × (length task.now.members.now ≤ vec_capacity links.old) }
     ensures run { First task.now.desk.now.addresses.now (first_frame session.old) (P.state port.old) session.old
         task.now.members.now (map (λ link. P.Link.talk link) links.new.items) session.new result }
     ensures whole { OnOk result ((vec_len links.new ≡ length task.now.members.now)
         ⊎ (AreMasks session.new.first → ⊥)) }
     ensures dials { DialCauses 64 (P.state port.old) (P.state port.new) result }
-    ensures steady { IsTrue (P.state port.old).steady → All (λ link. IsTrue (P.Link.steady link)) links.new.items }
-    ensures rooms { All (λ link. (P.state port.old).room ≤ P.Link.room link + 64) links.new.items }
+    ensures links { AreAsked P.Link.steady P.Link.room (P.state port.old) links.new.items }
     ensures same { SameAsk session.old session.new }
     ensures cells { cells.new ≡ cells.old }
 {
@@ -176,22 +169,16 @@ fn dial_member<R: Cells, P: Port>(
     links: &mut Vec<P::Link>,
     room: &mut [u8],
 ) -> Result<bool, SignFault>
-    requires task { Stands task.now session.old (R.set cells.old) (R.plan cells.old) (length room.old) }
-    requires round { session.old.c ≡ None }
+    requires task { StandsFirst task.now session.old (R.set cells.old) (R.plan cells.old) (length room.old) }
     requires member { Contains (leaf_members session.old.plan session.old.leaf) member }
     requires space { vec_len links.old < vec_capacity links.old }
     ensures called { HasCalled task.now.desk.now.addresses.now (first_frame session.old) session.old session.new member
         (P.state port.old) (P.state port.new) (map (λ link. P.Link.talk link) links.old.items)
         (map (λ link. P.Link.talk link) links.new.items) result }
     ensures dials { DialCauses 64 (P.state port.old) (P.state port.new) result }
-    ensures steady { IsTrue (P.state port.old).steady → All (λ link. IsTrue (P.Link.steady link)) links.old.items
-        → All (λ link. IsTrue (P.Link.steady link)) links.new.items }
-    ensures rooms { (least : ℕ) → least ≤ (P.state port.old).room
-        → All (λ link. least ≤ P.Link.room link + 64) links.old.items
-        → All (λ link. least ≤ P.Link.room link + 64) links.new.items }
-    ensures same { SameAsk session.old session.new }
+    ensures links { AddsAsked P.Link.steady P.Link.room (P.state port.old) links.old.items links.new.items }
     ensures cells { cells.new ≡ cells.old }
-    ensures links { (vec_capacity links.new ≡ vec_capacity links.old)
+    ensures room { (vec_capacity links.new ≡ vec_capacity links.old)
         × OnOk result (vec_len links.new ≡ vec_len links.old + 1) }
 {
     let params = &task.desk.key.params;
@@ -225,9 +212,7 @@ fn ask_again<R: Cells, L: Source + Sink>(
     links: &mut Vec<L>,
     room: &mut [u8],
 ) -> Result<(), SignFault>
-    requires task { Stands task.now session.old (R.set cells.old) (R.plan cells.old) (length room.old) }
-    requires round { IsSome session.old.c }
-    requires digest { digest.now ≡ digest_of session.old task.now.message.now }
+    requires task { StandsAgain task.now session.old (R.set cells.old) (R.plan cells.old) (length room.old) digest.now }
     requires links { vec_len links.old ≡ length task.now.members.now }
     ensures run { Second (R.told cells.old) (R.leaves cells.old) session.old task.now.message.now session.old
         task.now.members.now (map (λ link. L.talk link) links.old.items) (map (λ link. L.talk link) links.new.items)
@@ -257,9 +242,7 @@ fn ask_once_more<R: Cells, L: Source + Sink>(
     link: &mut L,
     room: &mut [u8],
 ) -> Result<bool, SignFault>
-    requires task { Stands task.now session.old (R.set cells.old) (R.plan cells.old) (length room.old) }
-    requires round { IsSome session.old.c }
-    requires digest { digest.now ≡ digest_of session.old task.now.message.now }
+    requires task { StandsAgain task.now session.old (R.set cells.old) (R.plan cells.old) (length room.old) digest.now }
     requires member { Contains (leaf_members session.old.plan session.old.leaf) member }
     ensures asked { AskedAgain (R.told cells.old) (R.leaves cells.old) session.old session.new task.now.message.now
         member (L.talk link.old) (L.talk link.new) result }

@@ -5,6 +5,7 @@ ghost use Rattle.aggregator_session.specs.Runs.{bytes_in, reads_of};
 ghost use Rattle.leaf_table.specs.Entries.{IsLeased, map_of};
 ghost use Rattle.leaf_table.specs.Table.{Stays, plan_of, state_of};
 ghost use Rattle.aggregator_session.specs.Causes.{PortCauses, ReferenceCauses};
+ghost use Rattle.aggregator_session.specs.Desks.{ReadsFor};
 ghost use Rattle.aggregator_session.specs.Ended.{LeasedTo, RunsTo};
 ghost use Rattle.aggregator_session.specs.Signing.{RunsOn, SignsLeased, Spends, desk_state, signature_in, signed_with};
 ghost use Rattle.aggregator_session.specs.Signing.{spent_by};
@@ -53,10 +54,7 @@ pub fn sign_leased<R: Cells, D: Disk, P: Port>(
     message: &[u8],
 ) -> Result<Signed, SignFault>
     requires plan { plan_of table.old ≡ desk.now.plan.now }
-    requires height { desk.now.plan.now.h ≡ desk.now.key.now.params.h }
-    requires cells { (R.set cells.old ≡ desk.now.key.now.params) × (R.plan cells.old ≡ desk.now.plan.now) }
-    requires tree { (desk.now.tree.now.n ≡ desk.now.key.now.params.n)
-        × (desk.now.tree.now.h ≡ desk.now.key.now.params.h) }
+    requires cells { ReadsFor R.Cells.own desk.now cells.old }
     ensures signs { SignsLeased (desk_state desk.now) (reads_of R.Cells.own R.Faults cells.old cells.new)
         members message.now (table_seen table.old) (P.state port.old) (table_seen table.new) (P.state port.new)
         (signature_in result) }
@@ -81,10 +79,7 @@ pub fn run_leased<R: Cells, D: Disk, P: Port>(
     message: &[u8],
 ) -> Ended<Result<Signed, SignFault>>
     requires plan { plan_of table.old ≡ desk.now.plan.now }
-    requires height { desk.now.plan.now.h ≡ desk.now.key.now.params.h }
-    requires cells { (R.set cells.old ≡ desk.now.key.now.params) × (R.plan cells.old ≡ desk.now.plan.now) }
-    requires tree { (desk.now.tree.now.n ≡ desk.now.key.now.params.n)
-        × (desk.now.tree.now.h ≡ desk.now.key.now.params.h) }
+    requires cells { ReadsFor R.Cells.own desk.now cells.old }
     ensures signs { LeasedTo (desk_state desk.now) (reads_of R.Cells.own R.Faults cells.old cells.new)
         members message.now (table_seen table.old) (P.state port.old) (table_seen table.new) (P.state port.new)
         (signature_in result.outcome) result.session }
@@ -145,10 +140,7 @@ pub fn run_on<R: Cells, P: Port>(
     requires leaf { leaf < 2 ^ desk.now.plan.now.h }
     requires id { id.now ≡ message_id message.now }
     requires limit { length message.now ≤ 16777216 }
-    requires height { desk.now.plan.now.h ≡ desk.now.key.now.params.h }
-    requires cells { (R.set cells.old ≡ desk.now.key.now.params) × (R.plan cells.old ≡ desk.now.plan.now) }
-    requires tree { (desk.now.tree.now.n ≡ desk.now.key.now.params.n)
-        × (desk.now.tree.now.h ≡ desk.now.key.now.params.h) }
+    requires cells { ReadsFor R.Cells.own desk.now cells.old }
     ensures runs { RunsOn (desk_state desk.now) (reads_of R.Cells.own R.Faults cells.old cells.new) leaf message.now
         (P.state port.old) (P.state port.new) (bytes_in result) }
     ensures accepted { IfOk result (λ bytes. AcceptsAt desk.now.key.now message.now bytes.items leaf) }
@@ -172,10 +164,7 @@ fn run_to_end<R: Cells, P: Port>(
     requires leaf { leaf < 2 ^ desk.now.plan.now.h }
     requires id { id.now ≡ message_id message.now }
     requires limit { length message.now ≤ 16777216 }
-    requires height { desk.now.plan.now.h ≡ desk.now.key.now.params.h }
-    requires cells { (R.set cells.old ≡ desk.now.key.now.params) × (R.plan cells.old ≡ desk.now.plan.now) }
-    requires tree { (desk.now.tree.now.n ≡ desk.now.key.now.params.n)
-        × (desk.now.tree.now.h ≡ desk.now.key.now.params.h) }
+    requires cells { ReadsFor R.Cells.own desk.now cells.old }
     ensures runs { RunsTo (desk_state desk.now) (reads_of R.Cells.own R.Faults cells.old cells.new) leaf message.now
         (P.state port.old) (P.state port.new) (bytes_in result.outcome) result.session }
     ensures accepted { IfOk result.outcome (λ bytes. AcceptsAt desk.now.key.now message.now bytes.items leaf) }

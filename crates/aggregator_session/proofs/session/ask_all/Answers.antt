@@ -20,7 +20,7 @@ pub returns-in_err-dial_all-clause-run : goal.returns-in_err-dial_all-clause-run
 returns-in_err-dial_all-clause-run g c =
     let p = err_from_is_err_and c.from_residual.result c.from_residual.ensures.1 in
     rw (p.1, p.2) (lost_in_one _ c.dial_all.new.session c.in_err-dial_all.field-0.0
-    (first-as _ _ _ c.args.session.now _ _ _ _ _ _ c.requires.task.all c.in_err-dial_all.was c.dial_all.ensures.run))
+    (first-as _ _ _ c.args.session.now _ _ _ _ _ _ c.requires.task.stands.all c.in_err-dial_all.was c.dial_all.ensures.run))
 
 pub returns-in_err-turn-clause-run : goal.returns-in_err-turn-clause-run
 returns-in_err-turn-clause-run g c =
@@ -29,7 +29,7 @@ returns-in_err-turn-clause-run g c =
     let same = ap count c.dial_all.ensures.cells in
     rw (p.1, p.2) (run-as c.dial_all.new.session c.turn.new.self c.in_err-turn.ensures.same
     (judged_in_one _ c.dial_all.new.session c.in_err-turn.field-0.0
-    (first-as _ _ _ c.args.session.now _ _ _ _ _ _ c.requires.task.all c.in_ok-dial_all.was c.dial_all.ensures.run)
+    (first-as _ _ _ c.args.session.now _ _ _ _ _ _ c.requires.task.stands.all c.in_ok-dial_all.was c.dial_all.ensures.run)
     (stops-later _ [] _ _ _ _ (count-as _ _ same) c.in_err-turn.ensures.cause)))
 
 pub returns-in_err-ask_again-clause-run : goal.returns-in_err-ask_again-clause-run
@@ -40,10 +40,10 @@ returns-in_err-ask_again-clause-run g c =
     let many = length-map c.dial_all.new.links.items g.P.Link.Stream.talk in
     let stays = stays-as d.cells t.onward.stays in
     rw (p.1, p.2) (lost_in_two _ _ c.turn.new.self c.ask_again.new.session c.in_err-ask_again.field-0.0
-    (opens _ _ _ c.args.session.now c.dial_all.new.session c.turn.new.self _ _ _ _ c.requires.task.all d.run c.in_ok-dial_all.was c.in_ok-dial_all.ensures.whole (search rules) t.turned
+    (opens _ _ _ c.args.session.now c.dial_all.new.session c.turn.new.self _ _ _ _ c.requires.task.stands.all d.run c.in_ok-dial_all.was c.in_ok-dial_all.ensures.whole (search rules) t.turned
     (joined-as g.R.Cells.told g.R.Cells.leaves _ _ c.dial_all.new.session c.turn.new.self d.cells t.joined)
     (dealt-as g.R.Cells.told g.R.Cells.leaves _ _ c.dial_all.new.session c.turn.new.self d.cells t.dealt))
-    (second-end _ _ _ _ _ _ _ _ stays.told stays.leaves c.requires.task.all c.in_err-ask_again.was c.ask_again.ensures.run))
+    (second-end _ _ _ _ _ _ _ _ stays.told stays.leaves c.requires.task.stands.all c.in_err-ask_again.was c.ask_again.ensures.run))
 
 pub finish_with-requires-clause-digest : goal.finish_with-requires-clause-digest
 finish_with-requires-clause-digest g c =
@@ -64,10 +64,10 @@ returns-in_err-finish_with-clause-run g c =
     let le : count c.args.cells.now ≤ count c.ask_again.new.cells = (let x = ap count d.cells in let y = t.onward.count in let z = a.count in omega arith) in
     let digest = c.digest_of-digest.ensures ∙ same-digest c.turn.new.self c.ask_again.new.session c.args.task.now.message.now a.same in
     rw (p.1, p.2) (judged_in_two _ _ c.turn.new.self c.ask_again.new.session c.in_err-finish_with.field-0.0
-    (opens _ _ _ c.args.session.now c.dial_all.new.session c.turn.new.self _ _ _ _ c.requires.task.all d.run c.in_ok-dial_all.was c.in_ok-dial_all.ensures.whole (search rules) t.turned
+    (opens _ _ _ c.args.session.now c.dial_all.new.session c.turn.new.self _ _ _ _ c.requires.task.stands.all d.run c.in_ok-dial_all.was c.in_ok-dial_all.ensures.whole (search rules) t.turned
     (joined-as g.R.Cells.told g.R.Cells.leaves _ _ c.dial_all.new.session c.turn.new.self d.cells t.joined)
     (dealt-as g.R.Cells.told g.R.Cells.leaves _ _ c.dial_all.new.session c.turn.new.self d.cells t.dealt))
-    (second-end _ _ _ _ _ _ _ _ stays.told stays.leaves c.requires.task.all c.in_ok-ask_again.was a.run)
+    (second-end _ _ _ _ _ _ _ _ stays.told stays.leaves c.requires.task.stands.all c.in_ok-ask_again.was a.run)
     (fails-as _ c.args.task.now.message.now c.args.task.now.desk.now.tree.now _ _ _ _ _ _ _ _ later.told later.leaves le (c.in_err-finish_with.ensures.cause c.args.task.now.message.now digest)))
 
 pub returns-clause-run : goal.returns-clause-run
@@ -86,10 +86,10 @@ returns-clause-run g c =
     let answered_by = λ (d : Dealing) (key : UndividedKey) (answered : IsAnswered d key kept (digest_of kept message) (g.R.Cells.leaves c.args.cells.now) tree).
     subst (λ (q : List ℕ). IsAnswered d key kept q (g.R.Cells.leaves c.args.cells.now) tree) (sym digest) answered in
     signed _ _ c.turn.new.self kept _
-    (opens _ _ _ c.args.session.now c.dial_all.new.session c.turn.new.self _ _ _ _ c.requires.task.all d.run c.in_ok-dial_all.was c.in_ok-dial_all.ensures.whole (search rules) t.turned
+    (opens _ _ _ c.args.session.now c.dial_all.new.session c.turn.new.self _ _ _ _ c.requires.task.stands.all d.run c.in_ok-dial_all.was c.in_ok-dial_all.ensures.whole (search rules) t.turned
     (joined-as g.R.Cells.told g.R.Cells.leaves _ _ c.dial_all.new.session c.turn.new.self d.cells t.joined)
     (dealt-as g.R.Cells.told g.R.Cells.leaves _ _ c.dial_all.new.session c.turn.new.self d.cells t.dealt))
-    (second-end _ _ _ _ _ _ _ _ stays.told stays.leaves c.requires.task.all c.in_ok-ask_again.was a.run)
+    (second-end _ _ _ _ _ _ _ _ stays.told stays.leaves c.requires.task.stands.all c.in_ok-ask_again.was a.run)
     (record {
       faultless = none-of _ (λ fault some. let no = c.finish_with.ensures.fault fault (ap (round_fault kept) digest ∙ some) in let was = c.in_ok-finish_with.was in absurd (cc));
       accepted = f.accepted message digest;
@@ -123,8 +123,8 @@ returns-in_err-turn-clause-cells g c =
       succeeds = λ exact is.
           let both = stops-reference _ [] _ _ _ t.cause (same-err _ _ _ _ p.1 p.2 is) in
           let e = exact-as d.cells exact in
-          let set = ap g.R.Cells.set d.cells ∙ (c.requires.task.set ∙ ap (λ (k : PublicKey). k.params) (sym d.same.key)) in
-          let plan = ap g.R.Cells.plan d.cells ∙ (c.requires.task.plan ∙ sym d.same.plan) in
+          let set = ap g.R.Cells.set d.cells ∙ (c.requires.task.stands.set ∙ ap (λ (k : PublicKey). k.params) (sym d.same.key)) in
+          let plan = ap g.R.Cells.plan d.cells ∙ (c.requires.task.stands.plan ∙ sym d.same.plan) in
           let no = t.succeeds e.steady e.told (whole-as _ _ _ _ _ e.whole set plan) both.0 in
           absurd (cc);
       stays = stays-as d.cells t.onward.stays;
@@ -169,8 +169,8 @@ returns-in_err-finish_with-clause-cells g c =
           let e = exact-stays stays exact in
           let key = a.same.key ∙ (ap (λ (x : State). x.key) t.turned.same ∙ d.same.key) in
           let plans = a.same.plan ∙ (ap (λ (x : State). x.plan) t.turned.same ∙ d.same.plan) in
-          let set = stays.set ∙ (c.requires.task.set ∙ ap (λ (k : PublicKey). k.params) (sym key)) in
-          let plan = stays.plan ∙ (c.requires.task.plan ∙ sym plans) in
+          let set = stays.set ∙ (c.requires.task.stands.set ∙ ap (λ (k : PublicKey). k.params) (sym key)) in
+          let plan = stays.plan ∙ (c.requires.task.stands.plan ∙ sym plans) in
           let reference = same-err _ _ _ _ p.1 p.2 is in
           let both = fails-reference _ c.args.task.now.message.now _ _ _ _ _ cause reference in
           f.read e.steady e.told (whole-as _ _ _ _ _ e.whole set plan) (ap (round_fault c.ask_again.new.session) digest ∙ both.0) (sign-reference _ reference);
@@ -219,9 +219,9 @@ returns-in_err-ask_again-clause-dials g c =
     record {
       dialled = λ lost. absurd (a.dialled (lost-as _ _ _ _ _ p.1 p.2 c.in_err-ask_again.was lost));
       once = once-of _ _ _ _ _ c.in_ok-dial_all.was d.dials.once;
-      reads = λ steady lost. a.reads (d.steady steady) (lost-as _ _ _ _ _ p.1 p.2 c.in_err-ask_again.was lost);
-      writes = λ steady fits lost. a.writes (d.steady steady)
-          (λ k d lt. let room = c.dial_all.ensures.rooms k d lt in omega (arith, room, fits))
+      reads = λ steady lost. a.reads (d.links.steady steady) (lost-as _ _ _ _ _ p.1 p.2 c.in_err-ask_again.was lost);
+      writes = λ steady fits lost. a.writes (d.links.steady steady)
+          (λ k d lt. let room = c.dial_all.ensures.links.rooms k d lt in omega (arith, room, fits))
           (lost-as _ _ _ _ _ p.1 p.2 c.in_err-ask_again.was lost);
       only = d.dials.only;
     }

@@ -15,7 +15,7 @@ returns-clause-asked g c =
     let a = c.in_ok-ask.ensures in
     let message = c.args.task.now.message.now in
     asked (ask_frame c.in_ok-ask.ask message) c.ask_member.result
-    (second-frame (g.R.Cells.told c.args.cells.now) (g.R.Cells.leaves c.args.cells.now) c.args.session.now c.args.digest.now message c.args.member c.in_ok-ask.ask c.requires.digest a.ask a.tag)
+    (second-frame (g.R.Cells.told c.args.cells.now) (g.R.Cells.leaves c.args.cells.now) c.args.session.now c.args.digest.now message c.args.member c.in_ok-ask.ask c.requires.task.digest_is a.ask a.tag)
     c.ask_member.ensures.asked
 
 pub returns-clause-links : goal.returns-clause-links

@@ -1,5 +1,6 @@
 use Rattle.std.proofs.Common.{true, false, sym, ◌∙◌, arith, inr}
 use Rattle.std.proofs.lemmas.Result.{err_from_is_err_and}
+use Rattle.aggregator_session.proofs.Adding.{asked-more}
 use Rattle.aggregator_session.proofs.Refusing.{called-refused}
 use Rattle.aggregator_session.proofs.Rounds.{first-done, first-ends, first-more, first-refuses, ok-is}
 use Rattle.aggregator_session.proofs.Tasks.{called-as, dials-then, frame-same, lost-as, ok-not, once-as, once-of, rises-later, rose-later, same-then}
@@ -15,11 +16,15 @@ returns-in_err-dial_member-clause-run g c =
     (g.P.Port.state c.members.port) c.members.session c.members.i 0 _ _ (g.P.Port.state c.dial_member.new.port) c.dial_member.new.session c.dial_member.result
     c.members-test.true v.run (called-as _ _ (frame-same _ _ v.same) c.dial_member.ensures.called) c.in_err-dial_member.field-0.0 c.in_err-dial_member.was)
 
-pub returns-in_err-dial_member-clause-rooms : goal.returns-in_err-dial_member-clause-rooms
-returns-in_err-dial_member-clause-rooms g c = c.dial_member.ensures.rooms _ c.members.invariant.port.onward.room c.members.invariant.rooms
+pub returns-in_err-dial_member-clause-links : goal.returns-in_err-dial_member-clause-links
+returns-in_err-dial_member-clause-links g c =
+    let v = c.members.invariant in
+    asked-more g.P.Link.Faults.steady g.P.Link.Sink.room _ _ _ _ v.port.onward v.links c.dial_member.ensures.links
 
-pub returns-then-not-branch-clause-rooms : goal.returns-then-not-branch-clause-rooms
-returns-then-not-branch-clause-rooms g c = c.dial_member.ensures.rooms _ c.members.invariant.port.onward.room c.members.invariant.rooms
+pub returns-then-not-branch-clause-links : goal.returns-then-not-branch-clause-links
+returns-then-not-branch-clause-links g c =
+    let v = c.members.invariant in
+    asked-more g.P.Link.Faults.steady g.P.Link.Sink.room _ _ _ _ v.port.onward v.links c.dial_member.ensures.links
 
 pub returns-then-not-branch-clause-run : goal.returns-then-not-branch-clause-run
 returns-then-not-branch-clause-run g c =
@@ -32,7 +37,7 @@ pub returns-then-not-branch-clause-whole : goal.returns-then-not-branch-clause-w
 returns-then-not-branch-clause-whole g c = inr (λ all.
     let v = c.members.invariant in
     let h = c.dial_member.ensures.called in
-    called-refused _ _ c.members.session _ _ _ _ _ h.answer c.dial_member.result (v.same.c ∙ c.requires.round) h.calls h.state h.told (ok-is _ _ false c.in_ok-dial_member.was c.if-not-branch.true) all)
+    called-refused _ _ c.members.session _ _ _ _ _ h.answer c.dial_member.result (v.same.c ∙ c.requires.task.round) h.calls h.state h.told (ok-is _ _ false c.in_ok-dial_member.was c.if-not-branch.true) all)
 
 pub returns-clause-run : goal.returns-clause-run
 returns-clause-run g c =
@@ -48,13 +53,12 @@ members-preserved g c =
       run = first-more c.args.task.now.desk.now.addresses.now (first_frame c.args.session.now) (g.P.Port.state c.args.port.now) c.args.session.now c.args.task.now.members.now
           (g.P.Port.state c.members.port) c.members.session c.members.i 0 _ _ (g.P.Port.state c.dial_member.new.port) c.dial_member.new.session c.dial_member.result
           c.members-test.true v.run (called-as _ _ (frame-same _ _ v.same) d.called) (ok-is _ _ true c.in_ok-dial_member.was c.if-not-branch.false);
-      many = (let a = v.many in let b = c.in_ok-dial_member.ensures.links.1 in omega arith);
-      room = (let a = v.room in let b = d.links.0 in omega arith);
-      steady = λ s. d.steady (v.port.onward.steady ∙ s) (v.steady s);
-      rooms = d.rooms _ v.port.onward.room v.rooms;
+      many = (let a = v.many in let b = c.in_ok-dial_member.ensures.room.1 in omega arith);
+      room = (let a = v.room in let b = d.room.0 in omega arith);
+      links = asked-more g.P.Link.Faults.steady g.P.Link.Sink.room _ _ _ _ v.port.onward v.links d.links;
       port = dials-then _ _ _ v.port d.dials.only;
       undialled = (let first = v.undialled in let last = d.dials.once.same (ok-not _ _ _ c.in_ok-dial_member.was) in omega arith);
-      same = same-then _ _ _ v.same d.same;
+      same = same-then _ _ _ v.same d.called.same;
       cells = d.cells ∙ v.cells;
     }
 

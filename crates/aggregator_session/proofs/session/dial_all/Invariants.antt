@@ -1,7 +1,7 @@
 use Rattle.std.proofs.Common.{◌≡◌, ◌+◌, ◌≤◌, IsTrue, All, length, map, drop}
 use Rattle.aggregator_session.proofs.Rounds.{FirstFrom}
 use Rattle.aggregator_session.specs.Runs.{first_frame}
-use Rattle.aggregator_session.specs.Tasks.{OnlyDials}
+use Rattle.aggregator_session.specs.Tasks.{AreAsked, OnlyDials}
 use Rattle.session_core.specs.State.{SameAsk}
 use Rattle.aggregator_session.proofs.session.dial_all.Given as goal
 
@@ -15,8 +15,7 @@ invariant-members g l =
           (state l.port) l.session (drop l.i l.task.members.now) (map talk l.links.items);
       many : l.links.len ≡ l.i;
       room : length l.task.members.now ≤ l.links.cap;
-      steady : IsTrue (state l.fn.port).steady → All (λ link. IsTrue (g.P.Link.Faults.steady link)) l.links.items;
-      rooms : All (λ link. (state l.fn.port).room ≤ g.P.Link.Sink.room link + 64) l.links.items;
+      links : AreAsked g.P.Link.Faults.steady g.P.Link.Sink.room (state l.fn.port) l.links.items;
       port : OnlyDials (state l.fn.port) (state l.port);
       undialled : (state l.port).count ≤ (state l.fn.port).count;
       same : SameAsk l.fn.session l.session;

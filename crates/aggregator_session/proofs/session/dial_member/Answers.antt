@@ -5,6 +5,7 @@ use Rattle.aggregator_session.specs.Hearing.{Asked}
 use Rattle.aggregator_session.specs.Runs.{dialled, nowhere, undialled}
 use Rattle.aggregator_session.specs.declared.fault.SignFault.TheVariants.{Lost}
 use Rattle.aggregator_session.specs.declared.fault.Why.TheVariants.{DialFailed, NoAddress}
+use Rattle.aggregator_session.proofs.Adding.{adds-none, adds-one}
 use Rattle.aggregator_session.proofs.Frames.{first-frame, first-length}
 use Rattle.stream_io.specs.Net.{Dials}
 use Rattle.aggregator_session.proofs.session.dial_member.Goals as goal
@@ -16,6 +17,7 @@ returns-in_default-clause-called g c = record {
   calls = nowhere c.in_default.ensures.none;
   links = sym (append-nil _);
   state = refl;
+  same = record { key = refl; plan = refl; leaf = refl; message = refl; c = refl };
   told = refl;
 }
 
@@ -28,6 +30,7 @@ returns-in_default-dial-clause-called g c =
       calls = undialled c.in-Some.place.now (g.P.Port.state c.dial.new.self) c.in-Some.ensures.some d.onward d.cause.failed d.refused d.nobody;
       links = sym (append-nil _);
       state = refl;
+      same = record { key = refl; plan = refl; leaf = refl; message = refl; c = refl };
       told = refl;
     }
 
@@ -37,7 +40,7 @@ returns-clause-called g c =
     let h = c.ask_member-answer.ensures.asked in
     let start = talk c.in-Ok.link in
     let last = talk c.ask_member-answer.new.link in
-    let frame = first-frame c.args.session.now _ c.args.task.now.message.now c.in_ok-ask.ask c.requires.round c.in_ok-ask.ensures.ask in
+    let frame = first-frame c.args.session.now _ c.args.task.now.message.now c.in_ok-ask.ask c.requires.task.round c.in_ok-ask.ensures.ask in
     record {
       answer = h.answer;
       talks = last ∷ [];
@@ -46,27 +49,27 @@ returns-clause-called g c =
           (subst (λ (f : List _). Asked c.args.session.now c.args.member f start last h.answer) frame h.asked);
       links = ap (λ (l : List _). map talk l) c.push_reserved.ensures.items ∙ map_push talk _ _;
       state = h.state;
+      same = c.ask_member-answer.ensures.same;
       told = h.told;
     }
 
-pub returns-clause-steady : goal.returns-clause-steady
-returns-clause-steady g c steady all =
-    let is_steady = λ (link : _). IsTrue (g.P.Link.Faults.steady link) in
-    subst (All is_steady) (sym c.push_reserved.ensures.items)
-    (All-push is_steady c.args.links.now.items c.ask_member-answer.new.link all (c.ask_member-answer.ensures.steady ∙ c.in-Ok.ensures.link.link.steady steady))
+pub returns-in_default-clause-links : goal.returns-in_default-clause-links
+returns-in_default-clause-links g c = adds-none g.P.Link.Faults.steady g.P.Link.Sink.room (g.P.Port.state c.args.port.now) c.args.links.now.items
 
-pub returns-clause-rooms : goal.returns-clause-rooms
-returns-clause-rooms g c least le all =
-    let is_wide = λ (link : _). least ≤ g.P.Link.Sink.room link + 64 in
-    let size = first-length c.args.task.now.desk.now.key.now.params c.args.session.now _ c.args.task.now.message.now c.in_ok-ask.ask c.requires.round c.in_ok-ask.ensures.ask in
+pub returns-in_default-dial-clause-links : goal.returns-in_default-dial-clause-links
+returns-in_default-dial-clause-links g c = adds-none g.P.Link.Faults.steady g.P.Link.Sink.room (g.P.Port.state c.args.port.now) c.args.links.now.items
+
+pub returns-clause-links : goal.returns-clause-links
+returns-clause-links g c =
+    let size = first-length c.args.task.now.desk.now.key.now.params c.args.session.now _ c.args.task.now.message.now c.in_ok-ask.ask c.requires.task.round c.in_ok-ask.ensures.ask in
     let had = c.in-Ok.ensures.link.link.room in
     let has = c.ask_member-answer.ensures.room in
-    subst (All is_wide) (sym c.push_reserved.ensures.items)
-    (All-push is_wide c.args.links.now.items c.ask_member-answer.new.link all (omega (arith, le, size, had, has)))
+    adds-one g.P.Link.Faults.steady g.P.Link.Sink.room (g.P.Port.state c.args.port.now) c.args.links.now.items _ c.ask_member-answer.new.link c.push_reserved.ensures.items
+    (λ steady. c.ask_member-answer.ensures.steady ∙ c.in-Ok.ensures.link.link.steady steady) (omega (arith, size, had, has))
 
 pub returns-clause-dials : goal.returns-clause-dials
 returns-clause-dials g c =
-    let size = first-length c.args.task.now.desk.now.key.now.params c.args.session.now _ c.args.task.now.message.now c.in_ok-ask.ask c.requires.round c.in_ok-ask.ensures.ask in
+    let size = first-length c.args.task.now.desk.now.key.now.params c.args.session.now _ c.args.task.now.message.now c.in_ok-ask.ask c.requires.task.round c.in_ok-ask.ensures.ask in
     let d = c.in-Ok.ensures in
     let had = d.link.link.room in
     let same = d.cause.succeeded in
