@@ -1,5 +1,5 @@
 -- A leaf table in one state, and what the calls for one message make of it.
-use Rattle.std.specs.Prelude.{◌≡◌, ◌≢◌, ◌<◌, ◌^◌, ℕ, List, Result, Err, IfOk, IsTrue}
+use Rattle.std.specs.Prelude.{◌≡◌, ◌≢◌, ◌<◌, ◌≤◌, ◌^◌, ℕ, List, Result, Err, IfOk, IsTrue}
 use Rattle.disk_trait.specs.declared.disk.Pages as pages
 use Rattle.disk_trait.specs.declared.faults.Faults as faults
 use Rattle.leaf_table.specs.Entries.{IsLeased, map_of}
@@ -32,6 +32,11 @@ module _ {D : Type 0} {p : pages.Ghosts D} {f : faults.Ghosts D} where
 
   abbrev pub table_seen : Table D p f → TableSeen
   table_seen table = record { state = state_of table; faults = faults_of table; name = name_of table }
+
+-- the same table at a later time: its name stays, and the count of its disk's faults never falls
+pub record TableOnward (old new : TableSeen) : Type 0 where
+  pub name : new.name ≡ old.name
+  pub faults : old.faults ≤ new.faults
 
 -- What leasing and burning say of the disk: no slot is found damaged where the disk tells its content, a steady disk
 -- that tells it does not fail, and the count rises where the answer is Device and nowhere else.

@@ -7,7 +7,7 @@ ghost use Rattle.leaf_table.specs.Table.{Stays, plan_of, state_of};
 ghost use Rattle.aggregator_session.specs.Causes.{PortCauses, ReferenceCauses};
 ghost use Rattle.aggregator_session.specs.Desks.{ReadsFor};
 ghost use Rattle.aggregator_session.specs.Ended.{LeasedTo, RunsTo};
-ghost use Rattle.aggregator_session.specs.Signing.{RunsOn, SignsLeased, Spends, desk_state, signature_in, signed_with};
+ghost use Rattle.aggregator_session.specs.Signing.{SignsLeased, Spends, desk_state, signature_in, signed_with};
 ghost use Rattle.aggregator_session.specs.Signing.{spent_by};
 ghost use Rattle.aggregator_session.specs.Tables.{table_seen};
 ghost use Rattle.lms_bytes.specs.MessageId.{message_id, message_id_bytes};
@@ -97,7 +97,7 @@ pub fn run_leased<R: Cells, D: Disk, P: Port>(
         Ok(leaf) => leaf,
         Err(fault) => return not_begun(SignFault::Table(fault)),
     };
-    let Ended { outcome, session } = run_to_end(alloc, desk, cells, port, leaf, &id, message);
+    let Ended { outcome, session } = run_on(alloc, desk, cells, port, leaf, &id, message);
     burn_spent(table, leaf, &id, spent_by(&outcome));
     Ended {
         outcome: signed_with(leaf, outcome),
@@ -127,32 +127,9 @@ fn signed_with(leaf: u32, outcome: Result<Vec<u8>, SignFault>) -> Result<Signed,
     }
 }
 
-/// Runs a session with a leaf that was leased for the message.
+/// Runs a session with a leaf that was leased for the message, and also gives it as it stands at its end, where one was
+/// begun.
 pub fn run_on<R: Cells, P: Port>(
-    alloc: Global,
-    desk: &Desk,
-    cells: &mut R,
-    port: &mut P,
-    leaf: u32,
-    id: &MessageId,
-    message: &[u8],
-) -> Result<Vec<u8>, SignFault>
-    requires leaf { leaf < 2 ^ desk.now.plan.now.h }
-    requires id { id.now ≡ message_id message.now }
-    requires limit { length message.now ≤ 16777216 }
-    requires cells { ReadsFor R.Cells.own desk.now cells.old }
-    ensures runs { RunsOn (desk_state desk.now) (reads_of R.Cells.own R.Faults cells.old cells.new) leaf message.now
-        (P.state port.old) (P.state port.new) (bytes_in result) }
-    ensures accepted { IfOk result (λ bytes. AcceptsAt desk.now.key.now message.now bytes.items leaf) }
-    ensures port { PortCauses message.now (P.state port.old) (P.state port.new) result }
-    ensures cells { ReferenceCauses R.Cells.own R.Faults cells.old cells.new result }
-{
-    let Ended { outcome, .. } = run_to_end(alloc, desk, cells, port, leaf, id, message);
-    outcome
-}
-
-/// Does what `run_on` does, and also gives the session as it stands at its end, where one was begun.
-fn run_to_end<R: Cells, P: Port>(
     alloc: Global,
     desk: &Desk,
     cells: &mut R,

@@ -16,4 +16,4 @@ pub returns-clause-signs : goal.returns-clause-signs
 returns-clause-signs g c =
     leased-to c.signed_with.ensures.answer (let long = c.if-message.false in omega arith) c.of-id.ensures
     (asks-as c.args.message.now c.of-id.ensures c.in-Ok.ensures.event c.in-Ok.ensures.within c.in-Ok.ensures.leased c.in-Ok.ensures.enters)
-    c.run_to_end-outcome.ensures.runs c.spent_by.ensures c.burn_spent.ensures.spends
+    c.run_on-outcome.ensures.runs c.spent_by.ensures c.burn_spent.ensures.spends

@@ -1,7 +1,7 @@
 use Rattle.std.proofs.Common.{refl}
 use Rattle.aggregator_session.specs.Signing.{not_started}
 use Rattle.aggregator_session.proofs.Running.{has-accepted, ran-to}
-use Rattle.aggregator_session.proofs.sign.run_to_end.Goals as goal
+use Rattle.aggregator_session.proofs.sign.run_on.Goals as goal
 
 pub returns-in_default-clause-runs : goal.returns-in_default-clause-runs
 returns-in_default-clause-runs g c = record { runs = not_started refl; session_is = refl }
