@@ -12,6 +12,7 @@ pub mod Standing
 mod Turning
 mod Working
 pub mod PortStanding
+pub mod Starting
 pub mod Gathering
 mod Joining
 pub mod Finishing

@@ -1,8 +1,10 @@
 pub mod Turns
 pub mod Places
 pub mod Replies
+pub mod Sending
 pub mod Connections
 pub mod Workers
+pub mod Starting
 pub mod Trustees
 pub mod Ports
 pub mod Gathered

@@ -1,11 +1,12 @@
 //! Workers after they were run.
 
-ghost use Rattle.std.specs.Prelude.{◌≡◌, ◌≤◌, ◌<◌, ◌+◌, ◌++◌, ℕ, [], ◌∷◌, List, Option, All, false, map, vec_len};
+ghost use Rattle.std.specs.Prelude.{◌≡◌, ◌≤◌, ◌<◌, ◌+◌, ◌++◌, ℕ, [], ◌∷◌, List, Option, All, map, vec_len};
 ghost use Rattle.std.specs.Prelude.{vec_capacity};
 ghost use Rattle.share_files.specs.declared.share.Share.{Share};
 ghost use Rattle.stream_io.specs.Net.{PortState};
 ghost use Rattle.trustee_node.specs.Workers.{ClockState, worker_state};
 ghost use Rattle.trustee_node.specs.Gathered.{AreDone, Gathered, IsDone};
+ghost use Rattle.trustee_node.specs.Turns.{IsFree};
 ghost use Rattle.turn_lock.specs.Pass.{first_pass};
 
 use crate::Worker;
@@ -23,14 +24,14 @@ pub(crate) fn gather<D: Disk, C: Clock + Drop, P: Port>(
     ports: &mut Vec<P>,
 ) -> (Pass<Trustee<D>>, Totals)
     requires some { 1 ≤ vec_len workers }
-    requires idle { All (λ worker. (worker.pass.lock ≡ lock.now) × (worker.pass.in_turn ≡ false)) workers.items }
+    requires idle { All (λ worker. IsFree lock.now worker.pass) workers.items }
     requires room { (ports.old.items ≡ []) × (vec_len ports.old ≡ 0) × (vec_len workers ≤ vec_capacity ports.old) }
     ensures gathered { (share : Share) (ids : Option (List (List ℕ))) (asked : ℕ) (olds : List PortState)
         (clocks : List ClockState)
         → AreDone (worker_state P.state C.told C.answers) share ids asked (first_pass lock.now) olds clocks
         workers.items
         → Gathered share ids asked lock.now result.0 olds (map P.state ports.new.items) clocks result.1 }
-    ensures pass { (result.0.lock ≡ lock.now) × (result.0.in_turn ≡ false) }
+    ensures pass { IsFree lock.now result.0 }
     ensures count { vec_len ports.new ≡ vec_len workers }
 {
     let Some(first) = workers.pop() else {
@@ -80,8 +81,8 @@ fn take_in<D: Disk, C: Clock + Drop, P: Port>(
     ports: &mut Vec<P>,
     totals: &mut Totals,
 )
-    requires pass { (pass.old.lock ≡ lock.now) × (pass.old.in_turn ≡ false) }
-    requires worker { (worker.pass.lock ≡ lock.now) × (worker.pass.in_turn ≡ false) }
+    requires pass { IsFree lock.now pass.old }
+    requires worker { IsFree lock.now worker.pass }
     requires room { vec_len ports.old < vec_capacity ports.old }
     ensures gathered { (share : Share) (ids : Option (List (List ℕ))) (asked : ℕ) (olds : List PortState)
         (clocks : List ClockState) (port : PortState) (clock : ClockState)
@@ -89,7 +90,7 @@ fn take_in<D: Disk, C: Clock + Drop, P: Port>(
         → IsDone share ids asked (first_pass lock.now) port clock (worker_state P.state C.told C.answers worker)
         → Gathered share ids asked lock.now pass.new (olds ++ port ∷ []) (map P.state ports.new.items)
         (clocks ++ clock ∷ []) totals.new }
-    ensures pass { (pass.new.lock ≡ lock.now) × (pass.new.in_turn ≡ false) }
+    ensures pass { IsFree lock.now pass.new }
     ensures room { (vec_len ports.new ≡ vec_len ports.old + 1) × (vec_capacity ports.new ≡ vec_capacity ports.old) }
 {
     let (other, more) = begin(worker, ports);

@@ -17,5 +17,6 @@ mod worker;
 pub use connection::serve_connection;
 pub use served::{Served, ServedEnd, end_by};
 pub use service::serve_ports;
+pub use start::make_workers;
 pub use totals::Totals;
 pub use worker::{Worker, serve};

@@ -1,15 +1,13 @@
 //! Replies. They are written outside the turn, and take no memory.
 
-ghost use Rattle.std.specs.Prelude.{◌≡◌, ◌<◌, ◌≤◌, ◌+◌, ◌++◌, length, replicate, take, IfSome, IsOk, IsTrue};
-ghost use Rattle.std.specs.Prelude.{MatchResult};
-ghost use Rattle.disk_trait.specs.Faults.{HasCause};
+ghost use Rattle.std.specs.Prelude.{◌≡◌, ◌<◌, ◌≤◌, ◌+◌, ◌++◌, length, replicate, take, IfSome};
 ghost use Rattle.lms_bytes.specs.Bytes.{joined};
 ghost use Rattle.round_frames.specs.Asks.{HasSizes};
 ghost use Rattle.round_frames.specs.Replies.{IsHead};
-ghost use Rattle.stream_io.specs.Talk.{OnlyWrote, WrotePart};
 ghost use Rattle.trustee_core.specs.Grants.{ask_of, mask_of, masks_of};
 ghost use Rattle.trustee_node.specs.Replies.{HasDigest, IsGrantOf, KeepsFew, body_in, c_of, kept_by, outcome_in};
 ghost use Rattle.trustee_node.specs.Replies.{longest_reply, masks_joined, reply_bytes, reply_head, round_of};
+ghost use Rattle.trustee_node.specs.Sending.{Sends, sink_state};
 
 use crate::turn::Answer;
 use approval_book::Denial;
@@ -34,17 +32,9 @@ pub(crate) fn write_reply<K: Sink>(
 ) -> Result<(), Failed>
     requires sizes { HasSizes share.now.params ask.now }
     requires answer { IsGrantOf answer.now ask.now }
-    ensures wrote { let bytes = reply_bytes share.now ask.now (outcome_in answer.now) in
-        IsTrue (K.talk link.old).told → MatchResult result
-        (λ _. (K.talk link.new).written ≡ (K.talk link.old).written ++ bytes)
-        (λ _. WrotePart (K.talk link.old) (K.talk link.new) bytes) }
-    ensures only { OnlyWrote (K.talk link.old) (K.talk link.new) }
-    ensures cause { HasCause (K.talk link.old).count (K.talk link.new).count result }
-    ensures succeeds { let bytes = reply_bytes share.now ask.now (outcome_in answer.now) in
-        IsTrue (K.steady link.old) → length bytes ≤ K.room link.old → IsOk result }
-    ensures room { K.room link.old ≤ K.room link.new + length (reply_bytes share.now ask.now (outcome_in answer.now)) }
+    ensures sends { Sends (reply_bytes share.now ask.now (outcome_in answer.now))
+        (sink_state K.talk K.steady K.room link.old) (sink_state K.talk K.steady K.room link.new) result }
     ensures length { length (reply_bytes share.now ask.now (outcome_in answer.now)) ≤ longest_reply share.now.params }
-    ensures steady { K.steady link.new ≡ K.steady link.old }
 {
     let head = head_of(share, ask, answer);
     let mut room = [0; ROOM];
@@ -107,18 +97,9 @@ fn write_body<K: Sink>(
 ) -> Result<(), Failed>
     requires digest { HasDigest share.now answer.now }
     requires front { front ≤ 99 }
-    ensures wrote { let bytes = take front room.old ++ body_in share.now answer.now in
-        IsTrue (K.talk link.old).told → MatchResult result
-        (λ _. (K.talk link.new).written ≡ (K.talk link.old).written ++ bytes)
-        (λ _. WrotePart (K.talk link.old) (K.talk link.new) bytes) }
-    ensures only { OnlyWrote (K.talk link.old) (K.talk link.new) }
-    ensures cause { HasCause (K.talk link.old).count (K.talk link.new).count result }
-    ensures succeeds { let bytes = take front room.old ++ body_in share.now answer.now in
-        IsTrue (K.steady link.old) → length bytes ≤ K.room link.old → IsOk result }
-    ensures room { let bytes = take front room.old ++ body_in share.now answer.now in
-        K.room link.old ≤ K.room link.new + length bytes }
+    ensures sends { Sends (take front room.old ++ body_in share.now answer.now)
+        (sink_state K.talk K.steady K.room link.old) (sink_state K.talk K.steady K.room link.new) result }
     ensures keeps { KeepsFew answer.now }
-    ensures steady { K.steady link.new ≡ K.steady link.old }
 {
     match answer {
         Answer::Decided(Ok(grant)) => write_masks(share, grant, room, front, link),
@@ -136,18 +117,9 @@ fn write_kept<K: Sink>(
     link: &mut K,
 ) -> Result<(), Failed>
     requires { front ≤ 99 }
-    ensures wrote { let bytes = take front room.old ++ kept_by why.now in
-        IsTrue (K.talk link.old).told → MatchResult result
-        (λ _. (K.talk link.new).written ≡ (K.talk link.old).written ++ bytes)
-        (λ _. WrotePart (K.talk link.old) (K.talk link.new) bytes) }
-    ensures only { OnlyWrote (K.talk link.old) (K.talk link.new) }
-    ensures cause { HasCause (K.talk link.old).count (K.talk link.new).count result }
-    ensures succeeds { let bytes = take front room.old ++ kept_by why.now in
-        IsTrue (K.steady link.old) → length bytes ≤ K.room link.old → IsOk result }
-    ensures room { let bytes = take front room.old ++ kept_by why.now in
-        K.room link.old ≤ K.room link.new + length bytes }
+    ensures sends { Sends (take front room.old ++ kept_by why.now)
+        (sink_state K.talk K.steady K.room link.old) (sink_state K.talk K.steady K.room link.new) result }
     ensures keeps { length (kept_by why.now) ≤ 64 }
-    ensures steady { K.steady link.new ≡ K.steady link.old }
 {
     let length = put_behind(why, room, front);
     write_whole(link, &room[..length])
@@ -221,17 +193,8 @@ fn write_masks<K: Sink>(
 ) -> Result<(), Failed>
     requires digest { IfSome (ask_of grant.now).second (λ second. length second.digest ≡ share.now.params.n) }
     requires front { front ≤ 99 }
-    ensures wrote { let bytes = take front room.old ++ masks_joined share.now (ask_of grant.now) in
-        IsTrue (K.talk link.old).told → MatchResult result
-        (λ _. (K.talk link.new).written ≡ (K.talk link.old).written ++ bytes)
-        (λ _. WrotePart (K.talk link.old) (K.talk link.new) bytes) }
-    ensures only { OnlyWrote (K.talk link.old) (K.talk link.new) }
-    ensures cause { HasCause (K.talk link.old).count (K.talk link.new).count result }
-    ensures succeeds { let bytes = take front room.old ++ masks_joined share.now (ask_of grant.now) in
-        IsTrue (K.steady link.old) → length bytes ≤ K.room link.old → IsOk result }
-    ensures room { let bytes = take front room.old ++ masks_joined share.now (ask_of grant.now) in
-        K.room link.old ≤ K.room link.new + length bytes }
-    ensures steady { K.steady link.new ≡ K.steady link.old }
+    ensures sends { Sends (take front room.old ++ masks_joined share.now (ask_of grant.now))
+        (sink_state K.talk K.steady K.room link.old) (sink_state K.talk K.steady K.room link.new) result }
 {
     let count = mask_count(&share.params, grant);
     // The key is hashed once for all masks.

@@ -9,7 +9,7 @@ ghost use Rattle.trustee_node.specs.Ports.{ServedPorts};
 ghost use Rattle.trustee_node.specs.Trustees.{trustee_state};
 
 use crate::gather::gather;
-use crate::start::start;
+use crate::start::make_workers;
 use crate::totals::Totals;
 use crate::{Worker, serve};
 use approval_book::Approved;
@@ -39,7 +39,7 @@ pub fn serve_ports<
     share: &Share,
     book: Option<&Approved>,
     ports: &mut Vec<P>,
-    clocks: Vec<C>,
+    mut clocks: Vec<C>,
     connections: u32,
 ) -> (Trustee<D>, Result<Totals, NoMemory>)
     requires share { share_of trustee ≡ share.now }
@@ -65,7 +65,7 @@ pub fn serve_ports<
             return (trustee, Err(refused));
         }
     };
-    let mut workers = start(&lock, ports, clocks, passes, room);
+    let mut workers = make_workers(&lock, ports, &mut clocks, passes, room);
     serve(rt, &lock, share, book, workers.as_mut_slice(), connections);
     let (pass, totals) = gather(&lock, workers, ports);
     (lock.close(pass), Ok(totals))

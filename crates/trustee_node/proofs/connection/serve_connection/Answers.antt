@@ -72,7 +72,7 @@ returns-in-Err-write_reply-clause-conversation g c =
     let v = c.loop.invariant in
     let ask = c.in-Ok.ask in
     let r = c.in-Ok.ensures in
-    let w = c.in-Err-write_reply.ensures in
+    let w = c.in-Err-write_reply.ensures.sends in
     let t = c.decide_in_turn-answer.ensures.turn in
     let given = c.decide_in_turn-answer.result in
     let turn = turn_of ask c.now-moment.result t.seen (outcome_in given) t.added in
@@ -100,7 +100,7 @@ returns-in-Err-write_reply-clause-conversation g c =
       written = λ told. written-part share v.turns turn old last new (r.only.written ∙ v.written told) (w.wrote (told_last ∙ told));
       ends = (count, worn-most v.turns turn v.fresh (worn-few given));
       most = (let a = v.many in let b = c.loop-test.true in omega (arith, a, b, length-more v.turns turn));
-      small = small-more share v.turns turn (longest_reply share.params) v.small w.length;
+      small = small-more share v.turns turn (longest_reply share.params) v.small c.in-Err-write_reply.ensures.length;
       fails = λ steady _. (
         refl,
         room-short share v.turns turn old.room mid.room last.room v.room r.only.room
@@ -117,7 +117,7 @@ returns-then-is_worn-clause-conversation g c =
     let v = c.loop.invariant in
     let ask = c.in-Ok.ask in
     let r = c.in-Ok.ensures in
-    let w = c.in_default.ensures in
+    let w = c.in_default.ensures.sends in
     let t = c.decide_in_turn-answer.ensures.turn in
     let given = c.decide_in_turn-answer.result in
     let turn = turn_of ask c.now-moment.result t.seen (outcome_in given) t.added in
@@ -145,7 +145,7 @@ returns-then-is_worn-clause-conversation g c =
       written = λ told. written-more share v.turns turn old.written mid.written last.written new.written (v.written told) r.only.written (w.wrote (told_last ∙ told));
       ends = (count, worn-more v.turns turn 1 v.fresh (worn-is given (sym c.is_worn.ensures ∙ c.if-is_worn.true)));
       most = (let a = v.many in let b = c.loop-test.true in omega (arith, a, b, length-more v.turns turn));
-      small = small-more share v.turns turn (longest_reply share.params) v.small w.length;
+      small = small-more share v.turns turn (longest_reply share.params) v.small c.in_default.ensures.length;
       fails = λ _ never. absurd never;
       cause = quiet-cause Worn old.count new.count (λ never. absurd never) quiet;
       told = w.only.told ∙ told_last;
@@ -158,7 +158,7 @@ loop-preserved g c =
     let v = c.loop.invariant in
     let ask = c.in-Ok.ask in
     let r = c.in-Ok.ensures in
-    let w = c.in_default.ensures in
+    let w = c.in_default.ensures.sends in
     let t = c.decide_in_turn-answer.ensures.turn in
     let given = c.decide_in_turn-answer.result in
     let turn = turn_of ask c.now-moment.result t.seen (outcome_in given) t.added in
@@ -184,7 +184,7 @@ loop-preserved g c =
       fresh = worn-more v.turns turn 0 v.fresh (fresh-is given (sym c.is_worn.ensures ∙ c.if-is_worn.false));
       frames = (let a = v.frames in omega (arith, a));
       many = (let b = v.many in omega (arith, b, length-more v.turns turn));
-      small = small-more share v.turns turn (longest_reply share.params) v.small w.length;
+      small = small-more share v.turns turn (longest_reply share.params) v.small c.in_default.ensures.length;
       room = room-more share v.turns turn old.room mid.room last.room (talk c.write_reply.new.link).room v.room r.only.room
           (let written = w.room in let before = g.met.L.Sink.rooms c.next_ask.new.source in let after = g.met.L.Sink.rooms c.write_reply.new.link in omega (arith, written, before, after));
       quiet = w.cause.succeeded ∙ (r.cause.same (λ is. absurd (cc)) ∙ v.quiet);

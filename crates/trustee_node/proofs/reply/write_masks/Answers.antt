@@ -1,4 +1,5 @@
 use Rattle.std.proofs.Common.{◌≡◌, ◌-◌, ◌++◌, ℕ, List, inl, inr, take, ap, ◌∙◌, subst, arith, refl, length-append}
+use Rattle.disk_trait.specs.Faults.{Rose}
 use Rattle.lms_bytes.specs.Bytes.{joined}
 use Rattle.stream_io.proofs.Pieces.{part-front, wrote-same, wrote-then}
 use Rattle.stream_io.specs.Talk.{WrotePart}
@@ -45,45 +46,15 @@ batches-preserved g c =
       );
     }
 
-pub returns-in-Err-clause-succeeds : goal.returns-in-Err-clause-succeeds
-returns-in-Err-clause-succeeds g c steady fits =
-    let v = c.batches.invariant in
-    let b = c.put_masks-batch.ensures in
-    let room = c.batches.room in
-    let front = c.batches.unwritten in
-    let batch = c.put_masks-batch.result in
-    let behind = take batch.length c.put_masks-batch.new.room in
-    let there = part-front front (4096 - front) batch.length room c.put_masks-batch.new.room (omega arith) (omega arith) (omega arith) in
-    c.in-Err.ensures.succeeds (v.steady ∙ steady)
-    (room-there (mask_of c.args.share.now (ask_of c.args.grant.now)) (g.K.Sink.room c.args.link.now) (g.K.Sink.room c.batches.link) (take front room)
-    (take c.args.front c.args.room.now) behind _ c.batches.next batch.next _ v.takes b.bytes there b.within fits)
-
-pub returns-in-Err-clause-room : goal.returns-in-Err-clause-room
-returns-in-Err-clause-room g c =
-    let v = c.batches.invariant in
-    let b = c.put_masks-batch.ensures in
-    let room = c.batches.room in
-    let front = c.batches.unwritten in
-    let batch = c.put_masks-batch.result in
-    let behind = take batch.length c.put_masks-batch.new.room in
-    let there = part-front front (4096 - front) batch.length room c.put_masks-batch.new.room (omega arith) (omega arith) (omega arith) in
-    room-all (mask_of c.args.share.now (ask_of c.args.grant.now)) (g.K.Sink.room c.args.link.now) (g.K.Sink.room c.write_whole.new.sink)
-    (take c.args.front c.args.room.now) batch.next _
-    (room-on (mask_of c.args.share.now (ask_of c.args.grant.now)) (g.K.Sink.room c.args.link.now) (g.K.Sink.room c.batches.link) (g.K.Sink.room c.write_whole.new.sink) (take front room)
-    (take c.args.front c.args.room.now) behind _ c.batches.next batch.next v.takes b.bytes there c.in-Err.ensures.room) b.within
-
-pub returns-clause-room : goal.returns-clause-room
-returns-clause-room g c =
-    let v = c.batches.invariant in
-    room-all (mask_of c.args.share.now (ask_of c.args.grant.now)) (g.K.Sink.room c.args.link.now) (g.K.Sink.room c.batches.link)
-    (take c.args.front c.args.room.now) c.batches.next _ (let t = v.takes in omega (arith, t)) (let w = v.within in let e = c.mask_count-count.ensures in omega (arith, w, e))
-
-pub returns-in-Err-clause-wrote : goal.returns-in-Err-clause-wrote
-returns-in-Err-clause-wrote g c told =
+pub returns-in-Err : goal.returns-in-Err
+returns-in-Err g c =
     let talk = g.K.Stream.talk in
     let v = c.batches.invariant in
     let b = c.put_masks-batch.ensures in
+    let e = c.in-Err.ensures in
     let f = mask_of c.args.share.now (ask_of c.args.grant.now) in
+    let had = g.K.Sink.room c.args.link.now in
+    let has = g.K.Sink.room c.batches.link in
     let old = talk c.args.link.now in
     let new = talk c.write_whole.new.sink in
     let room = c.batches.room in
@@ -92,12 +63,28 @@ returns-in-Err-clause-wrote g c told =
     let head = take c.args.front c.args.room.now in
     let behind = take batch.length c.put_masks-batch.new.room in
     let there = part-front front (4096 - front) batch.length room c.put_masks-batch.new.room (omega arith) (omega arith) (omega arith) in
-    let part = gathered-part f old (talk c.batches.link) new front room head behind c.batches.next batch.next
-    (v.gathered told) b.bytes (subst (WrotePart (talk c.batches.link) new) there (c.in-Err.ensures.wrote (v.only.told ∙ told))) in
-    part-of old new (head ++ joined f batch.next) _ (prefix-in head (joined f batch.next) _ (joined-begins f batch.next _ b.within)) part
+    record {
+      sends = record {
+        wrote = λ told.
+            let part = gathered-part f old (talk c.batches.link) new front room head behind c.batches.next batch.next
+            (v.gathered told) b.bytes (subst (WrotePart (talk c.batches.link) new) there (e.wrote (v.only.told ∙ told))) in
+            part-of old new (head ++ joined f batch.next) _ (prefix-in head (joined f batch.next) _ (joined-begins f batch.next _ b.within)) part;
+        only = wrote-then _ _ _ v.only e.only;
+        cause = record {
+          later = (let quiet = v.quiet in let later = e.cause.later in omega (arith, quiet, later));
+          succeeded = tt;
+          failed = subst (λ (n : ℕ). Rose n new.count) v.quiet e.cause.failed;
+        };
+        succeeds = λ steady fits. e.succeeds (v.steady ∙ steady)
+            (room-there f had has (take front room) head behind _ c.batches.next batch.next _ v.takes b.bytes there b.within fits);
+        room = room-all f had (g.K.Sink.room c.write_whole.new.sink) head batch.next _
+            (room-on f had has (g.K.Sink.room c.write_whole.new.sink) (take front room) head behind _ c.batches.next batch.next v.takes b.bytes there e.room) b.within;
+        steady = e.steady ∙ v.steady;
+      };
+    }
 
-pub returns-clause-wrote : goal.returns-clause-wrote
-returns-clause-wrote g c told =
+pub returns : goal.returns
+returns g c =
     let talk = g.K.Stream.talk in
     let v = c.batches.invariant in
     let f = mask_of c.args.share.now (ask_of c.args.grant.now) in
@@ -105,8 +92,19 @@ returns-clause-wrote g c told =
     let head = take c.args.front c.args.room.now in
     let some = some-masks c.args.share.now.params (ask_of c.args.grant.now) in
     let whole : c.batches.next ≡ c.mask_count-count.result = (let t = c.batches-test.false in let w = v.within in omega (arith, t, w)) in
-    let all = gathered-all f old (talk c.batches.link) c.batches.unwritten c.batches.room head c.batches.next (v.gathered told) (let e = c.mask_count-count.ensures in omega (arith, whole, e, some)) in
-    all ∙ ap (λ (k : ℕ). old.written ++ (head ++ joined f k)) (whole ∙ c.mask_count-count.ensures)
+    record {
+      sends = record {
+        wrote = λ told.
+            let all = gathered-all f old (talk c.batches.link) c.batches.unwritten c.batches.room head c.batches.next (v.gathered told) (let e = c.mask_count-count.ensures in omega (arith, whole, e, some)) in
+            all ∙ ap (λ (k : ℕ). old.written ++ (head ++ joined f k)) (whole ∙ c.mask_count-count.ensures);
+        only = v.only;
+        cause = record { later = (let quiet = v.quiet in omega (arith, quiet)); succeeded = v.quiet; failed = tt };
+        succeeds = λ steady fits. refl;
+        room = room-all f (g.K.Sink.room c.args.link.now) (g.K.Sink.room c.batches.link) head c.batches.next _
+            (let t = v.takes in omega (arith, t)) (let w = v.within in let e = c.mask_count-count.ensures in omega (arith, w, e));
+        steady = v.steady;
+      };
+    }
 
 pub batches-smaller : goal.batches-smaller
 batches-smaller g c =

@@ -1,4 +1,4 @@
-use Rattle.std.proofs.Common.{map, arith}
+use Rattle.std.proofs.Common.{◌≡◌, length, map, arith}
 use Rattle.std.proofs.lemmas.List.{length-map}
 use Rattle.std.specs.Option.{option_map}
 use Rattle.approval_book.specs.Approved.{ids_of}
@@ -7,20 +7,26 @@ use Rattle.trustee_node.specs.Workers.{clock_state, worker_state}
 use Rattle.trustee_node.specs.Trustees.{name_of, trustee_state}
 use Rattle.trustee_node.proofs.Finishing.{ends-served}
 use Rattle.trustee_node.proofs.Running.{done-after, idle-after, idle-begun, joined-all}
+use Rattle.trustee_node.proofs.Starting.{begun-of}
+use Rattle.turn_lock.specs.Pass.{first_pass}
 use Rattle.trustee_node.proofs.service.serve_ports.Goals as goal
 
 pub serve-requires-after_bounds : goal.serve-requires-after_bounds
 serve-requires-after_bounds g c κs within =
     let clock = g.C.Clock in
     let port = g.P.Port.state in
-    idle-begun (worker_state port clock.told clock.answers) c.args.share.now c.in-Ok-new.made.0 c.start-workers.result.items c.as_mut_slice.result.now c.as_mut_slice.ensures.value
+    let same : length c.args.ports.now.items ≡ length c.args.clocks.items =
+    (let n = c.args.ports.now.ok.0 in let m = c.args.clocks.ok.0 in let e = c.requires.clocks in omega (arith, n, m, e)) in
+    let begun = begun-of g.P.Port.state g.C.Clock.told g.C.Clock.answers (first_pass c.in-Ok-new.made.0) c.args.ports.now.items c.args.clocks.items c.make_workers-workers.result.items
+    c.make_workers-workers.ensures.workers same in
+    idle-begun (worker_state port clock.told clock.answers) c.args.share.now c.in-Ok-new.made.0 c.make_workers-workers.result.items c.as_mut_slice.result.now c.as_mut_slice.ensures.value
     (name_of c.args.trustee) (map port c.args.ports.now.items) (map (clock_state clock.told clock.answers) c.args.clocks.items)
-    c.in-Ok-new.ensures.opening.2 c.requires.share c.start-workers.ensures.begun
+    c.in-Ok-new.ensures.opening.2 c.requires.share begun
 
 pub gather-pass-requires-clause-idle : goal.gather-pass-requires-clause-idle
 gather-pass-requires-clause-idle g c κs within =
     let clock = g.C.Clock in
-    let workers = c.start-workers.result in
+    let workers = c.make_workers-workers.result in
     idle-after (worker_state g.P.Port.state clock.told clock.answers) c.args.share.now c.in-Ok-new.made.0 workers.items c.as_mut_slice.result.now c.as_mut_slice.ensures.value
     c.serve.new.workers workers.len c.serve.auto.workers workers.ok.0 c.serve.ensures.pass
 
@@ -29,7 +35,7 @@ close-requires-clause-all g c =
     let clock = g.C.Clock in
     let port = g.P.Port.state in
     let own = clock_state clock.told clock.answers in
-    let workers = c.start-workers.result in
+    let workers = c.make_workers-workers.result in
     let share = c.args.share.now in
     let ids = option_map (λ b. ids_of b.now) c.args.book in
     let lock = c.in-Ok-new.made.0 in
@@ -37,8 +43,12 @@ close-requires-clause-all g c =
     let olds = map port c.args.ports.now.items in
     let clocks = map own c.args.clocks.items in
     let e = c.serve.ensures in
+    let same : length c.args.ports.now.items ≡ length c.args.clocks.items =
+    (let n = c.args.ports.now.ok.0 in let m = c.args.clocks.ok.0 in let e = c.requires.clocks in omega (arith, n, m, e)) in
+    let begun = begun-of g.P.Port.state g.C.Clock.told g.C.Clock.answers (first_pass c.in-Ok-new.made.0) c.args.ports.now.items c.args.clocks.items c.make_workers-workers.result.items
+    c.make_workers-workers.ensures.workers same in
     let done = done-after (worker_state port clock.told clock.answers) share lock workers.items c.as_mut_slice.result.now c.as_mut_slice.ensures.value
-    c.serve.new.workers workers.len c.serve.auto.workers workers.ok.0 ids asked olds clocks c.ranges.connections.fits c.start-workers.ensures.begun e.worked e.most e.ends in
+    c.serve.new.workers workers.len c.serve.auto.workers workers.ok.0 ids asked olds clocks c.ranges.connections.fits begun e.worked e.most e.ends in
     let all = c.gather-pass.ensures.gathered share ids asked olds clocks done in
     let joined = joined-all share ids asked lock c.gather-pass.result.0 olds (map port c.gather-pass.new.ports.items) clocks c.gather-pass.result.1 all in
     let many = length-map c.args.ports.now.items port in
@@ -52,7 +62,7 @@ returns-clause-served g c =
     let clock = g.C.Clock in
     let port = g.P.Port.state in
     let own = clock_state clock.told clock.answers in
-    let workers = c.start-workers.result in
+    let workers = c.make_workers-workers.result in
     let share = c.args.share.now in
     let ids = option_map (λ b. ids_of b.now) c.args.book in
     let lock = c.in-Ok-new.made.0 in
@@ -60,8 +70,12 @@ returns-clause-served g c =
     let olds = map port c.args.ports.now.items in
     let clocks = map own c.args.clocks.items in
     let e = c.serve.ensures in
+    let same : length c.args.ports.now.items ≡ length c.args.clocks.items =
+    (let n = c.args.ports.now.ok.0 in let m = c.args.clocks.ok.0 in let e = c.requires.clocks in omega (arith, n, m, e)) in
+    let begun = begun-of g.P.Port.state g.C.Clock.told g.C.Clock.answers (first_pass c.in-Ok-new.made.0) c.args.ports.now.items c.args.clocks.items c.make_workers-workers.result.items
+    c.make_workers-workers.ensures.workers same in
     let done = done-after (worker_state port clock.told clock.answers) share lock workers.items c.as_mut_slice.result.now c.as_mut_slice.ensures.value
-    c.serve.new.workers workers.len c.serve.auto.workers workers.ok.0 ids asked olds clocks c.ranges.connections.fits c.start-workers.ensures.begun e.worked e.most e.ends in
+    c.serve.new.workers workers.len c.serve.auto.workers workers.ok.0 ids asked olds clocks c.ranges.connections.fits begun e.worked e.most e.ends in
     let all = c.gather-pass.ensures.gathered share ids asked olds clocks done in
     let opening = c.in-Ok-new.ensures.opening in
     let end = c.close.ensures in

@@ -1,0 +1,48 @@
+-- Workers before they are run.
+use Rattle.std.proofs.Common.{◌≡◌, [], ◌∷◌, ◌++◌, ℕ, Bool, List, All, length, map, refl, sym, ap, subst, arith}
+use Rattle.std.proofs.lemmas.List.Elements.{All-head, All-nil, All-push, All-tail}
+use Rattle.stream_io.specs.Net.{PortState}
+use Rattle.trustee_core.specs.declared.kept.TrusteeName.{TrusteeName}
+use Rattle.trustee_core.specs.declared.note.Note.{Note}
+use Rattle.trustee_node.specs.Gathered.{AreBegun, none, one}
+use Rattle.trustee_node.specs.Starting.{fresh_worker, fresh_workers}
+use Rattle.trustee_node.specs.Workers.{clock_state, worker_state}
+use Rattle.trustee_node.specs.declared.worker.Worker.{Worker}
+use Rattle.turn_lock.specs.Pass.{Seen}
+
+module _ {P T X L E N : Type 0} (pass : Seen E N) where
+  -- the worker of the last port is the first one
+  pub fresh-last : (ports : List P) (owns : List X) (port : P) (own : X) → length ports ≡ length owns
+      → fresh_workers {P = P} {T = T} {X = X} {L = L} pass (ports ++ port ∷ []) (owns ++ own ∷ []) ≡ fresh_worker pass port own ∷ fresh_workers pass ports owns
+  unfolding fresh_workers
+  fresh-last [] [] port own same = refl
+  fresh-last [] (b ∷ owns) port own same = absurd (omega (arith, same))
+  fresh-last (a ∷ ports) [] port own same = absurd (omega (arith, same))
+  fresh-last (a ∷ ports) (b ∷ owns) port own same =
+      ap (λ (l : List (Worker P T X L E N)). l ++ fresh_worker pass a b ∷ []) (fresh-last ports owns port own (omega (arith, same)))
+
+  -- what is true of all that the workers are given is true of what they have
+  pub fresh-own : (Is : X → Type 0) (ports : List P) (owns : List X) → All Is owns → All (λ worker. Is worker.own) (fresh_workers {P = P} {T = T} {X = X} {L = L} pass ports owns)
+  unfolding fresh_workers
+  fresh-own Is [] owns each = All-nil _
+  fresh-own Is (port ∷ ports) [] each = All-nil _
+  fresh-own Is (port ∷ ports) (own ∷ owns) each =
+      All-push (λ worker. Is worker.own) (fresh_workers {P = P} {T = T} {X = X} {L = L} pass ports owns) (fresh_worker pass port own) (fresh-own Is ports owns (All-tail Is own owns each)) (All-head Is own owns each)
+
+-- the workers of a trustee, by the states of their ports and clocks
+module _ {P T C L : Type 0} (state : P → PortState) (told : C → Bool) (answers : C → ℕ → ℕ) (pass : Seen Note TrusteeName) where
+  pub fresh-begun : (ports : List P) (clocks : List C) → length ports ≡ length clocks
+      → AreBegun (worker_state {P = P} {T = T} {C = C} {L = L} state told answers) pass (map state ports) (map (clock_state told answers) clocks) (fresh_workers pass ports clocks)
+  unfolding fresh_workers
+  fresh-begun [] [] same = none
+  fresh-begun [] (clock ∷ clocks) same = absurd (omega (arith, same))
+  fresh-begun (port ∷ ports) [] same = absurd (omega (arith, same))
+  fresh-begun (port ∷ ports) (clock ∷ clocks) same =
+      one (state port) (clock_state told answers clock) (fresh_worker pass port clock) (map state ports) (map (clock_state told answers) clocks) (fresh_workers pass ports clocks)
+      (record { pass_is = refl; port_is = refl; clock_is = refl }) (fresh-begun ports clocks (omega (arith, same)))
+
+  -- workers that are these
+  pub begun-of : (ports : List P) (clocks : List C) (workers : List (Worker P T C L Note TrusteeName)) → workers ≡ fresh_workers pass ports clocks → length ports ≡ length clocks
+      → AreBegun (worker_state state told answers) pass (map state ports) (map (clock_state told answers) clocks) workers
+  begun-of ports clocks workers are same =
+      subst (λ (l : List (Worker P T C L Note TrusteeName)). AreBegun (worker_state state told answers) pass (map state ports) (map (clock_state told answers) clocks) l) (sym are) (fresh-begun ports clocks same)
