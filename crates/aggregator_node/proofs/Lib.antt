@@ -10,6 +10,7 @@ pub mod Requests
 pub mod Serving
 mod Working
 mod Standing
+mod Starting
 mod Running
 mod Summing
 pub mod Gathering

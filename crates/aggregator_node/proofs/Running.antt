@@ -10,7 +10,9 @@ use Rattle.aggregator_node.proofs.Standing.{stand-all, stand-then}
 use Rattle.coalition_map.specs.Coalitions.{PlanNumbers}
 use Rattle.leaf_table.specs.declared.lease.Lease.{Lease}
 use Rattle.leaf_table.specs.declared.table.TableName.{TableName}
-use Rattle.aggregator_session.specs.Signing.{DeskState}
+use Rattle.aggregator_session.specs.Desks.{ReadsFor}
+use Rattle.aggregator_session.specs.Signing.{DeskState, desk_state}
+use Rattle.aggregator_session.specs.declared.desk.Desk.{Desk}
 use Rattle.reference_value.specs.declared.cells.Cells as cells
 use Rattle.trustee_node.specs.declared.totals.Totals.{Totals}
 use Rattle.turn_lock.specs.Lock.{Lock}
@@ -22,27 +24,17 @@ idle-first lock plan name pass is same begun =
     let named : IfSome lock.name (λ n. n.plan ≡ plan) = subst (λ (o : Option TableName). IfSome o (λ n. n.plan ≡ plan)) (sym is) same in
     subst (IsIdle lock plan) (sym begun) (refl, refl, named)
 
--- what is said of a desk, whoever serves with it
-pub record FitsDesk (desk : DeskState) : Type 0 where
-  pub height : desk.plan.h ≡ desk.key.params.h
-  pub tree_n : desk.tree.n ≡ desk.key.params.n
-  pub tree_h : desk.tree.h ≡ desk.key.params.h
-
-module _ {W : Type 0} (state : W → WorkerState) (desk : DeskState) (lock : Lock Lease TableName) (items slice : List W) (value : slice ≡ items) where
-  pub ready-begun : {X : Type 0} (c : cells.Ghosts X) (own : W → X) (name : TableName) (places : List Place) → lock.name ≡ Some name → name.plan ≡ desk.plan → FitsDesk desk
-      → AreBegun state (first_pass lock) places items → All (λ worker. (c.set (own worker) ≡ desk.key.params) × (c.plan (own worker) ≡ desk.plan)) items
+module _ {W : Type 0} (state : W → WorkerState) (desk : Desk) (lock : Lock Lease TableName) (items slice : List W) (value : slice ≡ items) where
+  pub ready-begun : {X : Type 0} (c : cells.Ghosts X) (own : W → X) (name : TableName) (places : List Place) → lock.name ≡ Some name → name.plan ≡ desk.plan.now
+      → AreBegun state (first_pass lock) places items → All (λ worker. ReadsFor c desk (own worker)) items
       → All (λ worker. IsReady c lock desk (state worker).post.pass (own worker)) slice
-  ready-begun c own name places is same fits begun kept =
+  ready-begun c own name places is same begun kept =
       let Each : W → Type 0 = λ worker. (state worker).post.pass ≡ first_pass lock in
       let Is : Place → W → Type 0 = λ place worker. IsBegun (first_pass lock) place (state worker) in
       let passes = stand-all Is Each (λ place worker b. ap (λ p. p.pass) b.post_is) places items begun in
       subst (All (λ worker. IsReady c lock desk (state worker).post.pass (own worker))) (sym value) (λ i d lt. record {
-        idle = idle-first lock desk.plan name _ is same (passes i d lt);
-        height = fits.height;
-        set = (kept i d lt).0;
-        plan = (kept i d lt).1;
-        tree_n = fits.tree_n;
-        tree_h = fits.tree_h;
+        idle = idle-first lock desk.plan.now name _ is same (passes i d lt);
+        reads = kept i d lt;
       })
 
   module _ (news : List W) (len : ℕ) (size : length news ≡ length slice) (count : len ≡ length items) where
@@ -59,14 +51,14 @@ module _ {W : Type 0} (state : W → WorkerState) (desk : DeskState) (lock : Loc
         subst (All Each) (sym whole) (λ k d lt. let is = (ready k d lt).idle in (is.0, is.1))
 
     pub done-after : (asked : ℕ) (places : List Place) → asked < 2 ^ 32 → AreBegun state (first_pass lock) places items
-        → ((i : ℕ) (d : W) → i < length slice → Worked desk (state (get_or slice i d)) (state (get_or news i d)))
+        → ((i : ℕ) (d : W) → i < length slice → Worked (desk_state desk) (state (get_or slice i d)) (state (get_or news i d)))
         → All (λ worker. (state worker).connections ≤ asked) news → All (λ worker. WorkEnds asked (state worker)) news
-        → AreDone state desk asked (first_pass lock) places (take len (news ++ drop (length news) items))
+        → AreDone state (desk_state desk) asked (first_pass lock) places (take len (news ++ drop (length news) items))
     done-after asked places small begun worked most ends =
         let Was : Place → W → Type 0 = λ place worker. IsBegun (first_pass lock) place (state worker) in
-        let Is : Place → W → Type 0 = λ place worker. IsDone desk asked (first_pass lock) place (state worker) in
+        let Is : Place → W → Type 0 = λ place worker. IsDone (desk_state desk) asked (first_pass lock) place (state worker) in
         let before = subst (λ (l : List W). AreBegun state (first_pass lock) places l) (sym value) begun in
-        subst (λ (l : List W). AreDone state desk asked (first_pass lock) places l) (sym whole)
+        subst (λ (l : List W). AreDone state (desk_state desk) asked (first_pass lock) places l) (sym whole)
         (stand-then Was Is places slice news before size
         (λ i d lt place is. record {
           first = state (get_or slice i d);

@@ -7,7 +7,9 @@ use Rattle.aggregator_node.specs.Posts.{Connection, Post, Works, frames_of, requ
 use Rattle.disk_trait.specs.declared.faults.Faults as faults
 use Rattle.leaf_table.specs.declared.lease.Lease.{Lease}
 use Rattle.leaf_table.specs.declared.table.TableName.{TableName}
+use Rattle.aggregator_session.specs.Desks.{ReadsFor}
 use Rattle.aggregator_session.specs.Signing.{DeskState}
+use Rattle.aggregator_session.specs.declared.desk.Desk.{Desk}
 use Rattle.reference_value.specs.declared.cells.Cells as cells
 use Rattle.stream_io.specs.Net.{HangsUp, PortOnward, PortState}
 use Rattle.stream_io.specs.Store.{RisesWhere}
@@ -38,16 +40,11 @@ worker_state state c f worker = record {
   failed = worker.failed;
 }
 
--- messages can be signed by this pass with these cells: the pass is idle, and the cells are of the desk's set and plan,
--- which are those of its tree
-pub record IsReady {X : Type 0} (c : cells.Ghosts X) (lock : Lock Lease TableName) (desk : DeskState)
+-- messages can be signed by this pass with these cells: the pass is idle, and the cells are of the desk's set and plan
+pub record IsReady {X : Type 0} (c : cells.Ghosts X) (lock : Lock Lease TableName) (desk : Desk)
     (pass : Seen Lease TableName) (own : X) : Type 0 where
-  pub idle : IsIdle lock desk.plan pass
-  pub height : desk.plan.h ≡ desk.key.params.h
-  pub set : c.set own ≡ desk.key.params
-  pub plan : c.plan own ≡ desk.plan
-  pub tree_n : desk.tree.n ≡ desk.key.params.n
-  pub tree_h : desk.tree.h ≡ desk.key.params.h
+  pub idle : IsIdle lock desk.plan.now pass
+  pub reads : ReadsFor c desk own
 
 -- internal: a link, steady where this says so, was served from where the worker stood, and hung up where it stands
 pub record HasServedLink (desk : DeskState) (reference : ReferenceState) (old new : Post) (link : Talk)

@@ -52,7 +52,7 @@ pub fn serve_client<R: Cells, D: Disk, P: Port, L: Source + Sink>(
     port: &mut P,
     link: &mut L,
 ) -> Served
-    requires ready { IsReady R.Cells.own lock.now (desk_state desk.now) pass.old cells.old }
+    requires ready { IsReady R.Cells.own lock.now desk.now pass.old cells.old }
     ensures serves { HasServed (desk_state desk.now) (reference_state R.Cells.own R.Faults cells.old)
         (record { pass = pass.old; port = P.state port.old; faults = R.count cells.old; talk = L.talk link.old })
         (record { pass = pass.new; port = P.state port.new; faults = R.count cells.new; talk = L.talk link.new })
@@ -88,7 +88,7 @@ fn answer_next<R: Cells, D: Disk, P: Port, L: Source + Sink>(
     port: &mut P,
     link: &mut L,
 ) -> Step
-    requires ready { IsReady R.Cells.own lock.now (desk_state desk.now) pass.old cells.old }
+    requires ready { IsReady R.Cells.own lock.now desk.now pass.old cells.old }
     ensures answers { HasAnswered (desk_state desk.now) (reference_state R.Cells.own R.Faults cells.old)
         (record { pass = pass.old; port = P.state port.old; faults = R.count cells.old; talk = L.talk link.old })
         (record { pass = pass.new; port = P.state port.new; faults = R.count cells.new; talk = L.talk link.new })

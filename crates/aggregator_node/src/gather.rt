@@ -1,10 +1,11 @@
 //! Workers after they were run.
 
-ghost use Rattle.std.specs.Prelude.{◌≡◌, ◌≤◌, ◌<◌, ◌+◌, ◌++◌, ℕ, [], ◌∷◌, List, All, false, vec_len, vec_capacity};
+ghost use Rattle.std.specs.Prelude.{◌≡◌, ◌≤◌, ◌<◌, ◌+◌, ◌++◌, ℕ, [], ◌∷◌, List, All, vec_len, vec_capacity};
 ghost use Rattle.aggregator_node.specs.Gathered.{AreDone, Gathered, IsDone};
 ghost use Rattle.aggregator_node.specs.Ports.{Place, places_of};
 ghost use Rattle.aggregator_node.specs.Workers.{worker_state};
 ghost use Rattle.aggregator_session.specs.Signing.{DeskState};
+ghost use Rattle.trustee_node.specs.Turns.{IsFree};
 ghost use Rattle.turn_lock.specs.Pass.{first_pass};
 
 use disk_trait::{Disk, Faults};
@@ -23,14 +24,14 @@ pub(crate) fn gather<X: Cells, D: Disk, P: Port>(
     cells: &mut Vec<X>,
 ) -> (Pass<Table<D>>, Totals)
     requires some { 1 ≤ vec_len workers }
-    requires idle { All (λ worker. (worker.pass.lock ≡ lock.now) × (worker.pass.in_turn ≡ false)) workers.items }
+    requires idle { All (λ worker. IsFree lock.now worker.pass) workers.items }
     requires ports { (ports.old.items ≡ []) × (vec_len ports.old ≡ 0) × (vec_len workers ≤ vec_capacity ports.old) }
     requires cells { (cells.old.items ≡ []) × (vec_len cells.old ≡ 0) × (vec_len workers ≤ vec_capacity cells.old) }
     ensures gathered { (desk : DeskState) (asked : ℕ) (olds : List Place)
         → AreDone (worker_state P.state X.Cells.own X.Faults) desk asked (first_pass lock.now) olds workers.items
         → Gathered desk asked lock.now result.0 olds
         (places_of X.Cells.own X.Faults P.state ports.new.items cells.new.items) result.1 }
-    ensures pass { (result.0.lock ≡ lock.now) × (result.0.in_turn ≡ false) }
+    ensures pass { IsFree lock.now result.0 }
     ensures count { (vec_len ports.new ≡ vec_len workers) × (vec_len cells.new ≡ vec_len workers) }
 {
     let Some(first) = workers.pop() else {
@@ -85,8 +86,7 @@ fn take_in<X: Cells, D: Disk, P: Port>(
     cells: &mut Vec<X>,
     totals: &mut Totals,
 )
-    requires idle { ((pass.old.lock ≡ lock.now) × (pass.old.in_turn ≡ false))
-        × ((worker.pass.lock ≡ lock.now) × (worker.pass.in_turn ≡ false)) }
+    requires idle { IsFree lock.now pass.old × IsFree lock.now worker.pass }
     requires many { vec_len cells.old ≡ vec_len ports.old }
     requires room { (vec_len ports.old < vec_capacity ports.old) × (vec_len cells.old < vec_capacity cells.old) }
     ensures gathered { (desk : DeskState) (asked : ℕ) (olds : List Place) (place : Place)
@@ -95,7 +95,7 @@ fn take_in<X: Cells, D: Disk, P: Port>(
         → IsDone desk asked (first_pass lock.now) place (worker_state P.state X.Cells.own X.Faults worker)
         → Gathered desk asked lock.now pass.new (olds ++ place ∷ [])
         (places_of X.Cells.own X.Faults P.state ports.new.items cells.new.items) totals.new }
-    ensures pass { (pass.new.lock ≡ lock.now) × (pass.new.in_turn ≡ false) }
+    ensures pass { IsFree lock.now pass.new }
     ensures ports { (vec_len ports.new ≡ vec_len ports.old + 1) × (vec_capacity ports.new ≡ vec_capacity ports.old) }
     ensures cells { (vec_len cells.new ≡ vec_len cells.old + 1) × (vec_capacity cells.new ≡ vec_capacity cells.old) }
 {

@@ -8,7 +8,6 @@ mod failure;
 mod gather;
 mod service;
 mod sign;
-mod start;
 mod turns;
 mod worker;
 

@@ -3,11 +3,11 @@
 ghost use Rattle.std.specs.Prelude.{◌≡◌, ◌≤◌, All, vec_len, IfOk, OnErr};
 ghost use Rattle.aggregator_node.specs.Ports.{ServedClients, places_of};
 ghost use Rattle.leaf_table.specs.Table.{plan_of};
+ghost use Rattle.aggregator_session.specs.Desks.{ReadsFor};
 ghost use Rattle.aggregator_session.specs.Signing.{desk_state};
-ghost use Rattle.aggregator_session.specs.Tables.{table_seen};
+ghost use Rattle.aggregator_session.specs.Tables.{TableOnward, table_seen};
 
 use crate::gather::gather;
-use crate::start::start;
 use crate::worker::serve;
 use aggregator_session::Desk;
 use disk_trait::{Disk, Faults};
@@ -18,7 +18,7 @@ use std::alloc::Global;
 use std::sync::Wait;
 use std::thread::Threads;
 use stream_io::Port;
-use trustee_node::Totals;
+use trustee_node::{Totals, make_workers};
 use turn_lock::TurnLock;
 
 /// Serves the clients of a leaf table over ports, by a worker for each port, all beside each other, each with cells of
@@ -35,11 +35,7 @@ pub fn serve_clients<R: Threads + Wait + Sync, X: Cells + Send, D: Disk + Send, 
     connections: u32,
 ) -> (Table<D>, Result<Totals, NoMemory>)
     requires plan { plan_of table ≡ desk.now.plan.now }
-    requires height { desk.now.plan.now.h ≡ desk.now.key.now.params.h }
-    requires tree { (desk.now.tree.now.n ≡ desk.now.key.now.params.n)
-        × (desk.now.tree.now.h ≡ desk.now.key.now.params.h) }
-    requires cells { All (λ own. (X.set own ≡ desk.now.key.now.params) × (X.plan own ≡ desk.now.plan.now))
-        cells.old.items }
+    requires cells { All (ReadsFor X.Cells.own desk.now) cells.old.items }
     requires ports { (1 ≤ vec_len ports.old) × (vec_len ports.old ≤ 64) }
     requires many { vec_len cells.old ≡ vec_len ports.old }
     ensures served { IfOk result.1 (λ totals. ServedClients (desk_state desk.now) connections (table_seen table)
@@ -48,8 +44,7 @@ pub fn serve_clients<R: Threads + Wait + Sync, X: Cells + Send, D: Disk + Send, 
     ensures refused { OnErr result.1 ((result.0 ≡ table) × (ports.new.items ≡ ports.old.items)
         × (cells.new.items ≡ cells.old.items)) }
     ensures count { (vec_len ports.new ≡ vec_len ports.old) × (vec_len cells.new ≡ vec_len cells.old) }
-    ensures name { (table_seen result.0).name ≡ (table_seen table).name }
-    ensures onward { (table_seen table).faults ≤ (table_seen result.0).faults }
+    ensures onward { TableOnward (table_seen table) (table_seen result.0) }
 {
     let count = ports.len();
     let Ok(room) = Vec::with_capacity(alloc, count) else {
@@ -62,7 +57,7 @@ pub fn serve_clients<R: Threads + Wait + Sync, X: Cells + Send, D: Disk + Send, 
             return (table, Err(refused));
         }
     };
-    let mut workers = start(&lock, ports, cells, passes, room);
+    let mut workers = make_workers(&lock, ports, cells, passes, room);
     serve(rt, alloc, desk, &lock, workers.as_mut_slice(), connections);
     let (pass, totals) = gather(&lock, workers, ports, cells);
     (lock.close(pass), Ok(totals))

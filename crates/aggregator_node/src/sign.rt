@@ -12,7 +12,7 @@ ghost use Rattle.lms_bytes.specs.MessageId.{message_id};
 ghost use Rattle.lms_verify.specs.Accepts.{AcceptsAt};
 
 use crate::turns::{burn_spent, lease_in_turn};
-use aggregator_session::{Desk, SignFault, Signed, run_on, spent_by};
+use aggregator_session::{Desk, Ended, SignFault, Signed, run_on, spent_by};
 use coalition_map::Members;
 use disk_trait::Disk;
 use leaf_table::Table;
@@ -37,7 +37,7 @@ pub fn sign_one<R: Cells, D: Disk, P: Port>(
     members: Members,
     message: &[u8],
 ) -> Result<Signed, SignFault>
-    requires ready { IsReady R.Cells.own lock.now (desk_state desk.now) pass.old cells.old }
+    requires ready { IsReady R.Cells.own lock.now desk.now pass.old cells.old }
     ensures signs { SignsInTurns (desk_state desk.now) (reads_of R.Cells.own R.Faults cells.old cells.new) members
         message.now pass.old (P.state port.old) pass.new (P.state port.new) (signature_in result) }
     ensures shows { Shown desk.now.plan.now members (message_id message.now) pass.old pass.new
@@ -56,7 +56,7 @@ pub fn sign_one<R: Cells, D: Disk, P: Port>(
         Ok(leaf) => leaf,
         Err(fault) => return Err(fault),
     };
-    let outcome = run_on(alloc, desk, cells, port, leaf, &id, message);
+    let Ended { outcome, .. } = run_on(alloc, desk, cells, port, leaf, &id, message);
     burn_spent(rt, lock, pass, desk.plan, leaf, &id, spent_by(&outcome));
     Ok(Signed {
         leaf,

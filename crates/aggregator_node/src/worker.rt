@@ -29,12 +29,12 @@ pub(crate) fn serve<R: Threads + Wait + Sync, X: Cells + Send, D: Disk + Send, P
     workers: &mut [Worker<P, Table<D>, X>],
     connections: u32,
 )
-    requires ready { All (λ worker. IsReady X.Cells.own lock.now (desk_state desk.now) worker.pass worker.own)
+    requires ready { All (λ worker. IsReady X.Cells.own lock.now desk.now worker.pass worker.own)
         workers.old }
     ensures worked { (i : ℕ) (d : _) → i < length workers.old → Worked (desk_state desk.now)
         (worker_state P.state X.Cells.own X.Faults (slice_index_or workers.old i d))
         (worker_state P.state X.Cells.own X.Faults (slice_index_or workers.new i d)) }
-    ensures ready { All (λ worker. IsReady X.Cells.own lock.now (desk_state desk.now) worker.pass worker.own)
+    ensures ready { All (λ worker. IsReady X.Cells.own lock.now desk.now worker.pass worker.own)
         workers.new }
     ensures most { All (λ worker. worker.connections ≤ connections) workers.new }
     ensures ends { All (λ worker. WorkEnds connections (worker_state P.state X.Cells.own X.Faults worker))
@@ -45,11 +45,11 @@ pub(crate) fn serve<R: Threads + Wait + Sync, X: Cells + Send, D: Disk + Send, P
         return;
     }
     let serves = |_: usize, worker: &mut Worker<P, Table<D>, X>|
-        requires { IsReady X.Cells.own lock.now (desk_state desk.now) worker.now.pass worker.now.own }
+        requires { IsReady X.Cells.own lock.now desk.now worker.now.pass worker.now.own }
         ensures { Worked (desk_state desk.entry.now)
             (worker_state P.state X.Cells.own X.Faults worker.entry.now)
             (worker_state P.state X.Cells.own X.Faults worker.exit.now)
-            × IsReady X.Cells.own lock.entry.now (desk_state desk.entry.now) worker.exit.now.pass worker.exit.now.own
+            × IsReady X.Cells.own lock.entry.now desk.entry.now worker.exit.now.pass worker.exit.now.own
             × (worker.exit.now.connections ≤ connections)
             × WorkEnds connections (worker_state P.state X.Cells.own X.Faults worker.exit.now) }
     { work(rt, alloc, desk, lock, worker, connections) };
@@ -66,10 +66,10 @@ fn work<X: Cells, D: Disk, P: Port>(
     worker: &mut Worker<P, Table<D>, X>,
     connections: u32,
 )
-    requires ready { IsReady X.Cells.own lock.now (desk_state desk.now) worker.old.pass worker.old.own }
+    requires ready { IsReady X.Cells.own lock.now desk.now worker.old.pass worker.old.own }
     ensures worked { Worked (desk_state desk.now) (worker_state P.state X.Cells.own X.Faults worker.old)
         (worker_state P.state X.Cells.own X.Faults worker.new) }
-    ensures ready { IsReady X.Cells.own lock.now (desk_state desk.now) worker.new.pass worker.new.own }
+    ensures ready { IsReady X.Cells.own lock.now desk.now worker.new.pass worker.new.own }
     ensures most { worker.new.connections ≤ connections }
     ensures ends { WorkEnds connections (worker_state P.state X.Cells.own X.Faults worker.new) }
 {
@@ -116,13 +116,13 @@ fn serve_link<X: Cells, D: Disk, P: Port>(
     port: &mut P,
     mut link: P::Link,
 ) -> Served
-    requires ready { IsReady X.Cells.own lock.now (desk_state desk.now) pass.old cells.old }
+    requires ready { IsReady X.Cells.own lock.now desk.now pass.old cells.old }
     ensures served { HasServedLink (desk_state desk.now) (reference_state X.Cells.own X.Faults cells.old)
         (record { pass = pass.old; port = P.state port.old; faults = X.count cells.old })
         (record { pass = pass.new; port = P.state port.new; faults = X.count cells.new })
         (P.Link.talk link) (P.Link.steady link) result }
     ensures takes { (P.Link.talk link).room ≡ P.Link.room link }
-    ensures ready { IsReady X.Cells.own lock.now (desk_state desk.now) pass.new cells.new }
+    ensures ready { IsReady X.Cells.own lock.now desk.now pass.new cells.new }
     ensures cells { CellsStay X.Cells.own X.Faults cells.old cells.new }
 {
     let served = serve_client(rt, alloc, desk, cells, lock, pass, port, &mut link);

@@ -1,9 +1,10 @@
 //! Clients, served with a table that a store has, over the ports of a net.
 
-ghost use Rattle.std.specs.Prelude.{◌≡◌, ◌≤◌, All, vec_len};
+ghost use Rattle.std.specs.Prelude.{◌≡◌, All, vec_len};
 ghost use Rattle.leaf_table.specs.Table.{plan_of};
+ghost use Rattle.aggregator_session.specs.Desks.{ReadsFor};
 ghost use Rattle.aggregator_session.specs.Signing.{desk_state};
-ghost use Rattle.aggregator_session.specs.Tables.{table_seen};
+ghost use Rattle.aggregator_session.specs.Tables.{TableOnward, table_seen};
 ghost use Rattle.tool_base.specs.Endings.{ending};
 ghost use Rattle.tool_base.specs.World.{IsNetBack, from_to};
 ghost use Rattle.tool_aggregate.specs.Aggregate.{TableRun};
@@ -35,11 +36,7 @@ pub(crate) fn serve_table<R: Threads + Wait + Sync, X: Cells + Send, S: Store, N
     store: &mut S,
     net: &mut N,
 ) -> Ending
-    requires height { desk.now.plan.now.h ≡ desk.now.key.now.params.h }
-    requires tree { (desk.now.tree.now.n ≡ desk.now.key.now.params.n)
-        × (desk.now.tree.now.h ≡ desk.now.key.now.params.h) }
-    requires cells { All (λ own. (X.set own ≡ desk.now.key.now.params) × (X.plan own ≡ desk.now.plan.now))
-        cells.old.items }
+    requires cells { All (ReadsFor X.Cells.own desk.now) cells.old.items }
     requires many { vec_len cells.old ≡ words.now.workers }
     ensures run { TableRun (aggregate_words words.now) (from_to (S.state store.old) (S.state store.new))
         (over_net (N.state net.old) (N.state net.new)) (desk_state desk.now)
@@ -77,17 +74,12 @@ fn serve_net<R: Threads + Wait + Sync, X: Cells + Send, D: Disk + Send, N: Net>(
     net: &mut N,
 ) -> (Table<D>, Ending)
     requires plan { plan_of table ≡ desk.now.plan.now }
-    requires height { desk.now.plan.now.h ≡ desk.now.key.now.params.h }
-    requires tree { (desk.now.tree.now.n ≡ desk.now.key.now.params.n)
-        × (desk.now.tree.now.h ≡ desk.now.key.now.params.h) }
-    requires cells { All (λ own. (X.set own ≡ desk.now.key.now.params) × (X.plan own ≡ desk.now.plan.now))
-        cells.old.items }
+    requires cells { All (ReadsFor X.Cells.own desk.now) cells.old.items }
     requires many { vec_len cells.old ≡ words.now.workers }
     ensures ends { NetEnds X.Cells.own X.Faults (aggregate_words words.now) (desk_state desk.now)
         ((result.0 ≡ table) × (cells.new.items ≡ cells.old.items)) (table_seen table) (table_seen result.0)
         cells.old.items cells.new.items (over_net (N.state net.old) (N.state net.new)) (ending result.1) }
-    ensures name { (table_seen result.0).name ≡ (table_seen table).name }
-    ensures faults { (table_seen table).faults ≤ (table_seen result.0).faults }
+    ensures onward { TableOnward (table_seen table) (table_seen result.0) }
     ensures net { IsNetBack (N.state net.old) (N.state net.new) }
     ensures count { vec_len cells.new ≡ vec_len cells.old }
 {

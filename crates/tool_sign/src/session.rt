@@ -2,6 +2,7 @@
 
 ghost use Rattle.std.specs.Prelude.{◌≡◌, Err, None};
 ghost use Rattle.leaf_table.specs.Table.{Stays, plan_of};
+ghost use Rattle.aggregator_session.specs.Desks.{ReadsFor};
 ghost use Rattle.aggregator_session.specs.Signing.{signature_in};
 ghost use Rattle.aggregator_session.specs.Tables.{table_seen};
 ghost use Rattle.reference_value.specs.Stay.{CellsStay};
@@ -48,10 +49,7 @@ pub(crate) fn sign_with_table<R: Cells, S: Store, N: Net>(
     store: &mut S,
     net: &mut N,
 ) -> Ended<Result<Signed, Ending>>
-    requires height { desk.now.plan.now.h ≡ desk.now.key.now.params.h }
-    requires cells { (R.set cells.old ≡ desk.now.key.now.params) × (R.plan cells.old ≡ desk.now.plan.now) }
-    requires tree { (desk.now.tree.now.n ≡ desk.now.key.now.params.n)
-        × (desk.now.tree.now.h ≡ desk.now.key.now.params.h) }
+    requires cells { ReadsFor R.Cells.own desk.now cells.old }
     ensures run { TableTo (signing_of R.Cells.own R.Faults desk.now cells.old cells.new members message.now)
         table.now (from_to (S.state store.old) (S.state store.new)) (over_net (N.state net.old) (N.state net.new))
         (answer_in result.outcome) result.session }
@@ -86,10 +84,7 @@ fn sign_over_net<R: Cells, D: Disk, N: Net>(
     net: &mut N,
 ) -> Ended<Result<Signed, Ending>>
     requires plan { plan_of table.old ≡ desk.now.plan.now }
-    requires height { desk.now.plan.now.h ≡ desk.now.key.now.params.h }
-    requires cells { (R.set cells.old ≡ desk.now.key.now.params) × (R.plan cells.old ≡ desk.now.plan.now) }
-    requires tree { (desk.now.tree.now.n ≡ desk.now.key.now.params.n)
-        × (desk.now.tree.now.h ≡ desk.now.key.now.params.h) }
+    requires cells { ReadsFor R.Cells.own desk.now cells.old }
     ensures ends { NetTo (signing_of R.Cells.own R.Faults desk.now cells.old cells.new members message.now)
         (table.new ≡ table.old) (table_seen table.old) (table_seen table.new)
         (over_net (N.state net.old) (N.state net.new)) (answer_in result.outcome) result.session }

@@ -76,7 +76,7 @@ returns-clause-answers g c =
               accepted = accepted_as _ _ result (rw c.deref.ensures.value at s.accepted);
               port = port_as _ _ _ result (rw c.deref.ensures.value at s.port);
               rises = reference_as _ _ result s.cells.rises;
-              succeeds = λ is. never_as result (s.cells.succeeds (exact_cells _ _ _ _ c.requires.ready.set c.requires.ready.plan is));
+              succeeds = λ is. never_as result (s.cells.succeeds (exact_cells _ _ _ _ c.requires.ready.reads.0 c.requires.ready.reads.1 is));
             };
           }) w.wrote w.only w.cause c.answered-2.ensures;
     }

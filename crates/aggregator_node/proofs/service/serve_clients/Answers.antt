@@ -1,10 +1,14 @@
-use Rattle.std.proofs.Common.{arith}
+use Rattle.std.proofs.Common.{◌≡◌, All, length, sym, subst, arith}
 use Rattle.aggregator_node.specs.Ports.{places_of}
 use Rattle.aggregator_node.specs.Workers.{worker_state}
 use Rattle.aggregator_node.proofs.Finishing.{ends-served}
 use Rattle.aggregator_node.proofs.Running.{done-after, idle-after, joined-all, ready-begun}
 use Rattle.aggregator_node.proofs.Standing.{places-many}
+use Rattle.aggregator_node.proofs.Starting.{begun-of}
+use Rattle.aggregator_session.specs.Desks.{ReadsFor}
 use Rattle.aggregator_session.specs.Signing.{desk_state}
+use Rattle.trustee_node.proofs.Starting.{fresh-own}
+use Rattle.turn_lock.specs.Pass.{first_pass}
 use Rattle.aggregator_session.specs.Tables.{name_of, table_seen}
 use Rattle.aggregator_node.proofs.service.serve_clients.Goals as goal
 
@@ -12,23 +16,28 @@ pub serve-requires-clause-ready : goal.serve-requires-clause-ready
 serve-requires-clause-ready g c κs within =
     let port = g.P.Port.state in
     let desk = c.args.desk.now in
-    let start = c.start-workers.ensures in
-    ready-begun (worker_state port g.X.Cells g.X.Faults) (desk_state desk) c.in-Ok-new.made.0 c.start-workers.result.items c.as_mut_slice.result.now c.as_mut_slice.ensures.value
+    let first = first_pass c.in-Ok-new.made.0 in
+    let made = c.make_workers-workers.ensures.workers in
+    let same : length c.args.ports.now.items ≡ length c.args.cells.now.items =
+    (let n = c.args.ports.now.ok.0 in let m = c.args.cells.now.ok.0 in let e = c.requires.many in omega (arith, n, m, e)) in
+    let begun = begun-of g.P.Port.state g.X.Cells g.X.Faults (first_pass c.in-Ok-new.made.0) c.args.ports.now.items c.args.cells.now.items c.make_workers-workers.result.items
+    c.make_workers-workers.ensures.workers same in
+    ready-begun (worker_state port g.X.Cells g.X.Faults) desk c.in-Ok-new.made.0 c.make_workers-workers.result.items c.as_mut_slice.result.now c.as_mut_slice.ensures.value
     g.X.Cells (λ worker. worker.own) (name_of c.args.table) (places_of g.X.Cells g.X.Faults port c.args.ports.now.items c.args.cells.now.items)
-    c.in-Ok-new.ensures.opening.2 c.requires.plan (record { height = c.requires.height; tree_n = c.requires.tree.0; tree_h = c.requires.tree.1 })
-    start.begun (start.cells desk.key.now.params desk.plan.now c.requires.cells)
+    c.in-Ok-new.ensures.opening.2 c.requires.plan begun
+    (subst (All (λ worker. ReadsFor g.X.Cells desk worker.own)) (sym made) (fresh-own first (ReadsFor g.X.Cells desk) c.args.ports.now.items c.args.cells.now.items c.requires.cells))
 
 pub gather-pass-requires-clause-idle : goal.gather-pass-requires-clause-idle
 gather-pass-requires-clause-idle g c κs within =
-    let workers = c.start-workers.result in
-    idle-after (worker_state g.P.Port.state g.X.Cells g.X.Faults) (desk_state c.args.desk.now) c.in-Ok-new.made.0 workers.items c.as_mut_slice.result.now c.as_mut_slice.ensures.value
+    let workers = c.make_workers-workers.result in
+    idle-after (worker_state g.P.Port.state g.X.Cells g.X.Faults) c.args.desk.now c.in-Ok-new.made.0 workers.items c.as_mut_slice.result.now c.as_mut_slice.ensures.value
     c.serve.new.workers workers.len c.serve.auto.workers workers.ok.0 g.X.Cells (λ worker. worker.own) c.serve.ensures.ready
 
 pub close-requires-clause-all : goal.close-requires-clause-all
 close-requires-clause-all g c =
     let port = g.P.Port.state in
     let places = places_of g.X.Cells g.X.Faults port in
-    let workers = c.start-workers.result in
+    let workers = c.make_workers-workers.result in
     let desk = desk_state c.args.desk.now in
     let lock = c.in-Ok-new.made.0 in
     let asked = c.args.connections in
@@ -36,8 +45,12 @@ close-requires-clause-all g c =
     let cells = c.args.cells.now in
     let olds = places ports.items cells.items in
     let e = c.serve.ensures in
-    let done = done-after (worker_state port g.X.Cells g.X.Faults) desk lock workers.items c.as_mut_slice.result.now c.as_mut_slice.ensures.value
-    c.serve.new.workers workers.len c.serve.auto.workers workers.ok.0 asked olds c.ranges.connections.fits c.start-workers.ensures.begun e.worked e.most e.ends in
+    let same : length c.args.ports.now.items ≡ length c.args.cells.now.items =
+    (let n = c.args.ports.now.ok.0 in let m = c.args.cells.now.ok.0 in let e = c.requires.many in omega (arith, n, m, e)) in
+    let begun = begun-of g.P.Port.state g.X.Cells g.X.Faults (first_pass c.in-Ok-new.made.0) c.args.ports.now.items c.args.cells.now.items c.make_workers-workers.result.items
+    c.make_workers-workers.ensures.workers same in
+    let done = done-after (worker_state port g.X.Cells g.X.Faults) c.args.desk.now lock workers.items c.as_mut_slice.result.now c.as_mut_slice.ensures.value
+    c.serve.new.workers workers.len c.serve.auto.workers workers.ok.0 asked olds c.ranges.connections.fits begun e.worked e.most e.ends in
     let all = c.gather-pass.ensures.gathered desk asked olds done in
     let joined = joined-all desk asked lock c.gather-pass.result.0 olds (places c.gather-pass.new.ports.items c.gather-pass.new.cells.items) c.gather-pass.result.1 all in
     let n = ports.ok.0 in
@@ -52,7 +65,7 @@ pub returns-clause-served : goal.returns-clause-served
 returns-clause-served g c =
     let port = g.P.Port.state in
     let places = places_of g.X.Cells g.X.Faults port in
-    let workers = c.start-workers.result in
+    let workers = c.make_workers-workers.result in
     let desk = desk_state c.args.desk.now in
     let lock = c.in-Ok-new.made.0 in
     let asked = c.args.connections in
@@ -60,8 +73,12 @@ returns-clause-served g c =
     let cells = c.args.cells.now in
     let olds = places ports.items cells.items in
     let e = c.serve.ensures in
-    let done = done-after (worker_state port g.X.Cells g.X.Faults) desk lock workers.items c.as_mut_slice.result.now c.as_mut_slice.ensures.value
-    c.serve.new.workers workers.len c.serve.auto.workers workers.ok.0 asked olds c.ranges.connections.fits c.start-workers.ensures.begun e.worked e.most e.ends in
+    let same : length c.args.ports.now.items ≡ length c.args.cells.now.items =
+    (let n = c.args.ports.now.ok.0 in let m = c.args.cells.now.ok.0 in let e = c.requires.many in omega (arith, n, m, e)) in
+    let begun = begun-of g.P.Port.state g.X.Cells g.X.Faults (first_pass c.in-Ok-new.made.0) c.args.ports.now.items c.args.cells.now.items c.make_workers-workers.result.items
+    c.make_workers-workers.ensures.workers same in
+    let done = done-after (worker_state port g.X.Cells g.X.Faults) c.args.desk.now lock workers.items c.as_mut_slice.result.now c.as_mut_slice.ensures.value
+    c.serve.new.workers workers.len c.serve.auto.workers workers.ok.0 asked olds c.ranges.connections.fits begun e.worked e.most e.ends in
     let all = c.gather-pass.ensures.gathered desk asked olds done in
     let opening = c.in-Ok-new.ensures.opening in
     let end = c.close.ensures in

@@ -23,14 +23,14 @@ returns-in-Err-clause-cells g c = cells-of _ _ _ c.in-Err.ensures.turn
 pub returns-in_err-outcome-clause-signs : goal.returns-in_err-outcome-clause-signs
 returns-in_err-outcome-clause-signs g c =
     let p = err_from_is_err_and c.from_residual.result c.from_residual.ensures.1 in
-    leased-as (signed-err c.in-Ok.leaf c.run_on-outcome.result c.in_err-outcome.field-0.0 p.0 c.from_residual.result c.in_err-outcome.was p.1 p.2)
-    (let long = c.if-message.false in omega (arith, long)) c.of-id.ensures c.in-Ok.ensures.turn c.run_on-outcome.ensures.runs c.spent_by.ensures
+    leased-as (signed-err c.in-Ok.leaf c.run_on-outcome.result.outcome c.in_err-outcome.field-0.0 p.0 c.from_residual.result c.in_err-outcome.was p.1 p.2)
+    (let long = c.if-message.false in omega (arith, long)) c.of-id.ensures c.in-Ok.ensures.turn c.run_on-outcome.ensures.runs.runs c.spent_by.ensures
     c.burn_spent.ensures.turn
 
 pub returns-clause-signs : goal.returns-clause-signs
 returns-clause-signs g c =
-    leased-as (signed-ok c.in-Ok.leaf c.run_on-outcome.result c.in_ok-outcome.field-0 _ c.in_ok-outcome.was refl)
-    (let long = c.if-message.false in omega (arith, long)) c.of-id.ensures c.in-Ok.ensures.turn c.run_on-outcome.ensures.runs c.spent_by.ensures
+    leased-as (signed-ok c.in-Ok.leaf c.run_on-outcome.result.outcome c.in_ok-outcome.field-0 _ c.in_ok-outcome.was refl)
+    (let long = c.if-message.false in omega (arith, long)) c.of-id.ensures c.in-Ok.ensures.turn c.run_on-outcome.ensures.runs.runs c.spent_by.ensures
     c.burn_spent.ensures.turn
 
 pub returns-then-message-clause-shows : goal.returns-then-message-clause-shows

@@ -9,7 +9,7 @@ invariant-loop g l =
     let state = worker_state g.P.Port.state g.X.Cells g.X.Faults in
     record {
       working : Working (desk_state l.desk) (state l.fn.worker) (state l.worker);
-      ready : IsReady g.X.Cells l.lock (desk_state l.desk) l.worker.pass l.worker.own;
+      ready : IsReady g.X.Cells l.lock l.desk l.worker.pass l.worker.own;
       count : l.worker.connections ≡ l.counter;
       sound : l.worker.failed ≡ false;
       fresh : l.worker.worn ≡ false;
