@@ -1,7 +1,6 @@
 -- Workers that were run.
 use Rattle.std.proofs.Common.{◌≡◌, ◌^◌, ◌≤◌, ◌<◌, false, ℕ, List, ◌++◌, Option, Some, IfSome, All, length, take, drop, get_or, refl, sym, ap, ◌∙◌, subst, arith}
 use Rattle.std.proofs.lemmas.List.{length-map}
-use Rattle.std.proofs.Math.Seq.{take-append_seam}
 use Rattle.aggregator_node.specs.Turns.{IsIdle}
 use Rattle.aggregator_node.specs.Gathered.{AreBegun, AreDone, Gathered, IsBegun, IsDone}
 use Rattle.aggregator_node.specs.Ports.{Place, PortRun}
@@ -15,6 +14,7 @@ use Rattle.aggregator_session.specs.Signing.{DeskState, desk_state}
 use Rattle.aggregator_session.specs.declared.desk.Desk.{Desk}
 use Rattle.reference_value.specs.declared.cells.Cells as cells
 use Rattle.trustee_node.specs.declared.totals.Totals.{Totals}
+use Rattle.trustee_node.proofs.PortStanding.{written-whole}
 use Rattle.turn_lock.specs.Lock.{Lock}
 use Rattle.turn_lock.specs.Pass.{Seen, first_pass}
 
@@ -40,9 +40,7 @@ module _ {W : Type 0} (state : W → WorkerState) (desk : Desk) (lock : Lock Lea
   module _ (news : List W) (len : ℕ) (size : length news ≡ length slice) (count : len ≡ length items) where
     -- the workers whose slice was written
     whole : take len (news ++ drop (length news) items) ≡ news
-    whole =
-        let same : len ≡ length news = omega (arith, count, size, ap length value) in
-        ap (λ (k : ℕ). take k (news ++ drop (length news) items)) same ∙ take-append_seam news (drop (length news) items)
+    whole = written-whole items slice news len value size count
 
     pub idle-after : {X : Type 0} (c : cells.Ghosts X) (own : W → X) → All (λ worker. IsReady c lock desk (state worker).post.pass (own worker)) news
         → All (λ worker. ((state worker).post.pass.lock ≡ lock) × ((state worker).post.pass.in_turn ≡ false)) (take len (news ++ drop (length news) items))

@@ -12,23 +12,10 @@ use Rattle.round_frames.specs.declared.fault.FrameFault.{FrameFault}
 use Rattle.round_frames.specs.declared.fault.FrameFault.TheVariants as frame
 use Rattle.session_core.specs.declared.faults.SessionFault.TheVariants as session
 use Rattle.stream_io.specs.Net.{PortOnward, PortState}
+use Rattle.trustee_node.proofs.Onward.{onward-same, onward-then}
 use Rattle.trustee_node.specs.Connections.{end_by}
 use Rattle.trustee_node.specs.declared.served.ServedEnd.{ServedEnd}
 use Rattle.trustee_node.specs.declared.served.ServedEnd.TheVariants.{Worn}
-
--- ports after ports
-pub onward-same : (port : PortState) → PortOnward port port
-onward-same port = record { told = refl; steady = refl; place = refl; count = omega arith; accept_count = omega arith; room = omega arith }
-
-pub onward-then : (old mid new : PortState) → PortOnward old mid → PortOnward mid new → PortOnward old new
-onward-then old mid new a b = record {
-  told = b.told ∙ a.told;
-  steady = b.steady ∙ a.steady;
-  place = b.place ∙ a.place;
-  count = (let p = a.count in let q = b.count in omega (arith, p, q));
-  accept_count = (let p = a.accept_count in let q = b.accept_count in omega (arith, p, q));
-  room = (let p = a.room in let q = b.room in omega (arith, p, q));
-}
 
 -- a port at which no link was accepted
 pub record Dialled (old new : PortState) : Type 0 where

@@ -1,5 +1,5 @@
 -- Turns of a leaf table under a lock.
-use Rattle.std.proofs.Common.{◌≡◌, ℕ, false, List, [], ◌∷◌, ◌++◌, length, drop, None, Some, Option, IfSome, Result, refl, sym, ap, ◌∙◌, subst, arith, inl, inr, append-nil, append_assoc}
+use Rattle.std.proofs.Common.{◌≡◌, ℕ, false, List, [], ◌∷◌, ◌++◌, length, drop, None, Some, Option, IfSome, Result, refl, sym, ap, ◌∙◌, subst, arith, inl, inr}
 use mathlib.Core.List.{IsPrefix}
 use Rattle.aggregator_node.specs.Turns.{IsIdle, NotTurned, Turned}
 use Rattle.coalition_map.specs.Coalitions.{PlanNumbers}
@@ -17,15 +17,10 @@ use Rattle.leaf_table.specs.declared.table.TableName.{TableName}
 use Rattle.leaf_table.proofs.Held.{holds}
 use Rattle.aggregator_session.specs.Tables.{TableSeen, name_of}
 use Rattle.lms_bytes.specs.declared.message.MessageId.{MessageId}
+use Rattle.trustee_node.proofs.Onward.{same-then}
+use Rattle.trustee_node.proofs.Prefixes.{prefix-is, prefix-then}
 use Rattle.turn_lock.specs.Lock.{Lock}
 use Rattle.turn_lock.specs.Pass.{DrawsOne, Gives, IsWornOut, SameDone, SameDrawn, SamePass, Seen, Takes}
-
--- lists that begin others
-pub prefix-is : {A : Type 0} (xs ys : List A) → xs ≡ ys → IsPrefix xs ys
-prefix-is xs ys e = ([], append-nil xs ∙ e)
-
-pub prefix-then : {A : Type 0} (xs ys zs : List A) → IsPrefix xs ys → IsPrefix ys zs → IsPrefix xs zs
-prefix-then xs ys zs p q = (p.0 ++ q.0, sym (append_assoc xs p.0 q.0) ∙ (ap (λ t. t ++ q.0) p.1 ∙ q.1))
 
 -- the entries that a table has once its doubt is settled, and after leasing or burning, go on from those before
 pub settles-on : (before settled : TableState) → SettlesTo before settled → IsPrefix before.entries settled.entries
@@ -52,9 +47,6 @@ burns-on before after (leasing.made settled s map) = more-on before settled _ s
 burns-on before after (leasing.unsettled doubt) = prefix-is before.entries before.entries refl
 burns-on before after (leasing.unwritten settled s map) = settles-on before settled s
 burns-on before after (leasing.damaged a b doubted doubt neither) = prefix-is before.entries before.entries refl
-
-pub same-then : (old mid new : Seen Lease TableName) → SamePass old mid → SamePass mid new → SamePass old new
-same-then old mid new a b = record { lock = b.lock ∙ a.lock; name = b.name ∙ a.name }
 
 pub idle-again : (lock : Lock Lease TableName) (plan : PlanNumbers) (old new : Seen Lease TableName) → IsIdle lock plan old → SamePass old new → new.in_turn ≡ false
     → IsIdle lock plan new

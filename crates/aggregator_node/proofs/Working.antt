@@ -6,7 +6,8 @@ use Rattle.aggregator_node.specs.Clients.{ReferenceState, Request, SameReference
 use Rattle.aggregator_node.specs.Posts.{Connection, Leaves, Post, ServesLink, Works, left, next, requests_of}
 use Rattle.aggregator_node.specs.Posts.{frames_of}
 use Rattle.aggregator_node.specs.Workers.{HasServedLink, Worked, WorkerState}
-use Rattle.aggregator_node.proofs.Serving.{onward-same, onward-then, serves-few, serves-port, serves-told, serves-worn}
+use Rattle.aggregator_node.proofs.Serving.{serves-few, serves-port, serves-told, serves-worn}
+use Rattle.trustee_node.proofs.Onward.{onward-same, onward-then}
 use Rattle.aggregator_session.specs.Signing.{DeskState}
 use Rattle.stream_io.specs.Net.{Accepts, PortOnward, PortState, SameLinks}
 use Rattle.stream_io.specs.Store.{RisesWhere}

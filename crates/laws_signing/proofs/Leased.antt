@@ -9,7 +9,7 @@ use Rattle.aggregator_node.specs.Clients as clients
 use Rattle.aggregator_node.specs.Logs.{LeaseShows, Shows}
 use Rattle.aggregator_node.specs.Logs as logs
 use Rattle.aggregator_node.proofs.Keeping.{kept}
-use Rattle.aggregator_node.proofs.Turning.{prefix-then}
+use Rattle.trustee_node.proofs.Prefixes.{prefix-then}
 use Rattle.aggregator_node.specs.Ports.{Place, ServedClients}
 use Rattle.aggregator_node.specs.Posts.{Connection, Post, Works}
 use Rattle.aggregator_node.specs.Posts as posts

@@ -5,6 +5,7 @@ mod Heads
 mod Lengths
 mod Masks
 mod Noting
+pub mod Onward
 pub mod Opening
 pub mod Prefixes
 pub mod Serving

@@ -1,7 +1,6 @@
 -- Workers that were run.
 use Rattle.std.proofs.Common.{◌≡◌, ◌^◌, ◌≤◌, ◌<◌, false, ℕ, List, ◌++◌, Option, Some, IfSome, All, length, take, drop, get_or, refl, sym, ap, ◌∙◌, subst, arith}
 use Rattle.std.proofs.lemmas.List.{length-map}
-use Rattle.std.proofs.Math.Seq.{take-append_seam}
 use Rattle.share_files.specs.declared.share.Share.{Share}
 use Rattle.stream_io.specs.Net.{PortState}
 use Rattle.trustee_core.specs.declared.kept.TrusteeName.{TrusteeName}
@@ -11,7 +10,7 @@ use Rattle.trustee_node.specs.Workers.{ClockState, WorkEnds, WorkerState, Worked
 use Rattle.trustee_node.specs.Gathered.{AreBegun, AreDone, Gathered, IsBegun, IsDone}
 use Rattle.trustee_node.specs.Ports.{PortRun}
 use Rattle.trustee_node.specs.declared.totals.Totals.{Totals}
-use Rattle.trustee_node.proofs.PortStanding.{stand-all, stand-then}
+use Rattle.trustee_node.proofs.PortStanding.{stand-all, stand-then, written-whole}
 use Rattle.turn_lock.specs.Lock.{Lock}
 use Rattle.turn_lock.specs.Pass.{Seen, first_pass}
 
@@ -31,9 +30,7 @@ module _ {W : Type 0} (state : W → WorkerState) (share : Share) (lock : Lock N
   module _ (news : List W) (len : ℕ) (size : length news ≡ length slice) (count : len ≡ length items) where
     -- the workers whose slice was written
     whole : take len (news ++ drop (length news) items) ≡ news
-    whole =
-        let same : len ≡ length news = omega (arith, count, size, ap length value) in
-        ap (λ (k : ℕ). take k (news ++ drop (length news) items)) same ∙ take-append_seam news (drop (length news) items)
+    whole = written-whole items slice news len value size count
 
     pub idle-after : All (λ worker. IsIdle lock share (state worker).pass) news → All (λ worker. ((state worker).pass.lock ≡ lock) × ((state worker).pass.in_turn ≡ false)) (take len (news ++ drop (length news) items))
     idle-after idle =

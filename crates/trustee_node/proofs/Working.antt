@@ -18,6 +18,7 @@ use Rattle.trustee_node.specs.declared.served.Served.{Served}
 use Rattle.trustee_node.specs.declared.served.ServedEnd.{ServedEnd}
 use Rattle.trustee_node.specs.declared.served.ServedEnd.TheVariants.{Worn}
 use Rattle.trustee_node.proofs.Conversing.{dated-none}
+use Rattle.trustee_node.proofs.Onward.{onward-same, onward-then}
 use Rattle.trustee_node.proofs.Serving.{serves-none, serves-then, with_code-append}
 
 moments-then : (answers : ℕ → ℕ) (from : ℕ) (turns more : List Turn) → HaveMoments answers from turns → HaveMoments answers (from + length turns) more → HaveMoments answers from (turns ++ more)
@@ -44,20 +45,6 @@ dated-then before mid now turns more a b = record {
 
 turns-more : (served : List Connection) (one : Connection) → turns_of (served ++ one ∷ []) ≡ turns_of served ++ one.turns
 turns-more served one = flat_map-append (λ (c : Connection). c.turns) served (one ∷ []) ∙ ap (λ (l : List Turn). turns_of served ++ l) (append-nil one.turns)
-
--- ports after ports
-pub onward-same : (port : PortState) → PortOnward port port
-onward-same port = record { told = refl; steady = refl; place = refl; count = omega arith; accept_count = omega arith; room = omega arith }
-
-pub onward-then : (old mid new : PortState) → PortOnward old mid → PortOnward mid new → PortOnward old new
-onward-then old mid new a b = record {
-  told = b.told ∙ a.told;
-  steady = b.steady ∙ a.steady;
-  place = b.place ∙ a.place;
-  count = (let p = a.count in let q = b.count in omega arith);
-  accept_count = (let p = a.accept_count in let q = b.accept_count in omega arith);
-  room = (let p = a.room in let q = b.room in omega arith);
-}
 
 -- a count that stays
 pub rises-nowhere : (failed : Type 0) (before now : ℕ) → (failed → ⊥) → now ≡ before → RisesWhere failed before now
