@@ -11,9 +11,6 @@ use Rattle.lms_bytes.specs.declared.public_key.PublicKey.{PublicKey}
 use Rattle.session_core.specs.Verdicts.{digest_of, joined_bytes}
 use Rattle.session_core.specs.Dealing.{IsAnswered}
 use Rattle.aggregator_session.proofs.Digests.{same-digest}
-use Rattle.lms_verify.specs.UndividedKey.{UndividedKey}
-use Rattle.reference_value.specs.Dealing.{Dealing}
-use Rattle.session_core.specs.Judging.{round_fault}
 use Rattle.aggregator_session.proofs.session.ask_all.Goals as goal
 
 pub returns-in_err-dial_all-clause-run : goal.returns-in_err-dial_all-clause-run
@@ -40,9 +37,9 @@ returns-in_err-ask_again-clause-run g c =
     let many = length-map c.dial_all.new.links.items g.P.Link.Stream.talk in
     let stays = stays-as d.cells t.onward.stays in
     rw (p.1, p.2) (lost_in_two _ _ c.turn.new.self c.ask_again.new.session c.in_err-ask_again.field-0.0
-    (opens _ _ _ c.args.session.now c.dial_all.new.session c.turn.new.self _ _ _ _ c.requires.task.stands.all d.run c.in_ok-dial_all.was c.in_ok-dial_all.ensures.whole (search rules) t.turned
-    (joined-as g.R.Cells.told g.R.Cells.leaves _ _ c.dial_all.new.session c.turn.new.self d.cells t.joined)
-    (dealt-as g.R.Cells.told g.R.Cells.leaves _ _ c.dial_all.new.session c.turn.new.self d.cells t.dealt))
+    (opens _ _ _ c.args.session.now c.dial_all.new.session c.turn.new.self _ _ _ _ c.requires.task.stands.all d.run c.in_ok-dial_all.was c.in_ok-dial_all.ensures.whole (search rules) t.turns.turned
+    (joined-as g.R.Cells.told g.R.Cells.leaves _ _ c.dial_all.new.session c.turn.new.self d.cells t.turns.joined)
+    (dealt-as g.R.Cells.told g.R.Cells.leaves _ _ c.dial_all.new.session c.turn.new.self d.cells t.turns.dealt))
     (second-end _ _ _ _ _ _ _ _ stays.told stays.leaves c.requires.task.stands.all c.in_err-ask_again.was c.ask_again.ensures.run))
 
 pub finish_with-requires-clause-digest : goal.finish_with-requires-clause-digest
@@ -64,11 +61,11 @@ returns-in_err-finish_with-clause-run g c =
     let le : count c.args.cells.now ≤ count c.ask_again.new.cells = (let x = ap count d.cells in let y = t.onward.count in let z = a.count in omega arith) in
     let digest = c.digest_of-digest.ensures ∙ same-digest c.turn.new.self c.ask_again.new.session c.args.task.now.message.now a.same in
     rw (p.1, p.2) (judged_in_two _ _ c.turn.new.self c.ask_again.new.session c.in_err-finish_with.field-0.0
-    (opens _ _ _ c.args.session.now c.dial_all.new.session c.turn.new.self _ _ _ _ c.requires.task.stands.all d.run c.in_ok-dial_all.was c.in_ok-dial_all.ensures.whole (search rules) t.turned
-    (joined-as g.R.Cells.told g.R.Cells.leaves _ _ c.dial_all.new.session c.turn.new.self d.cells t.joined)
-    (dealt-as g.R.Cells.told g.R.Cells.leaves _ _ c.dial_all.new.session c.turn.new.self d.cells t.dealt))
+    (opens _ _ _ c.args.session.now c.dial_all.new.session c.turn.new.self _ _ _ _ c.requires.task.stands.all d.run c.in_ok-dial_all.was c.in_ok-dial_all.ensures.whole (search rules) t.turns.turned
+    (joined-as g.R.Cells.told g.R.Cells.leaves _ _ c.dial_all.new.session c.turn.new.self d.cells t.turns.joined)
+    (dealt-as g.R.Cells.told g.R.Cells.leaves _ _ c.dial_all.new.session c.turn.new.self d.cells t.turns.dealt))
     (second-end _ _ _ _ _ _ _ _ stays.told stays.leaves c.requires.task.stands.all c.in_ok-ask_again.was a.run)
-    (fails-as _ c.args.task.now.message.now c.args.task.now.desk.now.tree.now _ _ _ _ _ _ _ _ later.told later.leaves le (c.in_err-finish_with.ensures.cause c.args.task.now.message.now digest)))
+    (fails-as _ c.args.task.now.message.now c.args.task.now.desk.now.tree.now _ _ _ _ _ _ _ _ later.told later.leaves le (c.in_err-finish_with.ensures.finishes c.args.task.now.message.now digest).joins.cause))
 
 pub returns-clause-run : goal.returns-clause-run
 returns-clause-run g c =
@@ -83,19 +80,18 @@ returns-clause-run g c =
     let tree = c.args.task.now.desk.now.tree.now in
     let kept = c.ask_again.new.session in
     let digest = c.digest_of-digest.ensures ∙ same-digest c.turn.new.self c.ask_again.new.session c.args.task.now.message.now a.same in
-    let answered_by = λ (d : Dealing) (key : UndividedKey) (answered : IsAnswered d key kept (digest_of kept message) (g.R.Cells.leaves c.args.cells.now) tree).
-    subst (λ (q : List ℕ). IsAnswered d key kept q (g.R.Cells.leaves c.args.cells.now) tree) (sym digest) answered in
+    let done = f.finishes message digest in
     signed _ _ c.turn.new.self kept _
-    (opens _ _ _ c.args.session.now c.dial_all.new.session c.turn.new.self _ _ _ _ c.requires.task.stands.all d.run c.in_ok-dial_all.was c.in_ok-dial_all.ensures.whole (search rules) t.turned
-    (joined-as g.R.Cells.told g.R.Cells.leaves _ _ c.dial_all.new.session c.turn.new.self d.cells t.joined)
-    (dealt-as g.R.Cells.told g.R.Cells.leaves _ _ c.dial_all.new.session c.turn.new.self d.cells t.dealt))
+    (opens _ _ _ c.args.session.now c.dial_all.new.session c.turn.new.self _ _ _ _ c.requires.task.stands.all d.run c.in_ok-dial_all.was c.in_ok-dial_all.ensures.whole (search rules) t.turns.turned
+    (joined-as g.R.Cells.told g.R.Cells.leaves _ _ c.dial_all.new.session c.turn.new.self d.cells t.turns.joined)
+    (dealt-as g.R.Cells.told g.R.Cells.leaves _ _ c.dial_all.new.session c.turn.new.self d.cells t.turns.dealt))
     (second-end _ _ _ _ _ _ _ _ stays.told stays.leaves c.requires.task.stands.all c.in_ok-ask_again.was a.run)
     (record {
-      faultless = none-of _ (λ fault some. let no = c.finish_with.ensures.fault fault (ap (round_fault kept) digest ∙ some) in let was = c.in_ok-finish_with.was in absurd (cc));
-      accepted = f.accepted message digest;
-      joined = λ told. f.joined message digest (later.told ∙ told) ∙ ap (λ (l : List ℕ). joined_bytes kept l tree message) (later.leaves told);
-      dealt = λ told d key answered. f.dealt message digest d key (later.told ∙ told)
-          (subst (λ (l : List ℕ). IsAnswered d key kept c.digest_of-digest.result l tree) (sym (later.leaves told)) (answered_by d key answered));
+      faultless = none-of _ (λ fault some. let no = (c.finish_with.ensures.finishes message digest).joins.fault fault some in let was = c.in_ok-finish_with.was in absurd (cc));
+      accepted = done.joins.accepted;
+      joined = λ told. done.joins.joined (later.told ∙ told) ∙ ap (λ (l : List ℕ). joined_bytes kept l tree message) (later.leaves told);
+      dealt = λ told d key answered. done.dealt d key (later.told ∙ told)
+          (subst (λ (l : List ℕ). IsAnswered d key kept (digest_of kept message) l tree) (sym (later.leaves told)) answered);
     })
 
 pub returns-in_err-dial_all-clause-cells : goal.returns-in_err-dial_all-clause-cells
@@ -125,7 +121,7 @@ returns-in_err-turn-clause-cells g c =
           let e = exact-as d.cells exact in
           let set = ap g.R.Cells.set d.cells ∙ (c.requires.task.stands.set ∙ ap (λ (k : PublicKey). k.params) (sym d.same.key)) in
           let plan = ap g.R.Cells.plan d.cells ∙ (c.requires.task.stands.plan ∙ sym d.same.plan) in
-          let no = t.succeeds e.steady e.told (whole-as _ _ _ _ _ e.whole set plan) both.0 in
+          let no = t.succeeds (record { steady = e.steady; told = e.told; whole = whole-as _ _ _ _ _ e.whole set plan }) both.0 in
           absurd (cc);
       stays = stays-as d.cells t.onward.stays;
     }
@@ -158,22 +154,22 @@ returns-in_err-finish_with-clause-cells g c =
     let count = g.R.Faults.count in
     let le : count c.args.cells.now ≤ count c.ask_again.new.cells = (let x = ap count d.cells in let y = t.onward.count in let z = a.count in omega arith) in
     let digest = c.digest_of-digest.ensures ∙ same-digest c.turn.new.self c.ask_again.new.session c.args.task.now.message.now a.same in
-    let cause = f.cause c.args.task.now.message.now digest in
+    let joins = (f.finishes c.args.task.now.message.now digest).joins in
     let stays = stays-then (stays-as d.cells t.onward.stays) a.cells.stays in
     record {
       rises = λ is.
-          let both = fails-reference _ c.args.task.now.message.now _ _ _ _ _ cause (same-err _ _ _ _ p.1 p.2 is) in
+          let both = fails-reference _ c.args.task.now.message.now _ _ _ _ _ joins.cause (same-err _ _ _ _ p.1 p.2 is) in
           let rose = both.1 in
           omega arith;
       succeeds = λ exact is.
           let e = exact-stays stays exact in
-          let key = a.same.key ∙ (ap (λ (x : State). x.key) t.turned.same ∙ d.same.key) in
-          let plans = a.same.plan ∙ (ap (λ (x : State). x.plan) t.turned.same ∙ d.same.plan) in
+          let key = a.same.key ∙ (ap (λ (x : State). x.key) t.turns.turned.same ∙ d.same.key) in
+          let plans = a.same.plan ∙ (ap (λ (x : State). x.plan) t.turns.turned.same ∙ d.same.plan) in
           let set = stays.set ∙ (c.requires.task.stands.set ∙ ap (λ (k : PublicKey). k.params) (sym key)) in
           let plan = stays.plan ∙ (c.requires.task.stands.plan ∙ sym plans) in
           let reference = same-err _ _ _ _ p.1 p.2 is in
-          let both = fails-reference _ c.args.task.now.message.now _ _ _ _ _ cause reference in
-          f.read e.steady e.told (whole-as _ _ _ _ _ e.whole set plan) (ap (round_fault c.ask_again.new.session) digest ∙ both.0) (sign-reference _ reference);
+          let both = fails-reference _ c.args.task.now.message.now _ _ _ _ _ joins.cause reference in
+          joins.read (record { steady = e.steady; told = e.told; whole = whole-as _ _ _ _ _ e.whole set plan }) both.0 (sign-reference _ reference);
       stays = stays-then stays f.onward.stays;
     }
 

@@ -1,4 +1,4 @@
-use Rattle.std.proofs.Common.{◌≡◌, ◌+◌, ◌≤◌, IsTrue, All, length, map, drop}
+use Rattle.std.proofs.Common.{◌≡◌, ◌≤◌, length, map, drop}
 use Rattle.aggregator_session.proofs.Rounds.{FirstFrom}
 use Rattle.aggregator_session.specs.Runs.{first_frame}
 use Rattle.aggregator_session.specs.Tasks.{AreAsked, OnlyDials}

@@ -1,6 +1,5 @@
-use Rattle.std.proofs.Common.{[], ◌∷◌, ◌+◌, ◌≤◌, ℕ, List, Err, IsTrue, All, map, refl, sym, ap, subst, ◌∙◌, arith}
+use Rattle.std.proofs.Common.{[], ◌∷◌, ℕ, List, Err, map, refl, sym, ap, subst, ◌∙◌, arith}
 use Rattle.std.proofs.lemmas.List.{append-nil, map_push}
-use Rattle.std.proofs.lemmas.List.Elements.{All-push}
 use Rattle.aggregator_session.specs.Hearing.{Asked}
 use Rattle.aggregator_session.specs.Runs.{dialled, nowhere, undialled}
 use Rattle.aggregator_session.specs.declared.fault.SignFault.TheVariants.{Lost}
