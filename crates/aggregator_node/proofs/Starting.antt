@@ -1,5 +1,5 @@
 -- Workers before they are run.
-use Rattle.std.proofs.Common.{◌≡◌, [], ◌∷◌, ℕ, List, length, refl, sym, subst, arith}
+use Rattle.std.proofs.Common.{◌≡◌, [], ◌∷◌, List, length, refl, sym, subst, arith}
 use Rattle.aggregator_node.specs.Gathered.{AreBegun, none, one}
 use Rattle.aggregator_node.specs.Ports.{places_of}
 use Rattle.aggregator_node.specs.Workers.{worker_state}
