@@ -1,16 +1,27 @@
 -- A member that the session for a lower key lost.
 use Rattle.std.specs.Prelude.{ℕ}
+use Rattle.aggregator_session.specs.declared.fault.Why.{Why}
 use Rattle.lms_bytes.specs.PublicKey.{public_bytes}
 use Rattle.tool_base.specs.World.{StoreRun}
 use Rattle.tool_levels.specs.HssSign.{session_words}
 use Rattle.tool_levels.specs.Lower.{IsReady, Lower}
-use Rattle.tool_sign.specs.Lost.{LosesMember}
+use Rattle.tool_sign.specs.Lost.{IsOfPeer, IsUnfailed, Loses}
 use Rattle.tool_sign.specs.Ports.{NetRun}
 use Rattle.tool_sign.specs.Tasks.{message_of}
 use Rattle.tool_words.specs.Words.{HssSignWords}
 
--- the session for the lower key of the words lost this member in this round, by no call that failed
-pub record LosesForLower (words : HssSignWords) (store : StoreRun) (net : NetRun) (member round : ℕ) : Type 0 where
+-- the session for the lower key of the words lost this member in this round, for a reason of this kind
+pub record LosesLower (kind : Why → Type 0) (words : HssSignWords) (store : StoreRun) (net : NetRun)
+    (member round : ℕ) : Type 0 where
   pub lower : Lower
   pub ready : IsReady words store lower
-  pub loses : LosesMember (session_words words) store (message_of (public_bytes lower.key)) net member round
+  pub loses : Loses kind (session_words words) store (message_of (public_bytes lower.key)) net member round
+
+-- it lost the member by no call that failed
+abbrev pub LosesForLower : HssSignWords → StoreRun → NetRun → ℕ → ℕ → Type 0
+LosesForLower words store net member round = LosesLower IsUnfailed words store net member round
+
+-- The same over a net whose calls do not fail but for their arguments, and whose links have room for the asks: it lost
+-- the member since nobody could be dialled, or by what the peer sent or left out, or since no address names it.
+abbrev pub LosesLowerPeer : HssSignWords → StoreRun → NetRun → ℕ → ℕ → Type 0
+LosesLowerPeer words store net member round = LosesLower IsOfPeer words store net member round
