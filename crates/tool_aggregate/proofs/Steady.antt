@@ -1,10 +1,13 @@
 -- How the command ends over a steady store that tells its content, and over such a net.
-use Rattle.std.proofs.Common.{◌≡◌, ◌∙◌, ℕ, List, [], ◌∷◌, All, Option, Some, IsTrue, length, map, inl, inr, false, sym, subst}
+use Rattle.std.proofs.Common.{◌≡◌, ◌∙◌, ℕ, List, [], ◌∷◌, All, Option, Some, IsTrue, length, map, inl, inr, false, sym, ap, subst}
 use Rattle.std.proofs.lemmas.List.Elements.{All-cons, All-head, All-nil, All-tail}
-use Rattle.aggregator_node.specs.Ports.{IsPortRun, Place, PortRun}
+use Rattle.aggregator_node.specs.Clients.{IsExact}
+use Rattle.aggregator_node.specs.Ports.{IsPortRun, Place, PortRun, requests_in}
+use Rattle.aggregator_node.specs.Posts.{with_status}
 use Rattle.leaf_table.specs.declared.lease.Lease.{Lease}
 use Rattle.leaf_table.specs.declared.table.TableName.{TableName}
 use Rattle.aggregator_session.specs.Signing.{DeskState}
+use Rattle.share_files.specs.Reference.{leaves_length}
 use Rattle.share_files.specs.declared.reference.RefHeader.{RefHeader}
 use Rattle.stream_io.specs.Net.{IsNewPort, NetState, PortState}
 use Rattle.tool_base.specs.Ending as ending
@@ -12,9 +15,10 @@ use Rattle.tool_base.specs.Ending.{Ending}
 use Rattle.tool_base.specs.World.{StoreRun}
 use Rattle.tool_aggregate.specs.Aggregate.{AggregateEnds, AggregateRun, TableEnds}
 use Rattle.tool_aggregate.specs.Aggregate as aggregate
-use Rattle.tool_aggregate.specs.Desks.{FailsDesk}
+use Rattle.tool_aggregate.specs.Desks.{FailsDesk, IsDesk, ReadsReference}
 use Rattle.tool_aggregate.specs.Desks as desks
-use Rattle.tool_aggregate.specs.Serving.{ServedNet, ServedTable, ports_of}
+use Rattle.tool_aggregate.specs.Serving.{ServedTable, ports_of}
+use Rattle.tool_desk.proofs.Keys.{sizes}
 use Rattle.tool_desk.specs.Files.{key_name, reference_name, tree_name}
 use Rattle.tool_desk.specs.declared.files.KeyFiles.{KeyFiles}
 use Rattle.tool_trustee.specs.Nets.{HasAccepted}
@@ -48,6 +52,49 @@ module _ (desk : DeskState) (asked : ℕ) (name : Option TableName) (log last : 
       (accepted-by asked (length run.served) run.before.port run.after.port one.ends made.accept_count (rw one.onward.steady (made.steady is_steady)))
       (all-accepted runs (All-tail (IsPortRun desk asked name log last) run runs are) (All-tail (IsNewPort net place) run.before.port (ports_of (map place_before runs)) new))
 
+module _ (words : AggregateWords) (store : StoreRun) (net : NetRun) (header : RefHeader) (desk : DeskState) (end : Ending) (served : ServedTable words store net header desk end) (net_steady : IsTrue net.before.steady) where
+  -- no port of a service over a steady net fails to accept, and the service ends with its numbers
+  pub hears : All HasAccepted (ports_of served.places_new)
+  hears =
+      let over = served.serves.over in
+      let clients = over.served in
+      subst (λ (places : List Place). All HasAccepted (ports_of places)) clients.after
+      (all-accepted desk words.connections (Some served.serves.old.name) served.serves.old.state.entries served.serves.new.state.entries net.before (Some words.place) net_steady clients.runs clients.are
+      (subst (λ (places : List Place). All (IsNewPort net.before (Some words.place)) (ports_of places)) (sym clients.before) over.made))
+
+  pub tells-served : end ≡ ending.Served served.serves.over.totals.connections served.serves.over.totals.frames
+  tells-served = elim served.serves.over.ends [
+    | inl all ↦ all.1
+    | inr some ↦ absurd (some.0 hears)
+  ]
+
+-- ---- over a steady store that tells its content
+module _ (words : AggregateWords) (store : StoreRun) (header : RefHeader) (desk : DeskState) (told : IsTrue store.before.told) (steady : IsTrue store.before.steady) (is : IsDesk words store header desk) where
+  exact-place : (place : Place) → ReadsReference words store header place → IsExact desk place.reference
+  exact-place place reads = record {
+    steady = reads.steady steady;
+    told = reads.told told;
+    whole =
+        (reads.leaves.is told).leaves_are
+        ∙ ((sizes is.files header is.one_key).leaves ∙ ap (λ (d : DeskState). leaves_length d.key.params d.plan) (sym is.desk_is));
+  }
+
+  exact-runs : (runs : List PortRun) → All (ReadsReference words store header) (map place_before runs) → All (λ (run : PortRun). IsExact desk run.before.reference) runs
+  exact-runs [] read = All-nil (λ (run : PortRun). IsExact desk run.before.reference)
+  exact-runs (run ∷ runs) read =
+      All-cons (λ (run : PortRun). IsExact desk run.before.reference) run runs
+      (exact-place run.before (All-head (ReadsReference words store header) run.before (map place_before runs) read))
+      (exact-runs runs (All-tail (ReadsReference words store header) run.before (map place_before runs) read))
+
+  -- no reply says that a device failed
+  pub never-fails : (net : NetRun) (end : Ending) (served : ServedTable words store net header desk end) → with_status 10 (requests_in served.serves.over.served.runs) ≡ 0
+  never-fails net end served =
+      let table = served.serves in
+      let clients = table.over.served in
+      let name = table.name_is in
+      clients.failures.steady (ap (λ (n : TableName). n.steady) name ∙ table.fresh.steady steady) (ap (λ (n : TableName). n.told) name ∙ table.fresh.told told)
+      (exact-runs clients.runs (subst (All (ReadsReference words store header)) (sym clients.before) served.reads))
+
 module _ (lacks unoffered : Type 0) (words : AggregateWords) (store : StoreRun) (net : NetRun) (told : IsTrue store.before.told) (steady : IsTrue store.before.steady)
     (net_told : IsTrue net.before.told) (net_steady : IsTrue net.before.steady)
     (key : Lack lacks unoffered store told steady (key_name words.prefix)) (tree : Lack lacks unoffered store told steady (tree_name words.prefix))
@@ -64,20 +111,11 @@ module _ (lacks unoffered : Type 0) (words : AggregateWords) (store : StoreRun) 
   desk-steady _ (desks.no_references files end read fails) = references-steady files end fails
 
   module _ (header : RefHeader) (desk : DeskState) where
-    hears : (end : Ending) (served : ServedTable words store net header desk end) → All HasAccepted (ports_of served.places_new)
-    hears end served =
-        let over = served.serves.over in
-        let clients = over.served in
-        subst (λ (places : List Place). All HasAccepted (ports_of places)) clients.after
-        (all-accepted desk words.connections (Some served.serves.old.name) served.serves.old.state.entries served.serves.new.state.entries net.before (Some words.place) net_steady clients.runs clients.are
-        (subst (λ (places : List Place). All (IsNewPort net.before (Some words.place)) (ports_of places)) (sym clients.before) over.made))
-
     served-steady : (end : Ending) → ServedTable words store net header desk end → EndsSteady lacks unoffered end
-    served-steady end served = elim served.serves.over.ends [
-      | inl all ↦ subst (EndsSteady lacks unoffered) (sym all.1)
-          (plain lacks unoffered (ending.Served served.serves.over.totals.connections served.serves.over.totals.frames) (λ is. cc) (λ is. cc) (λ is. cc))
-      | inr some ↦ absurd (some.0 (hears end served))
-    ]
+    served-steady end served =
+        let totals = served.serves.over.totals in
+        subst (EndsSteady lacks unoffered) (sym (tells-served words store net header desk end served net_steady))
+        (plain lacks unoffered (ending.Served totals.connections totals.frames) (λ is. cc) (λ is. cc) (λ is. cc))
 
     table-steady : (end : Ending) (touched : List (List ℕ)) → TableEnds words store net desk (ServedTable words store net header desk) end touched → EndsSteady lacks unoffered end
     table-steady _ _ (aggregate.no_memory touched heard stays) = plain lacks unoffered ending.NoMemory (λ is. cc) (λ is. cc) (λ is. cc)

@@ -1,3 +1,4 @@
 pub mod Desks
 pub mod Serving
+pub mod Steady
 pub mod Aggregate
