@@ -6,8 +6,7 @@ use Rattle.lms_bytes.specs.declared.params.Params.{Params}
 use Rattle.lms_bytes.specs.declared.public_key.PublicKey.{PublicKey}
 use Rattle.lms_verify.specs.Accepts.{AcceptsAt}
 use Rattle.lms_verify.specs.Verdict.{IsVerdict}
-use Rattle.lms_verify.specs.declared.verification.Verdict.{Verdict}
-use Rattle.lms_verify.specs.declared.verification.Verdict.TheVariants.{Accepted, Malformed, OtherRoot}
+use Rattle.lms_verify.specs.declared.verification.Verdict.TheVariants.{Accepted}
 use Rattle.merkle_path.specs.Nodes.{candidate_root}
 use Rattle.ots_chain.specs.LeafKey.{candidate_leaf_key}
 use Rattle.ots_chain.specs.MessageHash.{message_digest}

@@ -8,5 +8,7 @@ mod Offering
 pub mod Plans
 pub mod Rehearsing
 pub mod Running
+mod Serving
 pub mod Steady
 pub mod Verifying
+mod Printed

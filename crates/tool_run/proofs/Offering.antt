@@ -1,11 +1,11 @@
--- Where a command served, the net offers its place.
+-- What a command that served was run with, and that the net offers its place.
 use Rattle.std.proofs.Common.{◌≡◌, ℕ, List, Option, Some, IsTrue, subst}
 use Rattle.aggregator_session.specs.Signing.{DeskState}
 use Rattle.share_files.specs.declared.reference.RefHeader.{RefHeader}
 use Rattle.slot_file.specs.declared.header.Header.{Header}
 use Rattle.tool_aggregate.specs.Aggregate.{AggregateEnds}
 use Rattle.tool_aggregate.specs.Aggregate as aggregate
-use Rattle.tool_aggregate.specs.Desks.{FailsDesk}
+use Rattle.tool_aggregate.specs.Desks.{FailsDesk, IsDesk}
 use Rattle.tool_aggregate.specs.Desks as desks
 use Rattle.tool_aggregate.specs.Serving.{ServedTable}
 use Rattle.tool_base.specs.Ending as ending
@@ -26,7 +26,7 @@ use Rattle.tool_desk.specs.declared.files.KeyFiles.{KeyFiles}
 use Rattle.tool_run.specs.Steady.{place_of}
 use Rattle.tool_run.specs.ToolRun.{CommandRun}
 use Rattle.tool_sign.specs.Ports.{NetRun}
-use Rattle.tool_trustee.specs.Trustee.{TrusteeEnds, store_of}
+use Rattle.tool_trustee.specs.Trustee.{ServedTrustee, TrusteeEnds, store_of}
 use Rattle.tool_trustee.specs.Trustee as trustee
 use Rattle.tool_words.specs.Words.{Row, Aggregate, Trustee, AggregateWords, TrusteeWords}
 
@@ -71,40 +71,47 @@ module _ (run : StoreRun) (connections frames : ℕ) where
   desk-unserved words _ (desks.no_key_files end fails) is = keys-unserved words.prefix end fails is
   desk-unserved words _ (desks.no_references keys end are fails) is = references-unserved words.prefix keys end fails is
 
-  module _ (words : AggregateWords) (net : NetRun) (net_told : IsTrue net.before.told) where
-    table-offered : (header : RefHeader) (desk : DeskState) (end : Ending) (touched : List (List ℕ))
-        → aggregate.TableEnds words run net desk (ServedTable words run net header desk) end touched → end ≡ ending.Served connections frames → IsTrue (net.before.offers words.place)
-    table-offered header desk _ _ (aggregate.no_memory touched heard stays) is = absurd (cc)
-    table-offered header desk _ _ (aggregate.no_table read heard) is = absurd (cc)
-    table-offered header desk _ _ (aggregate.not_loaded end fails heard stays) is = absurd (load-unserved _ _ words.table end fails is)
-    table-offered header desk _ _ (aggregate.no_ports entries it heard rose never stays) is = absurd (cc)
-    table-offered header desk _ _ (aggregate.served end serves) is = serves.serves.over.offered net_told
+  module _ (words : AggregateWords) (net : NetRun) where
+    -- clients were served with a table, at a desk of the files that the words name
+    pub record ServedAt (end : Ending) : Type 0 where
+      pub header : RefHeader
+      pub desk : DeskState
+      pub is : IsDesk words run header desk
+      pub served : ServedTable words run net header desk end
 
-    aggregate-offered : (end : Ending) (touched : List (List ℕ)) → AggregateEnds words run net end touched → end ≡ ending.Served connections frames → IsTrue (net.before.offers words.place)
-    aggregate-offered _ _ (aggregate.no_desk end fails same) is = absurd (desk-unserved words end fails is)
-    aggregate-offered _ _ (aggregate.ended header desk end touched it ends) is = table-offered header desk end touched ends is
+    table-served : (header : RefHeader) (desk : DeskState) (end : Ending) (touched : List (List ℕ)) → IsDesk words run header desk
+        → aggregate.TableEnds words run net desk (ServedTable words run net header desk) end touched → end ≡ ending.Served connections frames → ServedAt end
+    table-served header desk _ _ at (aggregate.no_memory touched heard stays) is = absurd (cc)
+    table-served header desk _ _ at (aggregate.no_table read heard) is = absurd (cc)
+    table-served header desk _ _ at (aggregate.not_loaded end fails heard stays) is = absurd (load-unserved _ _ words.table end fails is)
+    table-served header desk _ _ at (aggregate.no_ports entries it heard rose never stays) is = absurd (cc)
+    table-served header desk _ _ at (aggregate.served end serves) is = record { header = header; desk = desk; is = at; served = serves }
 
-module _ (before after : Outside) (net_told : IsTrue before.net.told) (connections frames : ℕ) where
-  trustee-offered : (words : TrusteeWords) (end : Ending) (touched : List (List ℕ)) → TrusteeEnds words before after end touched → end ≡ ending.Served connections frames
-      → IsTrue (before.net.offers words.place)
-  trustee-offered words _ _ (trustee.no_memory touched heard stays) is = absurd (cc)
-  trustee-offered words _ _ (trustee.no_share end fails heard) is = absurd (grammar-unserved (store_of before after) connections frames _ words.share end fails is)
-  trustee-offered words _ _ (trustee.no_journal share it read heard) is = absurd (cc)
-  trustee-offered words _ _ (trustee.journal_not_loaded share end it fails stays heard) is =
+    pub aggregate-served : (end : Ending) (touched : List (List ℕ)) → AggregateEnds words run net end touched → end ≡ ending.Served connections frames → ServedAt end
+    aggregate-served _ _ (aggregate.no_desk end fails same) is = absurd (desk-unserved words end fails is)
+    aggregate-served _ _ (aggregate.ended header desk end touched it ends) is = table-served header desk end touched it ends is
+
+module _ (before after : Outside) (connections frames : ℕ) where
+  pub trustee-served : (words : TrusteeWords) (end : Ending) (touched : List (List ℕ)) → TrusteeEnds words before after end touched → end ≡ ending.Served connections frames
+      → ServedTrustee words before after end
+  trustee-served words _ _ (trustee.no_memory touched heard stays) is = absurd (cc)
+  trustee-served words _ _ (trustee.no_share end fails heard) is = absurd (grammar-unserved (store_of before after) connections frames _ words.share end fails is)
+  trustee-served words _ _ (trustee.no_journal share it read heard) is = absurd (cc)
+  trustee-served words _ _ (trustee.journal_not_loaded share end it fails stays heard) is =
       absurd (load-unserved (store_of before after) connections frames _ _ words.journal end fails is)
-  trustee-offered words _ _ (trustee.no_book share entries name it lost heard stays) is = absurd (cc)
-  trustee-offered words _ _ (trustee.book_not_loaded share entries name end it named fails heard stays still) is =
+  trustee-served words _ _ (trustee.no_book share entries name it lost heard stays) is = absurd (cc)
+  trustee-served words _ _ (trustee.book_not_loaded share entries name end it named fails heard stays still) is =
       absurd (load-unserved (store_of before after) connections frames _ _ name end fails is)
-  trustee-offered words _ _ (trustee.no_ports share entries ids touched it has heard rose never stays) is = absurd (cc)
-  trustee-offered words _ _ (trustee.served end books served stays) is = served.net.offered net_told
+  trustee-served words _ _ (trustee.no_ports share entries ids touched it has heard rose never stays) is = absurd (cc)
+  trustee-served words _ _ (trustee.served end books served stays) is = served
 
-  pub command-offered : (row : Row) (end : Ending) → CommandRun row before after end → (place : List ℕ) → place_of row ≡ Some place → end ≡ ending.Served connections frames
-      → IsTrue (before.net.offers place)
-  command-offered (Trustee words) end ran place at is =
+  pub command-offered : IsTrue before.net.told → (row : Row) (end : Ending) → CommandRun row before after end → (place : List ℕ) → place_of row ≡ Some place
+      → end ≡ ending.Served connections frames → IsTrue (before.net.offers place)
+  command-offered told (Trustee words) end ran place at is =
       let same : words.place ≡ place = cc in
-      subst (λ (one : List ℕ). IsTrue (before.net.offers one)) same (trustee-offered words end ran.touched ran.ends is)
-  command-offered (Aggregate words) end ran place at is =
+      subst (λ (one : List ℕ). IsTrue (before.net.offers one)) same ((trustee-served words end ran.touched ran.ends is).net.offered told)
+  command-offered told (Aggregate words) end ran place at is =
       let same : words.place ≡ place = cc in
-      subst (λ (one : List ℕ). IsTrue (before.net.offers one)) same
-      (aggregate-offered (from_to before.store after.store) connections frames words _ net_told end ran.touched ran.ends is)
-  command-offered row end ran place at is = absurd (cc)
+      let one = aggregate-served (from_to before.store after.store) connections frames words _ end ran.touched ran.ends is in
+      subst (λ (one : List ℕ). IsTrue (before.net.offers one)) same (one.served.serves.over.offered told)
+  command-offered told row end ran place at is = absurd (cc)

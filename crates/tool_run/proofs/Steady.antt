@@ -1,5 +1,5 @@
 -- How a call ends over objects that do not fail but for their arguments.
-use Rattle.std.proofs.Common.{◌≡◌, ◌≢◌, ◌⊎◌, ◌≤◌, ◌<◌, Bool, ℕ, suc, List, [], ◌∷◌, ◌==◌, All, Contains, IsSome, Option, None, Some, IsTrue, false, true, length, inl, inr, refl, sym, ap, ◌∙◌, subst, arith, if◌then◌else◌}
+use Rattle.std.proofs.Common.{◌≡◌, ◌⊎◌, ◌≤◌, Bool, ℕ, suc, List, [], ◌∷◌, All, Contains, IsSome, Option, None, Some, IsTrue, length, inl, inr, refl, sym, ◌∙◌, subst, arith}
 use Rattle.std.proofs.lemmas.List.Elements.{All-nil}
 use Rattle.dealer.specs.declared.faults.DealFault.{DealFault}
 use Rattle.dealer.specs.declared.faults.DealFault.TheVariants.{BadEntropy, NoMemory, SameKeys, TooHigh, TooWide}
@@ -8,7 +8,6 @@ use Rattle.lms_verify.specs.declared.verification.Verdict.TheVariants.{Accepted,
 use Rattle.share_files.specs.declared.share.Share.{Share}
 use Rattle.slot_file.specs.declared.header.Header.{Header}
 use Rattle.stream_io.specs.Net.{NetState}
-use Rattle.stream_io.specs.Store.{StoreState}
 use Rattle.tool_base.specs.Ending as ending
 use Rattle.tool_base.specs.Ending.{Ending, line_of, status_of}
 use Rattle.tool_base.specs.Grammars.{FailsGrammar}
@@ -16,7 +15,7 @@ use Rattle.tool_base.specs.Outputs.{IsNotNew, IsNotWritten, Output}
 use Rattle.tool_base.specs.Reads.{FailsUpTo}
 use Rattle.tool_base.specs.Undealt.{end_of_fault}
 use Rattle.tool_base.specs.declared.unsigned.Unsigned.TheVariants as unsigned
-use Rattle.tool_base.specs.World.{Outside, OutputRun, StoreRun, TimeState, World, from_to}
+use Rattle.tool_base.specs.World.{Outside, OutputRun, StoreRun, World, from_to}
 use Rattle.tool_blame.proofs.Steady.{blame-steady}
 use Rattle.tool_blame.specs.Commits.{commits_name}
 use Rattle.tool_aggregate.proofs.Steady.{aggregate-steady}
@@ -44,6 +43,8 @@ use Rattle.tool_run.specs.Rehearse.{IsNotRehearsed, RehearseEnds}
 use Rattle.tool_run.specs.Rehearse as rehearse
 use Rattle.tool_run.proofs.Finding.{command-found}
 use Rattle.tool_run.proofs.Offering.{command-offered}
+use Rattle.tool_run.proofs.Serving.{Laws, command-serves}
+use Rattle.tool_run.specs.Serving.{ServesAll}
 use Rattle.tool_run.specs.Steady.{HasCauses, IsSteadyWorld, IsUnoffered, Lacks, book_of, names_found, names_read, no_file, one_file, place_of}
 use Rattle.tool_run.specs.ToolRun.{CommandRun, IsAnswered, IsPrinted, ToolRun, WordsRun}
 use Rattle.tool_run.specs.Verify.{VerifyEnds}
@@ -53,7 +54,7 @@ use Rattle.tool_show.specs.Show as show
 use Rattle.tool_trustee.specs.Trustee.{ServedTrustee, TrusteeEnds, store_of}
 use Rattle.tool_trustee.specs.Trustee as trustee
 use Rattle.tool_sign.proofs.Steady.{EndsSteady, grammar-steady, lacking, load-steady, new-steady, plain, sign-steady, unheard, unwritten-steady, upto-steady}
-use Rattle.tool_words.specs.Words.{Row, Verify, Rehearse, Deal, Enrol, Migrate, Approve, Trustee, Sign, Aggregate, Drill, HssCheck, HssSign, Blame, Show, DealWords, SignWords, TrusteeWords, command_of}
+use Rattle.tool_words.specs.Words.{Row, Verify, Rehearse, Deal, Enrol, Migrate, Approve, Trustee, Sign, Aggregate, Drill, HssCheck, HssSign, Blame, Show, DealWords, TrusteeWords, command_of}
 
 -- a name by its place in a list of names
 first : (x : List ℕ) (xs : List (List ℕ)) → Contains (x ∷ xs) x
@@ -386,16 +387,23 @@ printed output shown status steady room (inl whole) = whole
 printed output shown status steady room (inr cut) = let less = cut.0.no_room steady in absurd (omega (arith, less, room))
 
 module _ (words : List (List ℕ)) (row : Row) (world : World) (status : ℕ) where
+  abbrev Serves : Ending → Type 0
+  Serves came = (place : List ℕ) (connections frames : ℕ) → place_of row ≡ Some place → came ≡ ending.Served connections frames → ServesAll world.before world.after row came
+
   -- an end that the command came to, or want of memory, whose line was printed
-  by_end : (firm : IsSteadyWorld words world) (end : Ending) → IsPrinted world.output (line_of end) × (status ≡ status_of end)
+  by_end : (run : ToolRun words world status) (firm : IsSteadyWorld run) (end came : Ending) → (end ≡ ending.NoMemory) ⊎ (end ≡ came) → CommandRun row world.before world.after came
+      → IsPrinted world.output (line_of end) × (status ≡ status_of end)
       → Steady world.before world.after firm.store_told firm.store_steady firm.net_told firm.net_steady row end
       → All (λ name. IsSome (world.before.store.file name)) (names_found row end)
       → ((place : List ℕ) (connections frames : ℕ) → place_of row ≡ Some place → end ≡ ending.Served connections frames → IsTrue (world.before.net.offers place))
-      → HasCauses world row status
-  by_end firm end said steady found offered =
+      → Serves came → HasCauses world row status
+  by_end of firm end came end_is ran said steady found offered serves =
       let ends = one_of end in
       record {
         end = end;
+        came = came;
+        end_is = end_is;
+        ran = ran;
         is_printed = said.0;
         status_is = said.1;
         lacks = λ e. steady.store (ends.store (sym said.1 ∙ e));
@@ -403,27 +411,31 @@ module _ (words : List (List ℕ)) (row : Row) (world : World) (status : ℕ) wh
         unoffered = λ e. steady.net (ends.net (sym said.1 ∙ e));
         found = found;
         offered = offered;
+        serves = serves;
       }
 
-  pub steady-run : command_of words ≡ Some row → ToolRun words world status → IsSteadyWorld words world → HasCauses world row status
-  steady-run is ran steady =
+  pub steady-run : command_of words ≡ Some row → (ran : ToolRun words world status) → IsSteadyWorld ran → Laws world.before world.after → HasCauses world row status
+  steady-run is ran steady laws =
       let ended : CommandRun row world.before world.after ran.end = subst (λ (command : Option Row). WordsRun command world.before world.after ran.end) is ran.ended in
       let so = ran.answered in
+      let serves : Serves ran.end =
+      λ place connections frames at served.
+      command-serves world.before world.after steady.store_told steady.store_steady steady.net_steady laws connections frames row ran.end ended place at served in
       elim so.is [
         | inl none ↦
             let calm = of-row world.before world.after steady.store_told steady.store_steady steady.net_told steady.net_steady row ending.NoMemory
             (plain (Lacks world.before.store row) (IsUnoffered world.before.net row) ending.NoMemory (λ is. cc) (λ is. cc) (λ is. cc)) in
-            by_end steady so.shown (printed world.output so.shown status steady.output_steady (steady.room so.shown (inl none)) so.answered)
+            by_end ran steady so.shown ran.end (inl none) ended
+            (printed world.output so.shown status steady.output_steady steady.room so.answered)
             (subst (Steady world.before world.after steady.store_told steady.store_steady steady.net_told steady.net_steady row) (sym none) calm)
             (subst (λ (end : Ending). All (λ name. IsSome (world.before.store.file name)) (names_found row end)) (sym none) (All-nil (λ name. IsSome (world.before.store.file name))))
-            (λ place connections frames at served. absurd (cc))
+            (λ place connections frames at served. absurd (cc)) serves
         | inr same ↦
             let came : CommandRun row world.before world.after so.shown = subst (CommandRun row world.before world.after) (sym same) ended in
-            by_end steady so.shown
-            (printed world.output so.shown status steady.output_steady
-            (steady.room so.shown (inr (subst (WordsRun (command_of words) world.before world.after) (sym same) ran.ended))) so.answered)
+            by_end ran steady so.shown ran.end (inr same) ended
+            (printed world.output so.shown status steady.output_steady steady.room so.answered)
             (command-steady world.before world.after steady.store_told steady.store_steady steady.net_told steady.net_steady row so.shown came)
             (command-found world.before world.after steady.store_told row so.shown came)
             (λ place connections frames at served.
-            command-offered world.before world.after steady.net_told connections frames row so.shown came place at served)
+            command-offered world.before world.after connections frames steady.net_told row so.shown came place at served) serves
       ]

@@ -5,5 +5,7 @@ pub mod HssCheck
 pub mod Naming
 pub mod Rehearse
 pub mod ToolRun
+pub mod Serving
 pub mod Steady
 pub mod Verify
+pub mod Witness

@@ -10,9 +10,10 @@ use Rattle.tool_base.specs.World.{Outside, OutputRun, TimeState, World}
 use Rattle.tool_base.specs.declared.unsigned.Unsigned.TheVariants.{NotACoalition}
 use Rattle.tool_blame.specs.Commits.{commits_name}
 use Rattle.tool_desk.specs.Files.{key_name, reference_name, tree_name}
-use Rattle.tool_run.specs.ToolRun.{IsPrinted, WordsRun}
+use Rattle.tool_run.specs.Serving.{ServesAll}
+use Rattle.tool_run.specs.ToolRun.{CommandRun, IsPrinted, ToolRun}
 use Rattle.tool_words.specs.Words.{Row, Verify, Rehearse, Deal, Enrol, Migrate, Approve, Trustee, Sign, Aggregate}
-use Rattle.tool_words.specs.Words.{Blame, Drill, HssCheck, HssSign, Show, TrusteeWords, command_of}
+use Rattle.tool_words.specs.Words.{Blame, Drill, HssCheck, HssSign, Show, TrusteeWords}
 
 -- the book of a trustee, if there is one
 abbrev pub book_of : Option (List ℕ) → List (List ℕ)
@@ -135,21 +136,25 @@ abbrev pub world_of : Outside → Outside → OutputRun → World
 world_of before after output = record { before = before; after = after; output = output }
 
 -- Store and net tell their content, and none of their calls fails but for its arguments; the same holds of the output,
--- which has room for the line of each end that the command may come to, and for that of want of memory.
-pub record IsSteadyWorld (words : List (List ℕ)) (world : World) : Type 0 where
+-- which has room for the line that the call was to print.
+pub record IsSteadyWorld {words : List (List ℕ)} {world : World} {status : ℕ} (run : ToolRun words world status)
+    : Type 0 where
   pub store_told : IsTrue world.before.store.told
   pub store_steady : IsTrue world.before.store.steady
   pub net_told : IsTrue world.before.net.told
   pub net_steady : IsTrue world.before.net.steady
   pub output_steady : IsTrue world.output.steady
-  pub room : (end : Ending) → (end ≡ NoMemory) ⊎ WordsRun (command_of words) world.before world.after end
-      → length (line_of end) ≤ world.output.room
+  pub room : length (line_of run.answered.shown) ≤ world.output.room
 
--- What is known of a call with such a command that answers this status, by the end whose line it printed. Status 3
--- comes only where nothing is read under one of its names, 17 only where its place is not offered, and 10 never. The
--- names are there that the command asks for before the test that this end shows; where it served, its place is offered.
+-- What is known of a call with such a command that answers this status, by the end whose line it printed and by the
+-- one that it came to, which is another only where there was no memory for the line. Status 3 comes only where nothing
+-- is read under one of its names, 17 only where its place is not offered, and 10 never. The names are there that the
+-- command asks for before the test that this end shows; where it served, its place is offered, and nothing failed.
 pub record HasCauses (world : World) (row : Row) (status : ℕ) : Type 0 where
   pub end : Ending
+  pub came : Ending
+  pub end_is : (end ≡ NoMemory) ⊎ (end ≡ came)
+  pub ran : CommandRun row world.before world.after came
   pub is_printed : IsPrinted world.output (line_of end)
   pub status_is : status ≡ status_of end
   pub lacks : status ≡ 3 → Lacks world.before.store row
@@ -158,3 +163,5 @@ pub record HasCauses (world : World) (row : Row) (status : ℕ) : Type 0 where
   pub found : All (λ name. IsSome (world.before.store.file name)) (names_found row end)
   pub offered : (place : List ℕ) (connections frames : ℕ) → place_of row ≡ Some place → end ≡ Served connections frames
       → IsTrue (world.before.net.offers place)
+  pub serves : (place : List ℕ) (connections frames : ℕ) → place_of row ≡ Some place → came ≡ Served connections frames
+      → ServesAll world.before world.after row came

@@ -8,6 +8,7 @@ pub mod laws;
 mod rehearse;
 mod tool;
 mod verify;
+pub mod witness;
 
 pub use tool::run_tool;
 pub use tool_base::{Clocks, FILE_LIMIT, MemClock, MemClocks, SystemClock, SystemClocks};
