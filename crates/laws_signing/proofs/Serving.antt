@@ -1,5 +1,5 @@
 -- Only a trustee that was served ends as served.
-use Rattle.std.proofs.Common.{◌≡◌, ◌≤◌, ◌+◌, ◌*◌, ℕ, List, Option, Result, Ok, Err, subst, arith}
+use Rattle.std.proofs.Common.{◌≡◌, ◌≤◌, ◌+◌, ◌*◌, ℕ, List, Option, Result, Ok, Err, refl, subst, arith}
 use Rattle.lms_bytes.specs.declared.params.Params.{Params}
 use Rattle.slot_file.specs.declared.header.Header.{Header}
 use Rattle.tool_base.specs.Ending as ending
@@ -14,7 +14,7 @@ use Rattle.tool_trustee.specs.Trustee.{ServedTrustee, TrusteeEnds, TrusteeRun, s
 use Rattle.tool_trustee.specs.Trustee as trustee
 use Rattle.tool_words.specs.Words.{TrusteeWords}
 use Rattle.trustee_node.specs.Ports.{TakesAll}
-use Rattle.laws_signing.specs.Witness.{IsSteadyNet, IsSteadyStore, SteadyTrustee}
+use Rattle.laws_signing.specs.Witness.{GaveFirst, IsNewNet, IsSteadyStore, SteadyTrustee}
 
 pub err≢ok : {T E : Type 0} {e : E} {x : T} → ◌≡◌ {A = Result T E} (Err e) (Ok x) → ⊥
 err≢ok is = absurd (cc)
@@ -60,9 +60,32 @@ module _ (connections frames : ℕ) where
     run-served end run is = ends-served end run.touched run.ends is
 
     -- the same of clocks that no call changed
-    pub steady-served : (end : Ending) → TrusteeRun words before after end → end ≡ served → IsSteadyStore before.store → IsSteadyNet before.net → 562233344 ≤ before.net.room
-        → SteadyTrustee words before (record { store = after.store; net = after.net; time = before.time })
-    steady-served end run is store net room =
+    pub steady-served : (asks : List ℕ) (end : Ending) → TrusteeRun words before after end → end ≡ served → IsSteadyStore before.store → IsNewNet 562233344 before.net
+        → GaveFirst after.net asks → SteadyTrustee words before.store.file asks before (record { store = after.store; net = after.net; time = before.time })
+    steady-served asks end run is store net gave =
         let now : ServedTrustee words before (record { store = after.store; net = after.net; time = before.time }) end =
         subst (λ (t : TimeState). ServedTrustee words before (record { store = after.store; net = after.net; time = t }) end) run.time (run-served end run is) in
-        record { end = end; run = now; store = store; net = net; takes = takes-all now.share.params before.net.room room }
+        record {
+          end = end;
+          run = now;
+          store = store;
+          files = λ name. refl;
+          net = net.is;
+          takes = takes-all now.share.params before.net.room net.takes;
+          unused = net.kept;
+          gave = gave;
+        }
+
+-- the same of files of which the store is made
+pub over-files : (words : TrusteeWords) (asks : List ℕ) (before after : Outside) (file : List ℕ → Option (List ℕ)) → ((name : List ℕ) → before.store.file name ≡ file name)
+    → SteadyTrustee words before.store.file asks before after → SteadyTrustee words file asks before after
+over-files words asks before after file is made = record {
+  end = made.end;
+  run = made.run;
+  store = made.store;
+  files = is;
+  net = made.net;
+  takes = made.takes;
+  unused = made.unused;
+  gave = made.gave;
+}

@@ -57,14 +57,32 @@ pub record IsRoomyScript (room : ℕ) (script : PortScript) : Type 0 where
   pub steady : IsTrue (is_steady_script script)
   pub takes : room ≤ least_room script.waiting.items script.dialled.items
 
+-- a link at which no call failed gave just these bytes
+pub record GaveJust (bytes : List ℕ) (talk : Talk) : Type 0 where
+  pub faultless : talk.count ≡ 0
+  pub bytes_are : talk.taken ++ talk.left ≡ bytes
+
+-- the first link of the first port that a net kept gave just these bytes, and no call of it failed
+pub record GaveFirst (net : NetState) (bytes : List ℕ) : Type 0 where
+  pub port : PortState
+  pub kept : slice_get net.kept 0 ≡ Some port
+  pub talk : Talk
+  pub first : slice_get port.talks 0 ≡ Some talk
+  pub gave : GaveJust bytes talk
+
 -- A trustee was served for which the premises of `steady_trustee` hold: store and net tell their content and are
--- steady, and the net's links take all replies of a connection.
-pub record SteadyTrustee (words : TrusteeWords) (before after : Outside) : Type 0 where
+-- steady, and the net's links take all replies of a connection. The store has just these files, the net kept no port
+-- before, and the first link of its first one gave just these asks.
+pub record SteadyTrustee (words : TrusteeWords) (file : List ℕ → Option (List ℕ)) (asks : List ℕ)
+    (before after : Outside) : Type 0 where
   pub end : Ending
   pub run : ServedTrustee words before after end
   pub store : IsSteadyStore before.store
+  pub files : (name : List ℕ) → before.store.file name ≡ file name
   pub net : IsSteadyNet before.net
   pub takes : TakesAll run.share.params before.net.room
+  pub unused : before.net.kept ≡ []
+  pub gave : GaveFirst after.net asks
 
 -- A run of `sign` for which the premises of the clause `peer` of `causes` hold: it ends with a member that is missing,
 -- though the net is steady and its links take the longest asks.
@@ -124,11 +142,6 @@ pub record WellRun (words : SignWords) (file : List ℕ → Option (List ℕ)) (
   pub run : SigningRun words store net end
   pub well : (d : Dealing) (key : UndividedKey) (message : List ℕ) (leaf : ℕ)
       → AreDealt words file replies d key message leaf → AllIsWell words store net d key message leaf
-
--- internal: a link at which no call failed gave just these bytes
-pub record GaveJust (bytes : List ℕ) (talk : Talk) : Type 0 where
-  pub faultless : talk.count ≡ 0
-  pub bytes_are : talk.taken ++ talk.left ≡ bytes
 
 -- internal: each of these links of which a reply is known gave just that reply
 abbrev pub AllGaveJust : List Talk → List (List ℕ) → Type 0

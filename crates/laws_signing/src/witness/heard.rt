@@ -4,10 +4,11 @@ ghost use Rattle.std.specs.Prelude.{◌≡◌, IsTrue, Some, map, slice_get};
 ghost use Rattle.stream_io.specs.Talk.{Talk};
 ghost use Rattle.stream_memory.specs.Links.{talk_of};
 ghost use Rattle.stream_memory.specs.Ports.{port_state};
-ghost use Rattle.laws_signing.specs.Witness.{AllGaveJust, GaveJust};
+ghost use Rattle.laws_signing.specs.Witness.{AllGaveJust, GaveFirst, GaveJust};
 
 use crate::witness::links::Peer;
-use stream_memory::{Conversation, KeptPort};
+use stream_io::Net;
+use stream_memory::{Conversation, KeptPort, MemNet};
 
 /// Whether each conversation of a port of which these are the peers gave just what its peer sends, without a fault.
 pub(crate) fn all_gave(port: &KeptPort, peers: &[Peer]) -> bool
@@ -19,6 +20,27 @@ pub(crate) fn all_gave(port: &KeptPort, peers: &[Peer]) -> bool
         }
     }
     true
+}
+
+/// Whether the first link of the first port that a net kept gave just these bytes, without a fault.
+pub(crate) fn first_gave(net: &MemNet, bytes: &[u8]) -> bool
+    ensures { IsTrue result → GaveFirst (⟦<MemNet as Net>⟧.state net.now) bytes.now }
+{
+    match net.kept(0) {
+        Some(port) => port_gave(port, bytes),
+        None => false,
+    }
+}
+
+/// Whether the first conversation of a port gave just these bytes, without a fault.
+fn port_gave(port: &KeptPort, bytes: &[u8]) -> bool
+    ensures { IsTrue result → (talk : Talk) × (slice_get (port_state port.now).talks 0 ≡ Some talk)
+        × GaveJust bytes.now talk }
+{
+    match port.talk(0) {
+        Some(talk) => gave(talk, bytes),
+        None => false,
+    }
 }
 
 /// Whether the conversation of this number, if there is one, gave just these bytes, without a fault.

@@ -1,9 +1,12 @@
 //! A trustee that is served over objects in memory.
 
-ghost use Rattle.std.specs.Prelude.{◌≡◌, true, IsTrue, Ok};
+ghost use Rattle.std.specs.Prelude.{◌≡◌, ℕ, true, IsTrue, Ok};
+ghost use Rattle.tool_base.specs.Ending.{Served};
+ghost use Rattle.tool_base.specs.Endings.{ending};
 ghost use Rattle.tool_words.specs.Rows.{trustee_words};
-ghost use Rattle.laws_signing.specs.Witness.{IsNewNet, IsSteadyStore, SteadyTrustee};
+ghost use Rattle.laws_signing.specs.Witness.{IsNewNet, IsSteadyStore, SteadyTrustee, file_in};
 
+use crate::witness::heard::first_gave;
 use crate::witness::links::waiting_net;
 use memory::NoMemory;
 use std::alloc::Global;
@@ -19,8 +22,9 @@ use tool_words::TrusteeWords;
 const ROOM: usize = 562_233_344;
 
 /// Serves a trustee of these words over a store of these files, at a port where a link waits that gives these asks, and
-/// says whether it came to its end. Where it did, the premises of `tool_trustee::laws::steady_trustee` hold of the run:
-/// store and net tell their content and do not fail, and the link has room for all replies.
+/// says whether it came to its end and the asks were read or left at that link. Where it was so, the premises of
+/// `tool_trustee::laws::steady_trustee` hold of the run: store and net tell their content and do not fail, and the link
+/// has room for all replies.
 pub fn served_steadily<R: Threads + Wait + Sync>(
     rt: &R,
     alloc: Global,
@@ -29,7 +33,7 @@ pub fn served_steadily<R: Threads + Wait + Sync>(
     asks: &[u8],
 ) -> Result<bool, NoMemory>
     ensures { result ≡ Ok true → (store : MemStore) × (later : MemStore) × (net : MemNet) × (after : MemNet)
-        × (time : MemClocks) × SteadyTrustee (trustee_words words.now)
+        × (time : MemClocks) × SteadyTrustee (trustee_words words.now) (file_in files.items) asks.now
         (record {
           store = ⟦<MemStore as Store>⟧.state store;
           net = ⟦<MemNet as Net>⟧.state net;
@@ -43,20 +47,23 @@ pub fn served_steadily<R: Threads + Wait + Sync>(
 {
     let mut store = MemStore::of_files(alloc, files, Vec::new(alloc))?;
     let mut net = waiting_net(alloc, words.place, asks, ROOM)?;
-    Ok(is_served(rt, alloc, words, &mut store, &mut net))
+    Ok(is_served(rt, alloc, words, asks, &mut store, &mut net))
 }
 
-/// Serves a trustee over objects that do not fail, and says whether it came to its end.
+/// Serves a trustee over objects that do not fail, and says whether it came to its end, and the first link of the first
+/// port that the net kept gave just these asks.
 fn is_served<R: Threads + Wait + Sync>(
     rt: &R,
     alloc: Global,
     words: &TrusteeWords,
+    asks: &[u8],
     store: &mut MemStore,
     net: &mut MemNet,
 ) -> bool
     requires store { IsSteadyStore (⟦<MemStore as Store>⟧.state store.old) }
     requires net { IsNewNet 562233344 (⟦<MemNet as Net>⟧.state net.old) }
-    ensures { IsTrue result → (time : MemClocks) × SteadyTrustee (trustee_words words.now)
+    ensures { IsTrue result → (time : MemClocks)
+        × SteadyTrustee (trustee_words words.now) (⟦<MemStore as Store>⟧.state store.old).file asks.now
         (record {
           store = ⟦<MemStore as Store>⟧.state store.old;
           net = ⟦<MemNet as Net>⟧.state net.old;
@@ -69,7 +76,18 @@ fn is_served<R: Threads + Wait + Sync>(
         }) }
 {
     let mut time = MemClocks::new(0);
-    match serve_trustee(rt, alloc, words, store, net, &mut time) {
+    let end = serve_trustee(rt, alloc, words, store, net, &mut time);
+    if !is_end(&end) {
+        return false;
+    }
+    first_gave(net, asks)
+}
+
+/// Whether an end says what was served.
+fn is_end(end: &Ending) -> bool
+    ensures { IsTrue result → (connections : ℕ) × (frames : ℕ) × (ending end.now ≡ Served connections frames) }
+{
+    match end {
         Ending::Served { .. } => true,
         _ => false,
     }

@@ -1,6 +1,7 @@
 use Rattle.std.proofs.Common.{◌≡◌, ◌∙◌, sym, true}
 use Rattle.std.proofs.lemmas.Result.{err_from_is_err_and}
-use Rattle.laws_signing.proofs.Serving.{err≢ok}
+use Rattle.laws_signing.proofs.Serving.{err≢ok, over-files}
+use Rattle.laws_signing.specs.Witness.{file_in}
 use Rattle.laws_signing.proofs.witness.trustee.served_steadily.Goals as goal
 
 pub returns-in_err-store : goal.returns-in_err-store
@@ -16,5 +17,11 @@ returns-in_err-net g c = λ is.
 pub returns : goal.returns
 returns g c = λ is.
     let yes : c.is_served.result ≡ true = cc in
-    let made = c.is_served.ensures yes in
-    (c.in_ok-store.store, c.is_served.new.store, c.in_ok-net.net, c.is_served.new.net, made.0, made.1)
+    let made = c.is_served.ensures yes in (
+      c.in_ok-store.store,
+      c.is_served.new.store,
+      c.in_ok-net.net,
+      c.is_served.new.net,
+      made.0,
+      over-files _ _ _ _ (file_in c.args.files.items) (λ name. c.in_ok-store.ensures.begun.file name) made.1,
+    )
