@@ -2,6 +2,7 @@ mod Accepting
 pub mod Dealing
 mod Finding
 mod Found
+mod Losing
 pub mod Names
 pub mod Naming
 mod Offering

@@ -43,6 +43,7 @@ use Rattle.tool_run.specs.Rehearse.{IsNotRehearsed, RehearseEnds}
 use Rattle.tool_run.specs.Rehearse as rehearse
 use Rattle.tool_run.proofs.Finding.{command-found}
 use Rattle.tool_run.proofs.Offering.{command-offered}
+use Rattle.tool_run.proofs.Losing.{command-loses}
 use Rattle.tool_run.proofs.Serving.{Laws, command-serves}
 use Rattle.tool_run.specs.Serving.{ServesAll}
 use Rattle.tool_run.specs.Steady.{HasCauses, IsSteadyWorld, IsUnoffered, Lacks, book_of, names_found, names_read, no_file, one_file, place_of}
@@ -412,6 +413,7 @@ module _ (words : List (List ℕ)) (row : Row) (world : World) (status : ℕ) wh
         found = found;
         offered = offered;
         serves = serves;
+        peer = λ member round room missed. command-loses world.before world.after firm.net_steady room member round row came ran missed;
       }
 
   pub steady-run : command_of words ≡ Some row → (ran : ToolRun words world status) → IsSteadyWorld ran → Laws world.before world.after → HasCauses world row status

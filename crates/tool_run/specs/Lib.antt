@@ -2,6 +2,7 @@ pub mod Accepting
 pub mod Deal
 pub mod Drill
 pub mod HssCheck
+pub mod Losing
 pub mod Naming
 pub mod Rehearse
 pub mod ToolRun

@@ -7,11 +7,13 @@ use Rattle.stream_io.specs.Store.{StoreState}
 use Rattle.tool_base.specs.Ending.{Ending, DeviceFailed, Exists, NoMemory, NotLoaded, NotSigned, Served, StoreFailed}
 use Rattle.tool_base.specs.Ending.{TooLong, Unreadable, Verified, line_of, status_of}
 use Rattle.tool_base.specs.World.{Outside, OutputRun, TimeState, World}
-use Rattle.tool_base.specs.declared.unsigned.Unsigned.TheVariants.{NotACoalition}
+use Rattle.tool_base.specs.declared.unsigned.Unsigned.TheVariants.{Missing, NotACoalition}
 use Rattle.tool_blame.specs.Commits.{commits_name}
 use Rattle.tool_desk.specs.Files.{key_name, reference_name, tree_name}
+use Rattle.tool_run.specs.Losing.{LosesByPeer}
 use Rattle.tool_run.specs.Serving.{ServesAll}
 use Rattle.tool_run.specs.ToolRun.{CommandRun, IsPrinted, ToolRun}
+use Rattle.tool_sign.specs.Lost.{longest_asks}
 use Rattle.tool_words.specs.Words.{Row, Verify, Rehearse, Deal, Enrol, Migrate, Approve, Trustee, Sign, Aggregate}
 use Rattle.tool_words.specs.Words.{Blame, Drill, HssCheck, HssSign, Show, TrusteeWords}
 
@@ -149,7 +151,8 @@ pub record IsSteadyWorld {words : List (List ℕ)} {world : World} {status : ℕ
 -- What is known of a call with such a command that answers this status, by the end whose line it printed and by the
 -- one that it came to, which is another only where there was no memory for the line. Status 3 comes only where nothing
 -- is read under one of its names, 17 only where its place is not offered, and 10 never. The names are there that the
--- command asks for before the test that this end shows; where it served, its place is offered, and nothing failed.
+-- command asks for before the test that this end shows; where it served, its place is offered, and nothing failed; and
+-- where the net's links have room for the asks of the longest message, it lost a member only by the peer.
 pub record HasCauses (world : World) (row : Row) (status : ℕ) : Type 0 where
   pub end : Ending
   pub came : Ending
@@ -165,3 +168,5 @@ pub record HasCauses (world : World) (row : Row) (status : ℕ) : Type 0 where
       → IsTrue (world.before.net.offers place)
   pub serves : (place : List ℕ) (connections frames : ℕ) → place_of row ≡ Some place → came ≡ Served connections frames
       → ServesAll world.before world.after row came
+  pub peer : (member round : ℕ) → longest_asks ≤ world.before.net.room → came ≡ NotSigned (Missing member round)
+      → LosesByPeer row world.before world.after member round

@@ -36,7 +36,9 @@ pub fn accepted_is_said<S: Store>(before: &S, after: &S)
 ///
 /// Where a command served, its place is offered, no port failed to accept, and no reply tells of a device that failed.
 /// A trustee granted each ask that is granted on the entries that its turn met. No link failed where all have room for
-/// 65,536 of the longest replies. This holds too where there was no memory for the line.
+/// 65,536 of the longest replies. Where links have room for the asks of the longest message, a session lost a member
+/// only since nobody could be dialled, since its link ended or what it sent is no frame of a reply, or since no address
+/// names it. This holds too where there was no memory for the line.
 pub fn steady<S: Store>(before: &S, after: &S)
     ensures { (words : List (List ℕ)) (row : Row) (net_old net_new : NetState) (time later : TimeState)
         (output : OutputRun) (status : ℕ) → command_of words ≡ Some row
