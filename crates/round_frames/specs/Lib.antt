@@ -3,5 +3,5 @@ pub mod Asks
 pub mod Replies
 pub mod Requests
 pub mod Results
-pub mod Writes
+pub mod Sending
 pub mod Reads

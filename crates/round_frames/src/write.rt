@@ -10,7 +10,7 @@ ghost use Rattle.round_frames.specs.Frames.{frame, header_bytes};
 ghost use Rattle.round_frames.specs.Replies.{IsHead, head_parts, kind_of, payload_length, reply_front};
 ghost use Rattle.round_frames.specs.Requests.{request_frame};
 ghost use Rattle.round_frames.specs.Results.{failure_frame, signature_frame};
-ghost use Rattle.round_frames.specs.Writes.{Writes, Wrote};
+ghost use Rattle.round_frames.specs.Sending.{Sends, Wrote, sink_state};
 
 use crate::outcome::Failure;
 use crate::reply::kept_length;
@@ -135,8 +135,8 @@ fn write_second<K: Sink>(
 ) -> Result<(), Failed>
     requires c { length second.now.c ≡ params.now.n }
     requires limit { length message.now ≤ 16777216 }
-    ensures writes { Writes K.talk K.steady K.room sink.old sink.new
-        (second_front ask.now second.now message.now ++ message.now) result }
+    ensures sends { Sends (second_front ask.now second.now message.now ++ message.now)
+        (sink_state K.talk K.steady K.room sink.old) (sink_state K.talk K.steady K.room sink.new) result }
     ensures length { length (second_front ask.now second.now message.now ++ message.now)
         ≡ 60 + params.now.n + length message.now }
 {

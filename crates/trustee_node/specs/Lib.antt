@@ -1,7 +1,6 @@
 pub mod Turns
 pub mod Places
 pub mod Replies
-pub mod Sending
 pub mod Connections
 pub mod Workers
 pub mod Starting

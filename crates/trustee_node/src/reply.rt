@@ -7,7 +7,7 @@ ghost use Rattle.round_frames.specs.Replies.{IsHead};
 ghost use Rattle.trustee_core.specs.Grants.{ask_of, mask_of, masks_of};
 ghost use Rattle.trustee_node.specs.Replies.{HasDigest, IsGrantOf, KeepsFew, body_in, c_of, kept_by, outcome_in};
 ghost use Rattle.trustee_node.specs.Replies.{longest_reply, masks_joined, reply_bytes, reply_head, round_of};
-ghost use Rattle.trustee_node.specs.Sending.{Sends, sink_state};
+ghost use Rattle.round_frames.specs.Sending.{Sends, sink_state};
 
 use crate::turn::Answer;
 use approval_book::Denial;

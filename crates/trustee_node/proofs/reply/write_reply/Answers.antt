@@ -1,7 +1,7 @@
 use Rattle.std.proofs.Common.{List, ℕ, subst, ap, ◌∙◌, arith}
 use Rattle.std.proofs.lemmas.List.{length-take}
 use Rattle.round_frames.specs.Replies.{reply_front}
-use Rattle.trustee_node.specs.Sending.{Sends, sink_state}
+use Rattle.round_frames.specs.Sending.{Sends, sink_state}
 use Rattle.trustee_node.proofs.Heads.{has-digest, reply-is}
 use Rattle.trustee_node.proofs.Lengths.{reply-most}
 use Rattle.trustee_node.proofs.reply.write_reply.Goals as goal

@@ -1,7 +1,12 @@
--- internal: Bytes that are written to a sink.
+-- Bytes that are written to a sink.
 use Rattle.std.specs.Prelude.{◌≡◌, ◌≤◌, ◌+◌, ◌++◌, ℕ, Bool, List, length, Result, IsOk, IsTrue, MatchResult}
 use Rattle.disk_trait.specs.Faults.{HasCause}
 use Rattle.stream_io.specs.Talk.{OnlyWrote, Talk, WrotePart}
+
+-- these bytes were written, or a proper beginning of them where the call failed
+abbrev pub Wrote : {V E : Type 0} → Talk → Talk → List ℕ → Result V E → Type 0
+Wrote old new bytes result = IsTrue old.told → MatchResult result
+    (λ _. new.written ≡ old.written ++ bytes) (λ _. WrotePart old new bytes)
 
 -- internal: a sink in one state: its talk, whether it is steady, and how much it has room for
 pub record SinkState : Type 0 where
@@ -15,9 +20,8 @@ sink_state talk steady room sink = record { talk = talk sink; steady = steady si
 
 -- internal: These bytes were to be written, and they were, or a beginning of them where a write failed. A steady sink
 -- that has room for them takes them.
-pub record Sends {E : Type 0} (bytes : List ℕ) (old new : SinkState) (result : Result (Unit {0}) E) : Type 0 where
-  pub wrote : IsTrue old.talk.told → MatchResult result
-      (λ _. new.talk.written ≡ old.talk.written ++ bytes) (λ _. WrotePart old.talk new.talk bytes)
+pub record Sends {V E : Type 0} (bytes : List ℕ) (old new : SinkState) (result : Result V E) : Type 0 where
+  pub wrote : Wrote old.talk new.talk bytes result
   pub only : OnlyWrote old.talk new.talk
   pub cause : HasCause old.talk.count new.talk.count result
   pub succeeds : IsTrue old.steady → length bytes ≤ old.room → IsOk result
