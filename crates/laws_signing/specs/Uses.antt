@@ -1,12 +1,12 @@
 -- The leaves that the requests of clients came to.
-use Rattle.std.specs.Prelude.{◌≡◌, ◌⊎◌, ◌<◌, ℕ, List, Option, Result, Ok, Err, IfOk, length}
+use Rattle.std.specs.Prelude.{◌≡◌, ◌⊎◌, ◌<◌, ℕ, Contains, List, Option, Result, Ok, Err, IfOk, length}
 use Rattle.aggregator_session.specs.declared.fault.SignFault.{SignFault}
 use Rattle.aggregator_session.specs.declared.fault.SignFault.TheVariants as sign
 use Rattle.aggregator_node.specs.Clients.{Answers, IsSigned, ReferenceState, Request, Serves, Stand}
 use Rattle.aggregator_node.specs.Clients as clients
 use Rattle.aggregator_node.specs.Logs.{Shows}
 use Rattle.aggregator_node.specs.Logs as logs
-use Rattle.aggregator_node.specs.Ports.{PortRun, Place, ServedClients}
+use Rattle.aggregator_node.specs.Ports.{PortRun, Place, ServedClients, requests_in}
 use Rattle.aggregator_node.specs.Posts.{Connection, Post, Works}
 use Rattle.aggregator_node.specs.Posts as posts
 use Rattle.coalition_map.specs.Coalitions.{PlanNumbers}
@@ -16,10 +16,15 @@ use Rattle.leaf_table.specs.declared.lease.Lease.{Lease}
 use Rattle.leaf_table.specs.declared.table.TableName.{TableName}
 use Rattle.aggregator_session.specs.Signing.{DeskState, Signature}
 use Rattle.aggregator_session.specs.Tables.{TableSeen}
-use Rattle.lms_bytes.specs.MessageId.{message_id_bytes}
+use Rattle.lms_bytes.specs.MessageId.{message_id, message_id_bytes}
 use Rattle.lms_bytes.specs.declared.message.MessageId.{MessageId}
+use Rattle.share_files.specs.declared.reference.RefHeader.{RefHeader}
+use Rattle.tool_aggregate.specs.Serving.{ServedTable}
+use Rattle.tool_base.specs.Ending.{Ending}
 use Rattle.tool_base.specs.World.{StoreRun}
 use Rattle.tool_sign.specs.Leases.{AllLeave, IsLeasedIn}
+use Rattle.tool_sign.specs.Ports.{NetRun}
+use Rattle.tool_words.specs.Words.{AggregateWords}
 use Rattle.trustee_node.specs.declared.served.ServedEnd.{ServedEnd}
 use Rattle.trustee_node.specs.declared.totals.Totals.{Totals}
 use Rattle.turn_lock.specs.Pass.{Seen}
@@ -93,3 +98,15 @@ pub record LeafIsLeft (store : StoreRun) (table : List ℕ) (now : TableSeen) (m
     : Type 0 where
   pub stands : WasLeasedFor (message_id_bytes message) (map_of now.state.entries leaf)
   pub files : AllLeave store table (IsLeasedIn leaf message)
+
+-- What is left of the leaves in a run in which clients were served with a table: each request came to a leaf, unless
+-- none was leased for it; what is left of that leaf is its lease for the request's message, or its burning, whatever
+-- the outcome and the port; and no two requests whose messages have different ids came to one leaf.
+pub record LeasesAreLeft {words : AggregateWords} {store : StoreRun} {net : NetRun} {header : RefHeader}
+    {desk : DeskState} {end : Ending} (run : ServedTable words store net header desk end) : Type 0 where
+  pub comes : (request : Request) → Contains (requests_in run.serves.over.served.runs) request
+      → Comes run.serves.over.served request
+  pub left : (request : Request) (leaf : ℕ) → Uses run.serves.over.served request leaf
+      → LeafIsLeft store words.table run.serves.new (message_id request.message) leaf
+  pub apart : (one other : Request) (leaf : ℕ) → Uses run.serves.over.served one leaf
+      → Uses run.serves.over.served other leaf → message_id one.message ≡ message_id other.message

@@ -1,13 +1,11 @@
 //! What follows from the definitions. No function here does anything.
 
-ghost use Rattle.std.specs.Prelude.{◌≡◌, ℕ, Contains};
 ghost use Rattle.laws_signing.specs.Every.{AllAnswered};
 ghost use Rattle.laws_signing.specs.Requests.{IsComplete, IsDealtDesk, IsDealtRun, IsDealtTable, IsWell};
-ghost use Rattle.laws_signing.specs.Uses.{Comes, LeafIsLeft, Uses};
+ghost use Rattle.laws_signing.specs.Uses.{LeasesAreLeft};
 ghost use Rattle.aggregator_node.specs.Clients.{IsSigned, Request, Stand};
-ghost use Rattle.aggregator_node.specs.Ports.{Place, requests_in};
+ghost use Rattle.aggregator_node.specs.Ports.{Place};
 ghost use Rattle.aggregator_session.specs.Signing.{DeskState};
-ghost use Rattle.lms_bytes.specs.MessageId.{message_id};
 ghost use Rattle.lms_verify.specs.UndividedKey.{UndividedKey};
 ghost use Rattle.reference_value.specs.Dealing.{Dealing};
 ghost use Rattle.share_files.specs.declared.reference.RefHeader.{RefHeader};
@@ -23,19 +21,9 @@ use stream_io::Store;
 /// left of that leaf is its lease for the request's message, or its burning, whatever the outcome and the port. No two
 /// requests whose messages have different ids came to one leaf.
 pub fn leases_left<S: Store>(before: &S, after: &S)
-    ensures comes { (words : AggregateWords) (net : NetRun) (header : RefHeader) (desk : DeskState) (end : Ending)
+    ensures { (words : AggregateWords) (net : NetRun) (header : RefHeader) (desk : DeskState) (end : Ending)
         (run : ServedTable words (from_to (S.state before.now) (S.state after.now)) net header desk end)
-        (request : Request) → Contains (requests_in run.serves.over.served.runs) request
-        → Comes run.serves.over.served request }
-    ensures left { (words : AggregateWords) (net : NetRun) (header : RefHeader) (desk : DeskState) (end : Ending)
-        (run : ServedTable words (from_to (S.state before.now) (S.state after.now)) net header desk end)
-        (request : Request) (leaf : ℕ) → Uses run.serves.over.served request leaf
-        → LeafIsLeft (from_to (S.state before.now) (S.state after.now)) words.table run.serves.new
-        (message_id request.message) leaf }
-    ensures apart { (words : AggregateWords) (net : NetRun) (header : RefHeader) (desk : DeskState) (end : Ending)
-        (run : ServedTable words (from_to (S.state before.now) (S.state after.now)) net header desk end)
-        (one other : Request) (leaf : ℕ) → Uses run.serves.over.served one leaf
-        → Uses run.serves.over.served other leaf → message_id one.message ≡ message_id other.message }
+        → LeasesAreLeft run }
 {}
 
 /// A request of a client for which all is well, at desk and table of a dealing, comes to RFC 8554's signature of the
