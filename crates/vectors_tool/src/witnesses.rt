@@ -8,6 +8,7 @@ use std::io;
 use std::sync::Wait;
 use std::thread::Threads;
 use stream_memory::MemStore;
+use tool_run::witness::ran_steadily;
 use tool_words::{Command, command_of};
 
 /// The words of `sign` here.
@@ -53,6 +54,16 @@ fn served<R: Threads + Wait + Sync>(threads: &R, rt: HostRuntime) -> io::Result<
     };
     let asks = file(&store, "asks");
     made(served_steadily(threads, alloc, &words, files, asks))
+}
+
+/// Runs a trustee whose net offers its place, over a journal with no entry.
+fn ran<R: Threads + Wait + Sync>(threads: &R, rt: HostRuntime) -> io::Result<bool> {
+    let alloc = rt.alloc();
+    let store = store_after(threads, rt, &["share1"], &["enrol share1 new"])?;
+    let files = made(files_of(alloc, &store, &["share1", "new"]))?;
+    let words = words_of(alloc, "trustee share1 new here 1 1")?;
+    let places = words_of(alloc, "here")?;
+    made(ran_steadily(threads, alloc, words.as_slice(), files, places))
 }
 
 /// A store of the files of a dealing and of a session.
@@ -113,6 +124,8 @@ pub(crate) fn print_runs<R: Threads + Wait + Sync>(threads: &R, rt: HostRuntime)
     let alloc = rt.alloc();
     let served = word(served(threads, rt)?);
     println!(rt; "premises of steady_trustee {served}")?;
+    let ran = word(ran(threads, rt)?);
+    println!(rt; "premises of steady {ran}")?;
     let store = dealt(threads, rt)?;
     let lost = word(lost(alloc, &store)?);
     println!(rt; "premises of causes {lost}")?;
