@@ -19,6 +19,11 @@ use stream_memory::MemFile;
 /// Writes `abcdef`, makes it stable, and writes `XYZ` at 4.
 const TWICE: &str = "write 0 abcdef, sync, write 4 XYZ";
 
+/// Does the calls of a script on a disk in memory.
+fn plays_in(rt: &impl Abort, disk: &mut MemDisk, script: &str) {
+    plays(rt, disk, script);
+}
+
 /// Takes what may be sent to another thread.
 fn sends<T: Send>(_: &T) {}
 
@@ -26,10 +31,10 @@ fn sends<T: Send>(_: &T) {}
 fn memory_reads_what_was_written(rt: HostRuntime) -> Result<(), NoMemory> {
     let mut disk = MemDisk::new(rt.alloc(), 8, usize::MAX)?;
     sends(&disk);
-    plays(&rt, &mut disk, TWICE);
-    plays(&rt, &mut disk, "length 7, read 4 XYZ, faults 0");
+    plays_in(&rt, &mut disk, TWICE);
+    plays_in(&rt, &mut disk, "length 7, read 4 XYZ, faults 0");
     // past the end, beyond it, and past the room
-    plays(
+    plays_in(
         &rt,
         &mut disk,
         "read! 5 ..., write! 8 a, write! 6 abc, faults 3",
@@ -47,10 +52,10 @@ fn a_pick_is_one_image(rt: HostRuntime) -> Result<(), NoMemory> {
     ];
     for (pick, want, step) in images {
         let mut disk = MemDisk::new(rt.alloc(), 8, usize::MAX)?;
-        plays(&rt, &mut disk, TWICE);
+        plays_in(&rt, &mut disk, TWICE);
         let mut image = crashed(disk, rt.alloc(), pick)?;
         assert!(rt; image.bytes() == want.as_bytes(), "pick {pick}");
-        plays(&rt, &mut image, step);
+        plays_in(&rt, &mut image, step);
     }
     Ok(())
 }
@@ -98,7 +103,7 @@ fn a_disk_stops_where_it_is_set_to(rt: HostRuntime) -> Result<(), NoMemory> {
 #[test]
 fn a_failed_write_has_named_its_range(rt: HostRuntime) -> Result<(), NoMemory> {
     let mut disk = full_disk(rt.alloc(), 1)?;
-    plays(&rt, &mut disk, "sync, write! 2 x, sync!");
+    plays_in(&rt, &mut disk, "sync, write! 2 x, sync!");
     assert!(rt; disk.bytes() == b"abc".as_slice());
     assert!(rt; crashed(disk, rt.alloc(), 5)?.bytes() == b"aba".as_slice());
     Ok(())
@@ -235,13 +240,18 @@ fn disk_over(record: &Record) -> FileDisk<HostFile<FakeFile<'_>>> {
     FileDisk::unlocked(FakeFile(record))
 }
 
+/// Does the calls of a script on a disk over a fake file.
+fn plays_over(rt: &impl Abort, disk: &mut FileDisk<HostFile<FakeFile<'_>>>, script: &str) {
+    plays(rt, disk, script);
+}
+
 #[test]
 fn short_reads_and_writes_go_on(rt: HostRuntime) {
     let record = Record::of_length(0);
     let mut disk = disk_over(&record);
-    plays(&rt, &mut disk, "write 0 abcdef, read 2 cde");
+    plays_over(&rt, &mut disk, "write 0 abcdef, read 2 cde");
     assert!(rt; record.bytes.get() == *b"abcdef..");
-    plays(&rt, &mut disk, "read! 4 ..., write! 6 xyz, faults 2");
+    plays_over(&rt, &mut disk, "read! 4 ..., write! 6 xyz, faults 2");
 }
 
 #[test]
@@ -250,7 +260,7 @@ fn a_call_of_a_file_is_made_again_after_a_signal(rt: HostRuntime) {
     let mut disk = disk_over(&record);
     for step in ["write 0 abc", "read 0 abc", "faults 0"] {
         record.is_interrupted.set(true);
-        plays(&rt, &mut disk, step);
+        plays_over(&rt, &mut disk, step);
     }
 }
 
@@ -259,8 +269,8 @@ fn offsets_are_passed_on_whole(rt: HostRuntime) {
     let mut record = Record::of_length(2);
     record.before = 20_000_000_000;
     let mut disk = disk_over(&record);
-    plays(&rt, &mut disk, "write 20000000001 abc, length 20000000004");
-    plays(&rt, &mut disk, "read 20000000001 abc, read! 1 a, faults 1");
+    plays_over(&rt, &mut disk, "write 20000000001 abc, length 20000000004");
+    plays_over(&rt, &mut disk, "read 20000000001 abc, read! 1 a, faults 1");
     assert!(rt; record.bytes.get() == *b".abc....");
 }
 
@@ -268,7 +278,7 @@ fn offsets_are_passed_on_whole(rt: HostRuntime) {
 fn a_sync_is_of_all_after_growth(rt: HostRuntime) {
     let record = Record::of_length(2);
     let mut disk = disk_over(&record);
-    plays(&rt, &mut disk, "length 2");
+    plays_over(&rt, &mut disk, "length 2");
     // a write, and the calls of `sync_all` and `sync_data` that one sync then makes
     let writes = [
         ("write 0 a", (1, 0)),
@@ -283,11 +293,11 @@ fn a_sync_is_of_all_after_growth(rt: HostRuntime) {
     ];
     for (write, want) in writes {
         record.syncs.set((0, 0));
-        plays(&rt, &mut disk, write);
-        plays(&rt, &mut disk, "sync");
+        plays_over(&rt, &mut disk, write);
+        plays_over(&rt, &mut disk, "sync");
         assert!(rt; record.syncs.get() == want, "{write}");
     }
-    plays(&rt, &mut disk, "faults 3");
+    plays_over(&rt, &mut disk, "faults 3");
 }
 
 #[test]
@@ -295,12 +305,12 @@ fn a_failed_sync_is_never_forgotten(rt: HostRuntime) {
     for before in ["faults 0", "sync"] {
         let record = Record::of_length(2);
         let mut disk = disk_over(&record);
-        plays(&rt, &mut disk, before);
+        plays_over(&rt, &mut disk, before);
         record.sync_fails.set(true);
-        plays(&rt, &mut disk, "sync!");
+        plays_over(&rt, &mut disk, "sync!");
         record.sync_fails.set(false);
         let asked = record.syncs.get();
-        plays(&rt, &mut disk, "sync!, write 0 abc, sync!, faults 3");
+        plays_over(&rt, &mut disk, "sync!, write 0 abc, sync!, faults 3");
         assert!(rt; record.syncs.get() == asked);
     }
 }

@@ -10,9 +10,10 @@ use std::io::ErrorKind::{
     ConnectionAborted, ConnectionReset, HostUnreachable, Interrupted, NetworkDown,
     NetworkUnreachable, OutOfMemory, Unsupported,
 };
+use std::process::Abort;
 use std::sync::Arc;
 use std::test::Fail;
-use stream_host::{BufferedPort, TcpNet, TcpPort};
+use stream_host::TcpNet;
 use stream_io::{Accepted, CallFault, Failed, Net, Port, Sink, Source};
 
 /// A call of a link, and what it answers.
@@ -67,17 +68,32 @@ fn answers<L: Source + Sink>(link: &mut L, asks: &[Ask]) -> bool {
     true
 }
 
-/// A port of made-up sockets, as a net of them has it.
-type FakePort<'a> = BufferedPort<TcpPort<FakeNet<'a>>>;
-
 /// How many faults a link of this port counts that answers as it is listed, and how many the port does once it is hung
 /// up.
-fn faults_of(port: &mut FakePort<'_>, asks: &[Ask]) -> Option<(u64, u64)> {
-    let mut link = port.dial("127.0.0.1:1").ok()?;
+fn faults_of<P: Port>(port: &mut P, asks: &[Ask]) -> Option<(u64, u64)> {
+    let Ok(mut link) = port.dial("127.0.0.1:1") else {
+        return None;
+    };
     let is_right = answers(&mut link, asks);
     let faults = link.faults();
     port.hang_up(link);
     is_right.then_some((faults, port.faults()))
+}
+
+/// The same at the one port of a net.
+fn faults_at_one<N: Net>(
+    alloc: Global,
+    net: &mut N,
+    asks: &[Ask],
+) -> Result<Option<(u64, u64)>, CallFault>
+where
+    N::Port: Drop,
+{
+    let mut ports = net.ports(alloc, None, 1)?;
+    match ports.first_mut() {
+        Some(port) => Ok(faults_of(port, asks)),
+        None => Ok(None),
+    }
 }
 
 /// Whether a link that makes just these calls of the system answers as it is listed, with so many faults of its own and
@@ -89,12 +105,7 @@ fn asks_the_system(
     faults: (u64, u64),
 ) -> Result<bool, CallFault> {
     let wire = Arc::new(alloc, Wire::new(steps))?;
-    let mut net = TcpNet::new(FakeNet(&wire));
-    let mut ports = net.ports(alloc, None, 1)?;
-    let Some(port) = ports.first_mut() else {
-        return Ok(false);
-    };
-    let counted = faults_of(port, asks);
+    let counted = faults_at_one(alloc, &mut TcpNet::new(FakeNet(&wire)), asks)?;
     Ok(counted == Some(faults) && wire.is_done())
 }
 
@@ -246,7 +257,7 @@ fn bytes_that_are_lost_when_a_link_is_hung_up_are_a_fault(rt: HostRuntime) -> Re
 }
 
 /// What came of accepting, in a word.
-fn accepted(port: &mut FakePort<'_>) -> &'static str {
+fn accepted<P: Port>(port: &mut P) -> &'static str {
     match port.accept() {
         Accepted::Link(link) => {
             port.hang_up(link);
@@ -268,15 +279,23 @@ const ACCEPTS: [Step; 8] = [
     Accept(Err(OutOfMemory)),
 ];
 
-#[test]
-fn a_connection_that_broke_off_is_passed_over(rt: HostRuntime) -> Result<(), Fail> {
-    let wire = Arc::new(rt.alloc(), Wire::new(&ACCEPTS))?;
-    let mut net = TcpNet::new(FakeNet(&wire));
-    let mut ports = net.ports(rt.alloc(), Some("127.0.0.1:1"), 1)?;
+/// Has a port accept a link, and fail to accept another.
+fn accept_one<N: Net>(rt: &impl Abort, alloc: Global, net: &mut N) -> Result<(), CallFault>
+where
+    N::Port: Drop,
+{
+    let mut ports = net.ports(alloc, Some("127.0.0.1:1"), 1)?;
     assert_eq!(rt; ports.len(), 1);
     assert_eq!(rt; accepted(&mut ports[0]), "link");
     assert_eq!(rt; accepted(&mut ports[0]), "failed");
     assert_eq!(rt; (ports[0].faults(), ports[0].accept_faults()), (1, 1));
+    Ok(())
+}
+
+#[test]
+fn a_connection_that_broke_off_is_passed_over(rt: HostRuntime) -> Result<(), Fail> {
+    let wire = Arc::new(rt.alloc(), Wire::new(&ACCEPTS))?;
+    accept_one(&rt, rt.alloc(), &mut TcpNet::new(FakeNet(&wire)))?;
     assert!(rt; wire.is_done());
     Ok(())
 }

@@ -1,13 +1,15 @@
 //! Tests of the store of files over the files of the machine.
 
+use crate::disk_calls::read_text;
 use crate::ends::{end_of_call, end_of_new};
+use crate::store_calls::store_faults;
 use disk_trait::{Disk, Faults, Pages};
 use std::alloc::Global;
 use std::os::unix::fs::{MetadataExt, symlink};
 use std::test::Fail;
 use std::{fs, io};
 use stream_host::FileStore;
-use stream_io::{NewFault, ReadAllFault, Readers, Store};
+use stream_io::{CallFault, NewFault, ReadAllFault, Readers, Store};
 
 /// Whether reading a name gives this text, or is refused so.
 fn gives<S: Store>(
@@ -35,6 +37,11 @@ fn takes_once<S: Store>(store: &mut S, alloc: Global, name: &str, readers: Reade
         && store.faults() == faults
 }
 
+/// Whether a store does not have a name.
+fn lacks<S: Store>(store: &mut S, name: &str) -> bool {
+    store.has(name) == Ok(false)
+}
+
 /// The permissions of a file.
 fn mode(rt: &HostRuntime, name: &str) -> io::Result<u32> {
     Ok(fs::metadata(rt, name)?.mode() & 0o777)
@@ -57,7 +64,7 @@ fn a_store_of_files_takes_a_new_file_once(rt: HostRuntime) -> io::Result<()> {
         assert_eq!(rt; mode(&rt, name)?, want, "{name}");
         fs::remove_file(&rt, name)?;
     }
-    assert_eq!(rt; store.has("stream_host.own.new"), Ok(false));
+    assert!(rt; lacks(&mut store, "stream_host.own.new"));
     fs::remove_file(&rt, "stream_host.any")
 }
 
@@ -81,7 +88,7 @@ fn what_stands_at_a_name_takes_it(rt: HostRuntime) -> io::Result<()> {
     ];
     for (name, has, end, faults) in rows {
         assert!(rt; is_taken(&mut store, rt.alloc(), name, has, end), "{name}");
-        assert_eq!(rt; store.faults(), faults, "{name}");
+        assert_eq!(rt; store_faults(&store), (faults, 0), "{name}");
     }
     assert!(rt;
         gives(
@@ -118,9 +125,49 @@ fn a_store_of_files_reads_them(rt: HostRuntime) -> io::Result<()> {
             gives(&mut store, rt.alloc(), name, limit, want),
             "{name} up to {limit}"
         );
-        assert_eq!(rt; store.faults(), faults);
+        assert_eq!(rt; store_faults(&store), (faults, 0));
     }
     fs::remove_file(&rt, name)
+}
+
+/// What comes of taking the disk of a name and of making one, while it is out.
+fn ends_while_out<S: Store>(
+    store: &mut S,
+    alloc: Global,
+    name: &str,
+) -> (&'static str, &'static str)
+where
+    S::Disk: Drop,
+{
+    let taken = end_of_call(store.take_disk(name));
+    (taken, end_of_new(store.new_disk(alloc, name, 3)))
+}
+
+/// Whether three bytes are written to a disk and made stable.
+fn is_written<D: Disk>(disk: &mut D) -> bool {
+    disk.write_at(0, b"abc").is_ok() && disk.sync().is_ok()
+}
+
+/// The length of the disk of a name, which is taken and given back.
+fn length_of<S: Store>(store: &mut S, name: &str) -> Result<u64, CallFault> {
+    let mut disk = store.take_disk(name)?;
+    let length = disk.len();
+    store.return_disk(name, disk);
+    length.map_err(|_| CallFault::Failed)
+}
+
+/// Whether two views of a name at once give what the three bytes of its disk are.
+fn shows_twice<S: Store>(store: &mut S, alloc: Global, name: &str) -> Result<bool, CallFault>
+where
+    S::View: Drop,
+{
+    let mut one = store.view(alloc, name)?;
+    let mut two = store.view(alloc, name)?;
+    let is_shown = read_text(&mut one, 1, "bc") == Ok(true)
+        && read_text(&mut two, 0, "ab") == Ok(true);
+    store.end_view(one);
+    store.end_view(two);
+    Ok(is_shown)
 }
 
 #[test]
@@ -129,25 +176,16 @@ fn a_disk_of_a_file_is_had_once_at_a_time(rt: HostRuntime) -> Result<(), Fail> {
     let mut store = FileStore::new(rt);
     let mut disk = store.new_disk(rt.alloc(), name, 3)?;
     assert_eq!(rt; mode(&rt, name)?, 0o600);
-    assert_eq!(rt; end_of_call(store.take_disk(name)), "failed");
-    assert_eq!(rt; end_of_new(store.new_disk(rt.alloc(), name, 3)), "exists");
-    disk.write_at(0, b"abc")?;
-    disk.sync()?;
+    assert_eq!(rt;
+        ends_while_out(&mut store, rt.alloc(), name),
+        ("failed", "exists")
+    );
+    assert!(rt; is_written(&mut disk));
     store.return_disk(name, disk);
 
-    let mut disk = store.take_disk(name)?;
-    assert_eq!(rt; disk.len()?, 3);
-    store.return_disk(name, disk);
-    let mut one = store.view(rt.alloc(), name)?;
-    let mut two = store.view(rt.alloc(), name)?;
-    let mut out = [0; 2];
-    one.read_at(1, &mut out)?;
-    assert_eq!(rt; out, *b"bc");
-    two.read_at(0, &mut out)?;
-    assert_eq!(rt; out, *b"ab");
-    store.end_view(one);
-    store.end_view(two);
-    assert_eq!(rt; store.faults(), 1);
+    assert_eq!(rt; length_of(&mut store, name)?, 3);
+    assert!(rt; shows_twice(&mut store, rt.alloc(), name)?);
+    assert_eq!(rt; store_faults(&store), (1, 0));
     fs::remove_file(&rt, name)?;
     Ok(())
 }

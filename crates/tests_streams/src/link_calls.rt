@@ -110,6 +110,11 @@ fn ask<P: Port>(port: &mut P, place_and_text: &str) -> Result<bool, Failed> {
     Ok(is_read)
 }
 
+/// Hangs a link up.
+pub(crate) fn hang_up<P: Port>(port: &mut P, link: P::Link) {
+    port.hang_up(link);
+}
+
 /// What comes of accepting.
 fn next<P: Port>(port: &mut P) -> &'static str {
     match port.accept() {

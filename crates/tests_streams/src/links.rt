@@ -76,8 +76,8 @@ fn a_link_in_memory_holds_what_is_behind_its_gate(rt: HostRuntime) -> Result<(),
     talks(
         &rt,
         &mut link,
-        "read he; read ll; read!; write 1 a; read!; faults 2",
+        "read he; read ll; read!; write 1 a; read!; faults 2; \
+         write 1 b; read o; read; faults 2",
     );
-    talks(&rt, &mut link, "write 1 b; read o; read; faults 2");
     Ok(())
 }

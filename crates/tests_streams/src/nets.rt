@@ -1,11 +1,12 @@
 //! Tests of what no contract says of ports and nets in memory: which link comes when, and which calls fail.
 
-use crate::link_calls::{link, meets};
+use crate::link_calls::{hang_up, link, meets};
 use crate::talks::is_talk;
 use disk_trait::Faults;
 use memory::NoMemory;
 use std::alloc::{AllocError, Global};
-use stream_io::{CallFault, Net, Port};
+use std::process::Abort;
+use stream_io::{CallFault, Net};
 use stream_memory::{KeptPort, MemLink, MemNet, MemPort, PortScript};
 
 /// A link that gives a text in pieces of two.
@@ -45,9 +46,9 @@ fn a_port_in_memory_accepts_its_links_in_order(rt: HostRuntime) -> Result<(), No
     meets(
         &rt,
         &mut port,
-        "serve he; faults 0 0; accept failed; faults 1 1; serve! al; faults 2 1",
+        "serve he; faults 0 0; accept failed; faults 1 1; serve! al; faults 2 1; \
+         accept end; ask! here; faults 3 1",
     );
-    meets(&rt, &mut port, "accept end; ask! here; faults 3 1");
     let kept = port.kept();
     assert!(rt; counts(Some(kept)) == (Some("here"), 3, 1));
     assert!(rt; is_talk(kept.talk(0), None, ["he", "llo", "he"], 0));
@@ -74,7 +75,7 @@ fn a_port_in_memory_dials_the_first_of_a_place(rt: HostRuntime) -> Result<(), No
         &mut port,
         "accept end; ask a fi; ask a se; ask! b; ask! a; faults 2 0; ask b ot",
     );
-    port.hang_up(plain_link(rt.alloc(), "strange")?);
+    hang_up(&mut port, plain_link(rt.alloc(), "strange")?);
     let kept = port.kept();
     assert!(rt; kept.place().is_none());
     let talks = [
@@ -117,16 +118,25 @@ fn net_of_two(alloc: Global) -> Result<MemNet, NoMemory> {
     Ok(MemNet::new(one_place(alloc)?, scripts, Vec::new(alloc)))
 }
 
+/// Does calls at three ports of a place, and gathers them.
+fn meet_at_three<N: Net>(rt: &impl Abort, alloc: Global, net: &mut N) -> Result<(), CallFault>
+where
+    N::Port: Drop,
+{
+    let mut ports = net.ports(alloc, Some("here"), 3)?;
+    assert!(rt; ports.len() == 3);
+    meets(rt, &mut ports[1], "accept failed; serve al");
+    meets(rt, &mut ports[0], "serve he");
+    meets(rt, &mut ports[2], "accept end");
+    net.gather(ports);
+    assert!(rt; net.faults() == 1 && net.port_faults() == 1);
+    Ok(())
+}
+
 #[test]
 fn a_net_in_memory_keeps_the_ports_of_one_place(rt: HostRuntime) -> Result<(), CallFault> {
     let mut net = net_of_two(rt.alloc())?;
-    let mut ports = net.ports(rt.alloc(), Some("here"), 3)?;
-    assert!(rt; ports.len() == 3);
-    meets(&rt, &mut ports[1], "accept failed; serve al");
-    meets(&rt, &mut ports[0], "serve he");
-    meets(&rt, &mut ports[2], "accept end");
-    net.gather(ports);
-    assert!(rt; net.faults() == 1 && net.port_faults() == 1);
+    meet_at_three(&rt, rt.alloc(), &mut net)?;
     for (index, faults) in [(0, 0), (1, 1), (2, 0)] {
         assert!(rt;
             counts(net.kept(index)) == (Some("here"), faults, faults),
@@ -151,6 +161,11 @@ fn makes<N: Net>(net: &mut N, alloc: Global, place: Option<&str>, count: u32) ->
     }
 }
 
+/// Whether a net counts so many faults, and as many of its ports.
+fn counts_both<N: Net>(net: &N, faults: u64) -> bool {
+    net.faults() == faults && net.port_faults() == faults
+}
+
 #[test]
 fn a_net_fails_where_it_is_listed_and_at_other_places(rt: HostRuntime) -> Result<(), NoMemory> {
     let mut failing = Vec::new(rt.alloc());
@@ -164,7 +179,7 @@ fn a_net_fails_where_it_is_listed_and_at_other_places(rt: HostRuntime) -> Result
     ];
     for (place, count, is_made, faults) in rows {
         assert!(rt; makes(&mut net, rt.alloc(), place, count) == is_made);
-        assert!(rt; net.faults() == faults && net.port_faults() == faults);
+        assert!(rt; counts_both(&net, faults));
     }
     assert!(rt; matches!(net.kept(2), Some(_)) && counts(net.kept(2)) == (None, 0, 0));
     Ok(())

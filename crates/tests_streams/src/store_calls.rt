@@ -34,6 +34,35 @@ fn disk_word(written: Result<(), DiskFault>) -> &'static str {
     }
 }
 
+/// A store's counts of faults, and of those of the disks and views that it got back.
+pub(crate) fn store_faults<S: Store>(store: &S) -> (u64, u64) {
+    (store.faults(), store.disk_faults())
+}
+
+/// Takes a disk out.
+pub(crate) fn take_out<S: Store>(store: &mut S, name: &str) -> Result<S::Disk, CallFault> {
+    store.take_disk(name)
+}
+
+/// Makes a disk, which is then out.
+pub(crate) fn make_out<S: Store>(
+    store: &mut S,
+    alloc: Global,
+    name: &str,
+    size: usize,
+) -> Result<S::Disk, NewFault> {
+    store.new_disk(alloc, name, size)
+}
+
+/// Takes a view out.
+pub(crate) fn view_out<S: Store>(
+    store: &mut S,
+    alloc: Global,
+    name: &str,
+) -> Result<S::View, CallFault> {
+    store.view(alloc, name)
+}
+
 /// Whether a name is there.
 fn has<S: Store>(store: &mut S, name: &str) -> &'static str {
     match store.has(name) {

@@ -3,11 +3,12 @@
 
 use crate::disk_calls::crashed;
 use crate::scripts::numbers;
-use crate::store_calls::{outcome, stores};
+use crate::store_calls::{make_out, outcome, store_faults, stores, take_out, view_out};
 use disk_trait::{Faults, MemDisk};
 use memory::NoMemory;
 use std::alloc::{AllocError, Global};
-use stream_io::{CallFault, Readers, Store};
+use std::process::Abort;
+use stream_io::{CallFault, Readers};
 use stream_memory::MemStore;
 
 /// A store of a file `a` of the bytes `first`, a file `b` of none, and a second file `a`.
@@ -20,23 +21,28 @@ fn files(alloc: Global, failing: Vec<u64>) -> Result<MemStore, NoMemory> {
     MemStore::of_files(alloc, files, failing)
 }
 
+/// Does the calls of a script on a store in memory.
+fn plays(rt: &impl Abort, alloc: Global, store: &mut MemStore, script: &str) {
+    stores(rt, store, alloc, script);
+}
+
+/// What a call of a store in memory comes to.
+fn comes_to(store: &mut MemStore, alloc: Global, step: &str) -> &'static str {
+    outcome(store, alloc, step)
+}
+
 #[test]
 fn a_store_in_memory_reads_its_files(rt: HostRuntime) -> Result<(), NoMemory> {
     let alloc = rt.alloc();
     let mut store = files(alloc, numbers(alloc, "3")?)?;
-    stores(
+    plays(
         &rt,
-        &mut store,
         alloc,
-        "ok read a 5 first; long read a 4 5; ok read b 0; faults 0",
-    );
-    stores(
-        &rt,
         &mut store,
-        alloc,
-        "failed read b 9; faults 1; ok read b 9; faults 1",
+        "ok read a 5 first; long read a 4 5; ok read b 0; faults 0; \
+         failed read b 9; faults 1; ok read b 9; faults 1; \
+         failed read c 9; faults 2",
     );
-    stores(&rt, &mut store, alloc, "failed read c 9; faults 2");
     Ok(())
 }
 
@@ -44,29 +50,14 @@ fn a_store_in_memory_reads_its_files(rt: HostRuntime) -> Result<(), NoMemory> {
 fn a_store_in_memory_takes_a_new_file_once(rt: HostRuntime) -> Result<(), NoMemory> {
     let alloc = rt.alloc();
     let mut store = MemStore::new(alloc, Vec::new(alloc), numbers(alloc, "0 1 8")?)?;
-    stores(
+    plays(
         &rt,
-        &mut store,
         alloc,
-        "failed has a; failed new a none; faults 2",
-    );
-    stores(
-        &rt,
         &mut store,
-        alloc,
-        "no has a; ok new a first; yes has a; exists secret a second",
-    );
-    stores(
-        &rt,
-        &mut store,
-        alloc,
-        "ok read a 9 first; faults 2; failed read b 9",
-    );
-    stores(
-        &rt,
-        &mut store,
-        alloc,
-        "failed new b none; no has b; faults 4",
+        "failed has a; failed new a none; faults 2; \
+         no has a; ok new a first; yes has a; exists secret a second; \
+         ok read a 9 first; faults 2; failed read b 9; \
+         failed new b none; no has b; faults 4",
     );
     Ok(())
 }
@@ -75,10 +66,10 @@ fn a_store_in_memory_takes_a_new_file_once(rt: HostRuntime) -> Result<(), NoMemo
 fn a_store_in_memory_tells_who_may_read_a_file(rt: HostRuntime) -> Result<(), NoMemory> {
     let alloc = rt.alloc();
     let mut store = files(alloc, Vec::new(alloc))?;
-    stores(
+    plays(
         &rt,
-        &mut store,
         alloc,
+        &mut store,
         "ok new c open; ok secret d shut; ok make e shut; ok write a 0 fir",
     );
     for (name, readers) in [
@@ -114,23 +105,13 @@ fn one_disk(alloc: Global, fails: Option<u64>) -> Result<MemStore, NoMemory> {
 fn a_disk_is_taken_written_and_given_back(rt: HostRuntime) -> Result<(), NoMemory> {
     let alloc = rt.alloc();
     let mut store = one_disk(alloc, None)?;
-    stores(
+    plays(
         &rt,
-        &mut store,
         alloc,
-        "ok write d 5  and last; ok read d 14 first and last",
-    );
-    stores(
-        &rt,
         &mut store,
-        alloc,
-        "torn write d 15 past it; failed write e 0 none",
-    );
-    stores(
-        &rt,
-        &mut store,
-        alloc,
-        "disks 1; faults 1; ok read d 14 first and last",
+        "ok write d 5  and last; ok read d 14 first and last; \
+         torn write d 15 past it; failed write e 0 none; \
+         disks 1; faults 1; ok read d 14 first and last",
     );
     Ok(())
 }
@@ -139,28 +120,23 @@ fn a_disk_is_taken_written_and_given_back(rt: HostRuntime) -> Result<(), NoMemor
 fn the_name_of_a_disk_that_is_out_is_taken(rt: HostRuntime) -> Result<(), NoMemory> {
     let alloc = rt.alloc();
     let mut store = one_disk(alloc, None)?;
-    let taken = store.take_disk("d");
+    let taken = take_out(&mut store, "d");
     assert!(rt; matches!(&taken, Ok(disk) if disk.bytes() == b"first".as_slice()));
-    stores(
+    plays(
         &rt,
-        &mut store,
         alloc,
-        "yes has d; failed read d 99; failed write d 0; failed look d",
+        &mut store,
+        "yes has d; failed read d 99; failed write d 0; failed look d; \
+         exists make d 1; exists new d",
     );
-    stores(&rt, &mut store, alloc, "exists make d 1; exists new d");
-    let made = store.new_disk(alloc, "n", 1);
+    let made = make_out(&mut store, alloc, "n", 1);
     assert!(rt; matches!(&made, Ok(disk) if disk.bytes().is_empty()));
-    stores(
+    plays(
         &rt,
-        &mut store,
         alloc,
-        "yes has n; failed read n 99; failed write n 0; failed look n",
-    );
-    stores(
-        &rt,
         &mut store,
-        alloc,
-        "exists make n 1; exists new n; faults 6",
+        "yes has n; failed read n 99; failed write n 0; failed look n; \
+         exists make n 1; exists new n; faults 6",
     );
     assert!(rt; store.bytes("d").is_none() && store.bytes("n").is_none());
     Ok(())
@@ -170,17 +146,12 @@ fn the_name_of_a_disk_that_is_out_is_taken(rt: HostRuntime) -> Result<(), NoMemo
 fn a_new_disk_has_room_for_its_size(rt: HostRuntime) -> Result<(), NoMemory> {
     let alloc = rt.alloc();
     let mut store = one_disk(alloc, None)?;
-    stores(
+    plays(
         &rt,
-        &mut store,
         alloc,
-        "ok make n 1234; ok read n 4 1234; torn write n 4 5",
-    );
-    stores(
-        &rt,
         &mut store,
-        alloc,
-        "exists make n 1; exists make d 1; disks 1; faults 0",
+        "ok make n 1234; ok read n 4 1234; torn write n 4 5; \
+         exists make n 1; exists make d 1; disks 1; faults 0",
     );
     Ok(())
 }
@@ -208,14 +179,14 @@ fn the_disk_of_a_new_name_stops_where_it_is_set_to(rt: HostRuntime) -> Result<()
     for (call, first, last) in rows {
         let mut store = one_disk(alloc, None)?;
         store.stop_new_disks(call);
-        stores(&rt, &mut store, alloc, first);
-        stores(
+        plays(&rt, alloc, &mut store, first);
+        plays(
             &rt,
-            &mut store,
             alloc,
+            &mut store,
             "torn write n 0 5; ok write d 0 5; ok new w 1234",
         );
-        stores(&rt, &mut store, alloc, last);
+        plays(&rt, alloc, &mut store, last);
     }
     Ok(())
 }
@@ -224,19 +195,19 @@ fn the_disk_of_a_new_name_stops_where_it_is_set_to(rt: HostRuntime) -> Result<()
 fn a_view_shows_what_a_read_gives(rt: HostRuntime) -> Result<(), NoMemory> {
     let alloc = rt.alloc();
     let mut store = one_disk(alloc, None)?;
-    let first = store.view(alloc, "d");
+    let first = view_out(&mut store, alloc, "d");
     assert!(rt; matches!(&first, Ok(view) if view.bytes() == b"first".as_slice()));
-    stores(
+    plays(
         &rt,
-        &mut store,
         alloc,
+        &mut store,
         "ok look d 5 fir; failed look e; disks 0",
     );
     store.fail_views(1);
-    stores(
+    plays(
         &rt,
-        &mut store,
         alloc,
+        &mut store,
         "half look d 5 fir; disks 1; half look d 5 fir; disks 2; faults 1",
     );
     Ok(())
@@ -246,13 +217,13 @@ fn a_view_shows_what_a_read_gives(rt: HostRuntime) -> Result<(), NoMemory> {
 fn a_disk_counts_its_faults_since_it_was_taken(rt: HostRuntime) -> Result<(), NoMemory> {
     let alloc = rt.alloc();
     let mut store = one_disk(alloc, Some(2))?;
-    stores(
+    plays(
         &rt,
-        &mut store,
         alloc,
+        &mut store,
         "ok write d 0 F; torn write d 0 G; disks 1",
     );
-    let taken = store.take_disk("d");
+    let taken = take_out(&mut store, "d");
     assert!(rt; matches!(&taken, Ok(disk) if disk.faults() == 0));
     assert!(rt; matches!(&taken, Ok(disk) if disk.bytes() == b"First".as_slice()));
     Ok(())
@@ -263,8 +234,8 @@ fn a_crash_loses_what_was_not_made_stable(rt: HostRuntime) -> Result<(), CallFau
     let alloc = rt.alloc();
     for (pick, want) in [(0, "first"), (1, "burst")] {
         let mut store = one_disk(alloc, None)?;
-        stores(&rt, &mut store, alloc, "ok loose d 0 bu");
-        let disk = store.take_disk("d")?.into_disk();
+        plays(&rt, alloc, &mut store, "ok loose d 0 bu");
+        let disk = take_out(&mut store, "d")?.into_disk();
         assert!(rt;
             crashed(disk, alloc, pick)?.bytes() == want.as_bytes(),
             "pick {pick}"
@@ -293,9 +264,9 @@ fn each_call_fails_where_its_number_is_listed(rt: HostRuntime) -> Result<(), NoM
             } else {
                 *word
             };
-            assert!(rt; outcome(&mut store, rt.alloc(), step) == want, "{step}");
+            assert!(rt; comes_to(&mut store, rt.alloc(), step) == want, "{step}");
         }
-        assert!(rt; store.faults() == u64::from(call < 6));
+        assert!(rt; store_faults(&store).0 == u64::from(call < 6));
     }
     Ok(())
 }
