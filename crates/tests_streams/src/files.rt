@@ -1,11 +1,8 @@
 //! Tests of the store of files over files that are no files: which calls succeed, and what the system is asked.
 
-ghost use Rattle.std.specs.Prelude.{◌≡◌};
-
 use crate::ends::{end_of_call, end_of_new, end_of_read};
 use crate::fake_files::{FakeFiles, NAMES, Record, Stands};
-use crate::store_calls::store_faults;
-use disk_trait::{Disk, Pages};
+use disk_trait::{Disk, Faults, Pages};
 use std::alloc::Global;
 use std::io::ErrorKind;
 use std::io::ErrorKind::{
@@ -13,7 +10,7 @@ use std::io::ErrorKind::{
 };
 use std::test::Fail;
 use stream_host::FileStore;
-use stream_io::{CallFault, Readers, Store};
+use stream_io::{Readers, Store};
 
 /// Which call fails, how, what then comes of what was asked for, and all that the system was asked.
 type Row = ([u8; 2], ErrorKind, &'static str, &'static str);
@@ -30,11 +27,12 @@ enum Call {
 }
 
 /// What comes of a call for this name.
-fn end_of<S: Store>(store: &mut S, alloc: Global, call: Call, name: &str) -> &'static str
-where
-    S::Disk: Drop,
-    S::View: Drop,
-{
+fn end_of(
+    store: &mut FileStore<FakeFiles<'_>>,
+    alloc: Global,
+    call: Call,
+    name: &str,
+) -> &'static str {
     match call {
         Call::WriteNew => end_of_new(store.write_new(alloc, name, b"xyz", Readers::Anyone)),
         Call::NewDisk => end_of_new(store.new_disk(alloc, name, 9)),
@@ -49,7 +47,7 @@ where
 fn ends(alloc: Global, record: &Record, call: Call, end: &str) -> bool {
     let mut store = FileStore::new(FakeFiles(record));
     end_of(&mut store, alloc, call, record.name()) == end
-        && store_faults(&store) == (u64::from(end == "failed"), 0)
+        && store.faults() == u64::from(end == "failed")
 }
 
 /// Whether a call comes to what the row says, and asked what it says.
@@ -175,20 +173,8 @@ fn want_of_memory_is_no_fault(rt: HostRuntime) {
 }
 
 /// Whether a disk whose sync fails once also fails at the next one.
-fn fails_twice<D: Disk>(disk: &mut D) -> bool
-    ensures told { D.told disk.new ≡ D.told disk.old }
-    ensures honest { D.honest disk.new ≡ D.honest disk.old }
-    ensures steady { D.steady disk.new ≡ D.steady disk.old }
-{
+fn fails_twice<D: Disk>(disk: &mut D) -> bool {
     disk.write_at(0, b"x").is_ok() && disk.sync().is_err() && disk.sync().is_err()
-}
-
-/// Takes a disk whose sync fails, and gives it back.
-fn takes_failing<S: Store>(store: &mut S, name: &str) -> Result<bool, CallFault> {
-    let mut disk = store.take_disk(name)?;
-    let fails = fails_twice(&mut disk);
-    store.return_disk(name, disk);
-    Ok(fails)
 }
 
 /// Whether a view gives the three bytes of a fake file, and nothing behind them.
@@ -197,21 +183,19 @@ fn gives_three<V: Pages>(view: &mut V) -> bool {
     view.read_at(0, &mut out).is_ok() && out == *b"xyz" && view.read_at(1, &mut out).is_err()
 }
 
-/// Takes a view that gives three bytes, and gives it back.
-fn views_three<S: Store>(store: &mut S, alloc: Global, name: &str) -> Result<bool, CallFault> {
-    let mut view = store.view(alloc, name)?;
-    let gives = gives_three(&mut view);
-    store.end_view(view);
-    Ok(gives)
-}
-
 #[test]
 fn disks_and_views_bring_their_faults_back(rt: HostRuntime) -> Result<(), Fail> {
     let record = Record::new(Some(Stands::File), *b"sa", Other);
     let mut store = FileStore::new(FakeFiles(&record));
-    assert!(rt; takes_failing(&mut store, "in/a")?);
-    assert_eq!(rt; store_faults(&store), (0, 2));
-    assert!(rt; views_three(&mut store, rt.alloc(), "in/a")?);
-    assert_eq!(rt; store_faults(&store), (0, 3));
+    let mut disk = store.take_disk("in/a")?;
+    assert!(rt; fails_twice(&mut disk));
+    store.return_disk("in/a", disk);
+    assert_eq!(rt; store.disk_faults(), 2);
+
+    let mut view = store.view(rt.alloc(), "in/a")?;
+    assert!(rt; gives_three(&mut view));
+    store.end_view(view);
+    assert_eq!(rt; store.disk_faults(), 3);
+    assert_eq!(rt; store.faults(), 0);
     Ok(())
 }

@@ -280,15 +280,20 @@ const ACCEPTS: [Step; 8] = [
 ];
 
 /// Has a port accept a link, and fail to accept another.
+fn accept_one_at<P: Port>(rt: &impl Abort, port: &mut P) {
+    assert_eq!(rt; accepted(port), "link");
+    assert_eq!(rt; accepted(port), "failed");
+    assert_eq!(rt; (port.faults(), port.accept_faults()), (1, 1));
+}
+
+/// The same at the one port of a net.
 fn accept_one<N: Net>(rt: &impl Abort, alloc: Global, net: &mut N) -> Result<(), CallFault>
 where
     N::Port: Drop,
 {
     let mut ports = net.ports(alloc, Some("127.0.0.1:1"), 1)?;
     assert_eq!(rt; ports.len(), 1);
-    assert_eq!(rt; accepted(&mut ports[0]), "link");
-    assert_eq!(rt; accepted(&mut ports[0]), "failed");
-    assert_eq!(rt; (ports[0].faults(), ports[0].accept_faults()), (1, 1));
+    accept_one_at(rt, &mut ports[0]);
     Ok(())
 }
 

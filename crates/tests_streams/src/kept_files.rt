@@ -6,6 +6,7 @@ use crate::store_calls::store_faults;
 use disk_trait::{Disk, Faults, Pages};
 use std::alloc::Global;
 use std::os::unix::fs::{MetadataExt, symlink};
+use std::process::Abort;
 use std::test::Fail;
 use std::{fs, io};
 use stream_host::FileStore;
@@ -47,23 +48,34 @@ fn mode(rt: &HostRuntime, name: &str) -> io::Result<u32> {
     Ok(fs::metadata(rt, name)?.mode() & 0o777)
 }
 
+/// Whether a store of files takes a name as new once, with these permissions. The file is removed.
+fn is_taken_once(
+    rt: &HostRuntime,
+    store: &mut FileStore<HostRuntime>,
+    name: &str,
+    readers: Readers,
+    want: u32,
+) -> io::Result<bool> {
+    let is_taken = takes_once(store, rt.alloc(), name, readers);
+    let found = mode(rt, name)?;
+    fs::remove_file(rt, name)?;
+    Ok(is_taken && found == want)
+}
+
 #[test]
 fn a_store_of_files_takes_a_new_file_once(rt: HostRuntime) -> io::Result<()> {
     fs::write(&rt, "stream_host.any", "")?;
-    let rows = [
-        ("stream_host.own", Readers::OwnerAlone, 0o600),
-        (
-            "./stream_host.all",
-            Readers::Anyone,
-            mode(&rt, "stream_host.any")?,
-        ),
-    ];
+    let any = mode(&rt, "stream_host.any")?;
+    let own = "stream_host.own";
     let mut store = FileStore::new(rt);
-    for (name, readers, want) in rows {
-        assert!(rt; takes_once(&mut store, rt.alloc(), name, readers), "{name}");
-        assert_eq!(rt; mode(&rt, name)?, want, "{name}");
-        fs::remove_file(&rt, name)?;
-    }
+    assert!(rt;
+        is_taken_once(&rt, &mut store, own, Readers::OwnerAlone, 0o600)?,
+        "own"
+    );
+    assert!(rt;
+        is_taken_once(&rt, &mut store, "./stream_host.all", Readers::Anyone, any)?,
+        "all"
+    );
     assert!(rt; lacks(&mut store, "stream_host.own.new"));
     fs::remove_file(&rt, "stream_host.any")
 }
@@ -74,59 +86,63 @@ fn is_taken<S: Store>(store: &mut S, alloc: Global, name: &str, has: bool, end: 
     has_name && end_of_new(store.write_new(alloc, name, b"first", Readers::Anyone)) == end
 }
 
+/// Names, whether they are there, what comes of making a file of that name, and the count of faults.
+const TAKEN: [(&str, bool, &str, u64); 4] = [
+    ("stream_host.link", true, "exists", 0),
+    (".", true, "exists", 0),
+    ("stream_host.left", false, "failed", 1),
+    ("stream_host.none/new", false, "failed", 2),
+];
+
+/// Makes a file of each of these names, beside one that was left.
+fn make_taken<S: Store>(rt: &impl Abort, store: &mut S, alloc: Global) {
+    for (name, has, end, faults) in TAKEN {
+        assert!(rt; is_taken(store, alloc, name, has, end), "{name}");
+        assert_eq!(rt; store.faults(), faults, "{name}");
+    }
+    assert!(rt; gives(store, alloc, "stream_host.left.new", 9, Ok("left")));
+}
+
 #[test]
 fn what_stands_at_a_name_takes_it(rt: HostRuntime) -> io::Result<()> {
     let link = "stream_host.link";
     symlink(&rt, "stream_host.none", link)?;
     fs::write(&rt, "stream_host.left.new", "left")?;
-    let mut store = FileStore::new(rt);
-    let rows = [
-        (link, true, "exists", 0),
-        (".", true, "exists", 0),
-        ("stream_host.left", false, "failed", 1),
-        ("stream_host.none/new", false, "failed", 2),
-    ];
-    for (name, has, end, faults) in rows {
-        assert!(rt; is_taken(&mut store, rt.alloc(), name, has, end), "{name}");
-        assert_eq!(rt; store_faults(&store), (faults, 0), "{name}");
-    }
-    assert!(rt;
-        gives(
-            &mut store,
-            rt.alloc(),
-            "stream_host.left.new",
-            9,
-            Ok("left")
-        )
-    );
+    make_taken(&rt, &mut FileStore::new(rt), rt.alloc());
     fs::remove_file(&rt, "stream_host.left.new")?;
     fs::remove_file(&rt, link)
+}
+
+/// Names, limits, what a read gives, and the count of faults.
+const READS: [(&str, u64, Result<&str, ReadAllFault>, u64); 5] = [
+    ("stream_host.test", 5, Ok("first"), 0),
+    ("stream_host.test", u64::MAX, Ok("first"), 0),
+    (
+        "stream_host.test",
+        4,
+        Err(ReadAllFault::TooLong { got: 5 }),
+        0,
+    ),
+    ("stream_host.none", 4, Err(ReadAllFault::Failed), 1),
+    (".", 4096, Err(ReadAllFault::Failed), 2),
+];
+
+/// Reads each of these names.
+fn read_each<S: Store>(rt: &impl Abort, store: &mut S, alloc: Global) {
+    for (name, limit, want, faults) in READS {
+        assert!(rt;
+            gives(store, alloc, name, limit, want),
+            "{name} up to {limit}"
+        );
+        assert_eq!(rt; store.faults(), faults);
+    }
 }
 
 #[test]
 fn a_store_of_files_reads_them(rt: HostRuntime) -> io::Result<()> {
     let name = "stream_host.test";
     fs::write(&rt, name, "first")?;
-    let mut store = FileStore::new(rt);
-    let rows: [(&'static str, u64, Result<&'static str, ReadAllFault>, u64); 5] = [
-        ("stream_host.test", 5, Ok("first"), 0),
-        ("stream_host.test", u64::MAX, Ok("first"), 0),
-        (
-            "stream_host.test",
-            4,
-            Err(ReadAllFault::TooLong { got: 5 }),
-            0,
-        ),
-        ("stream_host.none", 4, Err(ReadAllFault::Failed), 1),
-        (".", 4096, Err(ReadAllFault::Failed), 2),
-    ];
-    for (name, limit, want, faults) in rows {
-        assert!(rt;
-            gives(&mut store, rt.alloc(), name, limit, want),
-            "{name} up to {limit}"
-        );
-        assert_eq!(rt; store_faults(&store), (faults, 0));
-    }
+    read_each(&rt, &mut FileStore::new(rt), rt.alloc());
     fs::remove_file(&rt, name)
 }
 

@@ -54,6 +54,14 @@ where
     }
 }
 
+/// Whether a port has no link to accept.
+fn is_deaf<P: Port + Drop>(port: &mut P) -> bool
+where
+    P::Link: Drop,
+{
+    matches!(port.accept(), Accepted::End)
+}
+
 /// Has two ports accept a link each, over which bytes go in both directions, until one end is hung up.
 fn talk_apart<P: Port + Drop>(
     rt: &impl Abort,
@@ -65,6 +73,7 @@ where
     P::Link: Drop,
 {
     assert!(rt; ports.len() == 2);
+    assert!(rt; is_deaf(dialling));
     let mut there = dialled(dialling, place)?;
     let mut here = accepted(&mut ports[0])?;
     let mut also_there = dialled(dialling, place)?;
@@ -90,7 +99,6 @@ where
     let mut ports = net.ports(alloc, Some(place), 2)?;
     let mut dialling = net.ports(alloc, None, 1)?;
     assert_eq!(rt; (ports.len(), dialling.len()), (2, 1));
-    assert!(rt; matches!(dialling[0].accept(), Accepted::End));
     talk_apart(rt, &mut dialling[0], &mut ports, place)?;
     net.gather(ports);
     net.gather(dialling);
@@ -98,7 +106,17 @@ where
     Ok(())
 }
 
-/// Dials a place at which nobody listens, and no place, and listens at no place.
+/// Dials a place at which nobody listens, and no place.
+fn dial_nobody<P: Port + Drop>(rt: &impl Abort, port: &mut P, place: &str)
+where
+    P::Link: Drop,
+{
+    assert!(rt; dialled(port, place).is_err());
+    assert!(rt; dialled(port, "no place").is_err());
+    assert_eq!(rt; (port.faults(), port.accept_faults()), (2, 0));
+}
+
+/// The same from the one port of a net, which then listens at no place.
 fn reach_nobody<N: Net>(
     rt: &impl Abort,
     alloc: Global,
@@ -111,9 +129,7 @@ where
 {
     let mut ports = net.ports(alloc, None, 1)?;
     assert_eq!(rt; ports.len(), 1);
-    assert!(rt; ports[0].dial(place).is_err());
-    assert!(rt; ports[0].dial("no place").is_err());
-    assert_eq!(rt; (ports[0].faults(), ports[0].accept_faults()), (2, 0));
+    dial_nobody(rt, &mut ports[0], place);
     net.gather(ports);
     assert_eq!(rt; (net.faults(), net.port_faults()), (1, 0));
 
