@@ -7,6 +7,7 @@ ghost use Rattle.share_files.specs.Commits.{all_commits_length};
 ghost use Rattle.tool_base.specs.Ending.{status_of};
 ghost use Rattle.tool_base.specs.Endings.{ending};
 ghost use Rattle.tool_blame.specs.Names.{NamesEnd, TellsEnd};
+ghost use Rattle.tool_sign.specs.Ports.{reads_on};
 ghost use Rattle.tool_sign.specs.Sessions.{answer_by};
 
 use aggregator_session::Ended;
@@ -34,13 +35,7 @@ pub(crate) fn told_outcome<V: Pages>(
     requires whole { IfSome ended.session (λ session. IsTrue (V.told (pages_of commits.old))
         → length (leaves_on V.Pages.own (pages_of commits.old)) ≡ all_commits_length key.now.params session.plan) }
     requires begun { IfErr ended.outcome (λ end. status_of (ending end) ≡ 8 → IsTrue (is_some ended.session)) }
-    ensures tells { TellsEnd
-        (record {
-          told = V.told (pages_of commits.old);
-          leaves = leaves_on V.Pages.own (pages_of commits.old);
-          before = V.count (pages_of commits.old);
-          now = V.count (pages_of commits.new);
-        })
+    ensures tells { TellsEnd (reads_on V.Pages.own V.Faults (pages_of commits.old) (pages_of commits.new))
         (V.steady (pages_of commits.old)) message.now ended.session (answer_by ended.outcome) (answer_by result) }
     ensures stays { PagesStay V.Pages.own V.Faults (pages_of commits.old) (pages_of commits.new) }
 {
@@ -70,13 +65,7 @@ pub fn name_blamed<V: Pages>(
     requires key { session.now.key ≡ key.now }
     requires whole { IsTrue (V.told (pages_of commits.old))
         → length (leaves_on V.Pages.own (pages_of commits.old)) ≡ all_commits_length key.now.params session.now.plan }
-    ensures names { NamesEnd
-        (record {
-          told = V.told (pages_of commits.old);
-          leaves = leaves_on V.Pages.own (pages_of commits.old);
-          before = V.count (pages_of commits.old);
-          now = V.count (pages_of commits.new);
-        })
+    ensures names { NamesEnd (reads_on V.Pages.own V.Faults (pages_of commits.old) (pages_of commits.new))
         (V.steady (pages_of commits.old)) session.now (digest_of session.now message.now) (ending result) }
     ensures stays { PagesStay V.Pages.own V.Faults (pages_of commits.old) (pages_of commits.new) }
 {

@@ -1,5 +1,5 @@
 -- A port of a net that only dials, and what was signed over it.
-use Rattle.std.specs.Prelude.{◌≡◌, ◌≢◌, ◌++◌, ◌&&◌, ◌==◌, ℕ, Bool, List, [], ◌∷◌, length, None}
+use Rattle.std.specs.Prelude.{◌≡◌, ◌≢◌, ◌++◌, ◌&&◌, ◌==◌, ℕ, Bool, List, [], ◌∷◌, drop, length, None}
 use Rattle.std.specs.Prelude.{Result, Ok, Err, IfOk, IsTrue}
 use Rattle.aggregator_session.specs.Runs.{CellsRead, reads_of}
 use Rattle.aggregator_session.specs.declared.desk.Desk.{Desk}
@@ -7,6 +7,7 @@ use Rattle.aggregator_session.specs.declared.fault.SignFault.{SignFault}
 use Rattle.aggregator_session.specs.declared.fault.SignFault.TheVariants.{Session}
 use Rattle.coalition_map.specs.Coalitions.{PlanNumbers}
 use Rattle.disk_trait.specs.Faults.{Rose}
+use Rattle.disk_trait.specs.declared.disk.Pages as pages
 use Rattle.disk_trait.specs.declared.faults.Faults as faults
 use Rattle.aggregator_session.specs.Causes.{PortCauses}
 use Rattle.aggregator_session.specs.Signing.{DeskState, Signature, SignsLeased, desk_state}
@@ -42,6 +43,15 @@ pub record Signing : Type 0 where
 -- whether a reference gives what it has whenever it is asked: it tells all leaves, and its calls do not fail
 abbrev pub is_exact : Bool → Bool → List ℕ → Params → PlanNumbers → Bool
 is_exact told steady leaves params plan = told && steady && length leaves == leaves_length params plan
+
+-- what is read of the file on these pages, as they stand before and after: its leaves, behind a head of 32 bytes
+abbrev pub reads_on : {V : Type 0} → pages.Ghosts V → faults.Ghosts V → V → V → CellsRead
+reads_on p f old new = record {
+  told = p.told old;
+  leaves = drop 32 (p.reads old);
+  before = f.count old;
+  now = f.count new;
+}
 
 -- what is signed at this desk with these cells, as they stand before and after
 abbrev pub signing_of : {C : Type 0} → cells.Ghosts C → faults.Ghosts C → Desk → C → C → List ℕ → List ℕ → Signing

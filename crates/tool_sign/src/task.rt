@@ -5,7 +5,7 @@ ghost use Rattle.tool_base.specs.Endings.{ending};
 ghost use Rattle.tool_base.specs.World.{IsCalm, from_to};
 ghost use Rattle.tool_desk.specs.Files.{HaveSizesOf};
 ghost use Rattle.tool_sign.specs.Ended.{TableTo};
-ghost use Rattle.tool_sign.specs.Ports.{is_exact, over_net};
+ghost use Rattle.tool_sign.specs.Ports.{is_exact, over_net, reads_on};
 ghost use Rattle.tool_sign.specs.Sessions.{SessionRun, answer_by};
 ghost use Rattle.tool_sign.specs.Signs.{answer_in};
 ghost use Rattle.tool_sign.specs.Sources.{session_words, source_of};
@@ -169,12 +169,7 @@ pub fn sign_task<V: Pages, S: Store, N: Net>(
     ensures run { TableTo
         (record {
           desk = desk_of files.now header.now task.now.addresses.items;
-          reads = record {
-            told = V.told view;
-            leaves = drop 32 (V.reads view);
-            before = V.count view;
-            now = V.count result.0;
-          };
+          reads = reads_on V.Pages.own V.Faults view result.0;
           exact = is_exact (V.told view) (V.steady view) (drop 32 (V.reads view)) files.now.key.params header.now.plan;
           members = task.now.members;
           message = task.now.message.items;

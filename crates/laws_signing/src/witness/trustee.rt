@@ -3,6 +3,7 @@
 ghost use Rattle.std.specs.Prelude.{◌≡◌, ℕ, true, IsTrue, Ok};
 ghost use Rattle.tool_base.specs.Ending.{Served};
 ghost use Rattle.tool_base.specs.Endings.{ending};
+ghost use Rattle.tool_trustee.specs.Steady.{outside};
 ghost use Rattle.tool_words.specs.Rows.{trustee_words};
 ghost use Rattle.laws_signing.specs.Witness.{IsNewNet, IsSteadyStore, SteadyTrustee, file_in};
 
@@ -34,16 +35,9 @@ pub fn served_steadily<R: Threads + Wait + Sync>(
 ) -> Result<bool, NoMemory>
     ensures { result ≡ Ok true → (store : MemStore) × (later : MemStore) × (net : MemNet) × (after : MemNet)
         × (time : MemClocks) × SteadyTrustee (trustee_words words.now) (file_in files.items) asks.now
-        (record {
-          store = ⟦<MemStore as Store>⟧.state store;
-          net = ⟦<MemNet as Net>⟧.state net;
-          time = ⟦<MemClocks as Clocks>⟧.state time;
-        })
-        (record {
-          store = ⟦<MemStore as Store>⟧.state later;
-          net = ⟦<MemNet as Net>⟧.state after;
-          time = ⟦<MemClocks as Clocks>⟧.state time;
-        }) }
+        (outside (⟦<MemStore as Store>⟧.state store) (⟦<MemNet as Net>⟧.state net) (⟦<MemClocks as Clocks>⟧.state time))
+        (outside (⟦<MemStore as Store>⟧.state later) (⟦<MemNet as Net>⟧.state after)
+        (⟦<MemClocks as Clocks>⟧.state time)) }
 {
     let mut store = MemStore::of_files(alloc, files, Vec::new(alloc))?;
     let mut net = waiting_net(alloc, words.place, asks, ROOM)?;
@@ -64,16 +58,10 @@ fn is_served<R: Threads + Wait + Sync>(
     requires net { IsNewNet 562233344 (⟦<MemNet as Net>⟧.state net.old) }
     ensures { IsTrue result → (time : MemClocks)
         × SteadyTrustee (trustee_words words.now) (⟦<MemStore as Store>⟧.state store.old).file asks.now
-        (record {
-          store = ⟦<MemStore as Store>⟧.state store.old;
-          net = ⟦<MemNet as Net>⟧.state net.old;
-          time = ⟦<MemClocks as Clocks>⟧.state time;
-        })
-        (record {
-          store = ⟦<MemStore as Store>⟧.state store.new;
-          net = ⟦<MemNet as Net>⟧.state net.new;
-          time = ⟦<MemClocks as Clocks>⟧.state time;
-        }) }
+        (outside (⟦<MemStore as Store>⟧.state store.old) (⟦<MemNet as Net>⟧.state net.old)
+        (⟦<MemClocks as Clocks>⟧.state time))
+        (outside (⟦<MemStore as Store>⟧.state store.new) (⟦<MemNet as Net>⟧.state net.new)
+        (⟦<MemClocks as Clocks>⟧.state time)) }
 {
     let mut time = MemClocks::new(0);
     let end = serve_trustee(rt, alloc, words, store, net, &mut time);
