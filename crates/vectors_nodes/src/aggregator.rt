@@ -7,11 +7,9 @@ pub(crate) mod client;
 pub(crate) mod scene;
 
 use crate::files::file_of;
-use aggregator_session::{SignFault, Signed, sign_leased};
+use aggregator_session::{SignFault, Signed};
 use client::{requests, serve};
-use coalition_map::Members;
-use reference_value::Whole;
-use scene::{Scene, port};
+use scene::{Scene, port, sign};
 use std::io;
 use std::sync::Wait;
 use stream_memory::MemPort;
@@ -29,17 +27,8 @@ fn run(rt: HostRuntime, session: &str, replies: [Vec<u8>; 3]) -> Option<Ran> {
     let alloc = rt.alloc();
     let scene = Scene::read(rt, session)?;
     let mut table = scene.table(alloc)?;
-    let mut cells = Whole::new(&scene.key.params, &scene.plan, &scene.leaves);
     let mut port = port(alloc, replies)?;
-    let outcome = sign_leased(
-        alloc,
-        &scene.desk(),
-        &mut cells,
-        &mut table,
-        &mut port,
-        Members::of_bits(0b111),
-        &scene.message,
-    );
+    let outcome = sign(alloc, &scene, &mut table, &mut port);
     Some(Ran { outcome, port })
 }
 

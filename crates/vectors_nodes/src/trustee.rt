@@ -3,6 +3,7 @@
 ghost use Rattle.std.specs.Prelude.{◌≡◌, IfSome, true};
 ghost use Rattle.opening_journal.specs.Journal.{header_of, params_of};
 ghost use Rattle.trustee_core.specs.Trustee.{journal_header, share_of};
+ghost use Rattle.trustee_node.specs.Turns.{IsIdle};
 
 use crate::links::link;
 use crate::turns::only_pass;
@@ -12,9 +13,10 @@ use share_files::Share;
 use slot_file::{Header, prepare};
 use std::alloc::Global;
 use std::sync::Wait;
+use stream_memory::MemLink;
 use trustee_core::{Clock, Trustee};
 use trustee_node::{Served, serve_connection};
-use turn_lock::TurnLock;
+use turn_lock::{Pass, TurnLock};
 
 /// The bytes of a journal of 32 leaves.
 const JOURNAL: usize = 5248;
@@ -69,6 +71,21 @@ pub(crate) fn trustee(alloc: Global, share: &Share) -> Option<Trustee<MemDisk>>
     Some(Trustee::new(*share, journal))
 }
 
+/// Serves a link of a trustee in memory. All here is served by it, since what costs a proof is a call over these very
+/// types.
+pub(crate) fn serve_link(
+    waits: &impl Wait,
+    lock: &TurnLock<Trustee<MemDisk>>,
+    pass: &mut Pass<Trustee<MemDisk>>,
+    share: &Share,
+    link: &mut MemLink,
+) -> Served
+    requires { IsIdle lock.now share.now pass.old }
+    ensures { IsIdle lock.now share.now pass.new }
+{
+    serve_connection(waits, lock, pass, share, None, &mut Still, link)
+}
+
 /// Serves these asks as a trustee of this share whose journal is empty. It gives what came of it and the bytes that
 /// were written, or nothing where memory ran out.
 pub(crate) fn replies(
@@ -84,7 +101,7 @@ pub(crate) fn replies(
     let asks = Vec::from_slice(alloc, asks).ok()?;
     // Each of the two replies of a session goes out in one write: the third would fail.
     let mut link = link(alloc, asks, Some(2))?;
-    let served = serve_connection(waits, &lock, &mut pass, share, None, &mut Still, &mut link);
+    let served = serve_link(waits, &lock, &mut pass, share, &mut link);
     let written = Vec::from_slice(alloc, link.conversation().written()).ok()?;
     Some((served, written))
 }

@@ -7,13 +7,13 @@ ghost use Rattle.share_files.specs.Reference.{leaves_length};
 use crate::files::file_of;
 use crate::links::failing_link;
 use crate::tables::{LEAVES, table_of};
-use aggregator_session::{Address, Desk};
-use coalition_map::Plan;
+use aggregator_session::{Address, Desk, SignFault, Signed, sign_leased};
+use coalition_map::{Members, Plan};
 use disk_trait::MemDisk;
 use leaf_table::Table;
 use lms_bytes::{PublicKey, read_public};
 use merkle_path::Tree;
-use reference_value::leaf_bytes;
+use reference_value::{Whole, leaf_bytes};
 use share_files::read_tree;
 use std::alloc::Global;
 use stream_memory::{MemPort, PortScript};
@@ -74,6 +74,28 @@ impl Scene {
     {
         table_of(alloc, &self.key, &self.plan)
     }
+}
+
+/// Signs with a leaf of trustees 1, 2 and 3. All here is signed by it, since what costs a proof is a call over these
+/// very types.
+pub(crate) fn sign(
+    alloc: Global,
+    scene: &Scene,
+    table: &mut Table<MemDisk>,
+    port: &mut MemPort,
+) -> Result<Signed, SignFault>
+    requires { plan_of table.old ≡ scene.now.plan }
+{
+    let mut cells = Whole::new(&scene.key.params, &scene.plan, &scene.leaves);
+    sign_leased(
+        alloc,
+        &scene.desk(),
+        &mut cells,
+        table,
+        port,
+        Members::of_bits(0b111),
+        &scene.message,
+    )
 }
 
 /// The place of a trustee.

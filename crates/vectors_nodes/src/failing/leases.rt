@@ -2,14 +2,11 @@
 
 use super::{MOST, PICKS, SESSION};
 use crate::aggregator::replies;
-use crate::aggregator::scene::{Scene, port_of};
+use crate::aggregator::scene::{Scene, port_of, sign};
 use crate::tables::{fresh, load};
-use aggregator_session::sign_leased;
-use coalition_map::Members;
 use disk_trait::MemDisk;
 use leaf_table::{Lease, Table};
 use lms_bytes::MessageId;
-use reference_value::Whole;
 use std::alloc::Global;
 use std::io;
 
@@ -38,19 +35,8 @@ fn stopped(
     let Some(mut table) = load(alloc, &scene.key, &scene.plan, disk) else {
         return Some((false, true));
     };
-    let mut cells = Whole::new(&scene.key.params, &scene.plan, &scene.leaves);
     let mut port = port_of(alloc, replies, 1)?;
-    let members = Members::of_bits(0b111);
-    let desk = scene.desk();
-    let outcome = sign_leased(
-        alloc,
-        &desk,
-        &mut cells,
-        &mut table,
-        &mut port,
-        members,
-        &scene.message,
-    );
+    let outcome = sign(alloc, scene, &mut table, &mut port);
     let asked = port.kept().talk(0).is_some();
     let left = table.end().crash(alloc, pick).ok()?;
     let table = load(alloc, &scene.key, &scene.plan, left)?;

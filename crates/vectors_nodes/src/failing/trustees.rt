@@ -6,7 +6,7 @@ ghost use Rattle.trustee_core.specs.Trustee.{share_of};
 use super::{MOST, SESSION};
 use crate::files::file_of;
 use crate::links::{failing_link, wide_link};
-use crate::trustee::{Still, empty_journal, load, trustee};
+use crate::trustee::{Still, empty_journal, load, serve_link, trustee};
 use crate::turns::only_pass;
 use disk_trait::MemDisk;
 use share_files::{Share, read_share};
@@ -16,7 +16,7 @@ use std::sync::Wait;
 use std::thread::Threads;
 use stream_memory::{MemPort, PortScript};
 use trustee_core::Trustee;
-use trustee_node::{Served, ServedEnd, Totals, serve_connection, serve_ports};
+use trustee_node::{Served, ServedEnd, Totals, serve_ports};
 use turn_lock::TurnLock;
 
 /// The bytes of an ask of round one, and of the reply to it.
@@ -79,17 +79,9 @@ fn serve_two(waits: &impl Wait, alloc: Global, given: &Given, call: u64) -> Opti
     let mut pass = only_pass(&lock, passes)?;
     let share = &given.share;
     let mut first = failing_link(alloc, &given.asks, Some(call))?;
-    let served = serve_connection(waits, &lock, &mut pass, share, None, &mut Still, &mut first);
+    let served = serve_link(waits, &lock, &mut pass, share, &mut first);
     let mut second = failing_link(alloc, &given.asks, None)?;
-    serve_connection(
-        waits,
-        &lock,
-        &mut pass,
-        share,
-        None,
-        &mut Still,
-        &mut second,
-    );
+    serve_link(waits, &lock, &mut pass, share, &mut second);
     Some(Two {
         ended: served.ended,
         first: Vec::from_slice(alloc, first.conversation().written()).ok()?,
@@ -131,7 +123,7 @@ fn serve_one(
     };
     let mut pass = only_pass(&lock, passes)?;
     let mut link = wide_link(alloc, asks, room, None)?;
-    let served = serve_connection(waits, &lock, &mut pass, share, None, &mut Still, &mut link);
+    let served = serve_link(waits, &lock, &mut pass, share, &mut link);
     let written = Vec::from_slice(alloc, link.conversation().written()).ok()?;
     Some((served, written))
 }
