@@ -1,4 +1,5 @@
--- A set of trustees gives its bits back.
+-- A set of trustees gives its bits back. The proofs stand with the definitions, since the toolchain wants what a type's
+-- model names to be among them.
 use Rattle.std.proofs.Common.{◌≡◌, inl, inr, ◌≢◌, ℕ, zero, suc, ◌+◌, ◌-◌, ◌*◌, ◌/◌, ◌%◌, ◌^◌, ◌<◌, eqb, [], ◌∷◌}
 use Rattle.std.proofs.Common.{refl, ◌∙◌, ap, arith, pow-suc}
 use Rattle.std.proofs.lemmas.Bool.{cases_eq, cond-true, cond-false}

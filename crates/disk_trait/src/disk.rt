@@ -75,13 +75,10 @@ pub trait Disk: Pages {
         ensures images { IsTrue (Self.honest self.old)
             → Follows (Torn at (length bytes.now)) (Self.may_leave self.old) (Self.may_leave self.new) }
 
-        ensures within { IsTrue (Self.told self.old)
-            → OnOk result (at ≤ length (Self.reads self.old)) }
-        ensures fits { IsTrue (Self.told self.old)
-            → OnOk result (at + length bytes.now ≤ Self.room self.old) }
+        ensures within { IsTrue (Self.told self.old) → OnOk result (at ≤ length (Self.reads self.old)) }
+        ensures fits { IsTrue (Self.told self.old) → OnOk result (at + length bytes.now ≤ Self.room self.old) }
         ensures succeeds { IsTrue (Self.steady self.old) → IsTrue (Self.told self.old)
-            → at ≤ length (Self.reads self.old) → at + length bytes.now ≤ Self.room self.old
-            → IsOk result }
+            → at ≤ length (Self.reads self.old) → at + length bytes.now ≤ Self.room self.old → IsOk result }
         ensures cause { HasCause (Self.count self.old) (Self.count self.new) result }
 
         ensures stays { SameKind Self.told Self.honest Self.steady Self.room self.old self.new };

@@ -1,4 +1,5 @@
--- What is honest and tells is honest.
+-- What is honest and tells is honest. The proof stands with the definitions, since the toolchain wants what an
+-- implementation names to be among them.
 use Rattle.std.specs.Prelude.{◌&&◌, Bool, true, false, IsTrue, refl}
 
 pub is_honest : (honest told : Bool) → IsTrue (honest && told) → IsTrue honest

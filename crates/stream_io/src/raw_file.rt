@@ -52,10 +52,8 @@ pub trait RawFile: Faults {
     /// refusal.
     fn read_at(&mut self, at: u64, out: &mut [u8]) -> Result<usize, DiskFault>
         ensures size { IfOk result (λ n. n ≤ length out.old) }
-        ensures bytes { IsTrue (told self.old)
-            → IfOk result (λ n. take n out.new ≡ take n (drop at (reads self.old))) }
-        ensures within { IsTrue (told self.old)
-            → IfOk result (λ n. n ≤ length (drop at (reads self.old))) }
+        ensures bytes { IsTrue (told self.old) → IfOk result (λ n. take n out.new ≡ take n (drop at (reads self.old))) }
+        ensures within { IsTrue (told self.old) → IfOk result (λ n. n ≤ length (drop at (reads self.old))) }
         ensures end { IsTrue (told self.old)
             → IfOk result (λ n. n ≡ 0 → 0 < length out.old → length (reads self.old) ≤ at) }
         ensures succeeds { IsTrue (Self.steady self.old) → IsOk result }

@@ -1,4 +1,5 @@
--- What a file in memory stands for.
+-- What a file in memory stands for. The proof stands with the definitions, since the toolchain wants what an
+-- implementation names to be among them.
 use Rattle.std.specs.Prelude.{ℕ, ◌≤◌, length, max}
 use Rattle.std.proofs.Common.{arith}
 use Rattle.disk_trait.specs.MemDisk.{MemState}
