@@ -48,7 +48,7 @@ module _ {D : Type 0} (p : pages.Ghosts D) where
 abbrev pub AllBut : List ℕ → (List ℕ → Type 0) → Type 0
 AllBut file images = (image : List ℕ) → images image → Torn 0 1 file image
 
--- internal: A gate is opened last: a crash leaves what it could leave before, or the file with any gate, and a read shows
+-- internal: A gate is opened last. A crash leaves what it could leave before, or the file with any gate; a read shows
 -- another gate only where all else is stable.
 pub record OpensLast {D : Type 0} (p : pages.Ghosts D) (old new : D) : Type 0 where
   pub images : IsTrue (p.told old) → IsTrue (p.honest old) → (image : List ℕ) → p.may_leave new image
