@@ -10,6 +10,7 @@ use crate::head::{check_zero, read_head, read_plan, write_head};
 use crate::reference::RefHeader;
 
 /// Reads a head with a plan, whatever the length of its file.
+#[tactic(auto, unfolding(crate::specs::Reference::plan_head_fault, crate::specs::Head::first_fault))]
 pub(crate) fn read_plan_head(magic: &[u8; 4], head: &[u8; 32]) -> Result<RefHeader, FileFault>
     ensures header { IfOk result (λ header. head.now ≡ plan_head magic.now header) }
     ensures codes { IfOk result (HasCodes head.now) }

@@ -1,4 +1,4 @@
-use Rattle.std.proofs.Common.{◌∙◌, sym, refl}
+use Rattle.std.proofs.Common.{◌∙◌, sym}
 use Rattle.share_files.proofs.References.{commits_length_of-codes}
 use Rattle.share_files.proofs.commits_layout.length_of_file.Goals as goal
 
