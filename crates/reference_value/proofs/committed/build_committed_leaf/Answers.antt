@@ -1,4 +1,4 @@
-use Rattle.std.proofs.Common.{◌≡◌, length, refl, arith}
+use Rattle.std.proofs.Common.{◌≡◌, length, arith}
 use Rattle.reference_value.specs.Dealing.{dealing_from}
 use Rattle.reference_value.proofs.Committing.{commitments-are, leaf-is, whole-put}
 use Rattle.reference_value.proofs.Members.{members-are}

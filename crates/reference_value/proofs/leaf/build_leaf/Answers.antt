@@ -1,4 +1,4 @@
-use Rattle.std.proofs.Common.{◌≡◌, [], ◌∙◌, length, ap, refl, arith}
+use Rattle.std.proofs.Common.{[], ◌∙◌, length, ap, refl, arith}
 use Rattle.coalition_map.proofs.MemberLaws.{below-none, below-all, below-more_in, below-more_out}
 use Rattle.reference_value.specs.Dealing.{dealing_from}
 use Rattle.reference_value.proofs.Members.{building-none, building-more, built, members-are, tag-room}

@@ -1,4 +1,4 @@
-use Rattle.std.proofs.Common.{◌∙◌, [], sym, arith}
+use Rattle.std.proofs.Common.{◌∙◌, sym, arith}
 use Rattle.std.proofs.lemmas.List.{take_all}
 use Rattle.share_files.proofs.FirstFault.{contradiction}
 use Rattle.share_files.proofs.HeadParts.{head_passes}
