@@ -6,11 +6,13 @@ ghost use Rattle.disk_trait.specs.Faults.{HasCause};
 ghost use Rattle.stream_host.specs.Buffered.{Ends, Passes, ReadsAhead, SameBytes, buffered_talk};
 ghost use Rattle.stream_io.specs.Talk.{HasRead, HasWritten, OnlyRead, OnlyWrote, TakesRoom, Took};
 
-use crate::read_ahead::{self, ReadAhead};
-use crate::write_behind::WriteBehind;
+use crate::window::Window;
 use disk_trait::Faults;
 use std::marker::Model;
 use stream_io::{Failed, Sink, Source, Stream};
+
+/// From how many bytes on a read goes past what is read ahead, so that the pieces of a long message are not copied.
+const LONG: usize = 4096;
 
 /// A link over another one. What it reads ahead of its reads is read later, so that a frame takes one call of the link
 /// below and not one for each of its parts. While some of that is not read yet, it also holds back what is written, so
@@ -19,8 +21,8 @@ use stream_io::{Failed, Sink, Source, Stream};
 #[derive(Drop)]
 pub struct Buffered<L: Source + Sink> {
     link: L,
-    ahead: ReadAhead,
-    behind: WriteBehind,
+    ahead: Window,
+    behind: Window,
 }
 
 // A fact over the bound's members stands in the model and not in a ghost field, since a struct with such a field cannot
@@ -46,8 +48,8 @@ impl<L: Source + Sink> Buffered<L> {
     {
         Buffered {
             link,
-            ahead: ReadAhead::new(),
-            behind: WriteBehind::new(),
+            ahead: Window::new(),
+            behind: Window::new(),
         }
     }
 
@@ -178,7 +180,7 @@ impl<L: Source + Sink> Source for Buffered<L> {
         if out.is_empty() {
             return Ok(0);
         }
-        if out.len() >= read_ahead::ROOM && self.ahead.is_empty() {
+        if out.len() >= LONG && self.ahead.is_empty() {
             return self.read_through(out);
         }
         self.ready()?;

@@ -15,12 +15,11 @@ mod new_file;
 mod next_sync;
 mod open_file;
 mod pieces;
-mod read_ahead;
 mod stdout_sink;
 mod tcp_link;
 mod tcp_net;
 mod tcp_port;
-mod write_behind;
+mod window;
 
 pub use buffered::Buffered;
 pub use buffered_port::BufferedPort;

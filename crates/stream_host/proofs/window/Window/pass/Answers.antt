@@ -1,6 +1,6 @@
 use Rattle.std.proofs.Common.{◌+◌, ◌≤◌, take, drop, ◌-◌, ap, ◌∙◌, ◌++◌, arith, length, length-take-le, length-drop, ◌≡◌}
 use Rattle.stream_host.proofs.Windows.{passed, rest}
-use Rattle.stream_host.proofs.write_behind.WriteBehind.pass.Goals as goal
+use Rattle.stream_host.proofs.window.Window.pass.Goals as goal
 
 pub returns-clause-passes : goal.returns-clause-passes
 returns-clause-passes g c =

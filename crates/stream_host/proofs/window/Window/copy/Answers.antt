@@ -1,6 +1,6 @@
 use Rattle.std.proofs.Common.{◌+◌, ◌≤◌, drop, ap, ◌∙◌, arith}
 use Rattle.stream_host.proofs.Windows.{rest}
-use Rattle.stream_host.proofs.read_ahead.ReadAhead.copy.Goals as goal
+use Rattle.stream_host.proofs.window.Window.copy.Goals as goal
 
 pub returns-clause-rest : goal.returns-clause-rest
 returns-clause-rest c =

@@ -1,25 +1,26 @@
-//! Bytes that are written to a sink together.
+//! Bytes on their way through a link: read before they are asked for, or written and held to go out together.
 
-ghost use Rattle.std.specs.Prelude.{◌≡◌, ◌<◌, ◌++◌, ◌↔◌, [], length, IsTrue, IfOk, MatchBool};
+ghost use Rattle.std.specs.Prelude.{◌≡◌, ◌<◌, ◌++◌, ◌↔◌, [], length, take, drop, min, IsTrue, IfOk, MatchBool};
 ghost use Rattle.disk_trait.specs.Faults.{HasCause};
-ghost use Rattle.stream_host.specs.Buffered.{Passes};
+ghost use Rattle.stream_host.specs.Buffered.{Passes, ReadsAhead};
+ghost use Rattle.stream_io.specs.Talk.{OnlyRead};
 
 use std::marker::Model;
-use stream_io::{Failed, Sink};
+use stream_io::{Failed, Sink, Source};
 
-/// How many bytes are held at most: seven replies with the masks of 67 chains.
+/// How many bytes it has room for: seven replies with the masks of 67 chains.
 const ROOM: usize = 16_384;
 
-/// What was written and the sink has not taken yet. It stands in its link and not in memory of its own, since a link
-/// that is accepted or dialled takes no memory.
+/// Bytes, the oldest first: those between two places of its room. They stand in their link and not in memory of their
+/// own, since a link that is accepted or dialled takes no memory.
 #[derive(Drop)]
-pub(crate) struct WriteBehind {
+pub(crate) struct Window {
     bytes: [u8; ROOM],
     place: usize,
     end: usize,
 }
 
-impl Model for WriteBehind {
+impl Model for Window {
     ghost use Rattle.std.specs.Prelude.{◌≤◌, ◌-◌, ℕ, List, take, drop};
 
     ghost Value = { List ℕ };
@@ -29,23 +30,50 @@ impl Model for WriteBehind {
     ghost invariant = { λ a. (a.place ≤ a.end) × (a.end ≤ 16384) };
 }
 
-impl WriteBehind {
-    /// Nothing yet.
-    pub(crate) fn new() -> WriteBehind
+impl Window {
+    /// No bytes.
+    pub(crate) fn new() -> Window
         ensures { result ≡ [] }
     {
-        WriteBehind {
+        Window {
             bytes: [0; ROOM],
             place: 0,
             end: 0,
         }
     }
 
-    /// Whether nothing is held.
+    /// Whether there are none.
     pub(crate) fn is_empty(&self) -> bool
         ensures { IsTrue result ↔ self.now ≡ [] }
     {
         self.place == self.end
+    }
+
+    /// Reads once from the source. A refusal has read nothing.
+    pub(crate) fn fill<S: Source>(&mut self, source: &mut S) -> Result<(), Failed>
+        requires { self.old ≡ [] }
+        ensures ahead { ReadsAhead (S.talk source.old) (S.talk source.new) self.new result }
+        ensures only { OnlyRead (S.talk source.old) (S.talk source.new) }
+        ensures cause { HasCause (S.talk source.old).count (S.talk source.new).count result }
+        ensures steady { S.steady source.new ≡ S.steady source.old }
+    {
+        self.place = 0;
+        self.end = 0;
+        let count = source.read(&mut self.bytes)?;
+        self.end = count;
+        Ok(())
+    }
+
+    /// Takes as many bytes as there are, and as the room has place for.
+    pub(crate) fn copy(&mut self, out: &mut [u8]) -> usize
+        ensures size { result ≡ min (length out.old) (length self.old) }
+        ensures bytes { take result out.new ≡ take result self.old }
+        ensures rest { self.new ≡ drop result self.old }
+    {
+        let count = out.len().min(self.end - self.place);
+        out[..count].copy_from_slice(&self.bytes[self.place..self.place + count]);
+        self.place += count;
+        count
     }
 
     /// Takes a whole piece behind the others, if there is room for it, and says whether it did.

@@ -1,7 +1,7 @@
 use Rattle.std.proofs.Common.{◌≡◌, ◌+◌, take, drop, ◌-◌, ap, ◌∙◌, ◌++◌, arith, length}
 use borrow.Rule.Slice.PartMut.{put_mid}
 use Rattle.stream_host.proofs.Windows.{more}
-use Rattle.stream_host.proofs.write_behind.WriteBehind.hold.Goals as goal
+use Rattle.stream_host.proofs.window.Window.hold.Goals as goal
 
 pub returns : goal.returns
 returns c =

@@ -1,6 +1,6 @@
 use Rattle.std.proofs.Common.{length, ◌≡◌}
 use Rattle.stream_host.specs.Buffered.{Passes}
-use Rattle.stream_host.proofs.write_behind.WriteBehind.flush.Given as goal
+use Rattle.stream_host.proofs.window.Window.flush.Given as goal
 
 -- a beginning of what was held went to the sink
 abbrev pub invariant-pieces : goal.invariant-pieces
