@@ -37,11 +37,10 @@ returns-in_err-found-clause-told g c told =
     let b = c.in_default.ensures.body refl in
     let r = c.requires in
     let f = c.in_ok-fill.ensures in
-    let left = (talk c.args.source.now).left in
     let rest : length (take (header.length - size) c.args.body.now) ≡ header.length - size = length-take-le (header.length - size) c.args.body.now (grind (arith, is, h, b, r)) in
     let p = err_from_is_err_and c.from_residual-in_err-found.result c.from_residual-in_err-found.ensures.1 in
     rw (p.1, p.2) (body-then params header (talk c.args.source.now) (talk c.fill.new.source) (talk c.next_body.new.source) (Err c.in_err-found.field-0.0) c.fill.new.out size (length (take (header.length - size) c.args.body.now))
-    c.in_default.ensures.fault is (omega (arith, is, h)) rest (f.bytes told ∙ ap (λ n. take n left) full)
+    c.in_default.ensures.fault is (omega (arith, is, h)) rest (f.bytes told ∙ ap (λ n. take n (talk c.args.source.now).left) full)
     (subst (Took (talk c.args.source.now) (talk c.fill.new.source)) full (f.passed told)) (c.in_err-found.ensures.told (f.only.told ∙ told)))
 
 pub returns-clause-told : goal.returns-clause-told
