@@ -2,7 +2,8 @@
 
 ghost use Rattle.std.specs.Prelude.{◌≡◌, List, map, option_map, string_bytes, ℕ};
 ghost use Rattle.std.specs.List.{list_any};
-ghost use Rattle.tool_words.specs.Words.{aggregate_of, approve_of, command_of, deal_of, deal_with, drill_of, enrol_of, flag_of};
+ghost use Rattle.tool_words.specs.Words.{aggregate_of, approve_of, command_of, deal_of, deal_with, drill_of};
+ghost use Rattle.tool_words.specs.Words.{enrol_of, flag_of};
 ghost use Rattle.tool_words.specs.Words.{hss_check_of, hss_of, hss_sign_of, is_option, migrate_of, rehearse_of, row_of};
 ghost use Rattle.tool_words.specs.Words.{Row, of_three, show_of, sign_words_of, trustee_of, trustee_with, verify_of};
 ghost use Rattle.tool_words.specs.Rows.{row, sign_words};
