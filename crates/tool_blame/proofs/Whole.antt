@@ -12,7 +12,7 @@ use Rattle.tool_base.proofs.Nets.{net_none}
 use Rattle.tool_base.proofs.Runs.{calm_none, onward_on}
 use Rattle.tool_base.specs.Ending.{Ending}
 use Rattle.tool_base.specs.Endings as endings
-use Rattle.tool_base.specs.Outputs.{IsNew}
+use Rattle.tool_base.specs.Outputs.{IsNew, IsNotNew}
 use Rattle.tool_base.specs.Touched.{Keeps}
 use Rattle.tool_base.specs.World.{Bytes, Failed, IsBack, IsCalm, IsNetBack, file_limit, from_to}
 use Rattle.tool_base.specs.declared.ending.Ending as declared
@@ -40,6 +40,10 @@ use Rattle.tool_sign.specs.Tasks as tasks
 use Rattle.tool_sign.specs.Writes.{WriteEnds}
 use Rattle.tool_sign.specs.Writes as writes
 use Rattle.tool_words.specs.Words.{SignWords}
+
+-- the name of the signature was not found new
+pub run_taken : (words : SignWords) (a d : StoreState) (net : NetState) (end : Ending) → IsCalm a d → IsNotNew (from_to a d) words.out end → BlameRun words (from_to a d) (over_net net net) end
+run_taken words a d net end calm fails = record { touched = []; ends = blame.not_new end fails refl; keeps = keeps_calm [] a d calm; ports = net_none net }
 
 -- nothing was begun
 pub unbegun : (words : SignWords) (a e : StoreState) (net : NetState) (end : declared.Ending) → Keeps [] a e

@@ -8,7 +8,7 @@ mod reference;
 mod tree;
 mod views;
 
-pub use files::{KeyFiles, file_name, other_key, read_key_and_tree, test_same_key};
+pub use files::{KeyFiles, file_name, read_key_and_tree, test_same_key};
 pub use members::{addresses_of, members_of, test_members};
 pub use reading::{read_key_file, read_tree_file};
 pub use reference::view_reference;

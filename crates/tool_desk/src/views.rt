@@ -9,7 +9,8 @@ ghost use Rattle.tool_desk.specs.Reference.{IsReferenceOf, IsReferenceViewed};
 ghost use Rattle.tool_desk.specs.Views.{AddsCells, AreOfSet, CellsOut, FailsReferences, TakesViews, ViewsBack};
 ghost use Rattle.tool_desk.specs.Views.{WithViewsOut, view_state};
 
-use crate::{KeyFiles, other_key, test_same_key, view_reference};
+use crate::files::other_key;
+use crate::{KeyFiles, test_same_key, view_reference};
 use reference_value::Paged;
 use share_files::RefHeader;
 use std::alloc::Global;
@@ -87,7 +88,7 @@ fn view_others<S: Store>(
         let (view, other) = view_reference(alloc, store, prefix)?;
         if !is_same(header, &other) {
             store.end_view(view);
-            return Err(other_key(alloc, prefix, ".ref", other.id));
+            return Err(other_key(alloc, prefix, ".ref"));
         }
         cells.push_reserved(Paged::new(&files.key.params, &header.plan, view));
     }

@@ -5,7 +5,7 @@ use Rattle.slot_file.specs.Fresh.{IsBlank}
 use Rattle.slot_file.specs.declared.header.Header.{Header}
 use Rattle.slot_file.specs.declared.prepared.PrepareFault.{PrepareFault}
 use Rattle.slot_file.specs.declared.prepared.PrepareFault.TheVariants.{Device, NotEmpty}
-use Rattle.stream_io.specs.Store.{Made, PagesState, StoreOnward, StoreState, has_name}
+use Rattle.stream_io.specs.Store.{Made, PagesState, Returned, StoreOnward, StoreState, has_name}
 use Rattle.stream_io.specs.declared.store.NewFault.{NewFault}
 use Rattle.stream_io.specs.declared.store.Readers.TheVariants.{OwnerAlone}
 use Rattle.stream_io.specs.declared.store.NewFault.TheVariants.{Exists, Failed, NoMemory}
@@ -16,7 +16,8 @@ use Rattle.tool_base.proofs.Writing.{there_or_no_memory}
 use Rattle.tool_base.specs.Disks.{DeviceFails}
 use Rattle.tool_journals.specs.Blanks.{IsBlankDisk, IsMade, IsNeverHalf, IsNotMade, IsOwners, device, not_empty}
 use Rattle.tool_base.specs.Disks.{IsOut}
-use Rattle.tool_base.proofs.Outs.{IsBackAs}
+use Rattle.tool_base.proofs.Outs.{IsBackAs, back_as, out_same}
+use Rattle.tool_base.proofs.Runs.{onward_none}
 use Rattle.tool_journals.specs.Faults.{IsEndOfNew, end_of_prepare}
 
 -- a name that was not new for a disk
@@ -55,6 +56,23 @@ owners_on first a b c name goes made comes owners told =
     let told_a : IsTrue a.told = rw goes.told told in
     let told_b : IsTrue b.told = rw made.told told_a in
     comes.readers told_b name OwnerAlone (owners told_a)
+
+-- a disk that was made is back, as it was at the end
+pub record IsMadeAndBack (old mid last : StoreState) (name : List ℕ) (before now : PagesState) : Type 0 where
+  pub fresh : IsOut old name before mid
+  pub back : IsBackAs old name now last
+  pub owners : IsOwners (from_to old last) name
+
+pub made_and_back : (old mid last : StoreState) (name : List ℕ) (size : ℕ) (before now : PagesState) → Made old name size before mid → StoreOnward old mid
+    → now.told ≡ before.told → now.honest ≡ before.honest → now.steady ≡ before.steady → Returned mid name now last → StoreOnward mid last
+    → IsMadeAndBack old mid last name before now
+made_and_back old mid last name size before now made goes told honest steady returned comes =
+    let fresh = made_out old mid name size before made goes in
+    record {
+      fresh = fresh;
+      back = back_as old mid last name now (out_same old mid name before now fresh told honest steady) returned comes;
+      owners = owners_on old old mid last name (onward_none old) goes comes made.readers;
+    }
 
 pub made_of : (first a b c : StoreState) (name : List ℕ) (header : Header) (count : ℕ) (disk : PagesState) → IsCalm first a
     → IsBlankDisk a name header count disk b → IsBackAs first name disk c → StoreOnward b c → IsMade (from_to first c) name header count

@@ -5,3 +5,4 @@ pub mod Sharing
 pub mod Adding
 pub mod Approving
 pub mod Listing
+pub mod Migrating

@@ -15,13 +15,15 @@ use Rattle.dealer.specs.declared.files.DealingFiles.{DealingFiles}
 use Rattle.lms_bytes.specs.declared.params.Params.{Params}
 use Rattle.reference_value.specs.Dealing.{Dealing}
 use Rattle.share_files.specs.Commits.{commits_length}
-use Rattle.tool_run.specs.Deal.{IsDealableBy, IsDealtTo, IsNotDealt, IsSet, asked_commits, outputs_of, plan_of}
+use Rattle.tool_run.specs.Deal.{DealEnds, IsDealableBy, IsDealtTo, IsNotDealt, IsReady, IsSet, asked_commits, outputs_of, plan_of}
 use Rattle.tool_run.specs.Deal.{faulty, no_memory, too_large}
 use Rattle.tool_base.specs.Ending as ending
 use Rattle.tool_base.specs.Ending.{Ending}
 use Rattle.tool_run.specs.Naming.{named_files}
+use Rattle.tool_run.specs.Steps.{Writes, all_new, given}
 use Rattle.tool_base.specs.Outputs.{AreDifferent, Output}
 use Rattle.tool_base.specs.Undealt.{end_of_fault}
+use Rattle.tool_base.specs.World.{StoreRun}
 use Rattle.tool_base.specs.declared.undealt.Undealt.TheVariants.{Commitments}
 use Rattle.tool_words.specs.Words.{DealWords}
 use Rattle.tool_run.proofs.Names.{deal_differ}
@@ -75,6 +77,11 @@ dealt_to words entropy params plan files commits outputs leaves coalitions set s
       (named ∙ named_dealing words (dealing_of params plan entropy) files commits are asked);
   done_is = subst (λ p. ending.Dealt leaves coalitions ≡ ending.Dealt (2 ^ params.h) (count_of p)) same (rw (all, count) refl);
 }
+
+pub ready_then : (store : StoreRun) (words : DealWords) (outputs : List Output) (done end : Ending) (written : List Output) → IsReady store words outputs done
+    → Writes store outputs done end written → DealEnds store words end written
+ready_then store words outputs done end written ready writes =
+    given ready.entropy end written ready.read (given (outputs, done) end written ready.dealt (all_new end written ready.new writes))
 
 pub dealt_differ : (words : DealWords) (entropy : List ℕ) (outputs : List Output) (done : Ending) → IsDealtTo words entropy outputs done
     → AreDifferent (map (λ output. output.name) outputs)

@@ -38,15 +38,12 @@ use Rattle.tool_levels.specs.Lower.{FailsLower}
 use Rattle.tool_levels.specs.Lower as lowers
 use Rattle.tool_run.proofs.Found.{AreThere, Found, IsThere, UpTo, grammar-found, keys-found, lacks-found, last-found, list-1, list-2, list-3, list-4, load-found, mapped, new-found, nothing, other-found, reference-found, session-all, session-found, signature-found, table-found, unwritten-found, up-to-here, up-to-later, upto-found, whole}
 use Rattle.tool_run.specs.Deal.{DealEnds}
-use Rattle.tool_run.specs.Deal as deal
 use Rattle.tool_run.specs.HssCheck.{HssCheckEnds}
-use Rattle.tool_run.specs.HssCheck as check
 use Rattle.tool_run.specs.Rehearse.{RehearseEnds}
-use Rattle.tool_run.specs.Rehearse as rehearse
 use Rattle.tool_run.specs.Steady.{before_table, book_of, names_found, names_needed, up_to}
+use Rattle.tool_run.specs.Steps as steps
 use Rattle.tool_run.specs.ToolRun.{CommandRun}
 use Rattle.tool_run.specs.Verify.{VerifyEnds}
-use Rattle.tool_run.specs.Verify as verify
 use Rattle.tool_show.specs.Show.{ShowEnds}
 use Rattle.tool_show.specs.Show as show
 use Rattle.tool_sign.specs.Ports.{NetRun, Signing}
@@ -70,42 +67,30 @@ module _ (run : StoreRun) (told : IsTrue run.before.told) where
   abbrev Is : List ℕ → Type 0
   Is = IsThere run.before
 
-  verify-found : (key message signature : List ℕ) (end : Ending) → VerifyEnds run key message signature end → Found run told (Verify key message signature) end
-  verify-found key message signature _ (verify.key_failed read) = nothing run told (Verify key message signature)
-  verify-found key message signature _ (verify.key_too_long got read) = list-1 run.before key (mapped (run.before.file key) got (read.1 told))
-  verify-found key message signature _ (verify.key_refused bytes fault read has) = up-to-here run.before key (message ∷ signature ∷ []) (ap is_some (read.1 told))
-  verify-found key message signature _ (verify.message_failed public read fails) = nothing run told (Verify key message signature)
-  verify-found key message signature _ (verify.message_too_long public got read long) = list-1 run.before key (ap is_some (read.1 told))
-  verify-found key message signature _ (verify.signature_failed public text read had fails) = nothing run told (Verify key message signature)
-  verify-found key message signature _ (verify.signature_too_long public text got read had long) = list-1 run.before key (ap is_some (read.1 told))
-  verify-found key message signature _ (verify.verified public text bytes says read had got is) =
+  verify-found : (key message signature : List ℕ) (end : Ending) (written : List Output) → VerifyEnds run key message signature end written → Found run told (Verify key message signature) end
+  verify-found key message signature _ _ (steps.refused end fails) =
+      grammar-found run told (Verify key message signature) _ key end (list-1 run.before key) (up-to-here run.before key (message ∷ signature ∷ [])) fails
+  verify-found key message signature _ _ (steps.given public _ _ read (steps.refused end fails)) =
+      upto-found run told (Verify key message signature) _ message end (λ has. list-1 run.before key (ap is_some (read.1 told))) fails
+  verify-found key message signature _ _ (steps.given public _ _ read (steps.given text _ _ had (steps.refused end fails))) =
+      upto-found run told (Verify key message signature) _ signature end (λ has. list-1 run.before key (ap is_some (read.1 told))) fails
+  verify-found key message signature _ _ (steps.given public _ _ read (steps.given text _ _ had (steps.given bytes _ _ got (steps.verdict_told says is)))) =
       list-3 run.before key message signature (ap is_some (read.1 told)) (ap is_some (had.1 told)) (ap is_some (got.1 told))
-
-  verify-or : (key message signature : List ℕ) (end : Ending) → (end ≡ ending.NoMemory) ⊎ VerifyEnds run key message signature end → Found run told (Verify key message signature) end
-  verify-or key message signature end (inl none) = subst (Found run told (Verify key message signature)) (sym none) (nothing run told (Verify key message signature))
-  verify-or key message signature end (inr ends) = verify-found key message signature end ends
 
   rehearse-found : (entropy message key_out signature_out : List ℕ) (end : Ending) (written : List Output) → RehearseEnds run entropy message key_out signature_out end written
       → Found run told (Rehearse entropy message key_out signature_out) end
-  rehearse-found entropy message key_out signature_out _ _ (rehearse.not_new end first) =
+  rehearse-found entropy message key_out signature_out _ _ (steps.not_new end first) =
       let row = Rehearse entropy message key_out signature_out in new-found run told row first.name end (nothing run told row) first.cause
-  rehearse-found entropy message key_out signature_out _ _ (rehearse.entropy_not_read end new fails) =
+  rehearse-found entropy message key_out signature_out _ _ (steps.all_new _ _ new (steps.refused end fails)) =
       upto-found run told (Rehearse entropy message key_out signature_out) _ entropy end (list-1 run.before entropy) fails
-  rehearse-found entropy message key_out signature_out _ _ (rehearse.message_not_read bytes end new read fails) =
+  rehearse-found entropy message key_out signature_out _ _ (steps.all_new _ _ new (steps.given bytes _ _ read (steps.refused end fails))) =
       upto-found run told (Rehearse entropy message key_out signature_out) _ message end (λ has. list-1 run.before entropy (ap is_some (read.1 told))) fails
-  rehearse-found entropy message key_out signature_out _ _ (rehearse.not_rehearsed bytes text end new read had fails) =
+  rehearse-found entropy message key_out signature_out _ _ (steps.all_new _ _ new (steps.given bytes _ _ read (steps.given text end written had rest))) =
       whole run.before (Rehearse entropy message key_out signature_out) (list-2 run.before entropy message (ap is_some (read.1 told)) (ap is_some (had.1 told))) end
-  rehearse-found entropy message key_out signature_out _ _ (rehearse.stopped bytes text outputs written end new read had made stops) =
-      whole run.before (Rehearse entropy message key_out signature_out) (list-2 run.before entropy message (ap is_some (read.1 told)) (ap is_some (had.1 told))) end
-  rehearse-found entropy message key_out signature_out _ _ (rehearse.rehearsed bytes text outputs new read had made) =
-      list-2 run.before entropy message (ap is_some (read.1 told)) (ap is_some (had.1 told))
 
   deal-found : (words : DealWords) (end : Ending) (written : List Output) → DealEnds run words end written → Found run told (Deal words) end
-  deal-found words _ _ (deal.not_read end fails) = upto-found run told (Deal words) _ words.entropy end (list-1 run.before words.entropy) fails
-  deal-found words _ _ (deal.not_dealt entropy end read fails) = whole run.before (Deal words) (list-1 run.before words.entropy (ap is_some (read.1 told))) end
-  deal-found words _ _ (deal.not_new entropy outputs done end read dealt first) = whole run.before (Deal words) (list-1 run.before words.entropy (ap is_some (read.1 told))) end
-  deal-found words _ _ (deal.stopped entropy outputs written done end read dealt new stops) = whole run.before (Deal words) (list-1 run.before words.entropy (ap is_some (read.1 told))) end
-  deal-found words _ _ (deal.dealt entropy outputs done read dealt new) = whole run.before (Deal words) (list-1 run.before words.entropy (ap is_some (read.1 told))) done
+  deal-found words _ _ (steps.refused end fails) = upto-found run told (Deal words) _ words.entropy end (list-1 run.before words.entropy) fails
+  deal-found words _ _ (steps.given entropy end written read rest) = whole run.before (Deal words) (list-1 run.before words.entropy (ap is_some (read.1 told))) end
 
   enrol-found : (file journal : List ℕ) (end : Ending) (touched : List (List ℕ)) → EnrolEnds run file journal end touched → Found run told (Enrol file journal) end
   enrol-found file journal _ _ (enrol.not_read end fails) = grammar-found run told (Enrol file journal) _ file end (list-1 run.before file) (up-to-here run.before file []) fails
@@ -137,14 +122,14 @@ module _ (run : StoreRun) (told : IsTrue run.before.told) where
   approve-found share book message _ _ (approve.in_new_book found id bytes after end read had new blank owners is adds) =
       whole run.before (Approve share book message) (list-2 run.before share message (ap is_some (read.read.1 told)) (ap is_some (had.read.1 told))) end
 
-  check-found : (key message signature : List ℕ) (end : Ending) → HssCheckEnds run key message signature end → Found run told (HssCheck key message signature) end
-  check-found key message signature _ (check.no_key end fails) =
+  check-found : (key message signature : List ℕ) (end : Ending) (written : List Output) → HssCheckEnds run key message signature end written → Found run told (HssCheck key message signature) end
+  check-found key message signature _ _ (steps.refused end fails) =
       grammar-found run told (HssCheck key message signature) _ key end (list-1 run.before key) (up-to-here run.before key (message ∷ signature ∷ [])) fails
-  check-found key message signature _ (check.no_message of end read fails) =
+  check-found key message signature _ _ (steps.given public _ _ read (steps.refused end fails)) =
       upto-found run told (HssCheck key message signature) _ message end (λ has. list-1 run.before key (ap is_some (read.1 told))) fails
-  check-found key message signature _ (check.no_signature of text end read had fails) =
+  check-found key message signature _ _ (steps.given public _ _ read (steps.given text _ _ had (steps.refused end fails))) =
       upto-found run told (HssCheck key message signature) _ signature end (λ has. list-1 run.before key (ap is_some (read.1 told))) fails
-  check-found key message signature _ (check.checked of text bytes says read had got is) =
+  check-found key message signature _ _ (steps.given public _ _ read (steps.given text _ _ had (steps.given bytes _ _ got (steps.verdict_told says is)))) =
       list-3 run.before key message signature (ap is_some (read.1 told)) (ap is_some (had.1 told)) (ap is_some (got.1 told))
 
   show-found : (file : List ℕ) (leaves : Bool) (end : Ending) → ShowEnds run file leaves end → Found run told (Show file leaves) end
@@ -446,7 +431,7 @@ module _ (before after : Outside) (told : IsTrue before.store.told) where
   store_run = from_to before.store after.store
 
   pub command-found : (row : Row) (end : Ending) → CommandRun row before after end → AreThere before.store (names_found row end)
-  command-found (Verify key message signature) end ran = verify-or store_run told key message signature end ran.run.cause.0
+  command-found (Verify key message signature) end ran = verify-found store_run told key message signature end ran.run.written ran.run.cause
   command-found (Rehearse entropy message key_out signature_out) end ran = rehearse-found store_run told entropy message key_out signature_out end ran.run.written ran.run.cause
   command-found (Deal words) end ran = deal-found store_run told words end ran.run.written ran.run.cause
   command-found (Enrol file journal) end ran = enrol-found store_run told file journal end ran.run.touched ran.run.cause
@@ -455,7 +440,7 @@ module _ (before after : Outside) (told : IsTrue before.store.told) where
   command-found (Trustee words) end ran = trustee-found words before after told end ran.touched ran.ends
   command-found (Sign words) end ran = sign-found store_run told words _ end ran.touched ran.ends
   command-found (Blame words) end ran = blame-found store_run told words _ end ran.touched ran.ends
-  command-found (HssCheck key message signature) end ran = check-found store_run told key message signature end ran.run.cause.0
+  command-found (HssCheck key message signature) end ran = check-found store_run told key message signature end ran.run.written ran.run.cause
   command-found (HssSign words) end ran = levels-found store_run told words _ end ran.touched ran.ends
   command-found (Aggregate words) end ran = aggregate-found store_run told words _ end ran.touched ran.ends
   command-found (Drill number sessions events) end ran = whole before.store (Drill number sessions events) (All-nil (IsThere before.store)) end

@@ -11,5 +11,5 @@ pub mod Rehearsing
 pub mod Running
 mod Serving
 pub mod Steady
-pub mod Verifying
+pub mod Stepping
 mod Printed

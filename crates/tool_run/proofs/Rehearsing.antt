@@ -3,10 +3,14 @@ use Rattle.std.proofs.Common.{[], ◌∷◌, ◌≢◌, All, map, refl, ◌≡�
 use Rattle.dealer.specs.declared.faults.DealFault.{DealFault}
 use Rattle.dealer.specs.declared.faults.DealFault.TheVariants.{NoMemory}
 use Rattle.dealer.specs.Rehearsal.{CanRehearse, RehearsalFault}
-use Rattle.tool_run.specs.Rehearse.{IsNotRehearsed, IsRehearsedTo, faulty, no_memory}
+use Rattle.tool_run.specs.Rehearse.{IsBegun, IsNotRehearsed, IsRehearsedTo, RehearseEnds, faulty, no_memory}
+use Rattle.tool_run.specs.Steps.{StepThen, Writes, all_new}
+use Rattle.tool_run.proofs.Stepping.{two_given}
 use Rattle.std.proofs.lemmas.List.Elements.{All-cons, All-nil}
+use Rattle.tool_base.specs.Ending.{Ending, Rehearsed}
 use Rattle.tool_base.specs.Outputs.{AreDifferent, Output}
 use Rattle.tool_base.specs.Undealt.{end_of_fault}
+use Rattle.tool_base.specs.World.{StoreRun}
 
 pub rehearsal_refused : (entropy : List ℕ) (fault : DealFault) → ((fault ≡ NoMemory) × CanRehearse entropy) ⊎ RehearsalFault entropy fault
     → IsNotRehearsed entropy (end_of_fault fault)
@@ -17,6 +21,13 @@ rehearsal_refused entropy fault (inr has) = faulty fault has
 pub rehearsed_names : (entropy message key_out signature_out : List ℕ) (outputs : List Output) → IsRehearsedTo entropy message key_out signature_out outputs
     → map (λ output. output.name) outputs ≡ key_out ∷ signature_out ∷ []
 rehearsed_names entropy message key_out signature_out outputs made = rw made.outputs_are refl
+
+pub begun_then : (store : StoreRun) (entropy message key_out signature_out seeds text : List ℕ) (end : Ending) (written : List Output)
+    → IsBegun store entropy message key_out signature_out seeds text
+    → StepThen (IsNotRehearsed seeds) (IsRehearsedTo seeds text key_out signature_out) (λ outputs. Writes store outputs Rehearsed) end written
+    → RehearseEnds store entropy message key_out signature_out end written
+begun_then store entropy message key_out signature_out seeds text end written begun rest =
+    all_new end written begun.new (two_given store entropy message _ seeds text end written begun.read rest)
 
 pub two_differ : (a b : List ℕ) → a ≢ b → AreDifferent (a ∷ b ∷ [])
 two_differ a b other = (All-cons (λ name. a ≢ name) b [] other (All-nil (λ name. a ≢ name)), (All-nil (λ name. b ≢ name), tt))

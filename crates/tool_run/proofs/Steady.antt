@@ -3,7 +3,11 @@ use Rattle.std.proofs.Common.{◌≡◌, ◌⊎◌, ◌≤◌, Bool, ℕ, suc, L
 use Rattle.std.proofs.lemmas.List.Elements.{All-nil}
 use Rattle.dealer.specs.declared.faults.DealFault.{DealFault}
 use Rattle.dealer.specs.declared.faults.DealFault.TheVariants.{BadEntropy, NoMemory, SameKeys, TooHigh, TooWide}
+use Rattle.hss_levels.specs.Verdict.{IsHssVerdict}
+use Rattle.hss_levels.specs.declared.hss_key.HssKey.{HssKey}
 use Rattle.hss_levels.specs.declared.verification.HssVerdict.TheVariants as levels
+use Rattle.lms_bytes.specs.declared.public_key.PublicKey.{PublicKey}
+use Rattle.lms_verify.specs.Verdict.{IsVerdict}
 use Rattle.lms_verify.specs.declared.verification.Verdict.TheVariants.{Accepted, Malformed, OtherRoot}
 use Rattle.share_files.specs.declared.share.Share.{Share}
 use Rattle.slot_file.specs.declared.header.Header.{Header}
@@ -38,7 +42,6 @@ use Rattle.tool_run.specs.Deal.{DealEnds, IsNotDealt}
 use Rattle.tool_run.specs.Deal as deal
 use Rattle.tool_run.specs.Drill.{DrillEnds, drilled, no_memory}
 use Rattle.tool_run.specs.HssCheck.{HssCheckEnds}
-use Rattle.tool_run.specs.HssCheck as check
 use Rattle.tool_run.specs.Rehearse.{IsNotRehearsed, RehearseEnds}
 use Rattle.tool_run.specs.Rehearse as rehearse
 use Rattle.tool_run.proofs.Finding.{command-found}
@@ -49,7 +52,8 @@ use Rattle.tool_run.specs.Serving.{ServesAll}
 use Rattle.tool_run.specs.Steady.{HasCauses, IsSteadyWorld, IsUnoffered, Lacks, book_of, names_found, names_read, no_file, one_file, place_of}
 use Rattle.tool_run.specs.ToolRun.{CommandRun, IsAnswered, IsPrinted, ToolRun, WordsRun}
 use Rattle.tool_run.specs.Verify.{VerifyEnds}
-use Rattle.tool_run.specs.Verify as verify
+use Rattle.tool_run.specs.Steps.{Tells, TextThen, Writes}
+use Rattle.tool_run.specs.Steps as steps
 use Rattle.tool_show.specs.Show.{IsNotShown, ShowEnds}
 use Rattle.tool_show.specs.Show as show
 use Rattle.tool_trustee.specs.Trustee.{ServedTrustee, TrusteeEnds, store_of}
@@ -105,20 +109,6 @@ module _ (store : StoreRun) (net : NetState) (told : IsTrue store.before.told) (
   fault-ends (SameKeys t u) = other _ (λ is. cc) (λ is. cc) (λ is. cc)
   fault-ends NoMemory = other _ (λ is. cc) (λ is. cc) (λ is. cc)
 
-  verify-ends : (key message signature : List ℕ) (end : Ending) → Named key → Named message → Named signature → VerifyEnds store key message signature end → Ends end
-  verify-ends key message signature _ k m s (verify.key_failed read) = lacks key k (read.1 told steady)
-  verify-ends key message signature _ k m s (verify.key_too_long got read) = other _ (λ is. cc) (λ is. cc) (λ is. cc)
-  verify-ends key message signature _ k m s (verify.key_refused bytes fault read has) = other _ (λ is. cc) (λ is. cc) (λ is. cc)
-  verify-ends key message signature _ k m s (verify.message_failed public read fails) = lacks message m (fails.1 told steady)
-  verify-ends key message signature _ k m s (verify.message_too_long public got read long) = other _ (λ is. cc) (λ is. cc) (λ is. cc)
-  verify-ends key message signature _ k m s (verify.signature_failed public text read had fails) = lacks signature s (fails.1 told steady)
-  verify-ends key message signature _ k m s (verify.signature_too_long public text got read had long) = other _ (λ is. cc) (λ is. cc) (λ is. cc)
-  verify-ends key message signature _ k m s (verify.verified public text bytes says read had got is) = other _ (λ is. cc) (λ is. cc) (λ is. cc)
-
-  verify-or : (key message signature : List ℕ) (end : Ending) → Named key → Named message → Named signature → (end ≡ ending.NoMemory) ⊎ VerifyEnds store key message signature end → Ends end
-  verify-or key message signature end k m s (inl none) = subst Ends (sym none) (other ending.NoMemory (λ is. cc) (λ is. cc) (λ is. cc))
-  verify-or key message signature end k m s (inr ends) = verify-ends key message signature end k m s ends
-
   upto-ends : (limit : ℕ) (name : List ℕ) (end : Ending) → Named name → FailsUpTo limit store name end → Ends end
   upto-ends limit name end named fails = upto-steady (Lacks store.before row) (IsUnoffered net row) store told steady limit name end (lack name named) fails
 
@@ -141,14 +131,19 @@ module _ (store : StoreRun) (net : NetState) (told : IsTrue store.before.told) (
   unrehearsed-ends bytes _ (rehearse.faulty fault has) = fault-ends fault
   unrehearsed-ends bytes _ rehearse.no_memory = other _ (λ is. cc) (λ is. cc) (λ is. cc)
 
+  -- the outputs are written, and the last end is this
+  writes-ends : (outputs written : List Output) (done end : Ending) → Ends done → Writes store outputs done end written → Ends end
+  writes-ends outputs _ done _ last (steps.stopped end written stops) = unwritten-ends written stops.output.name end stops.cause
+  writes-ends outputs _ done _ last steps.all_written = last
+
   rehearse-ends : (entropy message key_out signature_out : List ℕ) (end : Ending) (written : List Output) → Named entropy → Named message
       → RehearseEnds store entropy message key_out signature_out end written → Ends end
-  rehearse-ends entropy message key_out signature_out _ _ e m (rehearse.not_new end first) = new-ends first.name end first.cause
-  rehearse-ends entropy message key_out signature_out _ _ e m (rehearse.entropy_not_read end new fails) = upto-ends _ entropy end e fails
-  rehearse-ends entropy message key_out signature_out _ _ e m (rehearse.message_not_read bytes end new read fails) = upto-ends _ message end m fails
-  rehearse-ends entropy message key_out signature_out _ _ e m (rehearse.not_rehearsed bytes text end new read had fails) = unrehearsed-ends bytes end fails
-  rehearse-ends entropy message key_out signature_out _ _ e m (rehearse.stopped bytes text outputs written end new read had made stops) = unwritten-ends written stops.output.name end stops.cause
-  rehearse-ends entropy message key_out signature_out _ _ e m (rehearse.rehearsed bytes text outputs new read had made) = other _ (λ is. cc) (λ is. cc) (λ is. cc)
+  rehearse-ends entropy message key_out signature_out _ _ e m (steps.not_new end first) = new-ends first.name end first.cause
+  rehearse-ends entropy message key_out signature_out _ _ e m (steps.all_new _ _ new (steps.refused end fails)) = upto-ends _ entropy end e fails
+  rehearse-ends entropy message key_out signature_out _ _ e m (steps.all_new _ _ new (steps.given bytes _ _ read (steps.refused end fails))) = upto-ends _ message end m fails
+  rehearse-ends entropy message key_out signature_out _ _ e m (steps.all_new _ _ new (steps.given bytes _ _ read (steps.given text _ _ had (steps.refused end fails)))) = unrehearsed-ends bytes end fails
+  rehearse-ends entropy message key_out signature_out _ _ e m (steps.all_new _ _ new (steps.given bytes _ _ read (steps.given text _ _ had (steps.given outputs end written made writes)))) =
+      writes-ends outputs written ending.Rehearsed end (other _ (λ is. cc) (λ is. cc) (λ is. cc)) writes
 
   undealt-ends : (words : DealWords) (entropy : List ℕ) (end : Ending) → IsNotDealt words entropy end → Ends end
   undealt-ends words entropy _ (deal.no_set fault is) = other _ (λ is. cc) (λ is. cc) (λ is. cc)
@@ -159,11 +154,11 @@ module _ (store : StoreRun) (net : NetState) (told : IsTrue store.before.told) (
   undealt-ends words entropy _ deal.no_memory = other _ (λ is. cc) (λ is. cc) (λ is. cc)
 
   deal-ends : (words : DealWords) (end : Ending) (written : List Output) → Named words.entropy → DealEnds store words end written → Ends end
-  deal-ends words _ _ e (deal.not_read end fails) = upto-ends _ words.entropy end e fails
-  deal-ends words _ _ e (deal.not_dealt entropy end read fails) = undealt-ends words entropy end fails
-  deal-ends words _ _ e (deal.not_new entropy outputs done end read dealt first) = new-ends first.name end first.cause
-  deal-ends words _ _ e (deal.stopped entropy outputs written done end read dealt new stops) = unwritten-ends written stops.output.name end stops.cause
-  deal-ends words _ _ e (deal.dealt entropy outputs done read dealt new) = subst Ends (sym dealt.done_is) (other _ (λ is. cc) (λ is. cc) (λ is. cc))
+  deal-ends words _ _ e (steps.refused end fails) = upto-ends _ words.entropy end e fails
+  deal-ends words _ _ e (steps.given entropy _ _ read (steps.refused end fails)) = undealt-ends words entropy end fails
+  deal-ends words _ _ e (steps.given entropy _ _ read (steps.given dealt _ _ is (steps.not_new end first))) = new-ends first.name end first.cause
+  deal-ends words _ _ e (steps.given entropy _ _ read (steps.given dealt _ _ is (steps.all_new end written new writes))) =
+      writes-ends dealt.0 written dealt.1 end (subst Ends (sym is.done_is) (other _ (λ is. cc) (λ is. cc) (λ is. cc))) writes
 
   unmade-ends : (name : List ℕ) (header : Header) (count : ℕ) (end : Ending) (touched : List (List ℕ)) → IsNotMade store name header count end touched → Ends end
   unmade-ends name header count _ _ (blanks.not_new end fails) = new-ends name end fails
@@ -217,11 +212,31 @@ module _ (store : StoreRun) (net : NetState) (told : IsTrue store.before.told) (
   approve-ends share book message _ _ s b m (approve.in_book found id bytes after end read had was is adds) = add-ends _ _ id end adds
   approve-ends share book message _ _ s b m (approve.in_new_book found id bytes after end read had new blank owners is adds) = add-ends _ _ id end adds
 
-  check-ends : (key message signature : List ℕ) (end : Ending) → Named key → Named message → Named signature → HssCheckEnds store key message signature end → Ends end
-  check-ends key message signature _ k m s (check.no_key end fails) = grammar-ends _ key end k fails
-  check-ends key message signature _ k m s (check.no_message of end read fails) = upto-ends _ message end m fails
-  check-ends key message signature _ k m s (check.no_signature of text end read had fails) = upto-ends _ signature end s fails
-  check-ends key message signature _ k m s (check.checked of text bytes says read had got is) = other _ (λ is. cc) (λ is. cc) (λ is. cc)
+  -- two files are read, one after the other
+  both-ends : (one two : List ℕ) (Rest : List ℕ → List ℕ → Ending → List Output → Type 0) (end : Ending) (written : List Output) → Named one → Named two
+      → ((a b : List ℕ) (end : Ending) (written : List Output) → Rest a b end written → Ends end)
+      → TextThen store one (λ a. TextThen store two (λ b. Rest a b)) end written → Ends end
+  both-ends one two Rest _ _ n m rest (steps.refused end fails) = upto-ends _ one end n fails
+  both-ends one two Rest _ _ n m rest (steps.given a _ _ read (steps.refused end fails)) = upto-ends _ two end m fails
+  both-ends one two Rest _ _ n m rest (steps.given a _ _ read (steps.given b end written had last)) = rest a b end written last
+
+  verified-ends : (public : PublicKey) (text bytes : List ℕ) (end : Ending) (written : List Output) → Tells ending.Verified (IsVerdict public text bytes) end written → Ends end
+  verified-ends public text bytes _ _ (steps.verdict_told says is) = other _ (λ is. cc) (λ is. cc) (λ is. cc)
+
+  checked-ends : (public : HssKey) (text bytes : List ℕ) (end : Ending) (written : List Output) → Tells ending.Checked (IsHssVerdict public text bytes) end written → Ends end
+  checked-ends public text bytes _ _ (steps.verdict_told says is) = other _ (λ is. cc) (λ is. cc) (λ is. cc)
+
+  verify-ends : (key message signature : List ℕ) (end : Ending) (written : List Output) → Named key → Named message → Named signature
+      → VerifyEnds store key message signature end written → Ends end
+  verify-ends key message signature _ _ k m s (steps.refused end fails) = grammar-ends _ key end k fails
+  verify-ends key message signature _ _ k m s (steps.given public end written read rest) =
+      both-ends message signature (λ text bytes. Tells ending.Verified (IsVerdict public text bytes)) end written m s (λ text bytes end written says. verified-ends public text bytes end written says) rest
+
+  check-ends : (key message signature : List ℕ) (end : Ending) (written : List Output) → Named key → Named message → Named signature
+      → HssCheckEnds store key message signature end written → Ends end
+  check-ends key message signature _ _ k m s (steps.refused end fails) = grammar-ends _ key end k fails
+  check-ends key message signature _ _ k m s (steps.given public end written read rest) =
+      both-ends message signature (λ text bytes. Tells ending.Checked (IsHssVerdict public text bytes)) end written m s (λ text bytes end written says. checked-ends public text bytes end written says) rest
 
   unshown-ends : (file bytes : List ℕ) (end : Ending) → IsNotShown file bytes end → Ends end
   unshown-ends file bytes _ (show.unreadable fault has) = other _ (λ is. cc) (λ is. cc) (λ is. cc)
@@ -287,7 +302,7 @@ module _ (before after : Outside) (told : IsTrue before.store.told) (steady : Is
   of-row row end ends = record { store = ends.store; device = ends.device; net = ends.net }
 
   pub command-steady : (row : Row) (end : Ending) → CommandRun row before after end → Steady row end
-  command-steady (Verify key message signature) end ran = of-row (Verify key message signature) end (verify-or store before.net told steady (Verify key message signature) key message signature end (first key (message ∷ signature ∷ [])) (second key message (signature ∷ [])) (third key message signature []) ran.run.cause.0)
+  command-steady (Verify key message signature) end ran = of-row (Verify key message signature) end (verify-ends store before.net told steady (Verify key message signature) key message signature end ran.run.written (first key (message ∷ signature ∷ [])) (second key message (signature ∷ [])) (third key message signature []) ran.run.cause)
   command-steady (Rehearse entropy message key_out signature_out) end ran = of-row (Rehearse entropy message key_out signature_out) end (rehearse-ends store before.net told steady (Rehearse entropy message key_out signature_out) entropy message key_out signature_out end ran.run.written (first entropy (message ∷ [])) (second entropy message []) ran.run.cause)
   command-steady (Deal words) end ran = of-row (Deal words) end (deal-ends store before.net told steady (Deal words) words end ran.run.written (first words.entropy []) ran.run.cause)
   command-steady (Enrol file journal) end ran = of-row (Enrol file journal) end (enrol-ends store before.net told steady (Enrol file journal) file journal end ran.run.touched (first file []) ran.run.cause)
@@ -302,7 +317,7 @@ module _ (before after : Outside) (told : IsTrue before.store.told) (steady : Is
       (lack store before.net told steady row (reference_name words.prefix) (third (key_name words.prefix) (tree_name words.prefix) (reference_name words.prefix) (words.message ∷ words.table ∷ [])))
       (lack store before.net told steady row words.message (fourth (key_name words.prefix) (tree_name words.prefix) (reference_name words.prefix) words.message (words.table ∷ [])))
       (lack store before.net told steady row words.table (fifth (key_name words.prefix) (tree_name words.prefix) (reference_name words.prefix) words.message words.table [])) end ran)
-  command-steady (HssCheck key message signature) end ran = of-row (HssCheck key message signature) end (check-ends store before.net told steady (HssCheck key message signature) key message signature end (first key (message ∷ signature ∷ [])) (second key message (signature ∷ [])) (third key message signature []) ran.run.cause.0)
+  command-steady (HssCheck key message signature) end ran = of-row (HssCheck key message signature) end (check-ends store before.net told steady (HssCheck key message signature) key message signature end ran.run.written (first key (message ∷ signature ∷ [])) (second key message (signature ∷ [])) (third key message signature []) ran.run.cause)
   command-steady (HssSign words) end ran =
       let row = HssSign words in
       of-row row end (levels-steady (Lacks before.store row) (IsUnoffered before.net row) words store _ told steady net_told net_steady

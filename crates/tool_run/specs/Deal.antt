@@ -19,12 +19,12 @@ use Rattle.share_files.specs.Commits.{commits_length}
 use Rattle.stream_io.specs.declared.store.Readers.TheVariants.{Anyone, OwnerAlone}
 use Rattle.tool_base.specs.Ending as ending
 use Rattle.tool_base.specs.Ending.{Ending}
-use Rattle.tool_base.specs.Outputs.{FirstNotNew, IsNew, Output, StopsAfter}
+use Rattle.tool_base.specs.Outputs.{IsNew, Output}
 use Rattle.tool_base.specs.Undealt.{end_of_fault}
 use Rattle.tool_desk.specs.Files.{key_name, reference_name, tree_name}
 use Rattle.tool_words.specs.Words.{DealWords}
-use Rattle.tool_base.specs.Reads.{FailsToRead}
 use Rattle.tool_base.specs.World.{StoreRun, Bytes, IsRead}
+use Rattle.tool_run.specs.Steps.{NewThen, StepThen, TextThen, Writes}
 use Rattle.tool_base.specs.declared.undealt.Undealt.TheVariants.{Code, Threshold, Coalitions, Commitments}
 
 -- the parameter set of the words
@@ -69,6 +69,12 @@ pub record IsDealableBy (words : DealWords) (params : Params) (plan : PlanNumber
   pub dealable : IsDealable params plan entropy
   pub small : IsTrue words.commit → commits_length params plan ≤ 67108864
 
+-- internal: the set and the plan are those of the words
+pub record AreAsked (words : DealWords) (params : Params) (plan : PlanNumbers) : Type 0 where
+  pub set : IsSet words params
+  pub plan_is : plan ≡ plan_of words params
+  pub sound : IsPlan plan
+
 -- the entropy is dealt as the words say: these are the outputs, and the end once all are written
 pub record IsDealtTo (words : DealWords) (entropy : List ℕ) (outputs : List Output) (done : Ending) : Type 0 where
   pub params : Params
@@ -94,19 +100,16 @@ pub data IsNotDealt (words : DealWords) (entropy : List ℕ) : Ending → Type 0
       → IsNotDealt words entropy (ending.NotDealt (Commitments (commits_length params (plan_of words params))))
   no_memory : IsNotDealt words entropy ending.NoMemory
 
+-- internal: the entropy is read and dealt as the words say, and no output is there yet
+pub record IsReady (store : StoreRun) (words : DealWords) (outputs : List Output) (done : Ending) : Type 0 where
+  pub entropy : List ℕ
+  pub read : IsRead store words.entropy (Bytes entropy)
+  pub dealt : IsDealtTo words entropy outputs done
+  pub new : All (IsNew store) (map (λ output. output.name) outputs)
+
 -- the end, and the outputs that were written
-pub data DealEnds (store : StoreRun) (words : DealWords) : Ending → List Output → Type 0 where
-  not_read : (end : Ending) → FailsToRead store words.entropy end → DealEnds store words end []
-  not_dealt : (entropy : List ℕ) (end : Ending) → IsRead store words.entropy (Bytes entropy)
-      → IsNotDealt words entropy end
-      → DealEnds store words end []
-  not_new : (entropy : List ℕ) (outputs : List Output) (done end : Ending) → IsRead store words.entropy (Bytes entropy)
-      → IsDealtTo words entropy outputs done → FirstNotNew store (map (λ output. output.name) outputs) end
-      → DealEnds store words end []
-  stopped : (entropy : List ℕ) (outputs written : List Output) (done end : Ending)
-      → IsRead store words.entropy (Bytes entropy)
-      → IsDealtTo words entropy outputs done → All (IsNew store) (map (λ output. output.name) outputs)
-      → StopsAfter store outputs written end → DealEnds store words end written
-  dealt : (entropy : List ℕ) (outputs : List Output) (done : Ending) → IsRead store words.entropy (Bytes entropy)
-      → IsDealtTo words entropy outputs done → All (IsNew store) (map (λ output. output.name) outputs)
-      → DealEnds store words done outputs
+abbrev pub DealEnds : StoreRun → DealWords → Ending → List Output → Type 0
+DealEnds store words =
+    TextThen store words.entropy (λ entropy.
+    StepThen (IsNotDealt words entropy) (λ (dealt : List Output × Ending). IsDealtTo words entropy dealt.0 dealt.1)
+    (λ dealt. NewThen store (map (λ output. output.name) dealt.0) (Writes store dealt.0 dealt.1)))

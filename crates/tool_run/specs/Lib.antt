@@ -8,5 +8,6 @@ pub mod Rehearse
 pub mod ToolRun
 pub mod Serving
 pub mod Steady
+pub mod Steps
 pub mod Verify
 pub mod Witness

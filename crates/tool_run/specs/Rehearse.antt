@@ -7,11 +7,11 @@ use Rattle.lms_bytes.specs.declared.public_key.PublicKey.{PublicKey}
 use Rattle.dealer.specs.Rehearsal.{CanRehearse, IsRehearsed, RehearsalFault}
 use Rattle.stream_io.specs.declared.store.Readers.TheVariants.{Anyone}
 use Rattle.tool_base.specs.Ending as ending
-use Rattle.tool_base.specs.Ending.{Ending}
-use Rattle.tool_base.specs.Outputs.{FirstNotNew, IsNew, Output, StopsAfter}
+use Rattle.tool_base.specs.Ending.{Ending, Rehearsed}
+use Rattle.tool_base.specs.Outputs.{IsNew, Output}
 use Rattle.tool_base.specs.Undealt.{end_of_fault}
-use Rattle.tool_base.specs.Reads.{FailsToRead}
-use Rattle.tool_base.specs.World.{StoreRun, Bytes, IsRead}
+use Rattle.tool_base.specs.World.{StoreRun}
+use Rattle.tool_run.specs.Steps.{AreRead, NewThen, StepThen, TextThen, Writes}
 
 -- the rehearsal gives these outputs for anyone to read: the public key, and then the signature
 pub record IsRehearsedTo (entropy message key_out signature_out : List ℕ) (outputs : List Output) : Type 0 where
@@ -28,25 +28,16 @@ pub data IsNotRehearsed (entropy : List ℕ) : Ending → Type 0 where
   faulty : (fault : DealFault) → RehearsalFault entropy fault → IsNotRehearsed entropy (end_of_fault fault)
   no_memory : IsNotRehearsed entropy ending.NoMemory
 
+-- internal: neither output is there, and the entropy and the message are read
+pub record IsBegun (store : StoreRun) (entropy message key_out signature_out seeds text : List ℕ) : Type 0 where
+  pub new : All (IsNew store) (key_out ∷ signature_out ∷ [])
+  pub read : AreRead store entropy message seeds text
+
 -- the end, and the outputs that were written
-pub data RehearseEnds (store : StoreRun) (entropy message key_out signature_out : List ℕ) : Ending → List Output
-    → Type 0 where
-  not_new : (end : Ending) → FirstNotNew store (key_out ∷ signature_out ∷ []) end
-      → RehearseEnds store entropy message key_out signature_out end []
-  entropy_not_read : (end : Ending) → All (IsNew store) (key_out ∷ signature_out ∷ []) → FailsToRead store entropy end
-      → RehearseEnds store entropy message key_out signature_out end []
-  message_not_read : (bytes : List ℕ) (end : Ending) → All (IsNew store) (key_out ∷ signature_out ∷ [])
-      → IsRead store entropy (Bytes bytes) → FailsToRead store message end
-      → RehearseEnds store entropy message key_out signature_out end []
-  not_rehearsed : (bytes text : List ℕ) (end : Ending) → All (IsNew store) (key_out ∷ signature_out ∷ [])
-      → IsRead store entropy (Bytes bytes) → IsRead store message (Bytes text) → IsNotRehearsed bytes end
-      → RehearseEnds store entropy message key_out signature_out end []
-  stopped : (bytes text : List ℕ) (outputs written : List Output) (end : Ending)
-      → All (IsNew store) (key_out ∷ signature_out ∷ [])
-      → IsRead store entropy (Bytes bytes) → IsRead store message (Bytes text)
-      → IsRehearsedTo bytes text key_out signature_out outputs → StopsAfter store outputs written end
-      → RehearseEnds store entropy message key_out signature_out end written
-  rehearsed : (bytes text : List ℕ) (outputs : List Output) → All (IsNew store) (key_out ∷ signature_out ∷ [])
-      → IsRead store entropy (Bytes bytes) → IsRead store message (Bytes text)
-      → IsRehearsedTo bytes text key_out signature_out outputs
-      → RehearseEnds store entropy message key_out signature_out ending.Rehearsed outputs
+abbrev pub RehearseEnds : StoreRun → (entropy message key_out signature_out : List ℕ) → Ending → List Output → Type 0
+RehearseEnds store entropy message key_out signature_out =
+    NewThen store (key_out ∷ signature_out ∷ [])
+    (TextThen store entropy (λ bytes.
+    TextThen store message (λ text.
+    StepThen (IsNotRehearsed bytes) (IsRehearsedTo bytes text key_out signature_out) (λ outputs.
+    Writes store outputs Rehearsed))))

@@ -54,8 +54,8 @@ IsUsage = OnStore (λ store. EndsWith (λ end written. (end ≡ Usage) × (writt
 
 -- what a command does and how it ends, by the rules of that command
 abbrev pub CommandRun : Row → Outside → Outside → Ending → Type 0
-CommandRun (Verify key message signature) = OnStore (λ store. EndsWith (λ end written.
-    ((end ≡ NoMemory) ⊎ VerifyEnds store key message signature end) × (written ≡ [])) store)
+CommandRun (Verify key message signature) =
+    OnStore (λ store. EndsWith (VerifyEnds store key message signature) store)
 CommandRun (Rehearse entropy message key_out signature_out) =
     OnStore (λ store. EndsWith (RehearseEnds store entropy message key_out signature_out) store)
 CommandRun (Deal words) = OnStore (λ store. EndsWith (DealEnds store words) store)
@@ -66,7 +66,7 @@ CommandRun (Trustee words) = TrusteeRun words
 CommandRun (Sign words) = Signs words
 CommandRun (Blame words) = Blames words
 CommandRun (HssCheck key message signature) =
-    OnStore (λ store. EndsWith (λ end written. HssCheckEnds store key message signature end × (written ≡ [])) store)
+    OnStore (λ store. EndsWith (HssCheckEnds store key message signature) store)
 CommandRun (HssSign words) = SignsLevels words
 CommandRun (Aggregate words) = Aggregates words
 CommandRun (Drill number sessions events) =

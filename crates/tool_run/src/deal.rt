@@ -1,6 +1,6 @@
 //! The command `deal`.
 
-ghost use Rattle.std.specs.Prelude.{◌≡◌, ◌<◌, ◌≤◌, ◌++◌, List, ℕ, length, map, min, option_map, string_bytes};
+ghost use Rattle.std.specs.Prelude.{◌≡◌, ◌<◌, ◌≤◌, [], ◌++◌, List, ℕ, length, map, min, option_map, string_bytes};
 ghost use Rattle.std.specs.Prelude.{IfOk, IfErr, OnOk};
 ghost use Rattle.coalition_map.specs.Coalitions.{IsPlan};
 ghost use Rattle.dealer.specs.Dealt.{IsDealt};
@@ -8,13 +8,13 @@ ghost use Rattle.dealer.specs.Files.{AreFiles};
 ghost use Rattle.dealer.specs.Entropy.{dealing_of};
 ghost use Rattle.tool_base.specs.Ending as spec;
 ghost use Rattle.tool_run.specs.Naming.{named_files, named_shares};
-ghost use Rattle.tool_run.specs.Deal.{DealEnds, IsDealableBy, IsDealtTo, IsNotDealt, IsSet, plan_of};
-ghost use Rattle.tool_run.specs.Deal.{asked_commits, commits_outputs};
+ghost use Rattle.tool_run.specs.Deal.{AreAsked, DealEnds, IsDealableBy, IsDealtTo, IsNotDealt, IsReady, IsSet};
+ghost use Rattle.tool_run.specs.Deal.{asked_commits, commits_outputs, plan_of};
 ghost use Rattle.tool_base.specs.Endings.{ending};
 ghost use Rattle.tool_base.specs.OutputOf.{output_of};
 ghost use Rattle.tool_base.specs.Outputs.{EndsWith};
 ghost use Rattle.tool_words.specs.Rows.{deal_words};
-ghost use Rattle.tool_base.specs.World.{IsBack, from_to};
+ghost use Rattle.tool_base.specs.World.{InAnyRun, IsBack, IsCalm, from_to};
 
 use coalition_map::{Plan, PlanFault};
 use dealer::{CommittedFault, DealingFiles, Dealt, deal_beside, deal_committed_beside};
@@ -45,7 +45,7 @@ pub(crate) fn deal_files<R: Threads + Sync, S: Store>(
     }
 }
 
-/// Reads the entropy, deals, tests the names of the outputs, and writes them. It answers the end once all are written.
+/// Deals a key as the words ask, and writes its files. It answers the end once all are written.
 fn try_deal<R: Threads + Sync, S: Store>(
     rt: &R,
     alloc: Global,
@@ -58,11 +58,28 @@ fn try_deal<R: Threads + Sync, S: Store>(
         IfErr result (λ end. EndsWith (DealEnds run (deal_words words.now)) run (ending end)) }
     ensures back { IsBack (S.state store.old) (S.state store.new) }
 {
+    let (outputs, done) = new_outputs(rt, alloc, store, words)?;
+    write_all(alloc, store, &outputs)?;
+    Ok(done)
+}
+
+/// Reads the entropy, deals, and tests the names of the outputs. It answers these and the end once all are written.
+fn new_outputs<R: Threads + Sync, S: Store>(
+    rt: &R,
+    alloc: Global,
+    store: &mut S,
+    words: &DealWords,
+) -> Result<(Vec<Output>, Ending), Ending>
+    ensures ready { InAnyRun S.state store.old store.new (λ run. IfOk result (λ dealt.
+        IsReady run (deal_words words.now) (map output_of dealt.0.items) (ending dealt.1))) }
+    ensures refused { InAnyRun S.state store.old store.new (λ run.
+        IfErr result (λ end. DealEnds run (deal_words words.now) (ending end) [])) }
+    ensures calm { IsCalm (S.state store.old) (S.state store.new) }
+{
     let entropy = read_file(alloc, store, words.entropy, FILE_LIMIT)?;
     let (outputs, done) = dealt_outputs(rt, alloc, words, &entropy)?;
     test_all_new(alloc, store, &outputs)?;
-    write_all(alloc, store, &outputs)?;
-    Ok(done)
+    Ok((outputs, done))
 }
 
 /// The files of the dealing that the words ask for, and the end once they are written.
@@ -96,9 +113,7 @@ fn dealt_files<R: Threads + Sync>(
     plan: &Plan,
     entropy: &[u8],
 ) -> Result<(DealingFiles, Option<Vec<u8>>), Ending>
-    requires set { IsSet (deal_words words.now) params.now }
-    requires plan { plan.now ≡ plan_of (deal_words words.now) params.now }
-    requires sound { IsPlan plan.now }
+    requires { AreAsked (deal_words words.now) params.now plan.now }
     ensures files { IfOk result (λ both. AreFiles (dealing_of params.now plan.now entropy.now) both.0) }
     ensures commits { IfOk result (λ both. option_map (λ file. file.items) both.1
         ≡ asked_commits words.now.commit (dealing_of params.now plan.now entropy.now)) }
@@ -121,9 +136,7 @@ fn deal_as_asked<R: Threads + Sync>(
     plan: &Plan,
     entropy: &[u8],
 ) -> Result<(Dealt, Option<Vec<u8>>), Ending>
-    requires set { IsSet (deal_words words.now) params.now }
-    requires plan { plan.now ≡ plan_of (deal_words words.now) params.now }
-    requires sound { IsPlan plan.now }
+    requires { AreAsked (deal_words words.now) params.now plan.now }
     ensures dealing { IfOk result (λ both. IsDealt (dealing_of params.now plan.now entropy.now) both.0) }
     ensures commits { IfOk result (λ both. option_map (λ file. file.items) both.1
         ≡ asked_commits words.now.commit (dealing_of params.now plan.now entropy.now)) }

@@ -1,13 +1,13 @@
 //! The command `hss check`.
 
-ghost use Rattle.std.specs.Prelude.{IfOk, IfErr};
-ghost use Rattle.tool_base.specs.Ending as spec;
+ghost use Rattle.std.specs.Prelude.{[], IfOk, IfErr};
 ghost use Rattle.tool_base.specs.Endings.{ending};
 ghost use Rattle.tool_base.specs.Grammars.{FailsGrammar};
 ghost use Rattle.tool_run.specs.HssCheck.{HssCheckEnds, IsHssKeyRead, hss_key_file_fault};
 ghost use Rattle.tool_base.specs.World.{InAnyRun, IsCalm, from_to};
 
-use hss_levels::{HssKey, HssVerdict, hss_verify, read_hss_key};
+use crate::reading::read_two;
+use hss_levels::{HssKey, hss_verify, read_hss_key};
 use std::alloc::Global;
 use stream_io::Store;
 use tool_base::{Ending, FILE_LIMIT, read_file, unreadable};
@@ -21,33 +21,17 @@ pub(crate) fn hss_check_files<S: Store>(
     signature: &str,
 ) -> Ending
     ensures ended { HssCheckEnds (from_to (S.state store.old) (S.state store.new)) key.now message.now signature.now
-        (ending result) }
+        (ending result) [] }
     ensures calm { IsCalm (S.state store.old) (S.state store.new) }
 {
-    match read_and_check(alloc, store, key, message, signature) {
-        Ok(verdict) => Ending::Checked(verdict),
+    let public = match read_hss_key_file(alloc, store, key) {
+        Ok(public) => public,
+        Err(end) => return end,
+    };
+    match read_two(alloc, store, message, signature) {
+        Ok((text, bytes)) => Ending::Checked(hss_verify(&public, &text, &bytes)),
         Err(end) => end,
     }
-}
-
-/// Reads the three files and verifies the signature.
-fn read_and_check<S: Store>(
-    alloc: Global,
-    store: &mut S,
-    key: &str,
-    message: &str,
-    signature: &str,
-) -> Result<HssVerdict, Ending>
-    ensures verdict { let run = from_to (S.state store.old) (S.state store.new) in
-        IfOk result (λ verdict. HssCheckEnds run key.now message.now signature.now (spec.Checked verdict)) }
-    ensures refused { let run = from_to (S.state store.old) (S.state store.new) in
-        IfErr result (λ end. HssCheckEnds run key.now message.now signature.now (ending end)) }
-    ensures calm { IsCalm (S.state store.old) (S.state store.new) }
-{
-    let public = read_hss_key_file(alloc, store, key)?;
-    let text = read_file(alloc, store, message, FILE_LIMIT)?;
-    let bytes = read_file(alloc, store, signature, FILE_LIMIT)?;
-    Ok(hss_verify(&public, &text, &bytes))
 }
 
 /// Reads an HSS key.

@@ -5,6 +5,7 @@ mod deal;
 mod drilling;
 mod hss_check;
 pub mod laws;
+mod reading;
 mod rehearse;
 mod tool;
 mod verify;

@@ -7,14 +7,15 @@ ghost use Rattle.tool_base.specs.Ending as spec;
 ghost use Rattle.tool_base.specs.Endings.{ending};
 ghost use Rattle.tool_base.specs.OutputOf.{output_of};
 ghost use Rattle.tool_base.specs.Outputs.{EndsWith};
-ghost use Rattle.tool_run.specs.Rehearse.{IsNotRehearsed, IsRehearsedTo, RehearseEnds};
-ghost use Rattle.tool_base.specs.World.{IsBack, from_to};
+ghost use Rattle.tool_run.specs.Rehearse.{IsBegun, IsNotRehearsed, IsRehearsedTo, RehearseEnds};
+ghost use Rattle.tool_base.specs.World.{InAnyRun, IsBack, IsCalm, from_to};
 
+use crate::reading::read_two;
 use dealer::{Rehearsed, public_file, rehearse};
 use memory::NoMemory;
 use std::alloc::Global;
 use stream_io::{Readers, Store};
-use tool_base::{Ending, FILE_LIMIT, Output, end_of_fault, read_file, test_new, write_all};
+use tool_base::{Ending, Output, end_of_fault, test_new, write_all};
 
 /// Deals a key and signs a message with its first leaf in memory, and writes the public key and the signature.
 pub(crate) fn rehearse_files<S: Store>(
@@ -36,6 +37,26 @@ pub(crate) fn rehearse_files<S: Store>(
     }
 }
 
+/// Tests the names of the outputs, and reads the entropy and the message.
+fn read_new<S: Store>(
+    alloc: Global,
+    store: &mut S,
+    entropy: &str,
+    message: &str,
+    key_out: &str,
+    signature_out: &str,
+) -> Result<(Vec<u8>, Vec<u8>), Ending>
+    ensures begun { InAnyRun S.state store.old store.new (λ run. IfOk result (λ both.
+        IsBegun run entropy.now message.now key_out.now signature_out.now both.0.items both.1.items)) }
+    ensures refused { InAnyRun S.state store.old store.new (λ run.
+        IfErr result (λ end. RehearseEnds run entropy.now message.now key_out.now signature_out.now (ending end) [])) }
+    ensures calm { IsCalm (S.state store.old) (S.state store.new) }
+{
+    test_new(alloc, store, key_out)?;
+    test_new(alloc, store, signature_out)?;
+    read_two(alloc, store, entropy, message)
+}
+
 /// Tests the names of the outputs, reads, deals and signs in memory, and writes.
 fn try_rehearse<S: Store>(
     alloc: Global,
@@ -54,10 +75,7 @@ fn try_rehearse<S: Store>(
         (ending end)) }
     ensures back { IsBack (S.state store.old) (S.state store.new) }
 {
-    test_new(alloc, store, key_out)?;
-    test_new(alloc, store, signature_out)?;
-    let seeds = read_file(alloc, store, entropy, FILE_LIMIT)?;
-    let text = read_file(alloc, store, message, FILE_LIMIT)?;
+    let (seeds, text) = read_new(alloc, store, entropy, message, key_out, signature_out)?;
     let outputs = rehearsed_outputs(alloc, &seeds, &text, key_out, signature_out)?;
     write_all(alloc, store, &outputs)
 }

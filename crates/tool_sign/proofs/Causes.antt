@@ -1,5 +1,6 @@
 -- Which count rose, by the end of the command.
-use Rattle.std.proofs.Common.{◌≡◌, ◌⊎◌, inl, inr, ◌+◌, ◌-◌, ◌^◌, ◌≤◌, min, ℕ, List, [], Option, Result, Ok, Err, IfErr, refl, ap, subst, arith}
+use Rattle.std.proofs.Common.{◌≡◌, ◌⊎◌, inl, inr, ◌+◌, ◌-◌, ◌^◌, ◌≤◌, min, ℕ, Bool, true, false, List, [], Option, Result, Ok, Err, IfErr, refl, sym, ap, ◌∙◌, subst, arith}
+use Rattle.std.proofs.lemmas.Bool.{false≢true}
 use Rattle.aggregator_session.specs.Faults.{LostBy}
 use Rattle.aggregator_session.specs.Runs.{CellsRead}
 use Rattle.aggregator_session.specs.declared.fault.SignFault.{SignFault}
@@ -51,42 +52,36 @@ failed_with one = Err one
 abbrev pub no_leaf : TableFault → Result ℕ TableFault
 no_leaf one = Err one
 
--- what no fault of a session is told by
+-- a failed call of the store or of the net is told
+tells-outside : Ending → Bool
+tells-outside ending.StoreFailed = true
+tells-outside ending.NetFailed = true
+tells-outside end = false
+
+-- no fault of a session is told so
+never-outside : (f : SignFault) → tells-outside (end_of_fault f) ≡ false
+never-outside (fault.TooLong got) = refl
+never-outside fault.Worn = refl
+never-outside (fault.Table table.NotACoalition) = refl
+never-outside (fault.Table table.Device) = refl
+never-outside (fault.Table (table.Damaged leaf a b)) = refl
+never-outside (fault.Table (table.NoLeaf c)) = refl
+never-outside (fault.Lost member round why) = refl
+never-outside (fault.Stray member round) = refl
+never-outside (fault.Session (session.Missing member round)) = refl
+never-outside (fault.Session (session.SpentLeaf leaf member kept)) = refl
+never-outside (fault.Session (session.WrongCheck leaf member)) = refl
+never-outside (fault.Session (session.WrongRoot leaf got want)) = refl
+never-outside (fault.Session (session.MemberRefused member code)) = refl
+never-outside (fault.Session session.Reference) = refl
+never-outside (fault.Session session.NoMemory) = refl
+never-outside fault.NoMemory = refl
+
 never-store : (f : SignFault) → end_of_fault f ≡ ending.StoreFailed → ⊥
-never-store (fault.TooLong got) is = absurd (cc)
-never-store fault.Worn is = absurd (cc)
-never-store (fault.Table table.NotACoalition) is = absurd (cc)
-never-store (fault.Table table.Device) is = absurd (cc)
-never-store (fault.Table (table.Damaged leaf a b)) is = absurd (cc)
-never-store (fault.Table (table.NoLeaf c)) is = absurd (cc)
-never-store (fault.Lost member round why) is = absurd (cc)
-never-store (fault.Stray member round) is = absurd (cc)
-never-store (fault.Session (session.Missing member round)) is = absurd (cc)
-never-store (fault.Session (session.SpentLeaf leaf member kept)) is = absurd (cc)
-never-store (fault.Session (session.WrongCheck leaf member)) is = absurd (cc)
-never-store (fault.Session (session.WrongRoot leaf got want)) is = absurd (cc)
-never-store (fault.Session (session.MemberRefused member code)) is = absurd (cc)
-never-store (fault.Session session.Reference) is = absurd (cc)
-never-store (fault.Session session.NoMemory) is = absurd (cc)
-never-store fault.NoMemory is = absurd (cc)
+never-store f is = false≢true (sym (never-outside f) ∙ ap tells-outside is)
 
 never-net : (f : SignFault) → end_of_fault f ≡ ending.NetFailed → ⊥
-never-net (fault.TooLong got) is = absurd (cc)
-never-net fault.Worn is = absurd (cc)
-never-net (fault.Table table.NotACoalition) is = absurd (cc)
-never-net (fault.Table table.Device) is = absurd (cc)
-never-net (fault.Table (table.Damaged leaf a b)) is = absurd (cc)
-never-net (fault.Table (table.NoLeaf c)) is = absurd (cc)
-never-net (fault.Lost member round why) is = absurd (cc)
-never-net (fault.Stray member round) is = absurd (cc)
-never-net (fault.Session (session.Missing member round)) is = absurd (cc)
-never-net (fault.Session (session.SpentLeaf leaf member kept)) is = absurd (cc)
-never-net (fault.Session (session.WrongCheck leaf member)) is = absurd (cc)
-never-net (fault.Session (session.WrongRoot leaf got want)) is = absurd (cc)
-never-net (fault.Session (session.MemberRefused member code)) is = absurd (cc)
-never-net (fault.Session session.Reference) is = absurd (cc)
-never-net (fault.Session session.NoMemory) is = absurd (cc)
-never-net fault.NoMemory is = absurd (cc)
+never-net f is = false≢true (sym (never-outside f) ∙ ap tells-outside is)
 
 -- a session run with a leaf has no fault of the table
 pub run-table : (desk : DeskState) (reads : CellsRead) (leaf : ℕ) (message : List ℕ) (port now : PortState) (result : Result (List ℕ) SignFault) (f : TableFault)

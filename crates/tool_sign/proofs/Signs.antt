@@ -1,5 +1,5 @@
 -- Signing with a table of a store, from what signing over a net says.
-use Rattle.std.proofs.Common.{◌≡◌, ◌+◌, ◌-◌, ◌^◌, ◌≤◌, min, ℕ, Bool, List, [], ◌∷◌, Option, None, Result, Err, sym, ◌∙◌}
+use Rattle.std.proofs.Common.{◌≡◌, Bool, List, [], ◌∷◌, ℕ, Option, None, Result, Err, sym, ◌∙◌}
 use Rattle.std.proofs.lemmas.List.Elements.{All-cons, All-nil}
 use Rattle.aggregator_session.specs.declared.fault.SignFault.{SignFault}
 use Rattle.coalition_map.specs.Coalitions.{PlanNumbers}
@@ -12,31 +12,28 @@ use Rattle.stream_io.specs.Store.{StoreState}
 use Rattle.tool_base.specs.Ending.{Ending}
 use Rattle.tool_base.specs.World.{StoreRun, from_to}
 use Rattle.tool_base.specs.Disks.{Stays}
-use Rattle.tool_base.specs.Loads.{ReadsAs}
 use Rattle.tool_sign.proofs.Leases.{lease-of}
+use Rattle.tool_sign.proofs.Tables.{TableRound}
 use Rattle.tool_sign.specs.Ended.{NetTo, TableTo, last_in, last_over_net}
 use Rattle.tool_sign.specs.Ports.{NetEnds, NetRun, SignedOver, Signing}
 use Rattle.tool_sign.specs.Ports as ports
 use Rattle.tool_sign.specs.Signs.{SignedTable, TableEnds, TableRun, no_memory, no_port, signed}
-use Rattle.tool_sign.specs.Tables.{IsFresh, IsTable, LeavesTable, table_header}
+use Rattle.tool_sign.specs.Tables.{table_header}
 
 module _ (signing : Signing) (name : List ℕ) (a e : StoreState) (net : NetRun) (same : Type 0) (old new : TableSeen)
-    (fresh : IsFresh a name (table_header signing.desk.key) signing.desk.plan old)
-    (table_is : ReadsAs (from_to a e) name (IsTable (table_header signing.desk.key) signing.desk.plan old.state.entries)) (name_is : new.name ≡ old.name)
-    (stays : same → Stays (from_to a e) name) (left : LeavesTable (from_to a e) name (table_header signing.desk.key) signing.desk.plan new.state)
-    (sure : new.faults ≡ 0 → new.state.doubt ≡ None) (rise : min (a.disk_count + new.faults) (2 ^ 64 - 1) ≤ e.disk_count) where
+    (round : TableRound a e name (table_header signing.desk.key) signing.desk.plan same old new) where
   abbrev table_signed : (outcome : Result Signature SignFault) → SignedOver signing old new net outcome → SignedTable signing name (from_to a e) net outcome
   table_signed outcome over = record {
     old = old;
     new = new;
-    fresh = fresh;
-    table_is = table_is;
-    name_is = name_is;
+    fresh = round.fresh;
+    table_is = round.table_is;
+    name_is = round.name_is;
     over = over;
-    left = left;
-    sure = sure;
-    rise = rise;
-    lease = lease-of signing name (from_to a e) old new over.port over.done outcome fresh.plan_is left rise over.signs;
+    left = round.left;
+    sure = round.sure;
+    rise = round.rise;
+    lease = lease-of signing name (from_to a e) old new over.port over.done outcome round.fresh.plan_is round.left round.rise over.signs;
   }
 
   -- how it ends, and how the session stands then
@@ -45,8 +42,8 @@ module _ (signing : Signing) (name : List ℕ) (a e : StoreState) (net : NetRun)
     pub session_is : session ≡ last_in ends
 
   ends_to : (answer : Result Signature Ending) (session : Option State) (ends : NetEnds signing same old new net answer) → session ≡ last_over_net ends → EndsTo answer session
-  ends_to _ session (ports.no_memory is idle) last = record { ends = no_memory (name ∷ []) idle (All-cons (Stays (from_to a e)) name [] (stays is) (All-nil (Stays (from_to a e)))); session_is = last }
-  ends_to _ session (ports.no_port is idle rose never) last = record { ends = no_port old.state.entries idle table_is rose never (stays is); session_is = last }
+  ends_to _ session (ports.no_memory is idle) last = record { ends = no_memory (name ∷ []) idle (All-cons (Stays (from_to a e)) name [] (round.stays is) (All-nil (Stays (from_to a e)))); session_is = last }
+  ends_to _ session (ports.no_port is idle rose never) last = record { ends = no_port old.state.entries idle round.table_is rose never (round.stays is); session_is = last }
   ends_to _ session (ports.signed outcome over) last = record { ends = signed outcome (table_signed outcome over); session_is = last }
 
   pub ends_whole : (answer : Result Signature Ending) (session : Option State) → NetTo signing same old new net answer session → EndsTo answer session

@@ -15,7 +15,7 @@ use Rattle.tool_base.proofs.Runs.{calm_none, onward_on}
 use Rattle.tool_base.specs.Ending.{Ending}
 use Rattle.tool_base.specs.Endings as endings
 use Rattle.tool_base.specs.declared.ending.Ending as declared
-use Rattle.tool_base.specs.Outputs.{IsLeft, IsNew}
+use Rattle.tool_base.specs.Outputs.{IsLeft, IsNew, IsNotNew}
 use Rattle.tool_base.specs.Touched.{IsUntouched, Keeps}
 use Rattle.tool_base.specs.World.{IsBack, IsCalm, IsNetBack, StoreRun, from_to}
 use Rattle.tool_desk.specs.Files.{HaveSizesOf, reference_name}
@@ -44,6 +44,10 @@ use Rattle.tool_sign.specs.Writes as writes
 use Rattle.tool_sign.specs.declared.task.Message.{Message}
 use Rattle.tool_sign.specs.declared.task.SignedBy.{SignedBy}
 use Rattle.tool_words.specs.Words.{SignWords}
+
+-- the name of the signature was not found new
+pub run_taken : (words : SignWords) (a d : StoreState) (net : NetState) (end : Ending) → IsCalm a d → IsNotNew (from_to a d) words.out end → SigningRun words (from_to a d) (over_net net net) end
+run_taken words a d net end calm fails = record { touched = []; ends = sign.not_new end fails refl; keeps = keeps_calm [] a d calm; ports = net_none net }
 
 -- nothing was begun
 pub unbegun : (words : SessionWords) (source : StoreRun → MessageSource) (a e : StoreState) (net : NetState) (end : declared.Ending) → Keeps [] a e → FailsTask words (from_to a e) (source (from_to a e)) (endings.ending end)

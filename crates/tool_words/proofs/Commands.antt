@@ -2,12 +2,12 @@
 use Rattle.std.proofs.Common.{◌≡◌, ◌≢◌, ◌==◌, ◌^◌, ◌-◌, length, ℕ, Bool, true, false, List, [], ◌∷◌, Option, None, Some, if◌then◌else◌, refl, subst}
 use Rattle.std.specs.List.{list_any}
 use Rattle.std.specs.Prelude.{codes}
-use Rattle.std.specs.Option.{option_map}
+use Rattle.std.specs.Option.{option_and_then, option_map}
 use Rattle.std.specs.Str.{bytes_eq}
 use Rattle.std.proofs.lemmas.Slice.Eq.{bytes_eq-Decides}
 use Rattle.tool_words.specs.Words.{Aggregate, AggregateWords, Approve, Blame, Deal, DealWords, Drill, Enrol, HssCheck, HssSign, HssSignWords, Migrate}
 use Rattle.tool_words.specs.Words.{OutputsDiffer, Rehearse, Row, Sign, SignWords, Trustee, TrusteeWords, Verify, aggregate_of, approve_of, command_of, deal_of}
-use Rattle.tool_words.specs.Words.{deal_with, drill_of, enrol_of, hss_check_of, hss_of, hss_sign_of, is_option, migrate_of, number_of, number_within, places_of}
+use Rattle.tool_words.specs.Words.{deal_with, drill_of, enrol_of, flag_of, hss_check_of, hss_of, hss_sign_of, is_option, migrate_of, number_of, number_within, of_three, places_of}
 use Rattle.tool_words.specs.Words.{Show, rehearse_of, row_of, show_of, sign_words_of, trustee_of, verify_of}
 
 -- of two rows the one that the test takes
@@ -19,12 +19,19 @@ taken false a b row one two is = two row is
 none : (row : Row) → None ≡ Some row → OutputsDiffer row
 none row is = absurd (cc)
 
-verify_differ : (words : List (List ℕ)) (row : Row) → verify_of words ≡ Some row → OutputsDiffer row
-verify_differ [] row is = absurd (cc)
-verify_differ (a ∷ []) row is = absurd (cc)
-verify_differ (a ∷ b ∷ []) row is = absurd (cc)
-verify_differ (a ∷ b ∷ c ∷ []) row is = let same : Verify a b c ≡ row = cc in subst OutputsDiffer same tt
-verify_differ (a ∷ b ∷ c ∷ d ∷ more) row is = absurd (cc)
+three_differ : (make : List ℕ → List ℕ → List ℕ → Row) → ((a b c : List ℕ) → OutputsDiffer (make a b c))
+    → (words : List (List ℕ)) (row : Row) → of_three make words ≡ Some row → OutputsDiffer row
+three_differ make differ [] row is = absurd (cc)
+three_differ make differ (a ∷ []) row is = absurd (cc)
+three_differ make differ (a ∷ b ∷ []) row is = absurd (cc)
+three_differ make differ (a ∷ b ∷ c ∷ []) row is = let same : make a b c ≡ row = cc in subst OutputsDiffer same (differ a b c)
+three_differ make differ (a ∷ b ∷ c ∷ d ∷ more) row is = absurd (cc)
+
+-- with a flag or without, or none
+with_flag : (make : Bool → Option Row) → ((flag : Bool) (row : Row) → make flag ≡ Some row → OutputsDiffer row)
+    → (flag : Option Bool) (row : Row) → option_and_then make flag ≡ Some row → OutputsDiffer row
+with_flag make differ None row is = absurd (cc)
+with_flag make differ (Some flag) row is = differ flag row is
 
 -- two names that the test finds different
 unequal : (c d : List ℕ) → bytes_eq c d ≡ false → c ≢ d
@@ -79,30 +86,14 @@ deal_differ (a ∷ b ∷ []) row is = absurd (cc)
 deal_differ (a ∷ b ∷ c ∷ []) row is = absurd (cc)
 deal_differ (a ∷ b ∷ c ∷ d ∷ []) row is = absurd (cc)
 deal_differ (a ∷ b ∷ c ∷ d ∷ e ∷ []) row is = absurd (cc)
-deal_differ (a ∷ b ∷ c ∷ d ∷ e ∷ f ∷ []) row is = deal_with_differs a b c d e f false row is
-deal_differ (a ∷ b ∷ c ∷ d ∷ e ∷ f ∷ g ∷ []) row is =
-    taken (bytes_eq g (codes "commit")) (deal_with a b c d e f true) None row (deal_with_differs a b c d e f true) none is
-deal_differ (a ∷ b ∷ c ∷ d ∷ e ∷ f ∷ g ∷ h ∷ more) row is = absurd (cc)
+deal_differ (a ∷ b ∷ c ∷ d ∷ e ∷ f ∷ more) row is =
+    with_flag (deal_with a b c d e f) (deal_with_differs a b c d e f) (flag_of (codes "commit") more) row is
 
 enrol_differ : (words : List (List ℕ)) (row : Row) → enrol_of words ≡ Some row → OutputsDiffer row
 enrol_differ [] row is = absurd (cc)
 enrol_differ (a ∷ []) row is = absurd (cc)
 enrol_differ (a ∷ b ∷ []) row is = let same : Enrol a b ≡ row = cc in subst OutputsDiffer same tt
 enrol_differ (a ∷ b ∷ c ∷ more) row is = absurd (cc)
-
-migrate_differ : (words : List (List ℕ)) (row : Row) → migrate_of words ≡ Some row → OutputsDiffer row
-migrate_differ [] row is = absurd (cc)
-migrate_differ (a ∷ []) row is = absurd (cc)
-migrate_differ (a ∷ b ∷ []) row is = absurd (cc)
-migrate_differ (a ∷ b ∷ c ∷ []) row is = let same : Migrate a b c ≡ row = cc in subst OutputsDiffer same tt
-migrate_differ (a ∷ b ∷ c ∷ d ∷ more) row is = absurd (cc)
-
-approve_differ : (words : List (List ℕ)) (row : Row) → approve_of words ≡ Some row → OutputsDiffer row
-approve_differ [] row is = absurd (cc)
-approve_differ (a ∷ []) row is = absurd (cc)
-approve_differ (a ∷ b ∷ []) row is = absurd (cc)
-approve_differ (a ∷ b ∷ c ∷ []) row is = let same : Approve a b c ≡ row = cc in subst OutputsDiffer same tt
-approve_differ (a ∷ b ∷ c ∷ d ∷ more) row is = absurd (cc)
 
 -- with two numbers or fewer
 with_service : (share journal place : List ℕ) (workers connections : Option ℕ) (book : Option (List ℕ)) (row : Row)
@@ -142,13 +133,6 @@ with_words : (make : SignWords → Row) → ((words : SignWords) → OutputsDiff
     → option_map make words ≡ Some row → OutputsDiffer row
 with_words make differ None row is = absurd (cc)
 with_words make differ (Some words) row is = let same : make words ≡ row = cc in subst OutputsDiffer same (differ words)
-
-hss_check_differ : (words : List (List ℕ)) (row : Row) → hss_check_of words ≡ Some row → OutputsDiffer row
-hss_check_differ [] row is = absurd (cc)
-hss_check_differ (a ∷ []) row is = absurd (cc)
-hss_check_differ (a ∷ b ∷ []) row is = absurd (cc)
-hss_check_differ (a ∷ b ∷ c ∷ []) row is = let same : HssCheck a b c ≡ row = cc in subst OutputsDiffer same tt
-hss_check_differ (a ∷ b ∷ c ∷ d ∷ more) row is = absurd (cc)
 
 -- with places or none
 with_outputs : (a b c d e f g : List ℕ) (places : Option (List (Option (List ℕ)))) (row : Row) → f ≢ g
@@ -198,7 +182,7 @@ hss_sign_differ (a ∷ b ∷ c ∷ d ∷ e ∷ f ∷ g ∷ more) row is =
 hss_differ : (words : List (List ℕ)) (row : Row) → hss_of words ≡ Some row → OutputsDiffer row
 hss_differ [] row is = absurd (cc)
 hss_differ (name ∷ words) row is =
-    taken (bytes_eq name (codes "check")) (hss_check_of words) _ row (hss_check_differ words)
+    taken (bytes_eq name (codes "check")) (hss_check_of words) _ row (three_differ HssCheck (λ a b c. tt) words)
     (λ row is. taken (bytes_eq name (codes "sign")) (hss_sign_of words) None row (hss_sign_differ words) none is) is
 
 -- with places or none, and two numbers or fewer
@@ -251,21 +235,19 @@ drill_differ (a ∷ b ∷ c ∷ d ∷ more) row is = absurd (cc)
 
 show_differ : (words : List (List ℕ)) (row : Row) → show_of words ≡ Some row → OutputsDiffer row
 show_differ [] row is = absurd (cc)
-show_differ (a ∷ []) row is = let same : Show a false ≡ row = cc in subst OutputsDiffer same tt
-show_differ (a ∷ b ∷ []) row is =
-    taken (bytes_eq b (codes "leaves")) (Some (Show a true)) None row
-    (λ row is. let same : Show a true ≡ row = cc in subst OutputsDiffer same tt) none is
-show_differ (a ∷ b ∷ c ∷ more) row is = absurd (cc)
+show_differ (a ∷ more) row is =
+    with_flag (λ leaves. Some (Show a leaves)) (λ leaves row is. let same : Show a leaves ≡ row = cc in subst OutputsDiffer same tt)
+    (flag_of (codes "leaves") more) row is
 
 row_differs : (words : List (List ℕ)) (row : Row) → row_of words ≡ Some row → OutputsDiffer row
 row_differs [] row is = absurd (cc)
 row_differs (name ∷ words) row is =
-    taken (bytes_eq name (codes "verify")) (verify_of words) _ row (verify_differ words)
+    taken (bytes_eq name (codes "verify")) (verify_of words) _ row (three_differ Verify (λ a b c. tt) words)
     (λ row is. taken (bytes_eq name (codes "rehearse")) (rehearse_of words) _ row (rehearse_differ words)
     (λ row is. taken (bytes_eq name (codes "deal")) (deal_of words) _ row (deal_differ words)
     (λ row is. taken (bytes_eq name (codes "enrol")) (enrol_of words) _ row (enrol_differ words)
-    (λ row is. taken (bytes_eq name (codes "migrate")) (migrate_of words) _ row (migrate_differ words)
-    (λ row is. taken (bytes_eq name (codes "approve")) (approve_of words) _ row (approve_differ words)
+    (λ row is. taken (bytes_eq name (codes "migrate")) (migrate_of words) _ row (three_differ Migrate (λ a b c. tt) words)
+    (λ row is. taken (bytes_eq name (codes "approve")) (approve_of words) _ row (three_differ Approve (λ a b c. tt) words)
     (λ row is. taken (bytes_eq name (codes "trustee")) (trustee_of words) _ row (trustee_differ words)
     (λ row is. taken (bytes_eq name (codes "sign")) (option_map Sign (sign_words_of words)) _ row (with_words Sign (λ words. tt) (sign_words_of words))
     (λ row is. taken (bytes_eq name (codes "blame")) (option_map Blame (sign_words_of words)) _ row (with_words Blame (λ words. tt) (sign_words_of words))

@@ -138,16 +138,26 @@ pub record HasPlaces (places : List (Option (List ℕ))) : Type 0 where
   pub some : IsTrue (list_any is_some places)
   pub full : All (λ place. ForSome place (λ name. 1 ≤ length name)) places
 
--- the words after `verify`
+-- the row that three words make, if there are three
+abbrev pub of_three : (List ℕ → List ℕ → List ℕ → Row) → List (List ℕ) → Option Row
+of_three make (first ∷ second ∷ third ∷ []) = Some (make first second third)
+of_three make words = None
+
+-- the words after `verify`: a key, a message and a signature
 abbrev pub verify_of : List (List ℕ) → Option Row
-verify_of (key ∷ message ∷ signature ∷ []) = Some (Verify key message signature)
-verify_of words = None
+verify_of = of_three Verify
 
 -- the words after `rehearse`; the outputs have different names
 abbrev pub rehearse_of : List (List ℕ) → Option Row
 rehearse_of (entropy ∷ message ∷ key_out ∷ signature_out ∷ []) =
     if bytes_eq key_out signature_out then None else Some (Rehearse entropy message key_out signature_out)
 rehearse_of words = None
+
+-- whether a flag is given: by the one word that is left, or by none
+abbrev pub flag_of : (flag : List ℕ) → List (List ℕ) → Option Bool
+flag_of flag [] = Some false
+flag_of flag (word ∷ []) = if bytes_eq word flag then Some true else None
+flag_of flag words = None
 
 -- the words after `deal`, with a commitment file or without; the outputs' names begin with some byte
 abbrev pub deal_with : (entropy lms ots n k prefix : List ℕ) → Bool → Option Row
@@ -177,9 +187,8 @@ deal_with entropy lms ots n k prefix commit =
 
 -- the words after `deal`: six, and `commit` or nothing
 abbrev pub deal_of : List (List ℕ) → Option Row
-deal_of (entropy ∷ lms ∷ ots ∷ n ∷ k ∷ prefix ∷ []) = deal_with entropy lms ots n k prefix false
-deal_of (entropy ∷ lms ∷ ots ∷ n ∷ k ∷ prefix ∷ last ∷ []) =
-    if bytes_eq last (codes "commit") then deal_with entropy lms ots n k prefix true else None
+deal_of (entropy ∷ lms ∷ ots ∷ n ∷ k ∷ prefix ∷ last) =
+    option_and_then (deal_with entropy lms ots n k prefix) (flag_of (codes "commit") last)
 deal_of words = None
 
 -- the words after `enrol`
@@ -187,15 +196,13 @@ abbrev pub enrol_of : List (List ℕ) → Option Row
 enrol_of (file ∷ journal ∷ []) = Some (Enrol file journal)
 enrol_of words = None
 
--- the words after `migrate`
+-- the words after `migrate`: a share, a journal and the name of its copy
 abbrev pub migrate_of : List (List ℕ) → Option Row
-migrate_of (share ∷ journal ∷ new ∷ []) = Some (Migrate share journal new)
-migrate_of words = None
+migrate_of = of_three Migrate
 
--- the words after `approve`
+-- the words after `approve`: a share, a book and a message
 abbrev pub approve_of : List (List ℕ) → Option Row
-approve_of (share ∷ book ∷ message ∷ []) = Some (Approve share book message)
-approve_of words = None
+approve_of = of_three Approve
 
 -- the words after `trustee`: 1 to 64 workers, with 1 to 2^32 - 1 connections each
 abbrev pub trustee_with : (share journal place workers connections : List ℕ) → Option (List ℕ) → Option Row
@@ -230,10 +237,9 @@ sign_words_of (prefix ∷ table ∷ message ∷ out ∷ addresses) =
     (places_of addresses)
 sign_words_of words = None
 
--- the words after `hss check`
+-- the words after `hss check`: a key, a message and a signature
 abbrev pub hss_check_of : List (List ℕ) → Option Row
-hss_check_of (key ∷ message ∷ signature ∷ []) = Some (HssCheck key message signature)
-hss_check_of words = None
+hss_check_of = of_three HssCheck
 
 -- the words after `hss sign`; the names of the files of the dealing begin with some byte, and the outputs have
 -- different names
@@ -299,8 +305,7 @@ drill_of words = None
 
 -- the words after `show`: a file, and `leaves` or nothing
 abbrev pub show_of : List (List ℕ) → Option Row
-show_of (file ∷ []) = Some (Show file false)
-show_of (file ∷ last ∷ []) = if bytes_eq last (codes "leaves") then Some (Show file true) else None
+show_of (file ∷ last) = option_map (Show file) (flag_of (codes "leaves") last)
 show_of words = None
 
 -- the words of a command, its name first

@@ -1,10 +1,11 @@
 //! The rule of the words: which of them are a command.
 
-ghost use Rattle.std.specs.Prelude.{◌≡◌, map, option_map, string_bytes};
+ghost use Rattle.std.specs.Prelude.{◌≡◌, List, map, option_map, string_bytes, ℕ};
 ghost use Rattle.std.specs.List.{list_any};
-ghost use Rattle.tool_words.specs.Words.{aggregate_of, approve_of, command_of, deal_of, deal_with, drill_of, enrol_of};
+ghost use Rattle.tool_words.specs.Words.{aggregate_of, approve_of, command_of, deal_of, deal_with, drill_of};
+ghost use Rattle.tool_words.specs.Words.{enrol_of, flag_of};
 ghost use Rattle.tool_words.specs.Words.{hss_check_of, hss_of, hss_sign_of, is_option, migrate_of, rehearse_of, row_of};
-ghost use Rattle.tool_words.specs.Words.{show_of, sign_words_of, trustee_of, trustee_with, verify_of};
+ghost use Rattle.tool_words.specs.Words.{Row, of_three, show_of, sign_words_of, trustee_of, trustee_with, verify_of};
 ghost use Rattle.tool_words.specs.Rows.{row, sign_words};
 
 use crate::aggregate_words::AggregateWords;
@@ -51,21 +52,22 @@ fn is_option(word: &str) -> bool
 fn row_of<'a>(words: &'a [String], split: &[&'a str]) -> Option<Command<'a>>
     ensures { option_map row result ≡ row_of (map string_bytes words.now) }
 {
-    let (name, rest) = words.split_first()?;
-    match word_at(split, 0, name.as_str()) {
-        "verify" => verify_of(rest, split),
-        "rehearse" => rehearse_of(rest, split),
-        "deal" => deal_of(rest, split),
-        "enrol" => enrol_of(rest, split),
-        "migrate" => migrate_of(rest, split),
-        "approve" => approve_of(rest, split),
-        "trustee" => trustee_of(rest, split),
-        "sign" => Some(Command::Sign(sign_words_of(rest, split)?)),
-        "blame" => Some(Command::Blame(sign_words_of(rest, split)?)),
-        "hss" => hss_of(rest, split),
-        "aggregate" => aggregate_of(rest, split),
-        "drill" => drill_of(rest),
-        "show" => show_of(rest, split),
+    let (name, words) = words.split_first()?;
+    let (name, split) = (word_at(split, 0, name.as_str()), rest_of(split));
+    match name {
+        "verify" => verify_of(words, split),
+        "rehearse" => rehearse_of(words, split),
+        "deal" => deal_of(words, split),
+        "enrol" => enrol_of(words, split),
+        "migrate" => migrate_of(words, split),
+        "approve" => approve_of(words, split),
+        "trustee" => trustee_of(words, split),
+        "sign" => Some(Command::Sign(sign_words_of(words, split)?)),
+        "blame" => Some(Command::Blame(sign_words_of(words, split)?)),
+        "hss" => hss_of(words, split),
+        "aggregate" => aggregate_of(words, split),
+        "drill" => drill_of(words),
+        "show" => show_of(words, split),
         _ => None,
     }
 }
@@ -74,13 +76,11 @@ fn row_of<'a>(words: &'a [String], split: &[&'a str]) -> Option<Command<'a>>
 fn verify_of<'a>(words: &'a [String], split: &[&'a str]) -> Option<Command<'a>>
     ensures { option_map row result ≡ verify_of (map string_bytes words.now) }
 {
-    let [key, message, signature] = words else {
-        return None;
-    };
+    let (key, message, signature) = three_of(words, split)?;
     Some(Command::Verify {
-        key: word_at(split, 1, key.as_str()),
-        message: word_at(split, 2, message.as_str()),
-        signature: word_at(split, 3, signature.as_str()),
+        key,
+        message,
+        signature,
     })
 }
 
@@ -95,10 +95,10 @@ fn rehearse_of<'a>(words: &'a [String], split: &[&'a str]) -> Option<Command<'a>
         return None;
     }
     Some(Command::Rehearse {
-        entropy: word_at(split, 1, entropy.as_str()),
-        message: word_at(split, 2, message.as_str()),
-        key_out: word_at(split, 3, key_out.as_str()),
-        signature_out: word_at(split, 4, signature_out.as_str()),
+        entropy: word_at(split, 0, entropy.as_str()),
+        message: word_at(split, 1, message.as_str()),
+        key_out: word_at(split, 2, key_out.as_str()),
+        signature_out: word_at(split, 3, signature_out.as_str()),
     })
 }
 
@@ -106,27 +106,19 @@ fn rehearse_of<'a>(words: &'a [String], split: &[&'a str]) -> Option<Command<'a>
 fn deal_of<'a>(words: &'a [String], split: &[&'a str]) -> Option<Command<'a>>
     ensures { option_map row result ≡ deal_of (map string_bytes words.now) }
 {
-    match words {
-        [entropy, lms, ots, n, k, prefix] => deal_with(
-            word_at(split, 1, entropy.as_str()),
-            lms.as_str(),
-            ots.as_str(),
-            n.as_str(),
-            k.as_str(),
-            word_at(split, 6, prefix.as_str()),
-            false,
-        ),
-        [entropy, lms, ots, n, k, prefix, last] if last.as_str() == "commit" => deal_with(
-            word_at(split, 1, entropy.as_str()),
-            lms.as_str(),
-            ots.as_str(),
-            n.as_str(),
-            k.as_str(),
-            word_at(split, 6, prefix.as_str()),
-            true,
-        ),
-        _ => None,
-    }
+    let [entropy, lms, ots, n, k, prefix, last @ ..] = words else {
+        return None;
+    };
+    let commit = flag_of(last, "commit")?;
+    deal_with(
+        word_at(split, 0, entropy.as_str()),
+        lms.as_str(),
+        ots.as_str(),
+        n.as_str(),
+        k.as_str(),
+        word_at(split, 5, prefix.as_str()),
+        commit,
+    )
 }
 
 /// The words of a dealing with commitments, or without.
@@ -164,8 +156,8 @@ fn enrol_of<'a>(words: &'a [String], split: &[&'a str]) -> Option<Command<'a>>
         return None;
     };
     Some(Command::Enrol {
-        file: word_at(split, 1, file.as_str()),
-        journal: word_at(split, 2, journal.as_str()),
+        file: word_at(split, 0, file.as_str()),
+        journal: word_at(split, 1, journal.as_str()),
     })
 }
 
@@ -173,13 +165,11 @@ fn enrol_of<'a>(words: &'a [String], split: &[&'a str]) -> Option<Command<'a>>
 fn migrate_of<'a>(words: &'a [String], split: &[&'a str]) -> Option<Command<'a>>
     ensures { option_map row result ≡ migrate_of (map string_bytes words.now) }
 {
-    let [share, journal, new] = words else {
-        return None;
-    };
+    let (share, journal, new) = three_of(words, split)?;
     Some(Command::Migrate {
-        share: word_at(split, 1, share.as_str()),
-        journal: word_at(split, 2, journal.as_str()),
-        new: word_at(split, 3, new.as_str()),
+        share,
+        journal,
+        new,
     })
 }
 
@@ -187,13 +177,11 @@ fn migrate_of<'a>(words: &'a [String], split: &[&'a str]) -> Option<Command<'a>>
 fn approve_of<'a>(words: &'a [String], split: &[&'a str]) -> Option<Command<'a>>
     ensures { option_map row result ≡ approve_of (map string_bytes words.now) }
 {
-    let [share, book, message] = words else {
-        return None;
-    };
+    let (share, book, message) = three_of(words, split)?;
     Some(Command::Approve {
-        share: word_at(split, 1, share.as_str()),
-        book: word_at(split, 2, book.as_str()),
-        message: word_at(split, 3, message.as_str()),
+        share,
+        book,
+        message,
     })
 }
 
@@ -201,25 +189,22 @@ fn approve_of<'a>(words: &'a [String], split: &[&'a str]) -> Option<Command<'a>>
 fn trustee_of<'a>(words: &'a [String], split: &[&'a str]) -> Option<Command<'a>>
     ensures { option_map row result ≡ trustee_of (map string_bytes words.now) }
 {
-    match words {
-        [share, journal, place, workers, connections] => trustee_with(
-            word_at(split, 1, share.as_str()),
-            word_at(split, 2, journal.as_str()),
-            word_at(split, 3, place.as_str()),
-            workers.as_str(),
-            connections.as_str(),
-            None,
-        ),
-        [share, journal, place, workers, connections, book] => trustee_with(
-            word_at(split, 1, share.as_str()),
-            word_at(split, 2, journal.as_str()),
-            word_at(split, 3, place.as_str()),
-            workers.as_str(),
-            connections.as_str(),
-            Some(word_at(split, 6, book.as_str())),
-        ),
-        _ => None,
-    }
+    let [share, journal, place, workers, connections, last @ ..] = words else {
+        return None;
+    };
+    let book = match last {
+        [] => None,
+        [book] => Some(word_at(split, 5, book.as_str())),
+        _ => return None,
+    };
+    trustee_with(
+        word_at(split, 0, share.as_str()),
+        word_at(split, 1, journal.as_str()),
+        word_at(split, 2, place.as_str()),
+        workers.as_str(),
+        connections.as_str(),
+        book,
+    )
 }
 
 /// The words of a trustee with this book, or with none.
@@ -256,10 +241,10 @@ fn sign_words_of<'a>(words: &'a [String], split: &[&'a str]) -> Option<SignWords
     }
     let places = Places::of(addresses)?;
     Some(SignWords {
-        prefix: word_at(split, 1, prefix.as_str()),
-        table: word_at(split, 2, table.as_str()),
-        message: word_at(split, 3, message.as_str()),
-        out: word_at(split, 4, out.as_str()),
+        prefix: word_at(split, 0, prefix.as_str()),
+        table: word_at(split, 1, table.as_str()),
+        message: word_at(split, 2, message.as_str()),
+        out: word_at(split, 3, out.as_str()),
         places,
     })
 }
@@ -268,10 +253,11 @@ fn sign_words_of<'a>(words: &'a [String], split: &[&'a str]) -> Option<SignWords
 fn hss_of<'a>(words: &'a [String], split: &[&'a str]) -> Option<Command<'a>>
     ensures { option_map row result ≡ hss_of (map string_bytes words.now) }
 {
-    let (name, rest) = words.split_first()?;
-    match word_at(split, 1, name.as_str()) {
-        "check" => hss_check_of(rest, split),
-        "sign" => hss_sign_of(rest, split),
+    let (name, words) = words.split_first()?;
+    let (name, split) = (word_at(split, 0, name.as_str()), rest_of(split));
+    match name {
+        "check" => hss_check_of(words, split),
+        "sign" => hss_sign_of(words, split),
         _ => None,
     }
 }
@@ -280,13 +266,11 @@ fn hss_of<'a>(words: &'a [String], split: &[&'a str]) -> Option<Command<'a>>
 fn hss_check_of<'a>(words: &'a [String], split: &[&'a str]) -> Option<Command<'a>>
     ensures { option_map row result ≡ hss_check_of (map string_bytes words.now) }
 {
-    let [key, message, signature] = words else {
-        return None;
-    };
+    let (key, message, signature) = three_of(words, split)?;
     Some(Command::HssCheck {
-        key: word_at(split, 2, key.as_str()),
-        message: word_at(split, 3, message.as_str()),
-        signature: word_at(split, 4, signature.as_str()),
+        key,
+        message,
+        signature,
     })
 }
 
@@ -313,13 +297,13 @@ fn hss_sign_of<'a>(words: &'a [String], split: &[&'a str]) -> Option<Command<'a>
     }
     let places = Places::of(addresses)?;
     Some(Command::HssSign(HssSignWords {
-        prefix: word_at(split, 2, prefix.as_str()),
-        table: word_at(split, 3, table.as_str()),
-        low_key: word_at(split, 4, low_key.as_str()),
-        low_signature: word_at(split, 5, low_signature.as_str()),
-        message: word_at(split, 6, message.as_str()),
-        key_out: word_at(split, 7, key_out.as_str()),
-        signature_out: word_at(split, 8, signature_out.as_str()),
+        prefix: word_at(split, 0, prefix.as_str()),
+        table: word_at(split, 1, table.as_str()),
+        low_key: word_at(split, 2, low_key.as_str()),
+        low_signature: word_at(split, 3, low_signature.as_str()),
+        message: word_at(split, 4, message.as_str()),
+        key_out: word_at(split, 5, key_out.as_str()),
+        signature_out: word_at(split, 6, signature_out.as_str()),
         places,
     }))
 }
@@ -338,9 +322,9 @@ fn aggregate_of<'a>(words: &'a [String], split: &[&'a str]) -> Option<Command<'a
     let connections = number_within(connections.as_str(), 1, u32::MAX)?;
     let places = Places::of(addresses)?;
     Some(Command::Aggregate(AggregateWords {
-        prefix: word_at(split, 1, prefix.as_str()),
-        table: word_at(split, 2, table.as_str()),
-        place: word_at(split, 3, place.as_str()),
+        prefix: word_at(split, 0, prefix.as_str()),
+        table: word_at(split, 1, table.as_str()),
+        place: word_at(split, 2, place.as_str()),
         workers,
         connections,
         places,
@@ -365,16 +349,48 @@ fn drill_of(words: &[String]) -> Option<Command<'_>>
 fn show_of<'a>(words: &'a [String], split: &[&'a str]) -> Option<Command<'a>>
     ensures { option_map row result ≡ show_of (map string_bytes words.now) }
 {
+    let [file, last @ ..] = words else {
+        return None;
+    };
+    let leaves = flag_of(last, "leaves")?;
+    Some(Command::Show {
+        file: word_at(split, 0, file.as_str()),
+        leaves,
+    })
+}
+
+/// The words, if there are three.
+fn three_of<'a>(words: &'a [String], split: &[&'a str]) -> Option<(&'a str, &'a str, &'a str)>
+    ensures { (make : List ℕ → List ℕ → List ℕ → Row)
+        → option_map (λ three. make three.0.now three.1.now three.2.now) result
+        ≡ of_three make (map string_bytes words.now) }
+{
+    let [first, second, third] = words else {
+        return None;
+    };
+    Some((
+        word_at(split, 0, first.as_str()),
+        word_at(split, 1, second.as_str()),
+        word_at(split, 2, third.as_str()),
+    ))
+}
+
+/// Whether a flag is given: by the one word that is left, or by none.
+fn flag_of(words: &[String], flag: &str) -> Option<bool>
+    ensures { result ≡ flag_of flag.now (map string_bytes words.now) }
+{
     match words {
-        [file] => Some(Command::Show {
-            file: word_at(split, 1, file.as_str()),
-            leaves: false,
-        }),
-        [file, last] if last.as_str() == "leaves" => Some(Command::Show {
-            file: word_at(split, 1, file.as_str()),
-            leaves: true,
-        }),
+        [] => Some(false),
+        [word] if word.as_str() == flag => Some(true),
         _ => None,
+    }
+}
+
+/// What is behind the first word of the split.
+fn rest_of<'s, 'a>(split: &'s [&'a str]) -> &'s [&'a str] {
+    match split {
+        [_, rest @ ..] => rest,
+        [] => split,
     }
 }
 

@@ -13,33 +13,27 @@ use Rattle.tool_base.specs.Disks.{IsOut}
 use Rattle.tool_base.proofs.Outs.{IsBackAs}
 use Rattle.tool_journals.proofs.Approving.{book_ends, book_out}
 use Rattle.tool_base.proofs.Outs.{back_as, ends_calm, ends_map, out_calm, out_here, out_same}
-use Rattle.tool_journals.proofs.Sharing.{share_fails}
+use Rattle.tool_journals.proofs.Sharing.{unshared}
 use Rattle.tool_journals.proofs.approve.approve_message.Goals as goal
 
 pub returns-in-Err : goal.returns-in-Err
 returns-in-Err g c =
-    let state = g.S.Store.state in
-    let first = c.args.store.now in
-    let last = c.read_share_file.new.store in
-    let run = from_to (state first) (state last) in
     let one = c.in-Err.ensures in
     record {
-      ended = ends_calm (state first) (state last) one.calm (ApproveEnds run c.args.share.now c.args.book.now c.args.message.now) (ending c.in-Err.end)
-          (no_share _ (share_fails run c.args.share.now (ending c.in-Err.end) (one.refused first last (part_of _ _ _ _ (calm_none _) (onward_none _)))));
+      ended = unshared _ _ c.args.share.now (ApproveEnds _ c.args.share.now c.args.book.now c.args.message.now) _ one.calm (λ end fails. no_share end fails)
+          (one.refused c.args.store.now c.read_share_file.new.store (part_of _ _ _ _ (calm_none _) (onward_none _)));
     }
 
 pub returns-in-Err-read_message : goal.returns-in-Err-read_message
 returns-in-Err-read_message g c =
-    let state = g.S.Store.state in
     let first = c.args.store.now in
     let last = c.read_message.new.store in
-    let run = from_to (state first) (state last) in
     let one = c.in-Ok.ensures in
     let two = c.in-Err-read_message.ensures in
     let read = one.share first last (part_of _ _ _ _ (calm_none _) two.calm.onward) in
     record {
-      ended = ends_calm (state first) (state last) (calm_on _ _ _ one.calm two.calm) (ApproveEnds run c.args.share.now c.args.book.now c.args.message.now)
-          (ending c.in-Err-read_message.end) (no_message c.in-Ok.found _ read (two.refused first last (part_of _ _ _ _ one.calm (onward_none _))));
+      ended = ends_calm _ _ (calm_on _ _ _ one.calm two.calm) (ApproveEnds _ c.args.share.now c.args.book.now c.args.message.now) _
+          (no_message c.in-Ok.found _ read (two.refused first last (part_of _ _ _ _ one.calm (onward_none _))));
     }
 
 pub returns-in-Err-open_book : goal.returns-in-Err-open_book

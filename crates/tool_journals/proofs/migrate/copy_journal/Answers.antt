@@ -7,13 +7,12 @@ use Rattle.slot_file.specs.declared.header.Header.{Header}
 use Rattle.stream_io.specs.Store.{Handed, pages_state}
 use Rattle.tool_base.specs.Endings.{ending}
 use Rattle.tool_base.specs.World.{from_to, IsCalm}
-use Rattle.tool_journals.specs.Blanks.{IsNeverHalf, IsOwners}
-use Rattle.tool_base.specs.Disks.{IsOut, OneFails}
+use Rattle.tool_journals.specs.Blanks.{IsNeverHalf}
+use Rattle.tool_base.specs.Disks.{OneFails}
 use Rattle.tool_journals.specs.Migrate.{CopyEnds, IsCopied, migrated, not_made, slot_count}
-use Rattle.tool_base.proofs.Runs.{onward_none}
-use Rattle.tool_journals.proofs.Blanks.{made_out, owners_on}
+use Rattle.tool_journals.proofs.Blanks.{IsMadeAndBack, made_and_back}
 use Rattle.tool_journals.proofs.Copying.{copy_fails, copy_is, damaged_is, not_written_of, taken_is}
-use Rattle.tool_base.proofs.Outs.{IsBackAs, back_as, ends_calm, out_same}
+use Rattle.tool_base.proofs.Outs.{ends_calm}
 use Rattle.tool_journals.proofs.migrate.copy_journal.Goals as goal
 use Rattle.trustee_core.specs.Trustee.{journal_header}
 
@@ -40,26 +39,19 @@ returns-in-Ok-copied-clause-ended g c =
     let name = c.args.new.now in
     let share = c.args.share.now in
     let file = file_of c.args.slots.now in
-    let made = c.in-Ok.ensures.made in
     let step = c.in-Ok-copied.ensures in
-    let old = state c.args.store.now in
-    let mid = state c.new_disk.new.self in
-    let last = state c.return_disk.new.self in
-    let run = from_to old last in
-    let before = dk c.in-Ok.disk in
-    let now = dk c.copy_slots-copied.new.disk in
-    let fresh : IsOut old name before mid = made_out old mid name c.file_length.result before made c.in-Ok.ensures.onward in
-    let out : IsOut old name now mid = out_same old mid name before now fresh step.calls.disk.told step.calls.disk.honest step.calls.disk.steady in
-    let back : IsBackAs old name now last = back_as old mid last name now out c.return_disk.ensures.returned c.return_disk.ensures.onward in
     let old_version : c.args.slots.now.header.version ≡ 1 = ap (λ (h : Header). h.version) c.requires.header in
-    let copied : IsCopied run share name file = record {
-      owners = owners_on old old mid last name (onward_none old) c.in-Ok.ensures.onward c.return_disk.ensures.onward made.readers;
+    let whole : IsMadeAndBack (state c.args.store.now) (state c.new_disk.new.self) (state c.return_disk.new.self) name (dk c.in-Ok.disk) (dk c.copy_slots-copied.new.disk) =
+    made_and_back _ _ _ name c.file_length.result _ _ c.in-Ok.ensures.made c.in-Ok.ensures.onward step.calls.disk.told step.calls.disk.honest step.calls.disk.steady
+    c.return_disk.ensures.returned c.return_disk.ensures.onward in
+    let copied : IsCopied (from_to (state c.args.store.now) (state c.return_disk.new.self)) share name file = record {
+      owners = whole.owners;
       copy = λ told. (
         disks.Pages.reads c.copy_slots-copied.new.disk,
-        back.file told,
+        whole.back.file told,
         copy_is _ (journal_header share) c.leaves-count.result (slot_count share) _ file _ c.header_of.ensures c.leaves-count.ensures old_version
-            (step.copied.copied (fresh.told told) (c.requires.told told)),
-        λ honest image left. step.copied.stable (fresh.told told) (subst (λ (h : Handed). IsTrue h.honest) (fresh.kind told) honest) image ((back.leaves told image).0 left),
+            (step.copied.copied (whole.fresh.told told) (c.requires.told told)),
+        λ honest image left. step.copied.stable (whole.fresh.told told) (subst (λ (h : Handed). IsTrue h.honest) (whole.fresh.kind told) honest) image ((whole.back.leaves told image).0 left),
       );
     } in
     record {
@@ -67,7 +59,7 @@ returns-in-Ok-copied-clause-ended g c =
       cause = migrated c.in-Ok-copied.slots c.requires.opens
           (λ told. taken_is c.leaves-count.result (slot_count share) _ _ file c.leaves-count.ensures old_version (step.copied.are.taken_are (c.requires.told told)))
           copied;
-      keeps = back.keeps;
+      keeps = whole.back.keeps;
     }
 
 pub returns-in-Err-copied-clause-ended : goal.returns-in-Err-copied-clause-ended
@@ -81,20 +73,18 @@ returns-in-Err-copied-clause-ended g c =
     let made = c.in-Ok.ensures.made in
     let step = c.in-Err-copied.ensures in
     let old = state c.args.store.now in
-    let mid = state c.new_disk.new.self in
     let last = state c.return_disk.new.self in
     let run = from_to old last in
-    let before = dk c.in-Ok.disk in
-    let now = dk c.copy_slots-copied.new.disk in
-    let fresh : IsOut old name before mid = made_out old mid name c.file_length.result before made c.in-Ok.ensures.onward in
-    let out : IsOut old name now mid = out_same old mid name before now fresh step.calls.disk.told step.calls.disk.honest step.calls.disk.steady in
-    let back : IsBackAs old name now last = back_as old mid last name now out c.return_disk.ensures.returned c.return_disk.ensures.onward in
     let old_version : c.args.slots.now.header.version ≡ 1 = ap (λ (h : Header). h.version) c.requires.header in
+    let whole : IsMadeAndBack old (state c.new_disk.new.self) last name (dk c.in-Ok.disk) (dk c.copy_slots-copied.new.disk) =
+    made_and_back _ _ _ name c.file_length.result _ _ made c.in-Ok.ensures.onward step.calls.disk.told step.calls.disk.honest step.calls.disk.steady
+    c.return_disk.ensures.returned c.return_disk.ensures.onward in
+    let fresh = whole.fresh in
+    let back = whole.back in
     let failed = OneFails old last (faults_of c.args.slots.now) (faults_of c.copy_slots-copied.new.from) in
     let honest_is = λ (told : IsTrue old.told) (honest : IsTrue (old.disks name).honest). subst (λ (h : Handed). IsTrue h.honest) (fresh.kind told) honest in
-    let owners : IsOwners run name = owners_on old old mid last name (onward_none old) c.in-Ok.ensures.onward c.return_disk.ensures.onward made.readers in
     let half : IsNeverHalf (IsCopy (journal_header share) (slot_count share) 1 file) run name = record {
-      owners = owners;
+      owners = whole.owners;
       stays = λ told. rw (back.file told) refl;
       images = λ told honest image left.
           elim ((step.half (λ _. made.reads told) (c.requires.told told)).images (fresh.told told) (honest_is told honest) image ((back.leaves told image).0 left)) [
@@ -112,7 +102,7 @@ returns-in-Err-copied-clause-ended g c =
             let shut = step.shut (subst (λ f. IsDamaged f) (sym is) tt) in record {
               file = λ told. (disks.Pages.reads c.copy_slots-copied.new.disk, back.file told, shut.reads (fresh.told told));
               images = λ told honest image left. shut.images (fresh.told told) (honest_is told honest) image ((back.leaves told image).0 left);
-              owners = owners;
+              owners = whole.owners;
             },
           ))
           (λ is. record {

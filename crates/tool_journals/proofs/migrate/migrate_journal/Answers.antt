@@ -6,76 +6,57 @@ use Rattle.tool_base.specs.World.{IsCalm, from_to}
 use Rattle.tool_base.proofs.Runs.{calm_none, calm_on, onward_none, onward_on, part_of}
 use Rattle.tool_base.specs.Disks.{DeviceFails}
 use Rattle.tool_base.specs.Disks.{IsOut, OneFails}
-use Rattle.tool_journals.specs.Migrate.{MigrateEnds, StandsStill, no_share, not_new, not_taken, taken}
+use Rattle.tool_journals.specs.Migrate.{MigrateEnds, StandsStill, no_share, not_new, taken}
 use Rattle.tool_journals.specs.Taking.{no_memory_to_take, take_failed}
 use Rattle.tool_journals.proofs.Copying.{Later, copy_later}
 use Rattle.tool_base.proofs.Outs.{Round, ends_calm, new_beside, new_differs, out_calm, out_same, round, taken_out}
-use Rattle.tool_journals.proofs.Sharing.{share_fails}
+use Rattle.tool_journals.proofs.Migrating.{untaken}
+use Rattle.tool_journals.proofs.Sharing.{unshared}
 use Rattle.tool_journals.proofs.migrate.migrate_journal.Goals as goal
 
 pub returns-in-Err : goal.returns-in-Err
 returns-in-Err g c =
-    let state = g.S.Store.state in
-    let first = c.args.store.now in
-    let last = c.read_share_file.new.store in
-    let run = from_to (state first) (state last) in
     let one = c.in-Err.ensures in
     record {
-      ended = ends_calm (state first) (state last) one.calm (MigrateEnds run c.args.share.now c.args.journal.now c.args.new.now) (ending c.in-Err.end)
-          (no_share _ (share_fails run c.args.share.now (ending c.in-Err.end) (one.refused first last (part_of _ _ _ _ (calm_none _) (onward_none _)))));
+      ended = unshared _ _ c.args.share.now (MigrateEnds _ c.args.share.now c.args.journal.now c.args.new.now) _ one.calm (λ end fails. no_share end fails)
+          (one.refused c.args.store.now c.read_share_file.new.store (part_of _ _ _ _ (calm_none _) (onward_none _)));
     }
 
 pub returns-in-Err-test_new : goal.returns-in-Err-test_new
 returns-in-Err-test_new g c =
-    let state = g.S.Store.state in
     let first = c.args.store.now in
     let last = c.test_new.new.store in
-    let run = from_to (state first) (state last) in
     let one = c.in-Ok.ensures in
     let two = c.in-Err-test_new.ensures in
     let read = one.share first last (part_of _ _ _ _ (calm_none _) two.calm.onward) in
     record {
-      ended = ends_calm (state first) (state last) (calm_on _ _ _ one.calm two.calm) (MigrateEnds run c.args.share.now c.args.journal.now c.args.new.now) (ending c.in-Err-test_new.end)
+      ended = ends_calm _ _ (calm_on _ _ _ one.calm two.calm) (MigrateEnds _ c.args.share.now c.args.journal.now c.args.new.now) _
           (not_new c.in-Ok.found _ read (two.refused first last (part_of _ _ _ _ one.calm (onward_none _))));
     }
 
 pub returns-in-Err-Failed : goal.returns-in-Err-Failed
 returns-in-Err-Failed g c =
     let state = g.S.Store.state in
-    let first = c.args.store.now in
-    let last = c.take_disk.new.self in
-    let run = from_to (state first) (state last) in
     let one = c.in-Ok.ensures in
     let two = c.in_default.ensures in
     let three = c.in-Err-Failed.ensures in
-    let calm : IsCalm (state first) (state c.test_new.new.store) = calm_on _ _ _ one.calm two.calm in
-    let still : IsCalm (state c.test_new.new.store) (state last) = record { same = three.refused; onward = three.onward } in
-    let read = one.share first last (part_of _ _ _ _ (calm_none _) (onward_on _ _ _ two.calm.onward three.onward)) in
-    let new = two.new first last (part_of _ _ _ _ one.calm three.onward) in
+    let calm : IsCalm (state c.args.store.now) (state c.test_new.new.store) = calm_on _ _ _ one.calm two.calm in
     let is = ap Err c.in-Err-Failed.field-0-is in
     record {
-      ended = ends_calm (state first) (state last) (calm_on _ _ _ calm still) (MigrateEnds run c.args.share.now c.args.journal.now c.args.new.now) _
-          (not_taken c.in-Ok.found _ read new (take_failed
+      ended = untaken state c.args.store.now c.read_share_file.new.store c.test_new.new.store c.take_disk.new.self c.args.share.now c.args.journal.now c.args.new.now c.in-Ok.found
+          one.calm two.calm three.refused three.onward one.share two.new _ (take_failed
           (let rose = three.cause.rose is in let before = calm.onward.count in omega arith)
-          (λ told steady. rw (← calm.same.names.file) (three.absent (rw calm.onward.told told) (rw calm.onward.steady steady) is))));
+          (λ told steady. rw (← calm.same.names.file) (three.absent (rw calm.onward.told told) (rw calm.onward.steady steady) is)));
     }
 
 pub returns-in-Err-NoMemory : goal.returns-in-Err-NoMemory
 returns-in-Err-NoMemory g c =
-    let state = g.S.Store.state in
-    let first = c.args.store.now in
-    let last = c.take_disk.new.self in
-    let run = from_to (state first) (state last) in
     let one = c.in-Ok.ensures in
     let two = c.in_default.ensures in
     let three = c.in-Err-NoMemory.ensures in
-    let calm : IsCalm (state first) (state c.test_new.new.store) = calm_on _ _ _ one.calm two.calm in
-    let still : IsCalm (state c.test_new.new.store) (state last) = record { same = three.refused; onward = three.onward } in
-    let read = one.share first last (part_of _ _ _ _ (calm_none _) (onward_on _ _ _ two.calm.onward three.onward)) in
-    let new = two.new first last (part_of _ _ _ _ one.calm three.onward) in
     record {
-      ended = ends_calm (state first) (state last) (calm_on _ _ _ calm still) (MigrateEnds run c.args.share.now c.args.journal.now c.args.new.now) _
-          (not_taken c.in-Ok.found _ read new no_memory_to_take);
+      ended = untaken g.S.Store.state c.args.store.now c.read_share_file.new.store c.test_new.new.store c.take_disk.new.self c.args.share.now c.args.journal.now c.args.new.now c.in-Ok.found
+          one.calm two.calm three.refused three.onward one.share two.new _ no_memory_to_take;
     }
 
 pub copy_disk-disk-requires-clause-new : goal.copy_disk-disk-requires-clause-new

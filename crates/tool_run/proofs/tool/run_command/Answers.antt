@@ -1,5 +1,4 @@
-use Rattle.std.proofs.Common.{◌≡◌, ◌⊎◌, [], refl}
-use Rattle.tool_base.specs.Ending as ending
+use Rattle.std.proofs.Common.{◌≡◌, [], refl}
 use Rattle.tool_base.specs.World.{from_to}
 use Rattle.tool_base.proofs.Writing.{ends_untouched}
 use Rattle.tool_base.proofs.Runs.{calm_none}
@@ -14,9 +13,7 @@ returns-in-Verify-clause-ended g c =
     let run = from_to (g.S.Store.state c.args.store.now) (g.S.Store.state c.verify_files.new.store) in
     let verify = c.in-Verify in
     rw c.in-Verify.is (record {
-      run = ends_untouched _ _ c.verify_files.ensures.calm
-          (λ end written. ((end ≡ ending.NoMemory) ⊎ VerifyEnds run verify.key.now verify.message.now verify.signature.now end) × (written ≡ [])) _
-          (c.verify_files.ensures.cause, refl);
+      run = ends_untouched _ _ c.verify_files.ensures.calm (VerifyEnds run verify.key.now verify.message.now verify.signature.now) _ c.verify_files.ensures.ended;
       net = refl;
     })
 
@@ -52,9 +49,7 @@ returns-in-HssCheck-clause-ended g c =
     let run = from_to (g.S.Store.state c.args.store.now) (g.S.Store.state c.hss_check_files.new.store) in
     let check = c.in-HssCheck in
     rw c.in-HssCheck.is (record {
-      run = ends_untouched _ _ c.hss_check_files.ensures.calm
-          (λ end written. HssCheckEnds run check.key.now check.message.now check.signature.now end × (written ≡ [])) _
-          (c.hss_check_files.ensures.ended, refl);
+      run = ends_untouched _ _ c.hss_check_files.ensures.calm (HssCheckEnds run check.key.now check.message.now check.signature.now) _ c.hss_check_files.ensures.ended;
       net = refl;
     })
 

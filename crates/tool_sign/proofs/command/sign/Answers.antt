@@ -1,24 +1,16 @@
-use Rattle.std.proofs.Common.{[], Ok, Err, refl}
+use Rattle.std.proofs.Common.{Ok, Err, refl}
 use Rattle.aggregator_session.specs.Signing.{Signature}
-use Rattle.tool_base.proofs.Nets.{net_none}
 use Rattle.tool_base.proofs.Runs.{calm_none, onward_none, onward_on, part_of}
 use Rattle.tool_base.specs.Endings.{ending}
-use Rattle.tool_base.proofs.Outs.{keeps_calm}
-use Rattle.tool_sign.proofs.Whole.{run_signed, run_unsigned, signed-by, still_new}
+use Rattle.tool_sign.proofs.Whole.{run_signed, run_taken, run_unsigned, signed-by, still_new}
 use Rattle.tool_sign.specs.Ports.{NetRun, over_net}
-use Rattle.tool_sign.specs.Sign.{not_new}
 use Rattle.tool_words.specs.Rows.{sign_words}
 use Rattle.tool_sign.proofs.command.sign.Goals as goal
 
 pub returns-in-Err : goal.returns-in-Err
 returns-in-Err g c =
     let tested = c.in-Err.ensures in
-    record {
-      touched = [];
-      ends = not_new _ (tested.refused c.args.store.now c.test_new.new.store (part_of _ _ _ _ (calm_none _) (onward_none _))) refl;
-      keeps = keeps_calm [] _ _ tested.calm;
-      ports = net_none _;
-    }
+    run_taken (sign_words c.args.words.now) _ _ _ _ tested.calm (tested.refused c.args.store.now c.test_new.new.store (part_of _ _ _ _ (calm_none _) (onward_none _)))
 
 pub returns-in-Err-sign_message : goal.returns-in-Err-sign_message
 returns-in-Err-sign_message g c =

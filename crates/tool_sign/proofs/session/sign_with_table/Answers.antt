@@ -1,21 +1,15 @@
-use Rattle.std.proofs.Common.{◌≡◌, ◌^◌, ◌∷◌, [], Some, IsTrue, refl, sym, ap, ◌∙◌, subst, arith}
+use Rattle.std.proofs.Common.{◌≡◌, ◌∷◌, [], Some, refl, ap, ◌∙◌, subst}
 use Rattle.std.proofs.lemmas.List.Elements.{All-nil}
 use Rattle.leaf_table.specs.Loaded.{IsLoaded}
-use Rattle.leaf_table.specs.Table.{disk_of}
 use Rattle.aggregator_session.specs.Tables.{table_seen}
-use Rattle.slot_file.specs.Loading.{LoadRefused}
-use Rattle.stream_io.specs.Store.{Handed, handed, pages_state}
-use Rattle.tool_base.specs.Endings.{ending}
 use Rattle.tool_base.specs.World.{IsCalm, from_to}
 use Rattle.tool_base.specs.Disks.{Stays}
-use Rattle.tool_base.specs.Loads.{FailsToLoad}
 use Rattle.tool_base.proofs.Outs.{keeps_calm, out_here, taken_out}
-use Rattle.tool_base.proofs.Takes.{back, reads_as, slots_not_loaded, stays}
 use Rattle.tool_base.proofs.Nets.{net_none}
 use Rattle.tool_sign.proofs.Signs.{ends_whole, same_name, unbegun_to}
-use Rattle.tool_sign.proofs.Tables.{is_fresh, is_table, leaves_table}
+use Rattle.tool_sign.proofs.Tables.{disk_seen, same_disk, table_refused, table_round}
 use Rattle.tool_sign.specs.Signs.{answer_in, no_memory, no_table, not_loaded}
-use Rattle.tool_sign.specs.Tables.{IsTable, table_header}
+use Rattle.tool_sign.specs.Tables.{table_header}
 use Rattle.tool_sign.proofs.session.sign_with_table.Goals as goal
 
 pub returns-in-Err-Failed-clause-run : goal.returns-in-Err-Failed-clause-run
@@ -48,30 +42,15 @@ pub returns-in-Err-clause-run : goal.returns-in-Err-clause-run
 returns-in-Err-clause-run g c =
     let state = g.S.Store.state in
     let disks = g.S.Disk in
-    let pages = pages_state disks.Pages.told disks.Pages.honest disks.Faults.steady disks.Faults.count disks.Pages.room disks.Pages.reads disks.Pages.may_leave in
-    let first = state c.args.store.now in
-    let last = state c.return_disk.new.self in
-    let name = c.args.table.now in
-    let header = table_header c.args.desk.now.key.now in
-    let count = 2 ^ c.args.desk.now.plan.now.h in
-    let disk = pages c.in-Ok.disk in
-    let now = pages c.in-Err.disk in
     let load = c.in-Err.ensures in
     let out = c.in-Ok.ensures in
-    let step = c.return_disk.ensures.returned in
-    let comes = c.return_disk.ensures.onward in
-    let kind = load.unwritten.stays in
-    let refused : IsTrue disk.told → LoadRefused header count disk.reads c.in-Err.fault =
-    λ told. subst (λ h. LoadRefused h count disk.reads c.in-Err.fault) c.table_header-header.ensures (load.refused told) in
-    let fails : FailsToLoad header count (from_to first last) name (ending c.end_of_slots.result) =
-    subst (FailsToLoad header count (from_to first last) name) (sym c.end_of_slots.ensures)
-    (slots_not_loaded first _ last name disk now out.taken out.onward step comes kind.told kind.honest kind.steady header count c.in-Err.fault refused load.succeeds load.cause) in
-    let whole = back first _ last name disk now out.taken out.onward step comes kind.told kind.honest kind.steady in
+    let refused = table_refused disks.Pages disks.Faults (state c.args.store.now) _ (state c.return_disk.new.self) c.args.table.now c.in-Ok.disk c.in-Err.disk
+    out.taken out.onward c.return_disk.ensures.returned c.return_disk.ensures.onward _ (table_header c.args.desk.now.key.now) _ c.in-Err.fault _
+    c.table_header-header.ensures c.end_of_slots.ensures load.refused load.unwritten load.succeeds load.cause in
     unbegun_to (ap answer_in c.not_begun-in-Err.ensures.0) c.not_begun-in-Err.ensures.1 (record {
-      touched = name ∷ [];
-      ends = not_loaded _ (record { reads = refl; ports = record { offers = refl; out = refl; kept = refl } }) fails
-          (stays first _ last name disk now out.taken out.onward step comes kind.told kind.honest kind.steady load.unwritten.same load.unwritten.images);
-      keeps = whole.keeps;
+      touched = c.args.table.now ∷ [];
+      ends = not_loaded _ (record { reads = refl; ports = record { offers = refl; out = refl; kept = refl } }) refused.fails refused.stays;
+      keeps = refused.keeps;
       ports = net_none (g.N.Net.state c.args.net.now);
     }) refl
 
@@ -79,49 +58,20 @@ pub returns-clause-run : goal.returns-clause-run
 returns-clause-run g c =
     let state = g.S.Store.state in
     let disks = g.S.Disk in
-    let pages = pages_state disks.Pages.told disks.Pages.honest disks.Faults.steady disks.Faults.count disks.Pages.room disks.Pages.reads disks.Pages.may_leave in
-    let first = state c.args.store.now in
-    let last = state c.return_disk-2.new.self in
-    let name = c.args.table.now in
     let desk = c.args.desk.now in
-    let header = table_header desk.key.now in
-    let plan = desk.plan.now in
-    let disk = pages c.in-Ok.disk in
-    let now = pages c.end.result in
     let out = c.in-Ok.ensures in
-    let step = c.return_disk-2.ensures.returned in
-    let comes = c.return_disk-2.ensures.onward in
-    let loaded = subst (λ h. IsLoaded disks.Pages disks.Faults h plan c.in-Ok.disk c.in-Ok-load.leaves) c.table_header-header.ensures c.in-Ok-load.ensures.loaded in
+    let loaded = subst (λ h. IsLoaded disks.Pages disks.Faults h desk.plan.now c.in-Ok.disk c.in-Ok-load.leaves) c.table_header-header.ensures c.in-Ok-load.ensures.loaded in
     let old = c.in-Ok-load.leaves in
     let new = c.sign_over_net-ended.new.table in
     let signed = c.sign_over_net-ended.ensures in
-    let ended = c.end.ensures in
-    let kind = loaded.unwritten.stays in
     let later = signed.table.disk in
-    let end_is = ended.disk in
-    let told : now.told ≡ disk.told = ap disks.Pages.told end_is ∙ later.told ∙ kind.told in
-    let honest : now.honest ≡ disk.honest = ap disks.Pages.honest end_is ∙ later.honest ∙ kind.honest in
-    let steady : now.steady ≡ disk.steady = ap disks.Faults.steady end_is ∙ later.steady ∙ kind.steady in
-    let round = back first _ last name disk now out.taken out.onward step comes told honest steady in
-    let is_table_then : IsTrue disk.told → IsTable header plan (table_seen old).state.entries disk.reads = is_table header plan c.in-Ok.disk old loaded in
-    let same = new ≡ old in
-    let stays_then : same → Stays (from_to first last) name = λ is.
-    stays first _ last name disk now out.taken out.onward step comes told honest steady
-    (λ t. ap disks.Pages.reads end_is ∙ ap (λ x. disks.Pages.reads (disk_of x)) is ∙ loaded.unwritten.same t)
-    (λ h image may. loaded.unwritten.images h image (subst (λ x. disks.Pages.may_leave (disk_of x) image) is (subst (λ d. disks.Pages.may_leave d image) end_is may))) in
-    let left = leaves_table header plan new (signed.table.header ∙ loaded.named) (signed.table.plan ∙ loaded.plan_is) ended.holds first last name c.end.result end_is
-    (λ t. subst (λ b. IsTrue b) (sym told) (out.taken.given.told t))
-    (λ t h. subst (λ b. IsTrue b) (sym honest) (subst (λ (x : Handed). IsTrue x.honest) (out.taken.kind t) h)) round.file round.leaves in
-    let counted : now.count ≡ (table_seen new).faults = ap disks.Faults.count end_is in
-    let rises = round.disk_count in
     let named : (table_seen new).name ≡ (table_seen old).name = same_name signed.table.header signed.table.plan later.told later.honest later.steady in
-    let whole = ends_whole _ name first last _ same (table_seen old) (table_seen new)
-    (is_fresh header plan c.in-Ok.disk old loaded first _ name out.taken)
-    (reads_as first _ last name disk now out.taken out.onward step comes told honest steady (IsTable header plan (table_seen old).state.entries) is_table_then)
-    named stays_then left ended.holds.cause (omega (arith, rises, counted)) _ _ signed.ends in
+    let round = table_round disks.Pages disks.Faults (table_header desk.key.now) desk.plan.now c.in-Ok.disk c.end.result old new loaded named c.end.ensures.disk c.end.ensures.holds
+    (state c.args.store.now) _ (state c.return_disk-2.new.self) c.args.table.now out.taken out.onward c.return_disk-2.ensures.returned c.return_disk-2.ensures.onward in
+    let whole = ends_whole _ c.args.table.now _ _ _ (new ≡ old) (table_seen old) (table_seen new) round _ _ signed.ends in
     record {
       run = record {
-        touched = name ∷ [];
+        touched = c.args.table.now ∷ [];
         ends = whole.ends;
         keeps = round.keeps;
         ports = signed.net;
@@ -131,20 +81,11 @@ returns-clause-run g c =
 
 pub return_disk-requires-2 : goal.return_disk-requires-2
 return_disk-requires-2 g c =
-    let state = g.S.Store.state in
     let disks = g.S.Disk in
-    let pages = pages_state disks.Pages.told disks.Pages.honest disks.Faults.steady disks.Faults.count disks.Pages.room disks.Pages.reads disks.Pages.may_leave in
-    let name = c.args.table.now in
-    let disk = pages c.in-Ok.disk in
-    let now = pages c.end.result in
     let out = c.in-Ok.ensures in
-    let kind = c.in-Ok-load.ensures.loaded.unwritten.stays in
-    let later = c.sign_over_net-ended.ensures.table.disk in
-    let end_is = c.end.ensures.disk in
-    let told : now.told ≡ disk.told = ap disks.Pages.told end_is ∙ later.told ∙ kind.told in
-    let honest : now.honest ≡ disk.honest = ap disks.Pages.honest end_is ∙ later.honest ∙ kind.honest in
-    let steady : now.steady ≡ disk.steady = ap disks.Faults.steady end_is ∙ later.steady ∙ kind.steady in
-    let same : handed disk ≡ handed now = cc in
+    let kept = c.sign_over_net-ended.ensures.table in
+    let named : (table_seen c.sign_over_net-ended.new.table).name ≡ (table_seen c.in-Ok-load.leaves).name = same_name kept.header kept.plan kept.disk.told kept.disk.honest kept.disk.steady in
+    let same = same_disk disks.Pages disks.Faults _ _ c.in-Ok.disk c.end.result c.in-Ok-load.leaves c.sign_over_net-ended.new.table c.in-Ok-load.ensures.loaded named c.end.ensures.disk in
     record {
-      out = λ is_told. out_here _ _ name disk (taken_out _ _ name disk out.taken out.onward) is_told ∙ ap Some same;
+      out = λ is_told. out_here _ _ c.args.table.now (disk_seen disks.Pages disks.Faults c.in-Ok.disk) (taken_out _ _ c.args.table.now _ out.taken out.onward) is_told ∙ ap Some same;
     }
