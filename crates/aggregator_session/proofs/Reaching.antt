@@ -82,7 +82,7 @@ call-after : (addresses : List Address) (ask : List ℕ) (s : State) (member : �
     → After addresses port after members
 call-after addresses ask s member port after members talks answer reply (nowhere none) is told steady reach = absurd (cc)
 call-after addresses ask s member port after members talks answer reply (undialled place a at onward rose same nobody) is told steady reach = absurd (cc)
-call-after addresses ask s member port after members talks answer reply (dialled place start talk calm a x at onward quiet dials asks) is told steady reach =
+call-after addresses ask s member port after members talks answer reply (dialled place start talk unchanged a x at onward quiet dials asks) is told steady reach =
     let there = found (place_of addresses member) place (λ (p : List ℕ). IsTrue (port.reaches p) × Apart addresses p members) at reach.0 in
     record {
       told = onward.told ∙ told;

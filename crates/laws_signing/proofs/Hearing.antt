@@ -96,7 +96,7 @@ pub record Came-as (answer : Result Reply SignFault) (new : Talk) (reply : Reply
 pub asked-hears : (s : State) (member : ℕ) (frame : List ℕ) (old new : Talk) (answer : Result Reply SignFault) (reply : Reply) (rest : List ℕ) → Asked s member frame old new answer
     → IsTrue old.told → new.count ≡ 0 → hear s member 8 old.left ≡ record { answer = Ok reply; rest = rest } → Came-as answer new reply rest
 asked-hears s member frame old new answer reply rest (unwritten only wrote rose) told quiet says = absurd (no-fault old.count new.count quiet rose)
-asked-hears s member frame old new answer reply rest (awaited mid a only calm wrote h) told quiet says = elim (h.heard (only.told ∙ told)) [
+asked-hears s member frame old new answer reply rest (awaited mid a only unchanged wrote h) told quiet says = elim (h.heard (only.told ∙ told)) [
   | inl heard ↦
       let here : record { answer = answer; rest = new.left } ≡ record { answer = Ok reply; rest = rest } = sym heard ∙ (ap (hear s member 8) only.left ∙ says) in
       record { answer_is = ap (λ (c : Came). c.answer) here; left = ap (λ (c : Came). c.rest) here }
@@ -126,7 +126,7 @@ taken-by s member reply true is hit =
 asked-answer : (s : State) (member : ℕ) (frame : List ℕ) (old new : Talk) (answer : Result Reply SignFault) (reply : Reply) → Asked s member frame old new answer → answer ≡ Ok reply
     → IsTrue (is_answer s member reply)
 asked-answer s member frame old new answer reply (unwritten only wrote rose) is = absurd (cc)
-asked-answer s member frame old new answer reply (awaited mid a only calm wrote h) is =
+asked-answer s member frame old new answer reply (awaited mid a only unchanged wrote h) is =
     subst (λ (r : Result Reply SignFault). IfOk r (λ x. IsTrue (is_answer s member x))) is h.taken
 
 pub asked-taken : (s : State) (member : ℕ) (frame : List ℕ) (old new : Talk) (answer : Result Reply SignFault) (reply : Reply) → Asked s member frame old new answer → answer ≡ Ok reply

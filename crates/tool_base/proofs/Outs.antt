@@ -7,8 +7,8 @@ use Rattle.std.specs.Str.{bytes_eq}
 use Rattle.stream_io.specs.Store.{PagesState, Returned, StoreOnward, StoreState, Taken, added, handed, has_name}
 use Rattle.tool_base.specs.Ending.{Ending}
 use Rattle.tool_base.specs.Touched.{EndsTouching, Keeps}
-use Rattle.tool_base.specs.World.{IsCalm, StoreRun, from_to}
-use Rattle.tool_base.proofs.Runs.{back_calm, onward_on}
+use Rattle.tool_base.specs.World.{IsUnchanged, StoreRun, from_to}
+use Rattle.tool_base.proofs.Runs.{back_unchanged, onward_on}
 use Rattle.tool_base.specs.Disks.{IsOut}
 
 -- A disk was out and is back, as it was at the end: the store keeps all but its name, which stands for this disk.
@@ -19,34 +19,34 @@ pub record IsBackAs (old : StoreState) (name : List ℕ) (disk : PagesState) (ne
   pub leaves : IsTrue old.told → (image : List ℕ) → new.leaves name image ↔ disk.may_leave image
   pub disk_count : new.disk_count ≡ min (old.disk_count + disk.count) (2 ^ 64 - 1)
 
-pub keeps_calm : (touched : List (List ℕ)) (a b : StoreState) → IsCalm a b → Keeps touched a b
-keeps_calm touched a b calm = record {
-  back = back_calm a b calm;
-  file = λ told name other. rw calm.same.names.file refl;
-  leaves = λ told name image other. calm.same.names.leaves name image;
+pub keeps_unchanged : (touched : List (List ℕ)) (a b : StoreState) → IsUnchanged a b → Keeps touched a b
+keeps_unchanged touched a b unchanged = record {
+  back = back_unchanged a b unchanged;
+  file = λ told name other. rw unchanged.same.names.file refl;
+  leaves = λ told name image other. unchanged.same.names.leaves name image;
 }
 
-pub ends_calm : (a b : StoreState) → IsCalm a b → (ends : Ending → List (List ℕ) → Type 0) (end : Ending) → ends end [] → EndsTouching ends (from_to a b) end
-ends_calm a b calm ends end is = record { touched = []; cause = is; keeps = keeps_calm [] a b calm }
+pub ends_unchanged : (a b : StoreState) → IsUnchanged a b → (ends : Ending → List (List ℕ) → Type 0) (end : Ending) → ends end [] → EndsTouching ends (from_to a b) end
+ends_unchanged a b unchanged ends end is = record { touched = []; cause = is; keeps = keeps_unchanged [] a b unchanged }
 
 pub ends_map : (run : StoreRun) (one two : Ending → List (List ℕ) → Type 0) (end : Ending) → EndsTouching one run end
     → ((touched : List (List ℕ)) → one end touched → two end touched) → EndsTouching two run end
 ends_map run one two end ends f = record { touched = ends.touched; cause = f ends.touched ends.cause; keeps = ends.keeps }
 
 -- a disk that is out since the first state of a run
-pub out_calm : (first a b : StoreState) (name : List ℕ) (disk : PagesState) → IsCalm first a → IsOut a name disk b → IsOut first name disk b
-out_calm first a b name disk calm out = record {
-  onward = onward_on first a b calm.onward out.onward;
-  told = λ told. out.told (rw calm.onward.told told);
-  steady = λ steady. out.steady (rw calm.onward.steady steady);
-  kind = λ told. sym (calm.onward.disks name) ∙ out.kind (rw calm.onward.told told);
-  was_in = λ told. rw (← calm.same.names.out) (out.was_in (rw calm.onward.told told));
-  file = λ told other differs. out.file (rw calm.onward.told told) other differs ∙ rw calm.same.names.file refl;
-  out = λ told other. rw (← calm.same.names.out) (out.out (rw calm.onward.told told) other);
-  others = λ told other image differs. let x = calm.same.names.leaves other image in let y = out.others (rw calm.onward.told told) other image differs in (λ z. x.0 (y.0 z), λ z. y.1 (x.1 z));
+pub out_unchanged : (first a b : StoreState) (name : List ℕ) (disk : PagesState) → IsUnchanged first a → IsOut a name disk b → IsOut first name disk b
+out_unchanged first a b name disk unchanged out = record {
+  onward = onward_on first a b unchanged.onward out.onward;
+  told = λ told. out.told (rw unchanged.onward.told told);
+  steady = λ steady. out.steady (rw unchanged.onward.steady steady);
+  kind = λ told. sym (unchanged.onward.disks name) ∙ out.kind (rw unchanged.onward.told told);
+  was_in = λ told. rw (← unchanged.same.names.out) (out.was_in (rw unchanged.onward.told told));
+  file = λ told other differs. out.file (rw unchanged.onward.told told) other differs ∙ rw unchanged.same.names.file refl;
+  out = λ told other. rw (← unchanged.same.names.out) (out.out (rw unchanged.onward.told told) other);
+  others = λ told other image differs. let x = unchanged.same.names.leaves other image in let y = out.others (rw unchanged.onward.told told) other image differs in (λ z. x.0 (y.0 z), λ z. y.1 (x.1 z));
   loans = record {
-    disk_count = out.loans.disk_count ∙ calm.same.loans.disk_count;
-    views = out.loans.views ∙ calm.same.loans.views;
+    disk_count = out.loans.disk_count ∙ unchanged.same.loans.disk_count;
+    views = out.loans.views ∙ unchanged.same.loans.views;
   };
 }
 

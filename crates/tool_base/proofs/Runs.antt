@@ -4,7 +4,7 @@ use Rattle.stream_io.specs.Store.{SameStore, StoreOnward, StoreState, Written}
 use Rattle.stream_io.specs.declared.store.Readers.{Readers}
 use Rattle.tool_base.specs.Ending.{Ending}
 use Rattle.tool_base.specs.Reads.{FailsUpTo, failed, too_long, no_memory}
-use Rattle.tool_base.specs.World.{IsBack, IsCalm, IsPart, from_to, Reading, Failed, TooLong, Bytes, IsReadUpTo}
+use Rattle.tool_base.specs.World.{IsBack, IsUnchanged, IsPart, from_to, Reading, Failed, TooLong, Bytes, IsReadUpTo}
 
 -- ---- states, one after another
 pub onward_none : (a : StoreState) → StoreOnward a a
@@ -20,8 +20,8 @@ onward_on a b c one two = record {
   disk_count = let x = one.disk_count in let y = two.disk_count in omega arith;
 }
 
-pub calm_none : (a : StoreState) → IsCalm a a
-calm_none a = record {
+pub unchanged_none : (a : StoreState) → IsUnchanged a a
+unchanged_none a = record {
   same = record {
     names = record { file = refl; leaves = λ name image. (λ x. x, λ x. x); out = refl };
     loans = record { disk_count = refl; views = refl };
@@ -29,8 +29,8 @@ calm_none a = record {
   onward = onward_none a;
 }
 
-pub calm_on : (a b c : StoreState) → IsCalm a b → IsCalm b c → IsCalm a c
-calm_on a b c one two = record {
+pub unchanged_on : (a b c : StoreState) → IsUnchanged a b → IsUnchanged b c → IsUnchanged a c
+unchanged_on a b c one two = record {
   same = record {
     names = record {
       file = two.same.names.file ∙ one.same.names.file;
@@ -45,11 +45,11 @@ calm_on a b c one two = record {
   onward = onward_on a b c one.onward two.onward;
 }
 
-pub back_calm : (a b : StoreState) → IsCalm a b → IsBack a b
-back_calm a b calm = record {
-  onward = calm.onward;
-  out = λ told name. rw calm.same.names.out refl;
-  views = λ told. calm.same.loans.views;
+pub back_unchanged : (a b : StoreState) → IsUnchanged a b → IsBack a b
+back_unchanged a b unchanged = record {
+  onward = unchanged.onward;
+  out = λ told name. rw unchanged.same.names.out refl;
+  views = λ told. unchanged.same.loans.views;
 }
 
 pub back_written : (first now after : StoreState) (name bytes : List ℕ) (who : Readers) → IsBack first now → Written now name bytes who after → StoreOnward now after → IsBack first after
@@ -67,7 +67,7 @@ back_same first now after back same onward = record {
 }
 
 -- ---- a part of a run, and the whole
-pub part_of : (first before after last : StoreState) → IsCalm first before → StoreOnward after last → IsPart first before after last
+pub part_of : (first before after last : StoreState) → IsUnchanged first before → StoreOnward after last → IsPart first before after last
 part_of first before after last earlier later = record { earlier = earlier; later = later }
 
 pub read_part : (first before after last : StoreState) → IsPart first before after last → (limit : ℕ) (name : List ℕ) (reading : Reading)

@@ -16,7 +16,7 @@ use Rattle.slot_file.specs.declared.header.LoadFault.{LoadFault}
 use Rattle.stream_io.specs.Store.{Handed, PagesState, Returned, StoreOnward, StoreState, Taken, added, handed, without}
 use Rattle.tool_base.specs.Ending.{Ending}
 use Rattle.tool_base.specs.Touched.{Keeps}
-use Rattle.tool_base.specs.World.{IsCalm, from_to}
+use Rattle.tool_base.specs.World.{IsUnchanged, from_to}
 use Rattle.tool_base.specs.Disks.{DeviceFails, Stays}
 use Rattle.tool_base.specs.Loads.{FailsToLoad, IsDamagedFile, IsOtherFile, ReadsAs, damaged, device, end_of_journal, end_of_slots, no_memory, other_file}
 use Rattle.tool_base.proofs.Outs.{IsBackAs, Round, back_as, out_same, round, taken_out}
@@ -85,32 +85,32 @@ module _ (a b c : StoreState) (name : List ℕ) (disk now : PagesState) (taken :
     journal_not_loaded version journal.Device refused succeeds cause = device (device_fails (cause.failed refl) (λ steady told. succeeds steady told refl))
 
 -- a disk that was taken where nothing but counts had changed
-pub taken_calm : (first a b : StoreState) (name : List ℕ) (disk : PagesState) → IsCalm first a → Taken a name disk b → Taken first name disk b
-taken_calm first a b name disk calm taken =
-    let t : IsTrue first.told → IsTrue a.told = λ told. rw calm.onward.told told in
+pub taken_unchanged : (first a b : StoreState) (name : List ℕ) (disk : PagesState) → IsUnchanged first a → Taken a name disk b → Taken first name disk b
+taken_unchanged first a b name disk unchanged taken =
+    let t : IsTrue first.told → IsTrue a.told = λ told. rw unchanged.onward.told told in
     record {
-      was_in = λ told. rw (← calm.same.names.out) (taken.was_in (t told));
+      was_in = λ told. rw (← unchanged.same.names.out) (taken.was_in (t told));
       given = record {
         fresh = taken.given.fresh;
         told = λ told. taken.given.told (t told);
-        steady = λ steady. taken.given.steady (rw calm.onward.steady steady);
+        steady = λ steady. taken.given.steady (rw unchanged.onward.steady steady);
       };
-      kind = λ told. sym (calm.onward.disks name) ∙ taken.kind (t told);
-      reads = λ told. rw (← calm.same.names.file) (taken.reads (t told));
+      kind = λ told. sym (unchanged.onward.disks name) ∙ taken.kind (t told);
+      reads = λ told. rw (← unchanged.same.names.file) (taken.reads (t told));
       room = λ told. taken.room (t told);
       images = λ told image.
           let x = taken.images (t told) image in
-          let y = calm.same.names.leaves name image in
+          let y = unchanged.same.names.leaves name image in
           (λ z. y.0 (x.0 z), λ z. x.1 (y.1 z));
-      file = λ told other. taken.file (t told) other ∙ ap (λ f. without f name other) calm.same.names.file;
-      out = λ told other. taken.out (t told) other ∙ ap (λ o. added o name (handed disk) other) calm.same.names.out;
+      file = λ told other. taken.file (t told) other ∙ ap (λ f. without f name other) unchanged.same.names.file;
+      out = λ told other. taken.out (t told) other ∙ ap (λ o. added o name (handed disk) other) unchanged.same.names.out;
       others = λ told other image differs.
           let x = taken.others (t told) other image differs in
-          let y = calm.same.names.leaves other image in
+          let y = unchanged.same.names.leaves other image in
           (λ z. y.0 (x.0 z), λ z. x.1 (y.1 z));
       loans = record {
-        disk_count = taken.loans.disk_count ∙ calm.same.loans.disk_count;
-        views = taken.loans.views ∙ calm.same.loans.views;
+        disk_count = taken.loans.disk_count ∙ unchanged.same.loans.disk_count;
+        views = taken.loans.views ∙ unchanged.same.loans.views;
       };
     }
 

@@ -11,7 +11,7 @@ use Rattle.stream_io.specs.Store.{OthersLeave, SameStore, StoreOnward, StoreStat
 use Rattle.tool_base.specs.Ending as spec
 use Rattle.tool_base.specs.Ending.{Ending}
 use Rattle.tool_base.specs.Outputs.{AreReadBy, AreStable, CallFailed, EndsWith, IsOther, FirstNotNew, IsLeft, IsNew, IsNotNew, test_failed, is_there, no_memory_to_name, IsNotWritten, write_failed, was_there, no_memory_to_write, Output, StopsAfter, all_added}
-use Rattle.tool_base.specs.World.{IsCalm, IsPart, StoreRun, from_to}
+use Rattle.tool_base.specs.World.{IsUnchanged, IsPart, StoreRun, from_to}
 use Rattle.tool_base.proofs.Runs.{onward_none, part_of}
 
 -- ---- a part of a run, and the whole
@@ -37,13 +37,13 @@ all_new_part first before after last p names new =
     All-weaker (IsNew (from_to before after)) (IsNew (from_to first last)) (λ name new. new_part first before after last p name new) names new
 
 -- a name that was new is so where nothing was changed since
-pub new_later : (first last now after : StoreState) → IsCalm first now → (name : List ℕ) → IsNew (from_to first last) name → IsNew (from_to now after) name
-new_later first last now after calm name new = λ told. rw (calm.same.names.file, calm.same.names.out) (new (rw (← calm.onward.told) told))
+pub new_later : (first last now after : StoreState) → IsUnchanged first now → (name : List ℕ) → IsNew (from_to first last) name → IsNew (from_to now after) name
+new_later first last now after unchanged name new = λ told. rw (unchanged.same.names.file, unchanged.same.names.out) (new (rw (← unchanged.onward.told) told))
 
-pub all_new_later : (first last now after : StoreState) → IsCalm first now → (names : List (List ℕ))
+pub all_new_later : (first last now after : StoreState) → IsUnchanged first now → (names : List (List ℕ))
     → All (IsNew (from_to first last)) names → All (IsNew (from_to now after)) names
-all_new_later first last now after calm names new =
-    All-weaker (IsNew (from_to first last)) (IsNew (from_to now after)) (λ name new. new_later first last now after calm name new) names new
+all_new_later first last now after unchanged names new =
+    All-weaker (IsNew (from_to first last)) (IsNew (from_to now after)) (λ name new. new_later first last now after unchanged name new) names new
 
 -- ---- an end that names a name
 pub there_or_no_memory : (run : StoreRun) (name : List ℕ) (end : Ending) → (end ≡ spec.NoMemory) ⊎ (end ≡ spec.Exists name)
@@ -122,24 +122,24 @@ all_last P [] y all = All-head P y [] all
 all_last P (x ∷ xs) y all = all_last P xs y (All-tail P x (xs ++ (y ∷ [])) all)
 
 -- nothing was written
-pub none_left : (first last : StoreState) → IsCalm first last → IsLeft (from_to first last) []
-none_left first last calm = record {
-  file = λ told name. rw calm.same.names.file (added_none first.file name);
+pub none_left : (first last : StoreState) → IsUnchanged first last → IsLeft (from_to first last) []
+none_left first last unchanged = record {
+  file = λ told name. rw unchanged.same.names.file (added_none first.file name);
   stable = λ told. All-nil (λ output. Only output.bytes (last.leaves output.name));
   readers = λ told. All-nil (IsReadBy last);
-  others = λ told name image other. calm.same.names.leaves name image;
+  others = λ told name image other. unchanged.same.names.leaves name image;
 }
 
 -- what was written in a part is what the whole leaves
-pub left_part : (first before last : StoreState) → IsCalm first before → (written : List Output) → IsLeft (from_to before last) written
+pub left_part : (first before last : StoreState) → IsUnchanged first before → (written : List Output) → IsLeft (from_to before last) written
     → IsLeft (from_to first last) written
-left_part first before last calm written left = record {
-  file = λ told name. rw (← calm.same.names.file) (left.file (rw calm.onward.told told) name);
-  stable = λ told. left.stable (rw calm.onward.told told);
-  readers = λ told. left.readers (rw calm.onward.told told);
+left_part first before last unchanged written left = record {
+  file = λ told name. rw (← unchanged.same.names.file) (left.file (rw unchanged.onward.told told) name);
+  stable = λ told. left.stable (rw unchanged.onward.told told);
+  readers = λ told. left.readers (rw unchanged.onward.told told);
   others = λ told name image other.
-      let x = calm.same.names.leaves name image in
-      let y = left.others (rw calm.onward.told told) name image other in
+      let x = unchanged.same.names.leaves name image in
+      let y = left.others (rw unchanged.onward.told told) name image other in
       (λ z. x.0 (y.0 z), λ z. y.1 (x.1 z));
 }
 
@@ -227,11 +227,11 @@ no_name store name file out has = let no : IsTrue false = rw (file, out) at has 
 absent_parts : (store : StoreState) (name : List ℕ) → has_name store name ≡ false → (store.file name ≡ None) × (store.out name ≡ None)
 absent_parts store name absent = none_of (store.file name) (store.out name) absent
 
-pub not_written_part : (first before last : StoreState) → IsCalm first before → (written : List Output) (name : List ℕ) (end : Ending)
+pub not_written_part : (first before last : StoreState) → IsUnchanged first before → (written : List Output) (name : List ℕ) (end : Ending)
     → IsNotWritten (from_to before last) written name end → IsNotWritten (from_to first last) written name end
-not_written_part first before last calm written name _ (write_failed f) = write_failed (failed_part first before last last (part_of first before last last calm (onward_none last)) f)
-not_written_part first before last calm written name _ (was_there untold) = was_there (λ told. untold (rw calm.onward.told told))
-not_written_part first before last calm written name _ no_memory_to_write = no_memory_to_write
+not_written_part first before last unchanged written name _ (write_failed f) = write_failed (failed_part first before last last (part_of first before last last unchanged (onward_none last)) f)
+not_written_part first before last unchanged written name _ (was_there untold) = was_there (λ told. untold (rw unchanged.onward.told told))
+not_written_part first before last unchanged written name _ no_memory_to_write = no_memory_to_write
 
 -- a file could not be written behind others that were
 pub stops_behind : (first now after : StoreState) (written : List Output) → StoreOnward first now → ((name : List ℕ) → IsTrue first.told → now.out name ≡ first.out name)
@@ -261,24 +261,24 @@ stops_after run f xs i x end h e left cause = record {
 }
 
 -- a part in which files were written, and the whole
-pub stopped_part : (first before last : StoreState) → IsCalm first before → (outputs : List Output) (end : Ending)
+pub stopped_part : (first before last : StoreState) → IsUnchanged first before → (outputs : List Output) (end : Ending)
     → EndsWith (λ end written. StopsAfter (from_to before last) outputs written end) (from_to before last) end
     → EndsWith (λ end written. StopsAfter (from_to first last) outputs written end) (from_to first last) end
-stopped_part first before last calm outputs end stop = record {
+stopped_part first before last unchanged outputs end stop = record {
   written = stop.written;
   cause = record {
     output = stop.cause.output;
     rest = stop.cause.rest;
     is = stop.cause.is;
-    cause = not_written_part first before last calm stop.written stop.cause.output.name end stop.cause.cause;
+    cause = not_written_part first before last unchanged stop.written stop.cause.output.name end stop.cause.cause;
   };
-  left = left_part first before last calm stop.written stop.left;
+  left = left_part first before last unchanged stop.written stop.left;
 }
 
 -- ---- how a command ends
-pub ends_untouched : (first last : StoreState) → IsCalm first last → (ends : Ending → List Output → Type 0) (end : Ending) → ends end []
+pub ends_untouched : (first last : StoreState) → IsUnchanged first last → (ends : Ending → List Output → Type 0) (end : Ending) → ends end []
     → EndsWith ends (from_to first last) end
-ends_untouched first last calm ends end cause = record { written = []; cause = cause; left = none_left first last calm }
+ends_untouched first last unchanged ends end cause = record { written = []; cause = cause; left = none_left first last unchanged }
 
 pub ends_stopped : (run : StoreRun) (outputs : List Output) (ends : Ending → List Output → Type 0) (end : Ending)
     → EndsWith (λ end written. StopsAfter run outputs written end) run end → ((written : List Output) → StopsAfter run outputs written end → ends end written)

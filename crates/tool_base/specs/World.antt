@@ -58,13 +58,13 @@ abbrev pub from_to : StoreState → StoreState → StoreRun
 from_to before after = record { before = before; after = after }
 
 -- nothing changed but that counts may have risen
-pub record IsCalm (old new : StoreState) : Type 0 where
+pub record IsUnchanged (old new : StoreState) : Type 0 where
   pub same : SameStore old new
   pub onward : StoreOnward old new
 
 -- a part of a run from its first state to its last: nothing changed before this part, and no count fell after it
 pub record IsPart (first before after last : StoreState) : Type 0 where
-  pub earlier : IsCalm first before
+  pub earlier : IsUnchanged first before
   pub later : StoreOnward after last
 
 -- In any run that a call is a part of, which took the store from one of these objects to the other: whatever the first

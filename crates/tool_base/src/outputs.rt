@@ -6,7 +6,7 @@ ghost use Rattle.tool_base.specs.Ending as spec;
 ghost use Rattle.tool_base.specs.Endings.{ending};
 ghost use Rattle.tool_base.specs.OutputOf.{output_of};
 ghost use Rattle.tool_base.specs.Outputs.{AreDifferent, EndsWith, FirstNotNew, IsLeft, IsNew, IsNotNew, StopsAfter};
-ghost use Rattle.tool_base.specs.World.{InAnyRun, IsBack, IsCalm, from_to};
+ghost use Rattle.tool_base.specs.World.{InAnyRun, IsBack, IsUnchanged, from_to};
 
 use crate::ending::Ending;
 use std::alloc::{AllocError, Global};
@@ -38,7 +38,7 @@ pub fn test_new<S: Store>(alloc: Global, store: &mut S, name: &str) -> Result<()
     ensures new { InAnyRun S.state store.old store.new (λ run. OnOk result (IsNew run name.now)) }
     ensures refused { InAnyRun S.state store.old store.new (λ run.
         IfErr result (λ end. IsNotNew run name.now (ending end))) }
-    ensures calm { IsCalm (S.state store.old) (S.state store.new) }
+    ensures unchanged { IsUnchanged (S.state store.old) (S.state store.new) }
 {
     match store.has(name) {
         Ok(false) => Ok(()),
@@ -58,7 +58,7 @@ pub fn test_all_new<S: Store>(
         OnOk result (All (IsNew run) (map (λ output. string_bytes output.name) outputs.now))) }
     ensures refused { InAnyRun S.state store.old store.new (λ run.
         IfErr result (λ end. FirstNotNew run (map (λ output. string_bytes output.name) outputs.now) (ending end))) }
-    ensures calm { IsCalm (S.state store.old) (S.state store.new) }
+    ensures unchanged { IsUnchanged (S.state store.old) (S.state store.new) }
 {
     'outputs: for output in outputs {
         test_new(alloc, store, output.name.as_str())?;
@@ -89,9 +89,9 @@ pub fn write_all<S: Store>(alloc: Global, store: &mut S, outputs: &[Output]) -> 
     requires differ { AreDifferent (map (λ output. string_bytes output.name) outputs.now) }
     requires new { All (IsNew (from_to (S.state store.old) (S.state store.old)))
         (map (λ output. string_bytes output.name) outputs.now) }
-    ensures written { (first : S) → IsCalm (S.state first) (S.state store.old)
+    ensures written { (first : S) → IsUnchanged (S.state first) (S.state store.old)
         → OnOk result (IsLeft (from_to (S.state first) (S.state store.new)) (map output_of outputs.now)) }
-    ensures refused { (first : S) → IsCalm (S.state first) (S.state store.old)
+    ensures refused { (first : S) → IsUnchanged (S.state first) (S.state store.old)
         → let run = from_to (S.state first) (S.state store.new) in IfErr result (λ end.
         EndsWith (λ end written. StopsAfter run (map output_of outputs.now) written end) run (ending end)) }
     ensures back { IsBack (S.state store.old) (S.state store.new) }

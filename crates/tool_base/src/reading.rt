@@ -4,7 +4,7 @@ ghost use Rattle.std.specs.Prelude.{◌≡◌, ◌⊎◌, IfOk, IfErr};
 ghost use Rattle.tool_base.specs.Ending as spec;
 ghost use Rattle.tool_base.specs.Endings.{ending};
 ghost use Rattle.tool_base.specs.Reads.{FailsUpTo};
-ghost use Rattle.tool_base.specs.World.{Bytes, InAnyRun, IsCalm, IsReadUpTo};
+ghost use Rattle.tool_base.specs.World.{Bytes, InAnyRun, IsUnchanged, IsReadUpTo};
 
 use crate::ending::Ending;
 use std::alloc::{AllocError, Global};
@@ -31,7 +31,7 @@ pub fn read_file<S: Store>(
         IfOk result (λ bytes. IsReadUpTo limit run name.now (Bytes bytes.items))) }
     ensures refused { InAnyRun S.state store.old store.new (λ run.
         IfErr result (λ end. FailsUpTo limit run name.now (ending end))) }
-    ensures calm { IsCalm (S.state store.old) (S.state store.new) }
+    ensures unchanged { IsUnchanged (S.state store.old) (S.state store.new) }
 {
     match store.read_all(alloc, name, limit) {
         Ok(bytes) => Ok(bytes),

@@ -4,7 +4,7 @@ ghost use Rattle.std.specs.Prelude.{◌≡◌, ◌⊎◌, IfOk, IfErr};
 ghost use Rattle.tool_base.specs.Ending as spec;
 ghost use Rattle.tool_base.specs.Endings.{ending};
 ghost use Rattle.tool_base.specs.Grammars.{FailsGrammar, IsShareRead, share_fault_number};
-ghost use Rattle.tool_base.specs.World.{InAnyRun, IsCalm};
+ghost use Rattle.tool_base.specs.World.{InAnyRun, IsUnchanged};
 
 use crate::FILE_LIMIT;
 use crate::ending::Ending;
@@ -19,7 +19,7 @@ pub fn read_share_file<S: Store>(alloc: Global, store: &mut S, name: &str) -> Re
     ensures refused { InAnyRun S.state store.old store.new (λ run.
         IfErr result (λ end. (ending end ≡ spec.NoMemory) ⊎ FailsGrammar share_fault_number run name.now
         (ending end))) }
-    ensures calm { IsCalm (S.state store.old) (S.state store.new) }
+    ensures unchanged { IsUnchanged (S.state store.old) (S.state store.new) }
 {
     let bytes = read_file(alloc, store, name, FILE_LIMIT)?;
     match read_share(&bytes) {

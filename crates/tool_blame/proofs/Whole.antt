@@ -9,16 +9,16 @@ use Rattle.share_files.specs.declared.reference.RefHeader.{RefHeader}
 use Rattle.stream_io.specs.Net.{NetState}
 use Rattle.stream_io.specs.Store.{PagesState, StoreOnward, StoreState, ViewEnded, Viewed, has_name}
 use Rattle.tool_base.proofs.Nets.{net_none}
-use Rattle.tool_base.proofs.Runs.{calm_none, onward_on}
+use Rattle.tool_base.proofs.Runs.{unchanged_none, onward_on}
 use Rattle.tool_base.specs.Ending.{Ending}
 use Rattle.tool_base.specs.Endings as endings
 use Rattle.tool_base.specs.Outputs.{IsNew, IsNotNew}
 use Rattle.tool_base.specs.Touched.{Keeps}
-use Rattle.tool_base.specs.World.{Bytes, Failed, IsBack, IsCalm, IsNetBack, file_limit, from_to}
+use Rattle.tool_base.specs.World.{Bytes, Failed, IsBack, IsUnchanged, IsNetBack, file_limit, from_to}
 use Rattle.tool_base.specs.declared.ending.Ending as declared
 use Rattle.tool_desk.specs.Files.{reference_name}
 use Rattle.tool_desk.specs.declared.files.KeyFiles.{KeyFiles}
-use Rattle.tool_base.proofs.Outs.{keeps_calm}
+use Rattle.tool_base.proofs.Outs.{keeps_unchanged}
 use Rattle.tool_blame.specs.Blame.{EndsNaming, BlameRun, FailsToBegin, NamingRun}
 use Rattle.tool_blame.specs.Blame as blame
 use Rattle.tool_blame.specs.Commits.{AreCommitsViewed, AreNoCommits, FailsCommits, GoesWithReference, ReadsCommits, commits_name}
@@ -42,8 +42,8 @@ use Rattle.tool_sign.specs.Writes as writes
 use Rattle.tool_words.specs.Words.{SignWords}
 
 -- the name of the signature was not found new
-pub run_taken : (words : SignWords) (a d : StoreState) (net : NetState) (end : Ending) → IsCalm a d → IsNotNew (from_to a d) words.out end → BlameRun words (from_to a d) (over_net net net) end
-run_taken words a d net end calm fails = record { touched = []; ends = blame.not_new end fails refl; keeps = keeps_calm [] a d calm; ports = net_none net }
+pub run_taken : (words : SignWords) (a d : StoreState) (net : NetState) (end : Ending) → IsUnchanged a d → IsNotNew (from_to a d) words.out end → BlameRun words (from_to a d) (over_net net net) end
+run_taken words a d net end unchanged fails = record { touched = []; ends = blame.not_new end fails refl; keeps = keeps_unchanged [] a d unchanged; ports = net_none net }
 
 -- nothing was begun
 pub unbegun : (words : SignWords) (a e : StoreState) (net : NetState) (end : declared.Ending) → Keeps [] a e
@@ -65,8 +65,8 @@ both_views a b c one two = record {
   onward = onward_on a b c one.onward two.onward;
 }
 
-calm_views : (a b : StoreState) → IsCalm a b → SameButViews a b
-calm_views a b calm = record { names = calm.same.names; onward = calm.onward }
+unchanged_views : (a b : StoreState) → IsUnchanged a b → SameButViews a b
+unchanged_views a b unchanged = record { names = unchanged.same.names; onward = unchanged.onward }
 
 -- a message that was had while views were out was had, however the run goes on
 goes_in : (a b c d : StoreState) → SameButViews a b → (words : SessionWords) (name : List ℕ) (files : KeyFiles) (header : RefHeader) (message members : List ℕ) (addresses : List Address)
@@ -98,25 +98,25 @@ module _ (a b c d : StoreState) (goes : SameButViews a b) (same : b.disk_count �
     lacks_in _ (tasks.no_coalition message read one never) = tasks.no_coalition message (read_in a b c d goes same comes message_limit name (Bytes message) read) one never
 
 -- from the state before the view of the reference to that after it
-module _ (words : SignWords) (files : KeyFiles) (header : RefHeader) (a x b : StoreState) (view : PagesState) (calm : IsCalm a x)
+module _ (words : SignWords) (files : KeyFiles) (header : RefHeader) (a x b : StoreState) (view : PagesState) (unchanged : IsUnchanged a x)
     (viewed : Viewed x (reference_name words.prefix) view b) (out : StoreOnward x b) where
   goes_b : SameButViews a b
-  goes_b = out_view a x b (reference_name words.prefix) view calm viewed out
+  goes_b = out_view a x b (reference_name words.prefix) view unchanged viewed out
 
   count_b : b.disk_count ≡ a.disk_count
-  count_b = viewed.disk_count ∙ calm.same.loans.disk_count
+  count_b = viewed.disk_count ∙ unchanged.same.loans.disk_count
 
   -- there were no commitments
   pub run_without : (v d : StoreState) (ended : ViewEnded v view d) (comes : StoreOnward v d) (net : NetState) (end : declared.Ending) → Keeps [] b v → HasFiles (session_words words) (from_to a d) files header
       → FailsCommits (from_to b v) (commits_name words.prefix) header (endings.ending end) → NamingRun words a d (over_net net net) (Err end)
   run_without v d ended comes net end keeps has fails =
-      unbegun words a d net end (whole_keeps files header a x b b (reference_name words.prefix) view calm viewed out (calm_none b) v d view ended comes [] keeps)
+      unbegun words a d net end (whole_keeps files header a x b b (reference_name words.prefix) view unchanged viewed out (unchanged_none b) v d view ended comes [] keeps)
       (blame.no_commits files header (endings.ending end) has (no_commits_in a b v d goes_b count_b (back_view v d view ended comes) (commits_name words.prefix) header (endings.ending end) fails))
 
   -- and on to that after the view of the commitments, and to that once the message was read
-  module _ (v p : StoreState) (beside : PagesState) (besides : Viewed b (commits_name words.prefix) beside v) (on : StoreOnward b v) (task : IsCalm v p) where
+  module _ (v p : StoreState) (beside : PagesState) (besides : Viewed b (commits_name words.prefix) beside v) (on : StoreOnward b v) (task : IsUnchanged v p) where
     goes_v : SameButViews a v
-    goes_v = both_views a b v goes_b (out_view b b v (commits_name words.prefix) beside (calm_none b) besides on)
+    goes_v = both_views a b v goes_b (out_view b b v (commits_name words.prefix) beside (unchanged_none b) besides on)
 
     count_v : v.disk_count ≡ a.disk_count
     count_v = besides.disk_count ∙ count_b
@@ -128,14 +128,14 @@ module _ (words : SignWords) (files : KeyFiles) (header : RefHeader) (a x b : St
 
       pub all_keep : (touched : List (List ℕ)) → Keeps touched p c → Keeps touched a d
       all_keep touched keeps =
-          whole_keeps files header a x b b (reference_name words.prefix) view calm viewed out (calm_none b) e d now ended comes touched
-          (whole_keeps files header b b v p (commits_name words.prefix) beside (calm_none b) besides on task c e beside_now first back touched keeps)
+          whole_keeps files header a x b b (reference_name words.prefix) view unchanged viewed out (unchanged_none b) e d now ended comes touched
+          (whole_keeps files header b b v p (commits_name words.prefix) beside (unchanged_none b) besides on task c e beside_now first back touched keeps)
 
       pub all_end : (s : Signing) (table : List ℕ) (net : NetRun) (answer : Result Signature Ending) (touched : List (List ℕ)) (ends : TableEnds s table (from_to p c) net answer touched)
           → EndsWider s table (from_to a d) net answer touched (last_in ends)
       all_end s table net answer touched ends =
-          let inner = whole_ends files header b b v p (commits_name words.prefix) beside (calm_none b) besides on task c e beside_now first back s table net answer touched ends in
-          let outer = whole_ends files header a x b b (reference_name words.prefix) view calm viewed out (calm_none b) e d now ended comes s table net answer touched inner.ends in
+          let inner = whole_ends files header b b v p (commits_name words.prefix) beside (unchanged_none b) besides on task c e beside_now first back s table net answer touched ends in
+          let outer = whole_ends files header a x b b (reference_name words.prefix) view unchanged viewed out (unchanged_none b) e d now ended comes s table net answer touched inner.ends in
           record { ends = outer.ends; last_is = outer.last_is ∙ inner.last_is }
 
       pub all_goes : (message members : List ℕ) (addresses : List Address) → GoesWith (session_words words) (message_in (from_to v p) words.message) files header message members addresses
@@ -168,9 +168,9 @@ module _ (words : SignWords) (files : KeyFiles) (header : RefHeader) (a x b : St
         → HasFiles (session_words words) (from_to a d) files header → AreCommitsViewed (from_to b v) (commits_name words.prefix) header
         → LacksTask (session_words words) (message_in (from_to v p) words.message) files header (endings.ending end) → NamingRun words a d (over_net net net) (Err end)
     run_lacking e d first back ended comes net end has are lacks =
-        unbegun words a d net end (all_keep p e d beside view first back ended comes [] (keeps_calm [] p p (calm_none p)))
+        unbegun words a d net end (all_keep p e d beside view first back ended comes [] (keeps_unchanged [] p p (unchanged_none p)))
         (blame.no_task files header (endings.ending end) has
-        (commits_in a b v d goes_b count_b (both_views v p d (calm_views v p task) (both_back p e d beside view first back ended comes)) (commits_name words.prefix) header are)
+        (commits_in a b v d goes_b count_b (both_views v p d (unchanged_views v p task) (both_back p e d beside view first back ended comes)) (commits_name words.prefix) header are)
         (lacks_in a v p d goes_v count_v (both_back p e d beside view first back ended comes) (session_words words) words.message files header (endings.ending end) lacks))
 
 -- the answer that is told is a signature: so it was

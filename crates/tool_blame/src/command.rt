@@ -1,7 +1,7 @@
 //! The command `blame`.
 
 ghost use Rattle.tool_base.specs.Endings.{ending};
-ghost use Rattle.tool_base.specs.World.{IsCalm, from_to};
+ghost use Rattle.tool_base.specs.World.{IsUnchanged, from_to};
 ghost use Rattle.tool_blame.specs.Blame.{BlameRun, NamingRun};
 ghost use Rattle.tool_sign.specs.Ports.{over_net};
 ghost use Rattle.tool_words.specs.Rows.{sign_words};
@@ -43,7 +43,7 @@ fn sign_or_name<S: Store, N: Net>(
     store: &mut S,
     net: &mut N,
 ) -> Result<SignedBy, Ending>
-    ensures { (first : S) → IsCalm (S.state first) (S.state store.old)
+    ensures { (first : S) → IsUnchanged (S.state first) (S.state store.old)
         → NamingRun (sign_words words.now) (S.state first) (S.state store.new)
         (over_net (N.state net.old) (N.state net.new)) result }
 {

@@ -11,7 +11,7 @@ use Rattle.stream_io.specs.Store.{PagesState, StoreOnward, StoreState, ViewEnded
 use Rattle.tool_base.proofs.Runs.{onward_none, onward_on}
 use Rattle.tool_base.specs.Ending.{Ending}
 use Rattle.tool_base.specs.Touched.{Keeps}
-use Rattle.tool_base.specs.World.{IsCalm, IsRead, Failed, from_to}
+use Rattle.tool_base.specs.World.{IsUnchanged, IsRead, Failed, from_to}
 use Rattle.tool_desk.specs.Reference.{FailsReference, IsNoReference, IsReferenceOf, device, no_memory, no_view, not_in_grammar}
 use Rattle.tool_base.specs.Disks.{DeviceFails}
 use Rattle.tool_base.specs.Loads.{ReadsAs}
@@ -209,13 +209,13 @@ view_before a b count name view out is = record {
   reads = λ told. sym (out.file told name) ∙ is.reads (rw out.onward.told told);
 }
 
-pub out_calm : (a b : StoreState) → IsCalm a b → ViewsOut a 0 b
-out_calm a b calm = record {
-  onward = calm.onward;
-  file = λ told name. ap (λ f. f name) calm.same.names.file;
-  leaves = λ told name image. calm.same.names.leaves name image;
-  out = λ told name. ap (λ f. f name) calm.same.names.out;
-  views = λ told. (let x = calm.same.loans.views in omega (arith, x));
+pub out_unchanged : (a b : StoreState) → IsUnchanged a b → ViewsOut a 0 b
+out_unchanged a b unchanged = record {
+  onward = unchanged.onward;
+  file = λ told name. ap (λ f. f name) unchanged.same.names.file;
+  leaves = λ told name image. unchanged.same.names.leaves name image;
+  out = λ told name. ap (λ f. f name) unchanged.same.names.out;
+  views = λ told. (let x = unchanged.same.loans.views in omega (arith, x));
 }
 
 -- the first cells and those behind them

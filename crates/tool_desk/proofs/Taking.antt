@@ -4,10 +4,10 @@ use Rattle.stream_io.specs.Store.{StoreOnward, StoreState}
 use Rattle.tool_base.specs.Ending.{Ending}
 use Rattle.tool_base.specs.Endings as endings
 use Rattle.tool_base.specs.Touched.{Keeps}
-use Rattle.tool_base.specs.World.{InAnyRun, IsCalm, StoreRun}
+use Rattle.tool_base.specs.World.{InAnyRun, IsUnchanged, StoreRun}
 use Rattle.tool_base.specs.declared.ending.Ending as declared
 use Rattle.tool_desk.specs.Views.{TakesViews}
-use Rattle.tool_desk.proofs.Outs.{kept_none, out_calm}
+use Rattle.tool_desk.proofs.Outs.{kept_none, out_unchanged}
 
 module _ {S T : Type 0} (state : S → StoreState) (old new : S) (Found : StoreRun → T → Type 0) (Fails : StoreRun → Ending → Type 0) where
   -- it hands something out
@@ -19,5 +19,5 @@ module _ {S T : Type 0} (state : S → StoreState) (old new : S) (Found : StoreR
   refuses end why keeps = record { found = λ first last part. tt; refused = why; keeps = keeps; onward = keeps.back.onward }
 
   -- it refuses where nothing changed
-  pub refuses_calmly : (end : declared.Ending) → InAnyRun state old new (λ run. Fails run (endings.ending end)) → IsCalm (state old) (state new) → TakesViews state old new (Err end) Found Fails
-  refuses_calmly end why calm = refuses end why (kept_none _ _ (out_calm _ _ calm))
+  pub refuses_unchanged : (end : declared.Ending) → InAnyRun state old new (λ run. Fails run (endings.ending end)) → IsUnchanged (state old) (state new) → TakesViews state old new (Err end) Found Fails
+  refuses_unchanged end why unchanged = refuses end why (kept_none _ _ (out_unchanged _ _ unchanged))

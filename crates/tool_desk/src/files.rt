@@ -3,7 +3,7 @@
 ghost use Rattle.std.specs.Prelude.{◌≡◌, ◌⊎◌, ◌↔◌, ◌++◌, string_bytes, IfOk, IfErr, OnOk, IsTrue};
 ghost use Rattle.tool_base.specs.Ending as spec;
 ghost use Rattle.tool_base.specs.Endings.{ending};
-ghost use Rattle.tool_base.specs.World.{InAnyRun, IsCalm};
+ghost use Rattle.tool_base.specs.World.{InAnyRun, IsUnchanged};
 ghost use Rattle.tool_desk.specs.Files.{AreKeyFiles, AreOfOneKey, FailsKeyFiles, HaveSizesOf, IsOfKey, IsOfOtherKey};
 
 use crate::reading::{read_key_file, read_tree_file};
@@ -35,7 +35,7 @@ pub fn read_key_and_tree<S: Store>(
     ensures files { InAnyRun S.state store.old store.new (λ run. IfOk result (AreKeyFiles run prefix.now)) }
     ensures refused { InAnyRun S.state store.old store.new (λ run.
         IfErr result (λ end. FailsKeyFiles run prefix.now (ending end))) }
-    ensures calm { IsCalm (S.state store.old) (S.state store.new) }
+    ensures unchanged { IsUnchanged (S.state store.old) (S.state store.new) }
 {
     let name = file_name(alloc, prefix, ".pub")?;
     let key = read_key_file(alloc, store, name.as_str())?;

@@ -2,7 +2,7 @@
 
 ghost use Rattle.std.specs.Prelude.{IfOk, IfErr};
 ghost use Rattle.tool_base.specs.Endings.{ending};
-ghost use Rattle.tool_base.specs.World.{InAnyRun, IsCalm};
+ghost use Rattle.tool_base.specs.World.{InAnyRun, IsUnchanged};
 ghost use Rattle.tool_desk.specs.Key.{FailsKey, IsKeyRead};
 ghost use Rattle.tool_desk.specs.Tree.{FailsTree, IsTreeRead};
 
@@ -24,7 +24,7 @@ pub fn read_key_file<S: Store>(
     ensures key { InAnyRun S.state store.old store.new (λ run. IfOk result (IsKeyRead run name.now)) }
     ensures refused { InAnyRun S.state store.old store.new (λ run.
         IfErr result (λ end. FailsKey run name.now (ending end))) }
-    ensures calm { IsCalm (S.state store.old) (S.state store.new) }
+    ensures unchanged { IsUnchanged (S.state store.old) (S.state store.new) }
 {
     let bytes = read_file(alloc, store, name, FILE_LIMIT)?;
     match read_public(&bytes) {
@@ -42,7 +42,7 @@ pub fn read_tree_file<S: Store>(
     ensures tree { InAnyRun S.state store.old store.new (λ run. IfOk result (IsTreeRead run name.now)) }
     ensures refused { InAnyRun S.state store.old store.new (λ run.
         IfErr result (λ end. FailsTree run name.now (ending end))) }
-    ensures calm { IsCalm (S.state store.old) (S.state store.new) }
+    ensures unchanged { IsUnchanged (S.state store.old) (S.state store.new) }
 {
     let bytes = read_file(alloc, store, name, FILE_LIMIT)?;
     let view = match read_tree(&bytes) {

@@ -11,7 +11,7 @@ use Rattle.stream_io.specs.declared.store.Readers.TheVariants.{OwnerAlone}
 use Rattle.stream_io.specs.declared.store.NewFault.TheVariants.{Exists, Failed, NoMemory}
 use Rattle.tool_base.specs.Ending.{Ending}
 use Rattle.tool_base.specs.Outputs.{IsNew, IsNotNew, CallFailed, test_failed, no_memory_to_name}
-use Rattle.tool_base.specs.World.{IsCalm, StoreRun, from_to}
+use Rattle.tool_base.specs.World.{IsUnchanged, StoreRun, from_to}
 use Rattle.tool_base.proofs.Writing.{there_or_no_memory}
 use Rattle.tool_base.specs.Disks.{DeviceFails}
 use Rattle.tool_journals.specs.Blanks.{IsBlankDisk, IsMade, IsNeverHalf, IsNotMade, IsOwners, device, not_empty}
@@ -47,8 +47,8 @@ made_out a b name size disk made onward = record {
   loans = made.loans;
 }
 
-pub new_calm : (first a b : StoreState) (name : List ℕ) → IsCalm first a → IsNew (from_to a b) name → (c : StoreState) → IsNew (from_to first c) name
-new_calm first a b name calm new c = λ told. rw (← calm.same.names.file, ← calm.same.names.out) (new (rw calm.onward.told told))
+pub new_unchanged : (first a b : StoreState) (name : List ℕ) → IsUnchanged first a → IsNew (from_to a b) name → (c : StoreState) → IsNew (from_to first c) name
+new_unchanged first a b name unchanged new c = λ told. rw (← unchanged.same.names.file, ← unchanged.same.names.out) (new (rw unchanged.onward.told told))
 
 -- who may read a file that was made in a run stays so
 pub owners_on : (first a b c : StoreState) (name : List ℕ) → StoreOnward first a → StoreOnward a b → StoreOnward b c → IsOwners (from_to a b) name → IsOwners (from_to first c) name
@@ -74,12 +74,12 @@ made_and_back old mid last name size before now made goes told honest steady ret
       owners = owners_on old old mid last name (onward_none old) goes comes made.readers;
     }
 
-pub made_of : (first a b c : StoreState) (name : List ℕ) (header : Header) (count : ℕ) (disk : PagesState) → IsCalm first a
+pub made_of : (first a b c : StoreState) (name : List ℕ) (header : Header) (count : ℕ) (disk : PagesState) → IsUnchanged first a
     → IsBlankDisk a name header count disk b → IsBackAs first name disk c → StoreOnward b c → IsMade (from_to first c) name header count
-made_of first a b c name header count disk calm blank back onward = record {
-  new = new_calm first a b name calm blank.absent c;
-  file = λ told. back.file told ∙ ap Some (blank.file (rw calm.onward.told told)).0;
-  blank = λ told. let is = blank.file (rw calm.onward.told told) in subst (λ f. IsBlank header count f) is.0 is.1;
+made_of first a b c name header count disk unchanged blank back onward = record {
+  new = new_unchanged first a b name unchanged blank.absent c;
+  file = λ told. back.file told ∙ ap Some (blank.file (rw unchanged.onward.told told)).0;
+  blank = λ told. let is = blank.file (rw unchanged.onward.told told) in subst (λ f. IsBlank header count f) is.0 is.1;
   stable = search rules;
-  owners = owners_on first a b c name calm.onward blank.is_out.onward onward blank.owners;
+  owners = owners_on first a b c name unchanged.onward blank.is_out.onward onward blank.owners;
 }

@@ -7,7 +7,7 @@ ghost use Rattle.stream_io.specs.Store.{pages_state};
 ghost use Rattle.tool_base.specs.Endings.{ending};
 ghost use Rattle.tool_base.specs.Reads.{FailsToRead};
 ghost use Rattle.tool_base.specs.Touched.{EndsTouching};
-ghost use Rattle.tool_base.specs.World.{InAnyRun, IsCalm, from_to};
+ghost use Rattle.tool_base.specs.World.{InAnyRun, IsUnchanged, from_to};
 ghost use Rattle.tool_journals.specs.Adding.{AddEnds, DiskFails, disk_run};
 ghost use Rattle.tool_journals.specs.Approve.{ApproveEnds, IsBookDisk, IsMessageRead, IsNotOpened};
 
@@ -57,7 +57,7 @@ fn read_message<S: Store>(alloc: Global, store: &mut S, name: &str) -> Result<Me
         IfOk result (λ id. IsMessageRead run name.now (message_id_bytes id))) }
     ensures refused { InAnyRun S.state store.old store.new (λ run.
         IfErr result (λ end. FailsToRead run name.now (ending end))) }
-    ensures calm { IsCalm (S.state store.old) (S.state store.new) }
+    ensures unchanged { IsUnchanged (S.state store.old) (S.state store.new) }
 {
     let text = read_file(alloc, store, name, FILE_LIMIT)?;
     Ok(MessageId::of(&text))
@@ -74,7 +74,7 @@ fn open_book<S: Store>(
     ensures opened { IfOk result (λ disk. IsBookDisk (S.state store.old) book.now blank.now.header
         (pages_state S.Disk.told S.Disk.honest S.Disk.steady S.Disk.count S.Disk.room S.Disk.reads S.Disk.may_leave
         disk) (S.state store.new)) }
-    ensures refused { (first : S) → IsCalm (S.state first) (S.state store.old)
+    ensures refused { (first : S) → IsUnchanged (S.state first) (S.state store.old)
         → let run = from_to (S.state first) (S.state store.new) in IfErr result (λ end.
         EndsTouching (IsNotOpened run book.now blank.now.header) run (ending end)) }
 {

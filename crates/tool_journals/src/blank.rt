@@ -5,7 +5,7 @@ ghost use Rattle.slot_file.specs.Layout.{file_size};
 ghost use Rattle.stream_io.specs.Store.{pages_state};
 ghost use Rattle.tool_base.specs.Endings.{ending};
 ghost use Rattle.tool_base.specs.Touched.{EndsTouching};
-ghost use Rattle.tool_base.specs.World.{IsCalm, from_to};
+ghost use Rattle.tool_base.specs.World.{IsUnchanged, from_to};
 ghost use Rattle.tool_base.specs.Headers.{book_header};
 ghost use Rattle.tool_journals.specs.Blanks.{IsBlankDisk, IsNotMade};
 ghost use Rattle.trustee_core.specs.Trustee.{journal_header};
@@ -68,7 +68,7 @@ pub(crate) fn new_blank<S: Store>(
     ensures made { IfOk result (λ disk. IsBlankDisk (S.state store.old) name.now blank.now.header blank.now.count
         (pages_state S.Disk.told S.Disk.honest S.Disk.steady S.Disk.count S.Disk.room S.Disk.reads S.Disk.may_leave
         disk) (S.state store.new)) }
-    ensures refused { (first : S) → IsCalm (S.state first) (S.state store.old)
+    ensures refused { (first : S) → IsUnchanged (S.state first) (S.state store.old)
         → let run = from_to (S.state first) (S.state store.new) in IfErr result (λ end.
         EndsTouching (IsNotMade run name.now blank.now.header blank.now.count) run (ending end)) }
 {

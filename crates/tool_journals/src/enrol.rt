@@ -4,7 +4,7 @@ ghost use Rattle.std.specs.Prelude.{◌≡◌, ◌^◌, None, Some, IfOk, OnOk, 
 ghost use Rattle.tool_base.specs.Endings.{ending};
 ghost use Rattle.tool_base.specs.Grammars.{FailsGrammar};
 ghost use Rattle.tool_base.specs.Touched.{EndsTouching};
-ghost use Rattle.tool_base.specs.World.{InAnyRun, IsCalm, from_to};
+ghost use Rattle.tool_base.specs.World.{InAnyRun, IsUnchanged, from_to};
 ghost use Rattle.tool_journals.specs.Enrol.{EnrolEnds, GoWith, IsEnrolled, enrol_fault};
 ghost use Rattle.tool_journals.specs.Enrol.{enrol_fault_number, table_header};
 
@@ -41,7 +41,7 @@ fn read_blank<S: Store>(alloc: Global, store: &mut S, file: &str) -> Result<Blan
         IfOk result (λ blank. IsEnrolled run file.now blank.header blank.count)) }
     ensures refused { InAnyRun S.state store.old store.new (λ run.
         IfErr result (λ end. FailsGrammar enrol_fault_number run file.now (ending end))) }
-    ensures calm { IsCalm (S.state store.old) (S.state store.new) }
+    ensures unchanged { IsUnchanged (S.state store.old) (S.state store.new) }
 {
     let bytes = read_file(alloc, store, file, FILE_LIMIT)?;
     match blank_of(&bytes) {

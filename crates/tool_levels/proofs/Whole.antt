@@ -14,8 +14,8 @@ use Rattle.tool_base.proofs.Nets.{net_none}
 use Rattle.tool_base.specs.Ending.{Ending}
 use Rattle.tool_base.specs.Outputs.{AreDifferent, IsLeft, IsNew, Output}
 use Rattle.tool_base.specs.Touched.{Keeps}
-use Rattle.tool_base.specs.World.{IsBack, IsCalm, IsNetBack, from_to}
-use Rattle.tool_base.proofs.Outs.{keeps_calm}
+use Rattle.tool_base.specs.World.{IsBack, IsUnchanged, IsNetBack, from_to}
+use Rattle.tool_base.proofs.Outs.{keeps_unchanged}
 use Rattle.tool_levels.proofs.Written.{IsForAnyone, are_written, first_ones, keeps_written, new_since, others_leave, others_read, read_before, stops_later}
 use Rattle.tool_levels.specs.HssSign.{HssSignEnds, HssSigningRun, LevelsEnd, SignsLower, names_of, session_words, two_levels}
 use Rattle.tool_levels.specs.HssSign as hss
@@ -29,9 +29,9 @@ use Rattle.tool_sign.specs.Tasks.{message_of}
 use Rattle.tool_words.specs.Words.{HssSignWords}
 
 -- nothing was begun
-pub unbegun : (words : HssSignWords) (a b : StoreState) (net : NetState) (end : Ending) → IsCalm a b → HssSignEnds words (from_to a b) (over_net net net) end []
+pub unbegun : (words : HssSignWords) (a b : StoreState) (net : NetState) (end : Ending) → IsUnchanged a b → HssSignEnds words (from_to a b) (over_net net net) end []
     → HssSigningRun words (from_to a b) (over_net net net) end
-unbegun words a b net end calm ends = record { touched = []; ends = ends; keeps = keeps_calm [] a b calm; ports = net_none net }
+unbegun words a b net end unchanged ends = record { touched = []; ends = ends; keeps = keeps_unchanged [] a b unchanged; ports = net_none net }
 
 pub two_differ : (a b : List ℕ) → a ≢ b → AreDifferent (a ∷ b ∷ [])
 two_differ a b other = (All-cons (λ name. a ≢ name) b [] other (All-nil (λ name. a ≢ name)), (All-nil (λ name. b ≢ name), tt))

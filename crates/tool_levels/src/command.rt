@@ -3,7 +3,7 @@
 ghost use Rattle.std.specs.Prelude.{◌≢◌};
 ghost use Rattle.lms_bytes.specs.PublicKey.{public_bytes};
 ghost use Rattle.tool_base.specs.Endings.{ending};
-ghost use Rattle.tool_base.specs.World.{IsCalm, from_to};
+ghost use Rattle.tool_base.specs.World.{IsUnchanged, from_to};
 ghost use Rattle.tool_levels.specs.HssSign.{HssSigningRun, session_words};
 ghost use Rattle.tool_sign.specs.Ports.{over_net};
 ghost use Rattle.tool_sign.specs.Sessions.{SessionRun};
@@ -52,7 +52,7 @@ fn sign_lower<S: Store, N: Net>(
     store: &mut S,
     net: &mut N,
 ) -> Result<SignedBy, Ending>
-    ensures { (first : S) → IsCalm (S.state first) (S.state store.old)
+    ensures { (first : S) → IsUnchanged (S.state first) (S.state store.old)
         → SessionRun (session_words (hss_sign_words words.now)) (λ store. message_of (public_bytes lower.now))
         (S.state first) (S.state store.new) (over_net (N.state net.old) (N.state net.new)) result }
 {

@@ -5,7 +5,7 @@ ghost use Rattle.stream_io.specs.Net.{NetState};
 ghost use Rattle.stream_io.specs.Store.{StoreOnward};
 ghost use Rattle.tool_base.specs.Endings.{ending};
 ghost use Rattle.tool_base.specs.Outputs.{FirstNotNew, IsNew};
-ghost use Rattle.tool_base.specs.World.{InAnyRun, IsCalm, from_to};
+ghost use Rattle.tool_base.specs.World.{InAnyRun, IsUnchanged, from_to};
 ghost use Rattle.tool_levels.specs.HssSign.{HssSigningRun};
 ghost use Rattle.tool_levels.specs.Lower.{FailsLower, IsLower, IsReady, lower_of, output_names};
 ghost use Rattle.tool_sign.specs.Ports.{over_net};
@@ -37,7 +37,7 @@ pub(crate) fn accepted_lower<S: Store>(
         IsReady (hss_sign_words words.now) (from_to (S.state store.old) (S.state last)) (lower_of lower)) }
     ensures refused { (net : NetState) → IfErr result (λ end. HssSigningRun (hss_sign_words words.now)
         (from_to (S.state store.old) (S.state store.new)) (over_net net net) (ending end)) }
-    ensures calm { IsCalm (S.state store.old) (S.state store.new) }
+    ensures unchanged { IsUnchanged (S.state store.old) (S.state store.new) }
 {
     test_outputs(alloc, words, store)?;
     let lower = read_lower(alloc, words, store)?;
@@ -54,7 +54,7 @@ fn test_outputs<S: Store>(alloc: Global, words: &HssSignWords, store: &mut S) ->
         OnOk result (All (IsNew run) (output_names (hss_sign_words words.now)))) }
     ensures refused { InAnyRun S.state store.old store.new (λ run.
         IfErr result (λ end. FirstNotNew run (output_names (hss_sign_words words.now)) (ending end))) }
-    ensures calm { IsCalm (S.state store.old) (S.state store.new) }
+    ensures unchanged { IsUnchanged (S.state store.old) (S.state store.new) }
 {
     test_new(alloc, store, words.key_out)?;
     test_new(alloc, store, words.signature_out)
@@ -66,7 +66,7 @@ fn read_lower<S: Store>(alloc: Global, words: &HssSignWords, store: &mut S) -> R
         IfOk result (λ lower. IsLower (hss_sign_words words.now) run (lower_of lower))) }
     ensures refused { InAnyRun S.state store.old store.new (λ run.
         IfErr result (λ end. FailsLower (hss_sign_words words.now) run (ending end))) }
-    ensures calm { IsCalm (S.state store.old) (S.state store.new) }
+    ensures unchanged { IsUnchanged (S.state store.old) (S.state store.new) }
 {
     let key = read_key_file(alloc, store, words.low_key)?;
     let signature = read_file(alloc, store, words.low_signature, FILE_LIMIT)?;

@@ -440,11 +440,11 @@ module _ (words : List (List ℕ)) (row : Row) (world : World) (status : ℕ) wh
       command-serves world.before world.after steady.store_told steady.store_steady steady.net_steady laws connections frames row ran.end ended place at served in
       elim so.is [
         | inl none ↦
-            let calm = of-row world.before world.after steady.store_told steady.store_steady steady.net_told steady.net_steady row ending.NoMemory
+            let unchanged = of-row world.before world.after steady.store_told steady.store_steady steady.net_told steady.net_steady row ending.NoMemory
             (plain (Lacks world.before.store row) (IsUnoffered world.before.net row) ending.NoMemory (λ is. cc) (λ is. cc) (λ is. cc)) in
             by_end ran steady so.shown ran.end (inl none) ended
             (printed world.output so.shown status steady.output_steady steady.room so.answered)
-            (subst (Steady world.before world.after steady.store_told steady.store_steady steady.net_told steady.net_steady row) (sym none) calm)
+            (subst (Steady world.before world.after steady.store_told steady.store_steady steady.net_told steady.net_steady row) (sym none) unchanged)
             (subst (λ (end : Ending). All (λ name. IsSome (world.before.store.file name)) (names_found row end)) (sym none) (All-nil (λ name. IsSome (world.before.store.file name))))
             (λ place connections frames at served. absurd (cc)) serves
         | inr same ↦

@@ -14,7 +14,7 @@ ghost use Rattle.tool_base.specs.Endings.{ending};
 ghost use Rattle.tool_base.specs.OutputOf.{output_of};
 ghost use Rattle.tool_base.specs.Outputs.{EndsWith};
 ghost use Rattle.tool_words.specs.Rows.{deal_words};
-ghost use Rattle.tool_base.specs.World.{InAnyRun, IsBack, IsCalm, from_to};
+ghost use Rattle.tool_base.specs.World.{InAnyRun, IsBack, IsUnchanged, from_to};
 
 use coalition_map::{Plan, PlanFault};
 use dealer::{CommittedFault, DealingFiles, Dealt, deal_beside, deal_committed_beside};
@@ -74,7 +74,7 @@ fn new_outputs<R: Threads + Sync, S: Store>(
         IsReady run (deal_words words.now) (map output_of dealt.0.items) (ending dealt.1))) }
     ensures refused { InAnyRun S.state store.old store.new (λ run.
         IfErr result (λ end. DealEnds run (deal_words words.now) (ending end) [])) }
-    ensures calm { IsCalm (S.state store.old) (S.state store.new) }
+    ensures unchanged { IsUnchanged (S.state store.old) (S.state store.new) }
 {
     let entropy = read_file(alloc, store, words.entropy, FILE_LIMIT)?;
     let (outputs, done) = dealt_outputs(rt, alloc, words, &entropy)?;

@@ -4,7 +4,7 @@ ghost use Rattle.std.specs.Prelude.{[], IfOk, IfErr};
 ghost use Rattle.tool_base.specs.Endings.{ending};
 ghost use Rattle.tool_base.specs.Grammars.{FailsGrammar};
 ghost use Rattle.tool_run.specs.HssCheck.{HssCheckEnds, IsHssKeyRead, hss_key_file_fault};
-ghost use Rattle.tool_base.specs.World.{InAnyRun, IsCalm, from_to};
+ghost use Rattle.tool_base.specs.World.{InAnyRun, IsUnchanged, from_to};
 
 use crate::reading::read_two;
 use hss_levels::{HssKey, hss_verify, read_hss_key};
@@ -22,7 +22,7 @@ pub(crate) fn hss_check_files<S: Store>(
 ) -> Ending
     ensures ended { HssCheckEnds (from_to (S.state store.old) (S.state store.new)) key.now message.now signature.now
         (ending result) [] }
-    ensures calm { IsCalm (S.state store.old) (S.state store.new) }
+    ensures unchanged { IsUnchanged (S.state store.old) (S.state store.new) }
 {
     let public = match read_hss_key_file(alloc, store, key) {
         Ok(public) => public,
@@ -39,7 +39,7 @@ fn read_hss_key_file<S: Store>(alloc: Global, store: &mut S, name: &str) -> Resu
     ensures key { InAnyRun S.state store.old store.new (λ run. IfOk result (IsHssKeyRead run name.now)) }
     ensures refused { InAnyRun S.state store.old store.new (λ run.
         IfErr result (λ end. FailsGrammar hss_key_file_fault run name.now (ending end))) }
-    ensures calm { IsCalm (S.state store.old) (S.state store.new) }
+    ensures unchanged { IsUnchanged (S.state store.old) (S.state store.new) }
 {
     let bytes = read_file(alloc, store, name, FILE_LIMIT)?;
     match read_hss_key(&bytes) {

@@ -2,7 +2,7 @@
 
 ghost use Rattle.std.specs.Prelude.{IfOk, IfErr};
 ghost use Rattle.tool_base.specs.Endings.{ending};
-ghost use Rattle.tool_base.specs.World.{InAnyRun, IsCalm};
+ghost use Rattle.tool_base.specs.World.{InAnyRun, IsUnchanged};
 ghost use Rattle.tool_run.specs.Steps.{AreRead, FailsToReadTwo};
 
 use std::alloc::Global;
@@ -20,7 +20,7 @@ pub(crate) fn read_two<S: Store>(
         IfOk result (λ both. AreRead run one.now two.now both.0.items both.1.items)) }
     ensures refused { InAnyRun S.state store.old store.new (λ run.
         IfErr result (λ end. FailsToReadTwo run one.now two.now (ending end))) }
-    ensures calm { IsCalm (S.state store.old) (S.state store.new) }
+    ensures unchanged { IsUnchanged (S.state store.old) (S.state store.new) }
 {
     let first = read_file(alloc, store, one, FILE_LIMIT)?;
     let second = read_file(alloc, store, two, FILE_LIMIT)?;

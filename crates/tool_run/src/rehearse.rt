@@ -8,7 +8,7 @@ ghost use Rattle.tool_base.specs.Endings.{ending};
 ghost use Rattle.tool_base.specs.OutputOf.{output_of};
 ghost use Rattle.tool_base.specs.Outputs.{EndsWith};
 ghost use Rattle.tool_run.specs.Rehearse.{IsBegun, IsNotRehearsed, IsRehearsedTo, RehearseEnds};
-ghost use Rattle.tool_base.specs.World.{InAnyRun, IsBack, IsCalm, from_to};
+ghost use Rattle.tool_base.specs.World.{InAnyRun, IsBack, IsUnchanged, from_to};
 
 use crate::reading::read_two;
 use dealer::{Rehearsed, public_file, rehearse};
@@ -50,7 +50,7 @@ fn read_new<S: Store>(
         IsBegun run entropy.now message.now key_out.now signature_out.now both.0.items both.1.items)) }
     ensures refused { InAnyRun S.state store.old store.new (λ run.
         IfErr result (λ end. RehearseEnds run entropy.now message.now key_out.now signature_out.now (ending end) [])) }
-    ensures calm { IsCalm (S.state store.old) (S.state store.new) }
+    ensures unchanged { IsUnchanged (S.state store.old) (S.state store.new) }
 {
     test_new(alloc, store, key_out)?;
     test_new(alloc, store, signature_out)?;

@@ -3,7 +3,7 @@
 ghost use Rattle.std.specs.Prelude.{[]};
 ghost use Rattle.tool_base.specs.Endings.{ending};
 ghost use Rattle.tool_run.specs.Verify.{VerifyEnds};
-ghost use Rattle.tool_base.specs.World.{IsCalm, from_to};
+ghost use Rattle.tool_base.specs.World.{IsUnchanged, from_to};
 
 use crate::reading::read_two;
 use lms_verify::verify;
@@ -22,7 +22,7 @@ pub(crate) fn verify_files<S: Store>(
 ) -> Ending
     ensures ended { VerifyEnds (from_to (S.state store.old) (S.state store.new)) key.now message.now signature.now
         (ending result) [] }
-    ensures calm { IsCalm (S.state store.old) (S.state store.new) }
+    ensures unchanged { IsUnchanged (S.state store.old) (S.state store.new) }
 {
     let public = match read_key_file(alloc, store, key) {
         Ok(public) => public,

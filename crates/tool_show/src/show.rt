@@ -1,7 +1,7 @@
 //! The command `show`.
 
 ghost use Rattle.tool_base.specs.Endings.{ending};
-ghost use Rattle.tool_base.specs.World.{IsCalm, from_to};
+ghost use Rattle.tool_base.specs.World.{IsUnchanged, from_to};
 ghost use Rattle.tool_show.specs.Show.{ShowEnds};
 
 use crate::bytes_shown::{ShowFault, show_bytes};
@@ -13,7 +13,7 @@ use tool_base::{Ending, FILE_LIMIT, read_file, unreadable};
 /// line.
 pub fn show_file<S: Store>(alloc: Global, store: &mut S, file: &str, leaves: bool) -> Ending
     ensures ended { ShowEnds (from_to (S.state store.old) (S.state store.new)) file.now leaves (ending result) }
-    ensures calm { IsCalm (S.state store.old) (S.state store.new) }
+    ensures unchanged { IsUnchanged (S.state store.old) (S.state store.new) }
 {
     let bytes = match read_file(alloc, store, file, FILE_LIMIT) {
         Ok(bytes) => bytes,

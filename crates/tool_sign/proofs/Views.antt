@@ -11,7 +11,7 @@ use Rattle.tool_base.proofs.Runs.{onward_on}
 use Rattle.tool_base.specs.Ending.{Ending}
 use Rattle.tool_base.specs.Reads.{FailsUpTo, failed, no_memory, too_long}
 use Rattle.tool_base.specs.Touched.{Keeps}
-use Rattle.tool_base.specs.World.{Bytes, Failed, IsCalm, IsReadUpTo, Reading, StoreRun, TooLong, file_limit, from_to}
+use Rattle.tool_base.specs.World.{Bytes, Failed, IsUnchanged, IsReadUpTo, Reading, StoreRun, TooLong, file_limit, from_to}
 use Rattle.tool_base.specs.Disks.{DeviceFails, Stays}
 use Rattle.tool_base.specs.Loads.{FailsToLoad, ReadsAs, IsOtherFile, IsDamagedFile, damaged, device, other_file}
 use Rattle.tool_base.specs.Loads as loads
@@ -32,14 +32,14 @@ pub record SameButViews (old new : StoreState) : Type 0 where
   pub names : SameNames old new
   pub onward : StoreOnward old new
 
-pub out_view : (first a b : StoreState) (name : List ℕ) (view : PagesState) → IsCalm first a → Viewed a name view b → StoreOnward a b → SameButViews first b
-out_view first a b name view calm viewed onward = record {
+pub out_view : (first a b : StoreState) (name : List ℕ) (view : PagesState) → IsUnchanged first a → Viewed a name view b → StoreOnward a b → SameButViews first b
+out_view first a b name view unchanged viewed onward = record {
   names = record {
-    file = viewed.names.file ∙ calm.same.names.file;
-    leaves = λ other image. let x = calm.same.names.leaves other image in let y = viewed.names.leaves other image in (λ z. x.0 (y.0 z), λ z. y.1 (x.1 z));
-    out = viewed.names.out ∙ calm.same.names.out;
+    file = viewed.names.file ∙ unchanged.same.names.file;
+    leaves = λ other image. let x = unchanged.same.names.leaves other image in let y = viewed.names.leaves other image in (λ z. x.0 (y.0 z), λ z. y.1 (x.1 z));
+    out = viewed.names.out ∙ unchanged.same.names.out;
   };
-  onward = onward_on first a b calm.onward onward;
+  onward = onward_on first a b unchanged.onward onward;
 }
 
 pub back_view : (c d : StoreState) (view : PagesState) → ViewEnded c view d → StoreOnward c d → SameButViews c d

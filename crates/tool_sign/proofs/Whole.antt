@@ -11,17 +11,17 @@ use Rattle.share_files.specs.Reference.{HasReferenceLayout, reference_head}
 use Rattle.share_files.specs.declared.reference.RefHeader.{RefHeader}
 use Rattle.stream_io.specs.Net.{NetState}
 use Rattle.stream_io.specs.Store.{PagesState, StoreOnward, StoreState, ViewEnded, Viewed, has_name}
-use Rattle.tool_base.proofs.Runs.{calm_none, onward_on}
+use Rattle.tool_base.proofs.Runs.{unchanged_none, onward_on}
 use Rattle.tool_base.specs.Ending.{Ending}
 use Rattle.tool_base.specs.Endings as endings
 use Rattle.tool_base.specs.declared.ending.Ending as declared
 use Rattle.tool_base.specs.Outputs.{IsLeft, IsNew, IsNotNew}
 use Rattle.tool_base.specs.Touched.{IsUntouched, Keeps}
-use Rattle.tool_base.specs.World.{IsBack, IsCalm, IsNetBack, StoreRun, from_to}
+use Rattle.tool_base.specs.World.{IsBack, IsUnchanged, IsNetBack, StoreRun, from_to}
 use Rattle.tool_desk.specs.Files.{HaveSizesOf, reference_name}
 use Rattle.tool_desk.specs.Reference.{IsReferenceOf}
 use Rattle.tool_desk.specs.declared.files.KeyFiles.{KeyFiles}
-use Rattle.tool_base.proofs.Outs.{keeps_calm}
+use Rattle.tool_base.proofs.Outs.{keeps_unchanged}
 use Rattle.tool_base.proofs.Nets.{net_none}
 use Rattle.tool_sign.proofs.Exacts.{exact-of}
 use Rattle.tool_sign.proofs.Views.{EndsWider, SameButViews, back_view, ends_in, keeps_in, no_source_in, out_view, source_had}
@@ -46,8 +46,8 @@ use Rattle.tool_sign.specs.declared.task.SignedBy.{SignedBy}
 use Rattle.tool_words.specs.Words.{SignWords}
 
 -- the name of the signature was not found new
-pub run_taken : (words : SignWords) (a d : StoreState) (net : NetState) (end : Ending) → IsCalm a d → IsNotNew (from_to a d) words.out end → SigningRun words (from_to a d) (over_net net net) end
-run_taken words a d net end calm fails = record { touched = []; ends = sign.not_new end fails refl; keeps = keeps_calm [] a d calm; ports = net_none net }
+pub run_taken : (words : SignWords) (a d : StoreState) (net : NetState) (end : Ending) → IsUnchanged a d → IsNotNew (from_to a d) words.out end → SigningRun words (from_to a d) (over_net net net) end
+run_taken words a d net end unchanged fails = record { touched = []; ends = sign.not_new end fails refl; keeps = keeps_unchanged [] a d unchanged; ports = net_none net }
 
 -- nothing was begun
 pub unbegun : (words : SessionWords) (source : StoreRun → MessageSource) (a e : StoreState) (net : NetState) (end : declared.Ending) → Keeps [] a e → FailsTask words (from_to a e) (source (from_to a e)) (endings.ending end)
@@ -67,18 +67,18 @@ pub signed_with_key : (words : SessionWords) (store : StoreRun) (source : Messag
 signed_with_key words store source net signing (Ok by) touched task ends key = record { signing = signing; task = task; ends = ends; key_is = sym key }
 signed_with_key words store source net signing (Err end) touched task ends key = tt
 
-pub keeps_on : (touched : List (List ℕ)) (a b c : StoreState) → IsCalm a b → Keeps touched b c → Keeps touched a c
-keeps_on touched a b c calm keeps =
-    let told : IsTrue a.told → IsTrue b.told = λ is. rw calm.onward.told is in
+pub keeps_on : (touched : List (List ℕ)) (a b c : StoreState) → IsUnchanged a b → Keeps touched b c → Keeps touched a c
+keeps_on touched a b c unchanged keeps =
+    let told : IsTrue a.told → IsTrue b.told = λ is. rw unchanged.onward.told is in
     record {
       back = record {
-        onward = onward_on a b c calm.onward keeps.back.onward;
-        out = λ is name. rw (← calm.same.names.out) (keeps.back.out (told is) name);
-        views = λ is. keeps.back.views (told is) ∙ calm.same.loans.views;
+        onward = onward_on a b c unchanged.onward keeps.back.onward;
+        out = λ is name. rw (← unchanged.same.names.out) (keeps.back.out (told is) name);
+        views = λ is. keeps.back.views (told is) ∙ unchanged.same.loans.views;
       };
-      file = λ is name other. rw (← calm.same.names.file) (keeps.file (told is) name other);
+      file = λ is name other. rw (← unchanged.same.names.file) (keeps.file (told is) name other);
       leaves = λ is name image other.
-          let x = calm.same.names.leaves name image in
+          let x = unchanged.same.names.leaves name image in
           let y = keeps.leaves (told is) name image other in
           (λ z. x.0 (y.0 z), λ z. y.1 (x.1 z));
     }
@@ -93,18 +93,18 @@ module _ (words : SessionWords) (files : KeyFiles) (header : RefHeader) (sizes :
   pub layout-of : (file : List ℕ) → IsReferenceOf header file → HasReferenceLayout header file (drop 32 file)
   layout-of file is = subst (HasReferenceLayout header file) (sym (leaves-are file is.leaves is.layout)) is.layout
 
-  module _ (a x b : StoreState) (view : PagesState) (calm : IsCalm a x) (viewed : Viewed x (reference_name words.prefix) view b)
+  module _ (a x b : StoreState) (view : PagesState) (unchanged : IsUnchanged a x) (viewed : Viewed x (reference_name words.prefix) view b)
       (reads : IsTrue view.told → IsReferenceOf header view.reads) where
     pub view_told : IsTrue a.told → IsTrue view.told
-    view_told told = viewed.given.told (rw calm.onward.told told)
+    view_told told = viewed.given.told (rw unchanged.onward.told told)
 
     pub view_exact : IsTrue a.told → IsTrue a.steady → IsTrue (is_exact view.told view.steady (drop 32 view.reads) files.key.params header.plan)
     view_exact told steady =
-        exact-of view.told view.steady (drop 32 view.reads) files.key.params header.plan (view_told told) (viewed.given.steady (rw calm.onward.steady steady))
+        exact-of view.told view.steady (drop 32 view.reads) files.key.params header.plan (view_told told) (viewed.given.steady (rw unchanged.onward.steady steady))
         ((layout-of view.reads (reads (view_told told))).leaves_are ∙ sizes.leaves)
 
     -- what is signed is what the words name
-    abbrev pub is_task : (source : MessageSource) (p c d : StoreState) (now : PagesState) (message members : List ℕ) (addresses : List Address) → StoreOnward x b → IsCalm b p → StoreOnward p c → ViewEnded c now d
+    abbrev pub is_task : (source : MessageSource) (p c d : StoreState) (now : PagesState) (message members : List ℕ) (addresses : List Address) → StoreOnward x b → IsUnchanged b p → StoreOnward p c → ViewEnded c now d
         → HasFiles words (from_to a d) files header → GoesWith words source files header message members addresses
         → IsTask words (from_to a d) source (record {
           desk = desk_of files header addresses;
@@ -123,13 +123,13 @@ module _ (words : SessionWords) (files : KeyFiles) (header : RefHeader) (sizes :
         told = view_told;
         leaves = record {
           file = view.reads;
-          is_read = λ told. rw (← calm.same.names.file) (viewed.reads (rw calm.onward.told told));
+          is_read = λ told. rw (← unchanged.same.names.file) (viewed.reads (rw unchanged.onward.told told));
           is = λ told. layout-of view.reads (reads (view_told told));
         };
         exact = view_exact;
         fresh = viewed.given.fresh;
         rise =
-            let one = calm.onward.disk_count in
+            let one = unchanged.onward.disk_count in
             let two = out.disk_count in
             let three = task.onward.disk_count in
             let four = works.disk_count in
@@ -139,11 +139,11 @@ module _ (words : SessionWords) (files : KeyFiles) (header : RefHeader) (sizes :
     }
 
 -- from the state before the view to that after it
-module _ (files : KeyFiles) (header : RefHeader) (a x b p : StoreState) (name : List ℕ) (view : PagesState) (calm : IsCalm a x)
-    (viewed : Viewed x name view b) (out : StoreOnward x b) (task : IsCalm b p) where
+module _ (files : KeyFiles) (header : RefHeader) (a x b p : StoreState) (name : List ℕ) (view : PagesState) (unchanged : IsUnchanged a x)
+    (viewed : Viewed x name view b) (out : StoreOnward x b) (task : IsUnchanged b p) where
   goes-in : SameButViews a p
   goes-in =
-      let first = out_view a x b name view calm viewed out in
+      let first = out_view a x b name view unchanged viewed out in
       record {
         names = record {
           file = task.same.names.file ∙ first.names.file;
@@ -154,12 +154,12 @@ module _ (files : KeyFiles) (header : RefHeader) (a x b p : StoreState) (name : 
       }
 
   count-in : p.disk_count ≡ a.disk_count
-  count-in = task.same.loans.disk_count ∙ (viewed.disk_count ∙ calm.same.loans.disk_count)
+  count-in = task.same.loans.disk_count ∙ (viewed.disk_count ∙ unchanged.same.loans.disk_count)
 
   views-in : IsTrue a.told → p.views ≡ a.views + 1
   views-in told =
-      let one = calm.same.loans.views in
-      let two = viewed.views (rw calm.onward.told told) in
+      let one = unchanged.same.loans.views in
+      let two = viewed.views (rw unchanged.onward.told told) in
       let three = task.same.loans.views in
       omega (arith, one, two, three)
 
@@ -172,13 +172,13 @@ module _ (files : KeyFiles) (header : RefHeader) (a x b p : StoreState) (name : 
     whole_ends s table net answer touched ends = ends_in a p c d goes-in count-in (back_view c d now ended comes) s table net answer touched ends
 
 -- the message was not had, or not all goes together
-module _ (words : SessionWords) (message : Message) (files : KeyFiles) (header : RefHeader) (a x b p d : StoreState) (name : List ℕ) (view : PagesState) (calm : IsCalm a x)
-    (viewed : Viewed x name view b) (out : StoreOnward x b) (task : IsCalm b p) where
+module _ (words : SessionWords) (message : Message) (files : KeyFiles) (header : RefHeader) (a x b p d : StoreState) (name : List ℕ) (view : PagesState) (unchanged : IsUnchanged a x)
+    (viewed : Viewed x name view b) (out : StoreOnward x b) (task : IsUnchanged b p) where
   first : SameButViews a b
-  first = out_view a x b name view calm viewed out
+  first = out_view a x b name view unchanged viewed out
 
   count-first : b.disk_count ≡ a.disk_count
-  count-first = viewed.disk_count ∙ calm.same.loans.disk_count
+  count-first = viewed.disk_count ∙ unchanged.same.loans.disk_count
 
   pub goes_in : (bytes members : List ℕ) (addresses : List Address) → GoesWith words (source_of message (from_to b p)) files header bytes members addresses
       → GoesWith words (source_of message (from_to a d)) files header bytes members addresses
@@ -197,12 +197,12 @@ module _ (words : SessionWords) (message : Message) (files : KeyFiles) (header :
     lacks_in _ (tasks.other_key bytes end read other) = tasks.other_key bytes end (source_had a b p d first message bytes read) other
     lacks_in _ (tasks.no_coalition bytes read one never) = tasks.no_coalition bytes (source_had a b p d first message bytes read) one never
 
-pub run_lacking : (words : SessionWords) (message : Message) (files : KeyFiles) (header : RefHeader) (a x b p d : StoreState) (name : List ℕ) (view : PagesState) (calm : IsCalm a x)
-    (viewed : Viewed x name view b) (out : StoreOnward x b) (task : IsCalm b p) (ended : ViewEnded p view d) (comes : StoreOnward p d) (net : NetState) (end : declared.Ending)
+pub run_lacking : (words : SessionWords) (message : Message) (files : KeyFiles) (header : RefHeader) (a x b p d : StoreState) (name : List ℕ) (view : PagesState) (unchanged : IsUnchanged a x)
+    (viewed : Viewed x name view b) (out : StoreOnward x b) (task : IsUnchanged b p) (ended : ViewEnded p view d) (comes : StoreOnward p d) (net : NetState) (end : declared.Ending)
     → HasFiles words (from_to a d) files header → LacksTask words (source_of message (from_to b p)) files header (endings.ending end) → SessionRun words (source_of message) a d (over_net net net) (Err end)
-run_lacking words message files header a x b p d name view calm viewed out task ended comes net end has lacks =
-    unbegun words (source_of message) a d net end (whole_keeps files header a x b b name view calm viewed out (calm_none b) p d view ended comes [] (keeps_calm [] b p task))
-    (tasks.no_task files header (endings.ending end) has (lacks_in words message files header a x b p d name view calm viewed out task (back_view p d view ended comes) (endings.ending end) lacks))
+run_lacking words message files header a x b p d name view unchanged viewed out task ended comes net end has lacks =
+    unbegun words (source_of message) a d net end (whole_keeps files header a x b b name view unchanged viewed out (unchanged_none b) p d view ended comes [] (keeps_unchanged [] b p task))
+    (tasks.no_task files header (endings.ending end) has (lacks_in words message files header a x b p d name view unchanged viewed out task (back_view p d view ended comes) (endings.ending end) lacks))
 
 -- what was signed with the table, once a signature was written or was not
 module _ (s : Signing) (table : List ℕ) (a d e : StoreState) (same_file : IsTrue a.told → e.file table ≡ d.file table) (same_leaves : IsTrue a.told → (image : List ℕ) → e.leaves table image ↔ d.leaves table image)

@@ -2,7 +2,7 @@
 
 ghost use Rattle.std.specs.Prelude.{◌≡◌, drop, IfErr, IfOk, OnOk};
 ghost use Rattle.tool_base.specs.Endings.{ending};
-ghost use Rattle.tool_base.specs.World.{IsCalm, from_to};
+ghost use Rattle.tool_base.specs.World.{IsUnchanged, from_to};
 ghost use Rattle.tool_desk.specs.Files.{HaveSizesOf};
 ghost use Rattle.tool_sign.specs.Ended.{TableTo};
 ghost use Rattle.tool_sign.specs.Ports.{is_exact, over_net, reads_on};
@@ -80,7 +80,7 @@ pub fn sign_message<S: Store, N: Net>(
     store: &mut S,
     net: &mut N,
 ) -> Result<SignedBy, Ending>
-    ensures { (first : S) → IsCalm (S.state first) (S.state store.old)
+    ensures { (first : S) → IsUnchanged (S.state first) (S.state store.old)
         → SessionRun (session_words words.now) (source_of message.entry) (S.state first) (S.state store.new)
         (over_net (N.state net.old) (N.state net.new)) result }
 {
@@ -122,7 +122,7 @@ pub fn read_task<S: Store>(
     ensures refused { IfErr result (λ end. LacksTask (session_words words.now)
         (source_of message.entry (from_to (S.state store.old) (S.state store.new))) files.now header.now
         (ending end)) }
-    ensures calm { IsCalm (S.state store.old) (S.state store.new) }
+    ensures unchanged { IsUnchanged (S.state store.old) (S.state store.new) }
 {
     let message = read_message(alloc, message, store)?;
     test_same_key(alloc, words.prefix, files, header)?;
@@ -145,7 +145,7 @@ fn read_message<S: Store>(alloc: Global, message: Message, store: &mut S) -> Res
         (source_of message.entry (from_to (S.state store.old) (S.state store.new))).is bytes.items) }
     ensures refused { IfErr result (λ end.
         (source_of message.entry (from_to (S.state store.old) (S.state store.new))).fails (ending end)) }
-    ensures calm { IsCalm (S.state store.old) (S.state store.new) }
+    ensures unchanged { IsUnchanged (S.state store.old) (S.state store.new) }
 {
     match message {
         Message::InFile(name) => read_file(alloc, store, name, MESSAGE_LIMIT),

@@ -10,10 +10,10 @@ use Rattle.stream_io.specs.declared.call_fault.CallFault.TheVariants as call
 use Rattle.tool_base.specs.Heard.{HeardNobody}
 use Rattle.tool_base.specs.Ending.{Ending}
 use Rattle.tool_base.specs.Touched.{EndsTouching}
-use Rattle.tool_base.specs.World.{IsCalm, TimeState, from_to}
-use Rattle.tool_base.proofs.Runs.{calm_none}
+use Rattle.tool_base.specs.World.{IsUnchanged, TimeState, from_to}
+use Rattle.tool_base.proofs.Runs.{unchanged_none}
 use Rattle.tool_base.specs.Loads.{FailsToLoad, ReadsAs}
-use Rattle.tool_base.proofs.Outs.{IsBackAs, ends_calm, keeps_calm}
+use Rattle.tool_base.proofs.Outs.{IsBackAs, ends_unchanged, keeps_unchanged}
 use Rattle.tool_base.specs.Headers.{book_header}
 use Rattle.tool_trustee.specs.Journals.{IsBook, book, no_book}
 use Rattle.tool_trustee.specs.Nets.{NetEnds}
@@ -30,7 +30,7 @@ module _ (words : TrusteeWords) (share : Share) (same : Type 0) (old new : Trust
   run_without store net_old net_new time later end is net = record {
     touched = [];
     cause = with_book None end [] (rw is no_book) (All-nil (StaysThere (from_to store store))) net;
-    keeps = keeps_calm [] store store (calm_none store);
+    keeps = keeps_unchanged [] store store (unchanged_none store);
   }
 
   module _ (a c : StoreState) (net_old net_new : NetState) (time later : TimeState) (name : List ℕ) (is : words.book ≡ Some name) where
@@ -38,11 +38,11 @@ module _ (words : TrusteeWords) (share : Share) (same : Type 0) (old new : Trust
     ends = BookEnds words share same old new (record { store = a; net = net_old; time = time }) (record { store = c; net = net_new; time = later })
 
     -- its disk was not handed out
-    pub run_absent : HeardNobody words.place net_old net_new → (fault : CallFault) (end : Ending) → end ≡ end_of_call fault → same → IsCalm a c
+    pub run_absent : HeardNobody words.place net_old net_new → (fault : CallFault) (end : Ending) → end ≡ end_of_call fault → same → IsUnchanged a c
         → (fault ≡ call.Failed → Rose a.count c.count) → (fault ≡ call.Failed → IsTrue a.told → IsTrue a.steady → a.file name ≡ None)
         → EndsTouching ends (from_to a c) end
-    run_absent heard call.Failed end ended kept calm rose gone = rw ended (ends_calm a c calm ends _ (absent name is kept heard (rose refl, gone refl)))
-    run_absent heard call.NoMemory end ended kept calm rose gone = rw ended (ends_calm a c calm ends _ (no_memory kept heard))
+    run_absent heard call.Failed end ended kept unchanged rose gone = rw ended (ends_unchanged a c unchanged ends _ (absent name is kept heard (rose refl, gone refl)))
+    run_absent heard call.NoMemory end ended kept unchanged rose gone = rw ended (ends_unchanged a c unchanged ends _ (no_memory kept heard))
 
     pub run_refused : HeardNobody words.place net_old net_new → (now : PagesState) (end : Ending) → same → IsBackAs a name now c → StaysThere (from_to a c) name
         → FailsToLoad (book_header share) 1024 (from_to a c) name end → EndsTouching ends (from_to a c) end

@@ -17,9 +17,9 @@ use Rattle.stream_io.specs.declared.call_fault.CallFault.TheVariants as call
 use Rattle.tool_base.specs.Ending as ending
 use Rattle.tool_base.specs.Ending.{Ending}
 use Rattle.tool_base.specs.Grammars.{FailsGrammar, IsShareRead, share_fault_number}
-use Rattle.tool_base.specs.World.{IsCalm, Outside, TimeState, from_to}
+use Rattle.tool_base.specs.World.{IsUnchanged, Outside, TimeState, from_to}
 use Rattle.tool_base.specs.Disks.{Stays}
-use Rattle.tool_base.proofs.Outs.{keeps_calm}
+use Rattle.tool_base.proofs.Outs.{keeps_unchanged}
 use Rattle.tool_trustee.specs.Journals.{LeavesJournal, StandsAs}
 use Rattle.tool_base.proofs.Nets.{net_none}
 use Rattle.tool_base.proofs.Heard.{heard_none}
@@ -56,22 +56,22 @@ module _ {D : Type 0} {p : pages.Ghosts D} {f : faults.Ghosts D} (share : Share)
     legal = holds.legal;
   }
 
-module _ (words : TrusteeWords) (a c : StoreState) (net : NetState) (time : TimeState) (calm : IsCalm a c) where
+module _ (words : TrusteeWords) (a c : StoreState) (net : NetState) (time : TimeState) (unchanged : IsUnchanged a c) where
   abbrev before : Outside
   before = record { store = a; net = net; time = time }
 
   abbrev after : Outside
   after = record { store = c; net = net; time = time }
 
-  run_calm : (end : Ending) → TrusteeEnds words before after end [] → TrusteeRun words before after end
-  run_calm end ends = record { touched = []; ends = ends; keeps = keeps_calm [] a c calm; net = net_none net; time = refl }
+  run_unchanged : (end : Ending) → TrusteeEnds words before after end [] → TrusteeRun words before after end
+  run_unchanged end ends = record { touched = []; ends = ends; keeps = keeps_unchanged [] a c unchanged; net = net_none net; time = refl }
 
   pub run_unread : (end : Ending) → (end ≡ ending.NoMemory) ⊎ FailsGrammar share_fault_number (from_to a c) words.share end → TrusteeRun words before after end
-  run_unread end (inl is) = run_calm end (rw is (no_memory [] (heard_none words.place net net refl) (All-nil (Stays (from_to a c)))))
-  run_unread end (inr fails) = run_calm end (no_share end fails (heard_none words.place net net refl))
+  run_unread end (inl is) = run_unchanged end (rw is (no_memory [] (heard_none words.place net net refl) (All-nil (Stays (from_to a c)))))
+  run_unread end (inr fails) = run_unchanged end (no_share end fails (heard_none words.place net net refl))
 
   pub run_untaken : (share : Share) (fault : CallFault) (end : Ending) → end ≡ end_of_call fault → IsShareRead (from_to a c) words.share share
       → (fault ≡ call.Failed → Rose a.count c.count) → (fault ≡ call.Failed → IsTrue a.told → IsTrue a.steady → a.file words.journal ≡ None)
       → TrusteeRun words before after end
-  run_untaken share call.Failed end is read rose gone = run_calm end (rw is (no_journal share read (rose refl, gone refl) (heard_none words.place net net refl)))
-  run_untaken share call.NoMemory end is read rose gone = run_calm end (rw is (no_memory [] (heard_none words.place net net refl) (All-nil (Stays (from_to a c)))))
+  run_untaken share call.Failed end is read rose gone = run_unchanged end (rw is (no_journal share read (rose refl, gone refl) (heard_none words.place net net refl)))
+  run_untaken share call.NoMemory end is read rose gone = run_unchanged end (rw is (no_memory [] (heard_none words.place net net refl) (All-nil (Stays (from_to a c)))))

@@ -6,18 +6,18 @@ use Rattle.reference_value.specs.Paged.{pages_of}
 use Rattle.reference_value.specs.declared.paged.Paged.{Paged}
 use Rattle.stream_io.specs.Store.{pages_state}
 use Rattle.tool_base.proofs.Nets.{net_none}
-use Rattle.tool_base.proofs.Runs.{calm_none, onward_none, onward_on, part_of}
+use Rattle.tool_base.proofs.Runs.{unchanged_none, onward_none, onward_on, part_of}
 use Rattle.tool_aggregate.specs.Aggregate.{ended, no_desk}
 use Rattle.tool_aggregate.specs.Desks.{no_key_files, no_references}
 use Rattle.tool_aggregate.specs.Desks as desks
 use Rattle.tool_aggregate.proofs.Whole.{all_read, ends_in, keeps_in}
 use Rattle.tool_desk.specs.Files.{reference_name}
 use Rattle.tool_desk.specs.Members.{address, placed}
-use Rattle.tool_base.proofs.Outs.{keeps_calm}
+use Rattle.tool_base.proofs.Outs.{keeps_unchanged}
 use Rattle.tool_sign.proofs.Whole.{keeps_on}
 use Rattle.tool_sign.specs.Ports.{over_net}
 use Rattle.tool_sign.specs.Tasks.{desk_of}
-use Rattle.tool_desk.proofs.Outs.{out_calm, out_on, view_before}
+use Rattle.tool_desk.proofs.Outs.{out_unchanged, out_on, view_before}
 use Rattle.tool_desk.specs.Views.{IsViewOf}
 use Rattle.tool_words.specs.Rows.{aggregate_words}
 use Rattle.tool_aggregate.proofs.command.aggregate.Goals as goal
@@ -27,8 +27,8 @@ returns-in-Err g c =
     let read = c.in-Err.ensures in
     record {
       touched = [];
-      ends = no_desk _ (no_key_files _ (read.refused c.args.store.now c.read_key_and_tree.new.store (part_of _ _ _ _ (calm_none _) (onward_none _)))) refl;
-      keeps = keeps_calm [] _ _ read.calm;
+      ends = no_desk _ (no_key_files _ (read.refused c.args.store.now c.read_key_and_tree.new.store (part_of _ _ _ _ (unchanged_none _) (onward_none _)))) refl;
+      keeps = keeps_unchanged [] _ _ read.unchanged;
       ports = net_none _;
     }
 
@@ -36,7 +36,7 @@ pub returns-in_default : goal.returns-in_default
 returns-in_default g c = record {
   touched = [];
   ends = no_desk _ desks.no_memory refl;
-  keeps = keeps_calm [] _ _ c.in-Ok.ensures.calm;
+  keeps = keeps_unchanged [] _ _ c.in-Ok.ensures.unchanged;
   ports = net_none _;
 }
 
@@ -48,8 +48,8 @@ returns-in-Err-viewed g c =
     let viewed = c.in-Err-viewed.ensures in
     record {
       touched = [];
-      ends = no_desk _ (no_references c.in-Ok.files _ (read.files first last (part_of _ _ _ _ (calm_none _) viewed.taken.onward)) (viewed.taken.refused first last (part_of _ _ _ _ read.calm (onward_none _)))) refl;
-      keeps = keeps_on [] _ _ _ read.calm viewed.taken.keeps;
+      ends = no_desk _ (no_references c.in-Ok.files _ (read.files first last (part_of _ _ _ _ (unchanged_none _) viewed.taken.onward)) (viewed.taken.refused first last (part_of _ _ _ _ read.unchanged (onward_none _)))) refl;
+      keeps = keeps_on [] _ _ _ read.unchanged viewed.taken.keeps;
       ports = net_none _;
     }
 
@@ -74,21 +74,21 @@ returns g c =
     let name = reference_name words.prefix in
     let net = over_net (g.N.Net.state c.args.net.now) (g.N.Net.state c.serve_table-end.new.net) in
     let count : Paged g.row.S-View.Denot → ℕ = λ own. views.Faults.count (pages_of own) in
-    let goes = out_on _ _ _ 0 _ (out_calm _ _ read.calm) viewed.cells.out in
-    let same = viewed.counts.1 ∙ read.calm.same.loans.disk_count in
+    let goes = out_on _ _ _ 0 _ (out_unchanged _ _ read.unchanged) viewed.cells.out in
+    let same = viewed.counts.1 ∙ read.unchanged.same.loans.disk_count in
     let later = onward_on _ _ _ run.run.keeps.back.onward ends.onward in
-    let reference = viewed.taken.found first last (part_of _ _ _ _ read.calm later) in
+    let reference = viewed.taken.found first last (part_of _ _ _ _ read.unchanged later) in
     let sizes = length-map news count in
     let one = c.in-Ok-viewed.viewed.0.ok.0 in
     let two = c.serve_table-end.new.cells.ok.0 in
     let counted = run.count in
     let are = All-weaker (λ own. IsViewOf (state c.read_key_and_tree.new.store) name (pages (pages_of own))) (λ own. IsViewOf (state first) name (pages (pages_of own)))
-    (λ own is. view_before _ _ 0 name (pages (pages_of own)) (out_calm _ _ read.calm) is) olds viewed.cells.are in
+    (λ own is. view_before _ _ 0 name (pages (pages_of own)) (out_unchanged _ _ read.unchanged) is) olds viewed.cells.are in
     record {
       touched = run.run.touched;
       ends = ended header desk _ run.run.touched (record {
         files = files;
-        files_are = read.files first last (part_of _ _ _ _ (calm_none _) (onward_on _ _ _ viewed.taken.onward later));
+        files_are = read.files first last (part_of _ _ _ _ (unchanged_none _) (onward_on _ _ _ viewed.taken.onward later));
         reference_is = reference;
         one_key = viewed.key.0;
         addresses_are = ap (map address) c.deref.ensures.value ∙ c.in-Ok-addresses_of.ensures ∙ ap placed c.list.ensures;

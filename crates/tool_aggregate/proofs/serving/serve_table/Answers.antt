@@ -3,9 +3,9 @@ use Rattle.std.proofs.lemmas.List.Elements.{All-nil}
 use Rattle.leaf_table.specs.Loaded.{IsLoaded}
 use Rattle.aggregator_session.specs.Signing.{desk_state}
 use Rattle.aggregator_session.specs.Tables.{table_seen}
-use Rattle.tool_base.specs.World.{IsCalm, from_to}
+use Rattle.tool_base.specs.World.{IsUnchanged, from_to}
 use Rattle.tool_base.specs.Disks.{Stays}
-use Rattle.tool_base.proofs.Outs.{keeps_calm, out_here, taken_out}
+use Rattle.tool_base.proofs.Outs.{keeps_unchanged, out_here, taken_out}
 use Rattle.tool_base.proofs.Heard.{heard_none}
 use Rattle.tool_base.proofs.Nets.{net_none}
 use Rattle.tool_aggregate.specs.Aggregate.{no_memory, no_table, not_loaded}
@@ -22,11 +22,11 @@ returns-in-Err-Failed-clause-run g c =
     let is = c.in-Err-Failed.is in
     let fault = c.in-Err-Failed.field-0-is in
     let net = g.N.Net.state c.args.net.now in
-    let calm : IsCalm (g.S.Store.state c.args.store.now) (g.S.Store.state c.take_disk.new.self) = record { same = take.refused; onward = take.onward } in
+    let unchanged : IsUnchanged (g.S.Store.state c.args.store.now) (g.S.Store.state c.take_disk.new.self) = record { same = take.refused; onward = take.onward } in
     record {
       touched = [];
       ends = no_table (take.cause.rose (cc), λ told steady. take.absent told steady (cc)) (heard_none _ net net refl);
-      keeps = keeps_calm [] _ _ calm;
+      keeps = keeps_unchanged [] _ _ unchanged;
       ports = net_none net;
     }
 
@@ -34,11 +34,11 @@ pub returns-in-Err-NoMemory-clause-run : goal.returns-in-Err-NoMemory-clause-run
 returns-in-Err-NoMemory-clause-run g c =
     let take = c.in-Err-NoMemory.ensures in
     let net = g.N.Net.state c.args.net.now in
-    let calm : IsCalm (g.S.Store.state c.args.store.now) (g.S.Store.state c.take_disk.new.self) = record { same = take.refused; onward = take.onward } in
+    let unchanged : IsUnchanged (g.S.Store.state c.args.store.now) (g.S.Store.state c.take_disk.new.self) = record { same = take.refused; onward = take.onward } in
     record {
       touched = [];
       ends = no_memory [] (heard_none _ net net refl) (All-nil (Stays (from_to (g.S.Store.state c.args.store.now) (g.S.Store.state c.take_disk.new.self))));
-      keeps = keeps_calm [] _ _ calm;
+      keeps = keeps_unchanged [] _ _ unchanged;
       ports = net_none net;
     }
 

@@ -4,10 +4,10 @@ use Rattle.aggregator_session.specs.Signing.{Signature}
 use Rattle.session_core.specs.State.{State}
 use Rattle.share_blame.specs.Commits.{pages_of}
 use Rattle.stream_io.specs.Store.{pages_state}
-use Rattle.tool_base.proofs.Runs.{calm_none, calm_on, onward_none, onward_on, part_of}
+use Rattle.tool_base.proofs.Runs.{unchanged_none, unchanged_on, onward_none, onward_on, part_of}
 use Rattle.tool_base.specs.Ending.{Ending}
 use Rattle.tool_base.specs.World.{from_to}
-use Rattle.tool_base.proofs.Outs.{keeps_calm}
+use Rattle.tool_base.proofs.Outs.{keeps_unchanged}
 use Rattle.tool_sign.proofs.Whole.{is_task, keeps_on}
 use Rattle.tool_sign.specs.Ports.{NetRun, Signing, is_exact, over_net}
 use Rattle.tool_sign.specs.Sessions.{answer_by}
@@ -22,20 +22,20 @@ use Rattle.tool_blame.specs.Names.{TellsEnd}
 use Rattle.tool_blame.proofs.command.sign_or_name.Goals as goal
 
 pub returns-in-Err : goal.returns-in-Err
-returns-in-Err g c = λ first calm.
+returns-in-Err g c = λ first unchanged.
     let last = c.read_key_and_tree.new.store in
     let read = c.in-Err.ensures in
-    unbegun (sign_words c.args.words.now) _ _ _ _ (keeps_calm [] _ _ (calm_on _ _ _ calm read.calm))
-    (no_key_files _ (read.refused first last (part_of _ _ _ _ calm (onward_none _))))
+    unbegun (sign_words c.args.words.now) _ _ _ _ (keeps_unchanged [] _ _ (unchanged_on _ _ _ unchanged read.unchanged))
+    (no_key_files _ (read.refused first last (part_of _ _ _ _ unchanged (onward_none _))))
 
 pub returns-in-Err-view_reference : goal.returns-in-Err-view_reference
 returns-in-Err-view_reference g c = λ first before.
     let last = c.view_reference.new.store in
     let read = c.in-Ok.ensures in
     let viewed = c.in-Err-view_reference.ensures in
-    let calm = calm_on _ _ _ before read.calm in
-    unbegun (sign_words c.args.words.now) _ _ _ _ (keeps_on [] _ _ _ calm viewed.taken.keeps)
-    (no_reference c.in-Ok.files _ (read.files first last (part_of _ _ _ _ before viewed.taken.onward)) (viewed.taken.refused first last (part_of _ _ _ _ calm (onward_none _))))
+    let unchanged = unchanged_on _ _ _ before read.unchanged in
+    unbegun (sign_words c.args.words.now) _ _ _ _ (keeps_on [] _ _ _ unchanged viewed.taken.keeps)
+    (no_reference c.in-Ok.files _ (read.files first last (part_of _ _ _ _ before viewed.taken.onward)) (viewed.taken.refused first last (part_of _ _ _ _ unchanged (onward_none _))))
 
 pub returns-in-Err-view_commits : goal.returns-in-Err-view_commits
 returns-in-Err-view_commits g c = λ first before.
@@ -48,15 +48,15 @@ returns-in-Err-view_commits g c = λ first before.
     let viewed = c.in-Ok-view_reference.ensures in
     let none = c.in-Err-view_commits.ensures in
     let header = c.in-Ok-view_reference.viewed.1 in
-    let calm = calm_on _ _ _ before read.calm in
+    let unchanged = unchanged_on _ _ _ before read.unchanged in
     let later = onward_on _ _ _ none.taken.onward c.end_view.ensures.onward in
     let has : HasFiles (session_words words) (from_to (state first) (state last)) c.in-Ok.files header = record {
       files_are = read.files first last (part_of _ _ _ _ before (onward_on _ _ _ viewed.taken.onward later));
-      reference_is = viewed.taken.found first last (part_of _ _ _ _ calm later);
+      reference_is = viewed.taken.found first last (part_of _ _ _ _ unchanged later);
     } in
-    run_without words c.in-Ok.files header (state first) (state c.read_key_and_tree.new.store) (state c.view_reference.new.store) (pages c.in-Ok-view_reference.viewed.0) calm viewed.viewed viewed.taken.onward
+    run_without words c.in-Ok.files header (state first) (state c.read_key_and_tree.new.store) (state c.view_reference.new.store) (pages c.in-Ok-view_reference.viewed.0) unchanged viewed.viewed viewed.taken.onward
     (state c.view_commits.new.store) (state last) c.end_view.ensures.ended c.end_view.ensures.onward (g.N.Net.state c.args.net.now) c.in-Err-view_commits.end none.taken.keeps has
-    (none.taken.refused c.view_reference.new.store c.view_commits.new.store (part_of _ _ _ _ (calm_none _) (onward_none _)))
+    (none.taken.refused c.view_reference.new.store c.view_commits.new.store (part_of _ _ _ _ (unchanged_none _) (onward_none _)))
 
 pub returns-in-Err-read_task : goal.returns-in-Err-read_task
 returns-in-Err-read_task g c = λ first before.
@@ -71,18 +71,18 @@ returns-in-Err-read_task g c = λ first before.
     let lacks = c.in-Err-read_task.ensures in
     let files = c.in-Ok.files in
     let header = c.in-Ok-view_reference.viewed.1 in
-    let calm = calm_on _ _ _ before read.calm in
+    let unchanged = unchanged_on _ _ _ before read.unchanged in
     let back = onward_on _ _ _ c.end_view-in-Err-read_task.ensures.onward c.end_view-in-Err-read_task-2.ensures.onward in
-    let later = onward_on _ _ _ beside.taken.onward (onward_on _ _ _ lacks.calm.onward back) in
+    let later = onward_on _ _ _ beside.taken.onward (onward_on _ _ _ lacks.unchanged.onward back) in
     let has : HasFiles (session_words words) (from_to (state first) (state last)) files header = record {
       files_are = read.files first last (part_of _ _ _ _ before (onward_on _ _ _ viewed.taken.onward later));
-      reference_is = viewed.taken.found first last (part_of _ _ _ _ calm later);
+      reference_is = viewed.taken.found first last (part_of _ _ _ _ unchanged later);
     } in
-    run_lacking words files header (state first) (state c.read_key_and_tree.new.store) (state c.view_reference.new.store) (pages c.in-Ok-view_reference.viewed.0) calm viewed.viewed viewed.taken.onward
-    (state c.view_commits.new.store) (state c.read_task.new.store) (pages (pages_of c.in-Ok-view_commits.commits)) beside.viewed beside.taken.onward lacks.calm
+    run_lacking words files header (state first) (state c.read_key_and_tree.new.store) (state c.view_reference.new.store) (pages c.in-Ok-view_reference.viewed.0) unchanged viewed.viewed viewed.taken.onward
+    (state c.view_commits.new.store) (state c.read_task.new.store) (pages (pages_of c.in-Ok-view_commits.commits)) beside.viewed beside.taken.onward lacks.unchanged
     (state c.end_view-in-Err-read_task.new.self) (state last) (rw c.end.ensures at c.end_view-in-Err-read_task.ensures.ended) c.end_view-in-Err-read_task.ensures.onward c.end_view-in-Err-read_task-2.ensures.ended c.end_view-in-Err-read_task-2.ensures.onward
     (g.N.Net.state c.args.net.now) c.in-Err-read_task.end has
-    (beside.taken.found c.view_reference.new.store c.view_commits.new.store (part_of _ _ _ _ (calm_none _) (onward_none _)))
+    (beside.taken.found c.view_reference.new.store c.view_commits.new.store (part_of _ _ _ _ (unchanged_none _) (onward_none _)))
     lacks.refused
 
 pub returns : goal.returns
@@ -99,7 +99,7 @@ returns g c = λ first before.
     let to = c.sign_task-view.ensures.run in
     let run = to.run in
     let tells = rw c.deref.ensures.value at c.told_outcome-outcome.ensures.tells in
-    let calm = calm_on _ _ _ before read.calm in
+    let unchanged = unchanged_on _ _ _ before read.unchanged in
     let files = c.in-Ok.files in
     let header = c.in-Ok-view_reference.viewed.1 in
     let view = pages c.in-Ok-view_reference.viewed.0 in
@@ -119,31 +119,31 @@ returns g c = λ first before.
     let answer : Result Signature Ending = answer_by c.sign_task-view.result.1.outcome in
     let told : Result Signature Ending = answer_by c.told_outcome-outcome.result in
     let ended_first = rw c.end-2.ensures at c.end_view-2.ensures.ended in
-    let keeps = all_keep words files header (state first) (state c.read_key_and_tree.new.store) (state c.view_reference.new.store) view calm viewed.viewed viewed.taken.onward
-    (state c.view_commits.new.store) (state c.read_task.new.store) beside besides.viewed besides.taken.onward tasked.calm
+    let keeps = all_keep words files header (state first) (state c.read_key_and_tree.new.store) (state c.view_reference.new.store) view unchanged viewed.viewed viewed.taken.onward
+    (state c.view_commits.new.store) (state c.read_task.new.store) beside besides.viewed besides.taken.onward tasked.unchanged
     (state c.sign_task-view.new.store) (state c.end_view-2.new.self) (state last) beside_now now ended_first c.end_view-2.ensures.onward c.end_view-3.ensures.ended c.end_view-3.ensures.onward run.touched run.keeps in
-    let ends = all_end words files header (state first) (state c.read_key_and_tree.new.store) (state c.view_reference.new.store) view calm viewed.viewed viewed.taken.onward
-    (state c.view_commits.new.store) (state c.read_task.new.store) beside besides.viewed besides.taken.onward tasked.calm
+    let ends = all_end words files header (state first) (state c.read_key_and_tree.new.store) (state c.view_reference.new.store) view unchanged viewed.viewed viewed.taken.onward
+    (state c.view_commits.new.store) (state c.read_task.new.store) beside besides.viewed besides.taken.onward tasked.unchanged
     (state c.sign_task-view.new.store) (state c.end_view-2.new.self) (state last) beside_now now ended_first c.end_view-2.ensures.onward c.end_view-3.ensures.ended c.end_view-3.ensures.onward
     signing words.table net answer run.touched run.ends in
     let works = onward_on _ _ _ run.keeps.back.onward (onward_on _ _ _ c.end_view-2.ensures.onward c.end_view-3.ensures.onward) in
-    let later = onward_on _ _ _ besides.taken.onward (onward_on _ _ _ tasked.calm.onward works) in
+    let later = onward_on _ _ _ besides.taken.onward (onward_on _ _ _ tasked.unchanged.onward works) in
     let has : HasFiles (session_words words) (from_to (state first) (state last)) files header = record {
       files_are = read.files first last (part_of _ _ _ _ before (onward_on _ _ _ viewed.taken.onward later));
-      reference_is = viewed.taken.found first last (part_of _ _ _ _ calm later);
+      reference_is = viewed.taken.found first last (part_of _ _ _ _ unchanged later);
     } in
-    let goes = all_goes words files header (state first) (state c.read_key_and_tree.new.store) (state c.view_reference.new.store) view calm viewed.viewed viewed.taken.onward
-    (state c.view_commits.new.store) (state c.read_task.new.store) beside besides.viewed besides.taken.onward tasked.calm
+    let goes = all_goes words files header (state first) (state c.read_key_and_tree.new.store) (state c.view_reference.new.store) view unchanged viewed.viewed viewed.taken.onward
+    (state c.view_commits.new.store) (state c.read_task.new.store) beside besides.viewed besides.taken.onward tasked.unchanged
     (state c.sign_task-view.new.store) (state c.end_view-2.new.self) (state last) beside_now now ended_first c.end_view-2.ensures.onward c.end_view-3.ensures.ended c.end_view-3.ensures.onward
     task.message.items task.members task.addresses.items tasked.task in
-    let within = onward_on _ _ _ besides.taken.onward (onward_on _ _ _ tasked.calm.onward (onward_on _ _ _ run.keeps.back.onward c.end_view-2.ensures.onward)) in
-    let commits_are = reads_commits words files header (state first) (state c.read_key_and_tree.new.store) (state c.view_reference.new.store) view calm viewed.viewed viewed.taken.onward
-    (state c.view_commits.new.store) (state c.read_task.new.store) beside besides.viewed besides.taken.onward tasked.calm
+    let within = onward_on _ _ _ besides.taken.onward (onward_on _ _ _ tasked.unchanged.onward (onward_on _ _ _ run.keeps.back.onward c.end_view-2.ensures.onward)) in
+    let commits_are = reads_commits words files header (state first) (state c.read_key_and_tree.new.store) (state c.view_reference.new.store) view unchanged viewed.viewed viewed.taken.onward
+    (state c.view_commits.new.store) (state c.read_task.new.store) beside besides.viewed besides.taken.onward tasked.unchanged
     (state c.sign_task-view.new.store) (state c.end_view-2.new.self) (state last) beside_now now ended_first c.end_view-2.ensures.onward c.end_view-3.ensures.ended c.end_view-3.ensures.onward
     (λ told. (besides.reads told).faultless) run.keeps.back.onward in
-    let task_is = is_task (session_words words) files header tasked.sizes (state first) (state c.read_key_and_tree.new.store) (state c.view_reference.new.store) view calm viewed.viewed viewed.reads
+    let task_is = is_task (session_words words) files header tasked.sizes (state first) (state c.read_key_and_tree.new.store) (state c.view_reference.new.store) view unchanged viewed.viewed viewed.reads
     (message_in (from_to (state first) (state last)) words.message) (state c.view_reference.new.store) (state c.end_view-2.new.self) (state last) now task.message.items task.members task.addresses.items
-    viewed.taken.onward (calm_none _) within c.end_view-3.ensures.ended has goes in
+    viewed.taken.onward (unchanged_none _) within c.end_view-3.ensures.ended has goes in
     record {
       touched = run.touched;
       ends = ended signing commits beside.steady answer told run.touched task_is ends.ends commits_are

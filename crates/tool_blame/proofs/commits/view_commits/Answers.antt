@@ -1,30 +1,30 @@
 use Rattle.std.proofs.Common.{◌≡◌, IsTrue, refl}
 use Rattle.std.proofs.lemmas.Result.{err_from_is_err_and}
 use Rattle.stream_io.specs.Store.{pages_state}
-use Rattle.tool_base.proofs.Runs.{calm_none}
+use Rattle.tool_base.proofs.Runs.{unchanged_none}
 use Rattle.tool_blame.specs.Commits.{GoesWithReference, commits_name, no_memory, no_view}
 use Rattle.tool_blame.proofs.Views.{behind_head, commits_refused, fails_part}
-use Rattle.tool_desk.proofs.Taking.{refuses, refuses_calmly, takes}
+use Rattle.tool_desk.proofs.Taking.{refuses, refuses_unchanged, takes}
 use Rattle.tool_desk.proofs.Viewing.{keeps, reads_as, reads_part}
 use Rattle.tool_blame.proofs.commits.view_commits.Goals as goal
 
 pub returns-in_err-name-clause-taken : goal.returns-in_err-name-clause-taken
 returns-in_err-name-clause-taken g c =
     let p = err_from_is_err_and c.from_residual.result c.from_residual.ensures.1 in
-    rw p.1 (refuses_calmly g.S.Store.state _ _ _ _ p.0 (λ first last part. rw (p.2, c.in_err-name.ensures.refused) no_memory) (calm_none _))
+    rw p.1 (refuses_unchanged g.S.Store.state _ _ _ _ p.0 (λ first last part. rw (p.2, c.in_err-name.ensures.refused) no_memory) (unchanged_none _))
 
 pub returns-in-Err-Failed-clause-taken : goal.returns-in-Err-Failed-clause-taken
 returns-in-Err-Failed-clause-taken g c =
     let is = c.in-Err-Failed.field-0-is in
     let name : c.as_str.result.now ≡ commits_name c.args.prefix.now = let text = c.as_str.ensures.value in let is = c.in_ok-name.ensures.name in cc in
     let view = c.in-Err-Failed.ensures in
-    refuses_calmly g.S.Store.state _ _ _ _ _ (λ first last part. fails_part _ _ _ _ part _ _ _ (no_view (view.cause.rose (cc), λ told steady. rw name at (view.absent told steady (cc)))))
+    refuses_unchanged g.S.Store.state _ _ _ _ _ (λ first last part. fails_part _ _ _ _ part _ _ _ (no_view (view.cause.rose (cc), λ told steady. rw name at (view.absent told steady (cc)))))
     (record { same = view.refused; onward = view.onward })
 
 pub returns-in-Err-NoMemory-clause-taken : goal.returns-in-Err-NoMemory-clause-taken
 returns-in-Err-NoMemory-clause-taken g c =
     let view = c.in-Err-NoMemory.ensures in
-    refuses_calmly g.S.Store.state _ _ _ _ _ (λ first last part. no_memory) (record { same = view.refused; onward = view.onward })
+    refuses_unchanged g.S.Store.state _ _ _ _ _ (λ first last part. no_memory) (record { same = view.refused; onward = view.onward })
 
 pub returns-in-Ok-load-clause-taken : goal.returns-in-Ok-load-clause-taken
 returns-in-Ok-load-clause-taken g c =

@@ -2,7 +2,7 @@ use Rattle.std.proofs.Common.{◌≡◌}
 use Rattle.std.proofs.lemmas.Result.{err_from_is_err_and}
 use Rattle.tool_base.specs.Grammars.{not_read}
 use Rattle.tool_base.specs.Reads.{no_memory}
-use Rattle.tool_base.proofs.Runs.{calm_on, onward_on, part_of}
+use Rattle.tool_base.proofs.Runs.{unchanged_on, onward_on, part_of}
 use Rattle.tool_desk.specs.Files.{key_name, no_key, no_tree, tree_name}
 use Rattle.tool_desk.proofs.files.read_key_and_tree.Goals as goal
 
@@ -30,12 +30,12 @@ returns-in_err-tree-clause-refused g c =
     let one = c.in_ok-key.ensures in
     let two = c.in_err-tree.ensures in
     λ first last part.
-    let key = one.key first last (part_of _ _ _ _ part.earlier (onward_on _ _ _ two.calm.onward part.later)) in
-    let tree = two.refused first last (part_of _ _ _ _ (calm_on _ _ _ part.earlier one.calm) part.later) in
+    let key = one.key first last (part_of _ _ _ _ part.earlier (onward_on _ _ _ two.unchanged.onward part.later)) in
+    let tree = two.refused first last (part_of _ _ _ _ (unchanged_on _ _ _ part.earlier one.unchanged) part.later) in
     rw (p.1, p.2) (no_tree c.in_ok-key.key _ (rw name at key) (rw other at tree))
 
-pub returns-in_err-tree-clause-calm : goal.returns-in_err-tree-clause-calm
-returns-in_err-tree-clause-calm g c = calm_on _ _ _ c.in_ok-key.ensures.calm c.in_err-tree.ensures.calm
+pub returns-in_err-tree-clause-unchanged : goal.returns-in_err-tree-clause-unchanged
+returns-in_err-tree-clause-unchanged g c = unchanged_on _ _ _ c.in_ok-key.ensures.unchanged c.in_err-tree.ensures.unchanged
 
 pub returns-clause-files : goal.returns-clause-files
 returns-clause-files g c =
@@ -44,9 +44,9 @@ returns-clause-files g c =
     let one = c.in_ok-key.ensures in
     let two = c.in_ok-tree.ensures in
     λ first last part.
-    let key = one.key first last (part_of _ _ _ _ part.earlier (onward_on _ _ _ two.calm.onward part.later)) in
-    let tree = two.tree first last (part_of _ _ _ _ (calm_on _ _ _ part.earlier one.calm) part.later) in
+    let key = one.key first last (part_of _ _ _ _ part.earlier (onward_on _ _ _ two.unchanged.onward part.later)) in
+    let tree = two.tree first last (part_of _ _ _ _ (unchanged_on _ _ _ part.earlier one.unchanged) part.later) in
     record { key = rw name at key; tree = rw other at tree }
 
-pub returns-clause-calm : goal.returns-clause-calm
-returns-clause-calm g c = calm_on _ _ _ c.in_ok-key.ensures.calm c.in_ok-tree.ensures.calm
+pub returns-clause-unchanged : goal.returns-clause-unchanged
+returns-clause-unchanged g c = unchanged_on _ _ _ c.in_ok-key.ensures.unchanged c.in_ok-tree.ensures.unchanged

@@ -1,31 +1,31 @@
 use Rattle.std.proofs.Common.{◌≡◌}
 use Rattle.std.proofs.lemmas.Result.{err_from_is_err_and}
 use Rattle.stream_io.specs.Store.{pages_state}
-use Rattle.tool_base.proofs.Runs.{calm_none}
+use Rattle.tool_base.proofs.Runs.{unchanged_none}
 use Rattle.tool_desk.specs.Files.{reference_name}
 use Rattle.tool_desk.specs.Reference.{no_memory, no_view}
-use Rattle.tool_desk.proofs.Outs.{out_calm, reads_viewed}
-use Rattle.tool_desk.proofs.Taking.{refuses, refuses_calmly, takes}
+use Rattle.tool_desk.proofs.Outs.{out_unchanged, reads_viewed}
+use Rattle.tool_desk.proofs.Taking.{refuses, refuses_unchanged, takes}
 use Rattle.tool_desk.proofs.Viewing.{fails_part, head_refused, keeps}
 use Rattle.tool_desk.proofs.reference.view_reference.Goals as goal
 
 pub returns-in_err-name-clause-taken : goal.returns-in_err-name-clause-taken
 returns-in_err-name-clause-taken g c =
     let p = err_from_is_err_and c.from_residual.result c.from_residual.ensures.1 in
-    rw p.1 (refuses_calmly g.S.Store.state _ _ _ _ p.0 (λ first last part. rw (p.2, c.in_err-name.ensures.refused) no_memory) (calm_none _))
+    rw p.1 (refuses_unchanged g.S.Store.state _ _ _ _ p.0 (λ first last part. rw (p.2, c.in_err-name.ensures.refused) no_memory) (unchanged_none _))
 
 pub returns-in-Err-Failed-clause-taken : goal.returns-in-Err-Failed-clause-taken
 returns-in-Err-Failed-clause-taken g c =
     let is = c.in-Err-Failed.field-0-is in
     let name : c.as_str.result.now ≡ reference_name c.args.prefix.now = let text = c.as_str.ensures.value in let is = c.in_ok-name.ensures.name in cc in
     let view = c.in-Err-Failed.ensures in
-    refuses_calmly g.S.Store.state _ _ _ _ _ (λ first last part. fails_part _ _ _ _ part _ _ (no_view (view.cause.rose (cc), λ told steady. rw name at (view.absent told steady (cc)))))
+    refuses_unchanged g.S.Store.state _ _ _ _ _ (λ first last part. fails_part _ _ _ _ part _ _ (no_view (view.cause.rose (cc), λ told steady. rw name at (view.absent told steady (cc)))))
     (record { same = view.refused; onward = view.onward })
 
 pub returns-in-Err-NoMemory-clause-taken : goal.returns-in-Err-NoMemory-clause-taken
 returns-in-Err-NoMemory-clause-taken g c =
     let view = c.in-Err-NoMemory.ensures in
-    refuses_calmly g.S.Store.state _ _ _ _ _ (λ first last part. no_memory) (record { same = view.refused; onward = view.onward })
+    refuses_unchanged g.S.Store.state _ _ _ _ _ (λ first last part. no_memory) (record { same = view.refused; onward = view.onward })
 
 pub returns-in-Ok-read_head-clause-taken : goal.returns-in-Ok-read_head-clause-taken
 returns-in-Ok-read_head-clause-taken g c =
@@ -35,7 +35,7 @@ returns-in-Ok-read_head-clause-taken g c =
     let head = c.in-Ok-read_head.ensures in
     takes g.S.Store.state _ _ _ _ _
     (λ first last part. record {
-      reads = reads_viewed _ _ _ 0 _ (out_calm _ _ part.earlier) c.in-Ok-read_head.header (pages c.in-Ok.view) _ (rw name at c.in-Ok.ensures.viewed) head.reads;
+      reads = reads_viewed _ _ _ 0 _ (out_unchanged _ _ part.earlier) c.in-Ok-read_head.header (pages c.in-Ok.view) _ (rw name at c.in-Ok.ensures.viewed) head.reads;
       dealt = head.dealt;
     })
     c.in-Ok.ensures.onward

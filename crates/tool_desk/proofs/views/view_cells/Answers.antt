@@ -1,16 +1,16 @@
 use Rattle.std.proofs.Common.{◌≡◌, ◌∷◌, ◌++◌, ◌+◌, [], List, ap, ◌∙◌, subst}
 use Rattle.reference_value.specs.declared.paged.Paged.{Paged}
 use Rattle.stream_io.specs.Store.{pages_state}
-use Rattle.tool_base.proofs.Runs.{calm_none, onward_on, part_of}
+use Rattle.tool_base.proofs.Runs.{unchanged_none, onward_on, part_of}
 use Rattle.tool_desk.specs.Files.{reference_name}
 use Rattle.tool_desk.specs.Reference.{no_memory}
 use Rattle.tool_desk.specs.Views.{AddsCells, not_viewed, other_key}
-use Rattle.tool_desk.proofs.Outs.{all_cells, keeps_all, kept_none, out_calm, out_ended, out_more, out_none}
-use Rattle.tool_desk.proofs.Taking.{refuses, refuses_calmly, takes}
+use Rattle.tool_desk.proofs.Outs.{all_cells, keeps_all, kept_none, out_unchanged, out_ended, out_more, out_none}
+use Rattle.tool_desk.proofs.Taking.{refuses, refuses_unchanged, takes}
 use Rattle.tool_desk.proofs.views.view_cells.Goals as goal
 
 pub returns-in_default-clause-taken : goal.returns-in_default-clause-taken
-returns-in_default-clause-taken g c = refuses_calmly g.S.Store.state _ _ _ _ _ (λ first last part. not_viewed _ no_memory) (calm_none _)
+returns-in_default-clause-taken g c = refuses_unchanged g.S.Store.state _ _ _ _ _ (λ first last part. not_viewed _ no_memory) (unchanged_none _)
 
 pub returns-in-Err-clause-taken : goal.returns-in-Err-clause-taken
 returns-in-Err-clause-taken g c =
@@ -62,7 +62,7 @@ returns-in-Err-view_others-clause-taken g c =
     refuses state _ _ _ _ _
     (λ first last part.
     let later = onward_on _ _ _ ends.onward part.later in
-    others.refused first last (0 + 1) (out_more _ _ _ _ _ _ (out_calm _ _ part.earlier) viewed.viewed viewed.taken.onward) later
+    others.refused first last (0 + 1) (out_more _ _ _ _ _ _ (out_unchanged _ _ part.earlier) viewed.viewed viewed.taken.onward) later
     (viewed.taken.found first last (part_of _ _ _ _ part.earlier (onward_on _ _ _ others.adds.cells.out.onward later))).reads)
     (keeps_all pages (state c.args.store.now) (state c.view_reference.new.store) (state c.view_others.new.store) name own c.in-Ok-view_reference.viewed.0 c.new.ensures.pages
     c.view_others.new.cells.items viewed.viewed viewed.taken.onward adds (state c.end_cells.new.store) (λ one. view.Faults.count one.pages) ends)

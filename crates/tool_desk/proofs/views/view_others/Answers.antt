@@ -2,7 +2,7 @@ use Rattle.std.proofs.Common.{◌≡◌, sym, subst, refl, arith, inl, inr, ◌�
 use Rattle.std.proofs.lemmas.List.Elements.{All-push}
 use Rattle.std.proofs.lemmas.Result.{err_from_is_err_and}
 use Rattle.stream_io.specs.Store.{pages_state}
-use Rattle.tool_base.proofs.Runs.{calm_none, onward_none, part_of}
+use Rattle.tool_base.proofs.Runs.{unchanged_none, onward_none, part_of}
 use Rattle.tool_base.specs.Ending.{Ending}
 use Rattle.tool_base.specs.World.{from_to}
 use Rattle.tool_desk.specs.Reference.{no_memory}
@@ -29,7 +29,7 @@ returns-in_err-view-clause-refused g c =
     λ first last out goes later reads.
     rw (p.1, p.2)
     (not_viewed _ (fails_out _ _ _ _ _ (out_on _ _ _ _ _ goes adds.cells.out) later _ _
-    (c.in_err-view.ensures.taken.refused c.loop.store c.view_reference.new.store (part_of _ _ _ _ (calm_none _) (onward_none _)))))
+    (c.in_err-view.ensures.taken.refused c.loop.store c.view_reference.new.store (part_of _ _ _ _ (unchanged_none _) (onward_none _)))))
 
 pub returns-then-not-is_same-clause-adds : goal.returns-then-not-is_same-clause-adds
 returns-then-not-is_same-clause-adds g c =

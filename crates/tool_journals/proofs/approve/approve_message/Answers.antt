@@ -3,8 +3,8 @@ use Rattle.lms_bytes.specs.MessageId.{message_id_bytes}
 use Rattle.slot_file.specs.declared.header.Header.{Header}
 use Rattle.stream_io.specs.Store.{StoreOnward, pages_state}
 use Rattle.tool_base.specs.Endings.{ending}
-use Rattle.tool_base.specs.World.{IsCalm, from_to}
-use Rattle.tool_base.proofs.Runs.{calm_none, calm_on, onward_none, onward_on, part_of}
+use Rattle.tool_base.specs.World.{IsUnchanged, from_to}
+use Rattle.tool_base.proofs.Runs.{unchanged_none, unchanged_on, onward_none, onward_on, part_of}
 use Rattle.tool_journals.specs.Adding.{AddEnds, DiskFails, disk_run}
 use Rattle.tool_base.specs.Headers.{book_header}
 use Rattle.tool_journals.specs.Approve.{ApproveEnds, IsBookDisk, IsNotOpened, no_book, no_message, no_share}
@@ -12,7 +12,7 @@ use Rattle.tool_base.specs.Disks.{DeviceFails}
 use Rattle.tool_base.specs.Disks.{IsOut}
 use Rattle.tool_base.proofs.Outs.{IsBackAs}
 use Rattle.tool_journals.proofs.Approving.{book_ends, book_out}
-use Rattle.tool_base.proofs.Outs.{back_as, ends_calm, ends_map, out_calm, out_here, out_same}
+use Rattle.tool_base.proofs.Outs.{back_as, ends_unchanged, ends_map, out_unchanged, out_here, out_same}
 use Rattle.tool_journals.proofs.Sharing.{unshared}
 use Rattle.tool_journals.proofs.approve.approve_message.Goals as goal
 
@@ -20,8 +20,8 @@ pub returns-in-Err : goal.returns-in-Err
 returns-in-Err g c =
     let one = c.in-Err.ensures in
     record {
-      ended = unshared _ _ c.args.share.now (ApproveEnds _ c.args.share.now c.args.book.now c.args.message.now) _ one.calm (λ end fails. no_share end fails)
-          (one.refused c.args.store.now c.read_share_file.new.store (part_of _ _ _ _ (calm_none _) (onward_none _)));
+      ended = unshared _ _ c.args.share.now (ApproveEnds _ c.args.share.now c.args.book.now c.args.message.now) _ one.unchanged (λ end fails. no_share end fails)
+          (one.refused c.args.store.now c.read_share_file.new.store (part_of _ _ _ _ (unchanged_none _) (onward_none _)));
     }
 
 pub returns-in-Err-read_message : goal.returns-in-Err-read_message
@@ -30,10 +30,10 @@ returns-in-Err-read_message g c =
     let last = c.read_message.new.store in
     let one = c.in-Ok.ensures in
     let two = c.in-Err-read_message.ensures in
-    let read = one.share first last (part_of _ _ _ _ (calm_none _) two.calm.onward) in
+    let read = one.share first last (part_of _ _ _ _ (unchanged_none _) two.unchanged.onward) in
     record {
-      ended = ends_calm _ _ (calm_on _ _ _ one.calm two.calm) (ApproveEnds _ c.args.share.now c.args.book.now c.args.message.now) _
-          (no_message c.in-Ok.found _ read (two.refused first last (part_of _ _ _ _ one.calm (onward_none _))));
+      ended = ends_unchanged _ _ (unchanged_on _ _ _ one.unchanged two.unchanged) (ApproveEnds _ c.args.share.now c.args.book.now c.args.message.now) _
+          (no_message c.in-Ok.found _ read (two.refused first last (part_of _ _ _ _ one.unchanged (onward_none _))));
     }
 
 pub returns-in-Err-open_book : goal.returns-in-Err-open_book
@@ -50,12 +50,12 @@ returns-in-Err-open_book g c =
     let two = c.in-Ok-read_message.ensures in
     let three = c.in-Err-open_book.ensures in
     let end = ending c.in-Err-open_book.end in
-    let later = (three.refused mid (calm_none _)).keeps.back.onward in
-    let read = one.share first last (part_of _ _ _ _ (calm_none _) (onward_on _ _ _ two.calm.onward later)) in
-    let text = two.id first last (part_of _ _ _ _ one.calm later) in
+    let later = (three.refused mid (unchanged_none _)).keeps.back.onward in
+    let read = one.share first last (part_of _ _ _ _ (unchanged_none _) (onward_on _ _ _ two.unchanged.onward later)) in
+    let text = two.id first last (part_of _ _ _ _ one.unchanged later) in
     record {
       ended = ends_map run (IsNotOpened run book c.book_of-blank.result.header) (ApproveEnds run c.args.share.now book c.args.message.now) end
-          (three.refused first (calm_on _ _ _ one.calm two.calm))
+          (three.refused first (unchanged_on _ _ _ one.unchanged two.unchanged))
           (λ touched is. no_book found id end touched read text (subst (λ h. IsNotOpened run book h end touched) c.book_of-blank.ensures.header is));
     }
 
@@ -94,16 +94,16 @@ returns g c =
     let stays = c.add_message-disk.ensures.stays in
     let five = c.return_disk.ensures in
     let end = ending c.add_message-disk.result.1 in
-    let calm : IsCalm first before = calm_on _ _ _ one.calm two.calm in
+    let unchanged : IsUnchanged first before = unchanged_on _ _ _ one.unchanged two.unchanged in
     let opened : IsBookDisk before book (book_header found) old after =
     subst (λ (h : Header). IsBookDisk before book h old after) c.book_of-blank.ensures.header c.in-Ok-open_book.ensures.opened in
     let here : IsOut before book old after = book_out before after book (book_header found) old opened in
-    let went : IsOut first book old after = out_calm first before after book old calm here in
+    let went : IsOut first book old after = out_unchanged first before after book old unchanged here in
     let out : IsOut first book now after = out_same first after book old now went stays.told stays.honest stays.steady in
     let back : IsBackAs first book now last = back_as first after last book now out five.returned five.onward in
     let later : StoreOnward before last = onward_on before after last here.onward five.onward in
-    let read = one.share c.args.store.now c.return_disk.new.self (part_of _ _ _ _ (calm_none _) (onward_on _ _ _ two.calm.onward later)) in
-    let text = two.id c.args.store.now c.return_disk.new.self (part_of _ _ _ _ one.calm later) in
+    let read = one.share c.args.store.now c.return_disk.new.self (part_of _ _ _ _ (unchanged_none _) (onward_on _ _ _ two.unchanged.onward later)) in
+    let text = two.id c.args.store.now c.return_disk.new.self (part_of _ _ _ _ one.unchanged later) in
     let failed = DiskFails disks.Pages disks.Faults c.in-Ok-open_book.disk c.add_message-disk.result.0 in
     let fails : failed → DeviceFails run = λ is. record {
       rose = let rose = is.rose in let count = back.disk_count in omega arith;
@@ -114,7 +114,7 @@ returns g c =
     record {
       ended = record {
         touched = book ∷ [];
-        cause = book_ends failed first before after last c.args.share.now book c.args.message.now found id old now end calm opened back five.onward fails read text added;
+        cause = book_ends failed first before after last c.args.share.now book c.args.message.now found id old now end unchanged opened back five.onward fails read text added;
         keeps = back.keeps;
       };
     }

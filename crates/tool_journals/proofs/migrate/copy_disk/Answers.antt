@@ -2,11 +2,11 @@ use Rattle.std.proofs.Common.{inr}
 use Rattle.slot_file.specs.Slots.{faults_of, file_of}
 use Rattle.tool_base.specs.Endings.{ending}
 use Rattle.tool_base.specs.World.{from_to}
-use Rattle.tool_base.proofs.Runs.{calm_none}
+use Rattle.tool_base.proofs.Runs.{unchanged_none}
 use Rattle.tool_base.specs.Disks.{OneFails}
 use Rattle.tool_journals.specs.Migrate.{CopyEnds, old_header, slot_count}
 use Rattle.tool_journals.proofs.Copying.{copy_later, later_none, load_fails, load_is}
-use Rattle.tool_base.proofs.Outs.{ends_calm, ends_map}
+use Rattle.tool_base.proofs.Outs.{ends_unchanged, ends_map}
 use Rattle.tool_journals.proofs.migrate.copy_disk.Goals as goal
 
 pub returns-in-Ok-clause-ended : goal.returns-in-Ok-clause-ended
@@ -35,7 +35,7 @@ returns-in-Err-clause-ended g c =
     let step = c.in-Err.ensures in
     let file = g.D.Pages.reads c.args.disk in
     let failed = OneFails old old (g.D.Faults.count c.args.disk) (g.D.Faults.count c.in-Err.disk) in
-    ends_calm old old (calm_none old) (CopyEnds failed run share name file) (ending c.end_of_load.result)
+    ends_unchanged old old (unchanged_none old) (CopyEnds failed run share name file) (ending c.end_of_load.result)
     (load_fails failed run share name file c.in-Err.fault (ending c.end_of_load.result) c.end_of_load.ensures
     (λ is. record { rose = inr (step.cause.failed is); unsteady = λ told steady. step.succeeds (c.requires.steady steady) (c.requires.told told) is })
     (λ told. load_is c.header_of.result (old_header share) c.leaves.result (slot_count share) file c.in-Err.fault c.header_of.ensures c.leaves.ensures (step.refuses (c.requires.told told))))

@@ -6,13 +6,13 @@ use Rattle.slot_file.specs.Slots.{faults_of, file_of}
 use Rattle.slot_file.specs.declared.header.Header.{Header}
 use Rattle.stream_io.specs.Store.{Handed, pages_state}
 use Rattle.tool_base.specs.Endings.{ending}
-use Rattle.tool_base.specs.World.{from_to, IsCalm}
+use Rattle.tool_base.specs.World.{from_to, IsUnchanged}
 use Rattle.tool_journals.specs.Blanks.{IsNeverHalf}
 use Rattle.tool_base.specs.Disks.{OneFails}
 use Rattle.tool_journals.specs.Migrate.{CopyEnds, IsCopied, migrated, not_made, slot_count}
 use Rattle.tool_journals.proofs.Blanks.{IsMadeAndBack, made_and_back}
 use Rattle.tool_journals.proofs.Copying.{copy_fails, copy_is, damaged_is, not_written_of, taken_is}
-use Rattle.tool_base.proofs.Outs.{ends_calm}
+use Rattle.tool_base.proofs.Outs.{ends_unchanged}
 use Rattle.tool_journals.proofs.migrate.copy_journal.Goals as goal
 use Rattle.trustee_core.specs.Trustee.{journal_header}
 
@@ -22,13 +22,13 @@ returns-in-Err-clause-ended g c =
     let old = state c.args.store.now in
     let new = state c.new_disk.new.self in
     let step = c.in-Err.ensures in
-    let still : IsCalm old new = record { same = step.refused; onward = step.onward } in
+    let still : IsUnchanged old new = record { same = step.refused; onward = step.onward } in
     let run = from_to old new in
     let faults = faults_of c.args.slots.now in
     let not = not_written_of run c.args.new.now c.in-Err.fault _ c.end_of_new.ensures
     (λ is told. false≢true (rw (c.requires.new told) at (step.exists told (ap Err is))))
     (λ is. record { rose = step.cause.rose (ap Err is); unsteady = λ steady. step.answers steady (ap Err is) }) in
-    ends_calm old new still (CopyEnds (OneFails old new faults faults) run c.args.share.now c.args.new.now (file_of c.args.slots.now)) (ending c.end_of_new.result)
+    ends_unchanged old new still (CopyEnds (OneFails old new faults faults) run c.args.share.now c.args.new.now (file_of c.args.slots.now)) (ending c.end_of_new.result)
     (not_made _ c.requires.opens not)
 
 pub returns-in-Ok-copied-clause-ended : goal.returns-in-Ok-copied-clause-ended

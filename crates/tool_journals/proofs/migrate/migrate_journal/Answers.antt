@@ -2,14 +2,14 @@ use Rattle.std.proofs.Common.{◌≡◌, ◌∷◌, IsTrue, Some, Err, refl, sym
 use Rattle.stream_io.specs.Store.{Handed, StoreOnward, pages_state}
 use Rattle.tool_base.specs.Endings.{ending}
 use Rattle.tool_base.specs.Outputs.{IsNew}
-use Rattle.tool_base.specs.World.{IsCalm, from_to}
-use Rattle.tool_base.proofs.Runs.{calm_none, calm_on, onward_none, onward_on, part_of}
+use Rattle.tool_base.specs.World.{IsUnchanged, from_to}
+use Rattle.tool_base.proofs.Runs.{unchanged_none, unchanged_on, onward_none, onward_on, part_of}
 use Rattle.tool_base.specs.Disks.{DeviceFails}
 use Rattle.tool_base.specs.Disks.{IsOut, OneFails}
 use Rattle.tool_journals.specs.Migrate.{MigrateEnds, StandsStill, no_share, not_new, taken}
 use Rattle.tool_journals.specs.Taking.{no_memory_to_take, take_failed}
 use Rattle.tool_journals.proofs.Copying.{Later, copy_later}
-use Rattle.tool_base.proofs.Outs.{Round, ends_calm, new_beside, new_differs, out_calm, out_same, round, taken_out}
+use Rattle.tool_base.proofs.Outs.{Round, ends_unchanged, new_beside, new_differs, out_unchanged, out_same, round, taken_out}
 use Rattle.tool_journals.proofs.Migrating.{untaken}
 use Rattle.tool_journals.proofs.Sharing.{unshared}
 use Rattle.tool_journals.proofs.migrate.migrate_journal.Goals as goal
@@ -18,8 +18,8 @@ pub returns-in-Err : goal.returns-in-Err
 returns-in-Err g c =
     let one = c.in-Err.ensures in
     record {
-      ended = unshared _ _ c.args.share.now (MigrateEnds _ c.args.share.now c.args.journal.now c.args.new.now) _ one.calm (λ end fails. no_share end fails)
-          (one.refused c.args.store.now c.read_share_file.new.store (part_of _ _ _ _ (calm_none _) (onward_none _)));
+      ended = unshared _ _ c.args.share.now (MigrateEnds _ c.args.share.now c.args.journal.now c.args.new.now) _ one.unchanged (λ end fails. no_share end fails)
+          (one.refused c.args.store.now c.read_share_file.new.store (part_of _ _ _ _ (unchanged_none _) (onward_none _)));
     }
 
 pub returns-in-Err-test_new : goal.returns-in-Err-test_new
@@ -28,10 +28,10 @@ returns-in-Err-test_new g c =
     let last = c.test_new.new.store in
     let one = c.in-Ok.ensures in
     let two = c.in-Err-test_new.ensures in
-    let read = one.share first last (part_of _ _ _ _ (calm_none _) two.calm.onward) in
+    let read = one.share first last (part_of _ _ _ _ (unchanged_none _) two.unchanged.onward) in
     record {
-      ended = ends_calm _ _ (calm_on _ _ _ one.calm two.calm) (MigrateEnds _ c.args.share.now c.args.journal.now c.args.new.now) _
-          (not_new c.in-Ok.found _ read (two.refused first last (part_of _ _ _ _ one.calm (onward_none _))));
+      ended = ends_unchanged _ _ (unchanged_on _ _ _ one.unchanged two.unchanged) (MigrateEnds _ c.args.share.now c.args.journal.now c.args.new.now) _
+          (not_new c.in-Ok.found _ read (two.refused first last (part_of _ _ _ _ one.unchanged (onward_none _))));
     }
 
 pub returns-in-Err-Failed : goal.returns-in-Err-Failed
@@ -40,13 +40,13 @@ returns-in-Err-Failed g c =
     let one = c.in-Ok.ensures in
     let two = c.in_default.ensures in
     let three = c.in-Err-Failed.ensures in
-    let calm : IsCalm (state c.args.store.now) (state c.test_new.new.store) = calm_on _ _ _ one.calm two.calm in
+    let unchanged : IsUnchanged (state c.args.store.now) (state c.test_new.new.store) = unchanged_on _ _ _ one.unchanged two.unchanged in
     let is = ap Err c.in-Err-Failed.field-0-is in
     record {
       ended = untaken state c.args.store.now c.read_share_file.new.store c.test_new.new.store c.take_disk.new.self c.args.share.now c.args.journal.now c.args.new.now c.in-Ok.found
-          one.calm two.calm three.refused three.onward one.share two.new _ (take_failed
-          (let rose = three.cause.rose is in let before = calm.onward.count in omega arith)
-          (λ told steady. rw (← calm.same.names.file) (three.absent (rw calm.onward.told told) (rw calm.onward.steady steady) is)));
+          one.unchanged two.unchanged three.refused three.onward one.share two.new _ (take_failed
+          (let rose = three.cause.rose is in let before = unchanged.onward.count in omega arith)
+          (λ told steady. rw (← unchanged.same.names.file) (three.absent (rw unchanged.onward.told told) (rw unchanged.onward.steady steady) is)));
     }
 
 pub returns-in-Err-NoMemory : goal.returns-in-Err-NoMemory
@@ -56,7 +56,7 @@ returns-in-Err-NoMemory g c =
     let three = c.in-Err-NoMemory.ensures in
     record {
       ended = untaken g.S.Store.state c.args.store.now c.read_share_file.new.store c.test_new.new.store c.take_disk.new.self c.args.share.now c.args.journal.now c.args.new.now c.in-Ok.found
-          one.calm two.calm three.refused three.onward one.share two.new _ no_memory_to_take;
+          one.unchanged two.unchanged three.refused three.onward one.share two.new _ no_memory_to_take;
     }
 
 pub copy_disk-disk-requires-clause-new : goal.copy_disk-disk-requires-clause-new
@@ -68,9 +68,9 @@ copy_disk-disk-requires-clause-new g c κs within =
     let one = c.in-Ok.ensures in
     let two = c.in_default.ensures in
     let three = c.in-Ok-take_disk.ensures in
-    let new = two.new c.read_share_file.new.store c.test_new.new.store (part_of _ _ _ _ (calm_none _) (onward_none _)) in
+    let new = two.new c.read_share_file.new.store c.test_new.new.store (part_of _ _ _ _ (unchanged_none _) (onward_none _)) in
     new_beside between (state c.take_disk.new.self) c.args.journal.now c.args.new.now disk (taken_out between (state c.take_disk.new.self) c.args.journal.now disk three.taken three.onward)
-    three.taken.reads (λ told. rw (two.calm.same.names.file, two.calm.same.names.out) (new (rw (← two.calm.onward.told) told)))
+    three.taken.reads (λ told. rw (two.unchanged.same.names.file, two.unchanged.same.names.out) (new (rw (← two.unchanged.onward.told) told)))
 
 pub returns : goal.returns
 returns g c =
@@ -93,19 +93,19 @@ returns g c =
     let three = c.in-Ok-take_disk.ensures in
     let four = c.copy_disk-disk.ensures in
     let five = c.return_disk.ensures in
-    let calm : IsCalm first between = calm_on _ _ _ one.calm two.calm in
-    let went : IsOut first journal old before = out_calm first between before journal old calm (taken_out between before journal old three.taken three.onward) in
+    let unchanged : IsUnchanged first between = unchanged_on _ _ _ one.unchanged two.unchanged in
+    let went : IsOut first journal old before = out_unchanged first between before journal old unchanged (taken_out between before journal old three.taken three.onward) in
     let out : IsOut first journal now before = out_same first before journal old now went four.unwritten.stays.told four.unwritten.stays.honest four.unwritten.stays.steady in
     let back : Round first after last journal four.ended.touched now = round first before after last journal four.ended.touched now out four.ended.keeps five.returned five.onward in
     let later : StoreOnward before last = onward_on before after last four.ended.keeps.back.onward five.onward in
-    let read = one.share c.args.store.now c.return_disk.new.self (part_of _ _ _ _ (calm_none _) (onward_on _ _ _ two.calm.onward (onward_on _ _ _ three.onward later))) in
-    let new : IsNew run name = two.new c.args.store.now c.return_disk.new.self (part_of _ _ _ _ one.calm (onward_on _ _ _ three.onward later)) in
-    let there : IsTrue first.told → first.file journal ≡ Some old.reads = λ told. rw (← calm.same.names.file) (three.taken.reads (rw calm.onward.told told)) in
+    let read = one.share c.args.store.now c.return_disk.new.self (part_of _ _ _ _ (unchanged_none _) (onward_on _ _ _ two.unchanged.onward (onward_on _ _ _ three.onward later))) in
+    let new : IsNew run name = two.new c.args.store.now c.return_disk.new.self (part_of _ _ _ _ one.unchanged (onward_on _ _ _ three.onward later)) in
+    let there : IsTrue first.told → first.file journal ≡ Some old.reads = λ told. rw (← unchanged.same.names.file) (three.taken.reads (rw unchanged.onward.told told)) in
     let differs = new_differs first before journal name old went there new in
     let still : StandsStill run journal old.reads = record {
       before = there;
       after = λ told. back.file told ∙ ap Some (four.unwritten.same (went.told told));
-      images = λ told honest image left. (calm.same.names.leaves journal image).0 ((three.taken.images (rw calm.onward.told told) image).0
+      images = λ told honest image left. (unchanged.same.names.leaves journal image).0 ((three.taken.images (rw unchanged.onward.told told) image).0
           (four.unwritten.images (subst (λ (h : Handed). IsTrue h.honest) (went.kind told) honest) image ((back.leaves told image).0 left)));
     } in
     let part : Later (from_to before after) run name = record {

@@ -1,5 +1,5 @@
 use Rattle.std.proofs.Common.{◌≡◌, [], ◌∷◌, List, map, refl, subst}
-use Rattle.tool_base.proofs.Runs.{calm_none}
+use Rattle.tool_base.proofs.Runs.{unchanged_none}
 use Rattle.tool_base.proofs.Writing.{names_of, none_left}
 use Rattle.tool_base.specs.Endings.{ending}
 use Rattle.tool_base.specs.OutputOf.{output_of}
@@ -10,7 +10,7 @@ use Rattle.tool_levels.specs.HssSign.{no_memory, part_written, written}
 use Rattle.tool_levels.proofs.writing.write_levels.Goals as goal
 
 pub returns-in_default-clause-ends : goal.returns-in_default-clause-ends
-returns-in_default-clause-ends g c = no_memory (none_left _ _ (calm_none _))
+returns-in_default-clause-ends g c = no_memory (none_left _ _ (unchanged_none _))
 
 pub write_all-requires-clause-differ : goal.write_all-requires-clause-differ
 write_all-requires-clause-differ g c =
@@ -27,11 +27,11 @@ write_all-requires-clause-new g c =
 pub returns-in-Ok-write_all-clause-ends : goal.returns-in-Ok-write_all-clause-ends
 returns-in-Ok-write_all-clause-ends g c =
     let run = from_to (g.S.Store.state c.args.store.now) (g.S.Store.state c.write_all.new.store) in
-    written (subst (IsLeft run) c.in-Ok.ensures (c.in-Ok-write_all.ensures.written c.args.store.now (calm_none _)))
+    written (subst (IsLeft run) c.in-Ok.ensures (c.in-Ok-write_all.ensures.written c.args.store.now (unchanged_none _)))
 
 pub returns-clause-ends : goal.returns-clause-ends
 returns-clause-ends g c =
     let run = from_to (g.S.Store.state c.args.store.now) (g.S.Store.state c.write_all.new.store) in
-    let stops = c.in-Err.ensures.refused c.args.store.now (calm_none _) in
+    let stops = c.in-Err.ensures.refused c.args.store.now (unchanged_none _) in
     part_written stops.written _ stops.left
     (subst (λ (outputs : List Output). StopsAfter run outputs stops.written (ending c.in-Err.end)) c.in-Ok.ensures stops.cause)

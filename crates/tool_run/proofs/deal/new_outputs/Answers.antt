@@ -4,7 +4,7 @@ use Rattle.tool_base.specs.Endings.{ending}
 use Rattle.tool_base.specs.OutputOf.{output_of}
 use Rattle.tool_base.specs.Outputs.{FirstNotNew, IsNew}
 use Rattle.tool_base.specs.World.{from_to}
-use Rattle.tool_base.proofs.Runs.{calm_on, onward_on, part_of}
+use Rattle.tool_base.proofs.Runs.{unchanged_on, onward_on, part_of}
 use Rattle.tool_base.proofs.Writing.{names_of}
 use Rattle.tool_run.specs.Steps.{given, not_new, refused}
 use Rattle.tool_run.proofs.deal.new_outputs.Goals as goal
@@ -29,8 +29,8 @@ returns-in_err-test_all_new-clause-refused g c =
     let outputs = c.in_ok-outputs.outputs.items in
     let made = rw c.deref.ensures.value at c.in_ok-outputs.ensures.dealt in
     λ first last part.
-    let read = one.bytes first last (part_of _ _ _ _ part.earlier (onward_on _ _ _ two.calm.onward part.later)) in
-    let fails = rw c.deref-2.ensures.value at (two.refused first last (part_of _ _ _ _ (calm_on _ _ _ part.earlier one.calm) part.later)) in
+    let read = one.bytes first last (part_of _ _ _ _ part.earlier (onward_on _ _ _ two.unchanged.onward part.later)) in
+    let fails = rw c.deref-2.ensures.value at (two.refused first last (part_of _ _ _ _ (unchanged_on _ _ _ part.earlier one.unchanged) part.later)) in
     let named : FirstNotNew (from_to (g.S.Store.state first) (g.S.Store.state last)) (map (λ output. output.name) (map output_of outputs)) _ =
     rw (names_of output_of outputs) fails in
     rw (p.1, p.2) (given c.in_ok-entropy.entropy.items _ _ read (given (map output_of outputs, ending c.in_ok-outputs.done) _ _ made (not_new _ named)))
@@ -42,16 +42,16 @@ returns-clause-ready g c =
     let outputs = c.in_ok-outputs.outputs.items in
     λ first last part.
     let new : All (IsNew (from_to (g.S.Store.state first) (g.S.Store.state last))) (map (λ output. output.name) (map output_of outputs)) =
-    rw (names_of output_of outputs) (rw c.deref-2.ensures.value at (two.new first last (part_of _ _ _ _ (calm_on _ _ _ part.earlier one.calm) part.later))) in
+    rw (names_of output_of outputs) (rw c.deref-2.ensures.value at (two.new first last (part_of _ _ _ _ (unchanged_on _ _ _ part.earlier one.unchanged) part.later))) in
     record {
       entropy = c.in_ok-entropy.entropy.items;
-      read = one.bytes first last (part_of _ _ _ _ part.earlier (onward_on _ _ _ two.calm.onward part.later));
+      read = one.bytes first last (part_of _ _ _ _ part.earlier (onward_on _ _ _ two.unchanged.onward part.later));
       dealt = rw c.deref.ensures.value at c.in_ok-outputs.ensures.dealt;
       new = new;
     }
 
-pub returns-in_err-test_all_new-clause-calm : goal.returns-in_err-test_all_new-clause-calm
-returns-in_err-test_all_new-clause-calm g c = calm_on _ _ _ c.in_ok-entropy.ensures.calm c.in_err-test_all_new.ensures.calm
+pub returns-in_err-test_all_new-clause-unchanged : goal.returns-in_err-test_all_new-clause-unchanged
+returns-in_err-test_all_new-clause-unchanged g c = unchanged_on _ _ _ c.in_ok-entropy.ensures.unchanged c.in_err-test_all_new.ensures.unchanged
 
-pub returns-clause-calm : goal.returns-clause-calm
-returns-clause-calm g c = calm_on _ _ _ c.in_ok-entropy.ensures.calm c.in_ok-test_all_new.ensures.calm
+pub returns-clause-unchanged : goal.returns-clause-unchanged
+returns-clause-unchanged g c = unchanged_on _ _ _ c.in_ok-entropy.ensures.unchanged c.in_ok-test_all_new.ensures.unchanged

@@ -1,5 +1,5 @@
 use Rattle.std.proofs.lemmas.Result.{err_from_is_err_and}
-use Rattle.tool_base.proofs.Runs.{calm_on, onward_on, part_of}
+use Rattle.tool_base.proofs.Runs.{unchanged_on, onward_on, part_of}
 use Rattle.tool_run.specs.Steps.{first_fails, second_fails}
 use Rattle.tool_run.proofs.reading.read_two.Goals as goal
 
@@ -14,20 +14,20 @@ returns-in_err-second-clause-refused g c =
     let one = c.in_ok-first.ensures in
     let two = c.in_err-second.ensures in
     λ first last part.
-    let read = one.bytes first last (part_of _ _ _ _ part.earlier (onward_on _ _ _ two.calm.onward part.later)) in
-    rw (p.1, p.2) (second_fails c.in_ok-first.first.items _ read (two.refused first last (part_of _ _ _ _ (calm_on _ _ _ part.earlier one.calm) part.later)))
+    let read = one.bytes first last (part_of _ _ _ _ part.earlier (onward_on _ _ _ two.unchanged.onward part.later)) in
+    rw (p.1, p.2) (second_fails c.in_ok-first.first.items _ read (two.refused first last (part_of _ _ _ _ (unchanged_on _ _ _ part.earlier one.unchanged) part.later)))
 
 pub returns-clause-bytes : goal.returns-clause-bytes
 returns-clause-bytes g c =
     let one = c.in_ok-first.ensures in
     let two = c.in_ok-second.ensures in
     λ first last part. record {
-      first = one.bytes first last (part_of _ _ _ _ part.earlier (onward_on _ _ _ two.calm.onward part.later));
-      second = two.bytes first last (part_of _ _ _ _ (calm_on _ _ _ part.earlier one.calm) part.later);
+      first = one.bytes first last (part_of _ _ _ _ part.earlier (onward_on _ _ _ two.unchanged.onward part.later));
+      second = two.bytes first last (part_of _ _ _ _ (unchanged_on _ _ _ part.earlier one.unchanged) part.later);
     }
 
-pub returns-in_err-second-clause-calm : goal.returns-in_err-second-clause-calm
-returns-in_err-second-clause-calm g c = calm_on _ _ _ c.in_ok-first.ensures.calm c.in_err-second.ensures.calm
+pub returns-in_err-second-clause-unchanged : goal.returns-in_err-second-clause-unchanged
+returns-in_err-second-clause-unchanged g c = unchanged_on _ _ _ c.in_ok-first.ensures.unchanged c.in_err-second.ensures.unchanged
 
-pub returns-clause-calm : goal.returns-clause-calm
-returns-clause-calm g c = calm_on _ _ _ c.in_ok-first.ensures.calm c.in_ok-second.ensures.calm
+pub returns-clause-unchanged : goal.returns-clause-unchanged
+returns-clause-unchanged g c = unchanged_on _ _ _ c.in_ok-first.ensures.unchanged c.in_ok-second.ensures.unchanged

@@ -1,7 +1,7 @@
 use Rattle.std.proofs.Common.{◌≡◌, [], refl}
 use Rattle.tool_base.specs.World.{from_to}
 use Rattle.tool_base.proofs.Writing.{ends_untouched}
-use Rattle.tool_base.proofs.Runs.{calm_none}
+use Rattle.tool_base.proofs.Runs.{unchanged_none}
 use Rattle.tool_run.specs.Drill.{DrillEnds}
 use Rattle.tool_run.specs.HssCheck.{HssCheckEnds}
 use Rattle.tool_run.specs.Verify.{VerifyEnds}
@@ -13,7 +13,7 @@ returns-in-Verify-clause-ended g c =
     let run = from_to (g.S.Store.state c.args.store.now) (g.S.Store.state c.verify_files.new.store) in
     let verify = c.in-Verify in
     rw c.in-Verify.is (record {
-      run = ends_untouched _ _ c.verify_files.ensures.calm (VerifyEnds run verify.key.now verify.message.now verify.signature.now) _ c.verify_files.ensures.ended;
+      run = ends_untouched _ _ c.verify_files.ensures.unchanged (VerifyEnds run verify.key.now verify.message.now verify.signature.now) _ c.verify_files.ensures.ended;
       net = refl;
     })
 
@@ -49,7 +49,7 @@ returns-in-HssCheck-clause-ended g c =
     let run = from_to (g.S.Store.state c.args.store.now) (g.S.Store.state c.hss_check_files.new.store) in
     let check = c.in-HssCheck in
     rw c.in-HssCheck.is (record {
-      run = ends_untouched _ _ c.hss_check_files.ensures.calm (HssCheckEnds run check.key.now check.message.now check.signature.now) _ c.hss_check_files.ensures.ended;
+      run = ends_untouched _ _ c.hss_check_files.ensures.unchanged (HssCheckEnds run check.key.now check.message.now check.signature.now) _ c.hss_check_files.ensures.ended;
       net = refl;
     })
 
@@ -59,7 +59,7 @@ returns-in-Aggregate-clause-ended g c = rw c.in-Aggregate.is c.aggregate.ensures
 pub returns-in-Drill-clause-ended : goal.returns-in-Drill-clause-ended
 returns-in-Drill-clause-ended g c =
     rw c.in-Drill.is (record {
-      run = ends_untouched _ _ (calm_none _) (λ end written. DrillEnds c.in-Drill.words.number c.in-Drill.words.sessions c.in-Drill.words.events end × (written ≡ [])) _
+      run = ends_untouched _ _ (unchanged_none _) (λ end written. DrillEnds c.in-Drill.words.number c.in-Drill.words.sessions c.in-Drill.words.events end × (written ≡ [])) _
           (c.drill_sessions.ensures, refl);
       net = refl;
     })
@@ -69,7 +69,7 @@ returns-in-Show-clause-ended g c =
     let run = from_to (g.S.Store.state c.args.store.now) (g.S.Store.state c.show_file.new.store) in
     let show = c.in-Show in
     rw c.in-Show.is (record {
-      run = ends_untouched _ _ c.show_file.ensures.calm (λ end written. ShowEnds run show.file.now show.leaves end × (written ≡ [])) _
+      run = ends_untouched _ _ c.show_file.ensures.unchanged (λ end written. ShowEnds run show.file.now show.leaves end × (written ≡ [])) _
           (c.show_file.ensures.ended, refl);
       net = refl;
     })

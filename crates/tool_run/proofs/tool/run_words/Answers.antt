@@ -2,7 +2,7 @@ use Rattle.std.proofs.Common.{◌≡◌, Some, map, string_bytes, refl}
 use Rattle.tool_words.specs.Rows.{row}
 use Rattle.tool_words.specs.Words.{command_of}
 use Rattle.tool_words.proofs.Commands.{outputs_differ}
-use Rattle.tool_base.proofs.Runs.{back_calm, calm_none}
+use Rattle.tool_base.proofs.Runs.{back_unchanged, unchanged_none}
 use Rattle.tool_run.proofs.Running.{usage_run}
 use Rattle.tool_run.proofs.tool.run_words.Goals as goal
 
@@ -10,7 +10,7 @@ pub returns-in-None-clause-ended : goal.returns-in-None-clause-ended
 returns-in-None-clause-ended g c = rw (← c.command_of.ensures, c.in-None.is) (usage_run _ _ _)
 
 pub returns-in-None-clause-back : goal.returns-in-None-clause-back
-returns-in-None-clause-back g c = back_calm _ _ (calm_none _)
+returns-in-None-clause-back g c = back_unchanged _ _ (unchanged_none _)
 
 pub run_command-requires-clause-differ : goal.run_command-requires-clause-differ
 run_command-requires-clause-differ g c =

@@ -2,9 +2,9 @@ use Rattle.std.proofs.Common.{◌≡◌, ◌∷◌, [], Some, refl, ap, ◌∙�
 use Rattle.std.proofs.lemmas.List.Elements.{All-nil}
 use Rattle.leaf_table.specs.Loaded.{IsLoaded}
 use Rattle.aggregator_session.specs.Tables.{table_seen}
-use Rattle.tool_base.specs.World.{IsCalm, from_to}
+use Rattle.tool_base.specs.World.{IsUnchanged, from_to}
 use Rattle.tool_base.specs.Disks.{Stays}
-use Rattle.tool_base.proofs.Outs.{keeps_calm, out_here, taken_out}
+use Rattle.tool_base.proofs.Outs.{keeps_unchanged, out_here, taken_out}
 use Rattle.tool_base.proofs.Nets.{net_none}
 use Rattle.tool_sign.proofs.Signs.{ends_whole, same_name, unbegun_to}
 use Rattle.tool_sign.proofs.Tables.{disk_seen, same_disk, table_refused, table_round}
@@ -18,11 +18,11 @@ returns-in-Err-Failed-clause-run g c =
     let is = c.in-Err-Failed.is in
     let fault = c.in-Err-Failed.field-0-is in
     let net = g.N.Net.state c.args.net.now in
-    let calm : IsCalm (g.S.Store.state c.args.store.now) (g.S.Store.state c.take_disk.new.self) = record { same = take.refused; onward = take.onward } in
+    let unchanged : IsUnchanged (g.S.Store.state c.args.store.now) (g.S.Store.state c.take_disk.new.self) = record { same = take.refused; onward = take.onward } in
     unbegun_to (ap answer_in c.not_begun.ensures.0) c.not_begun.ensures.1 (record {
       touched = [];
       ends = no_table (record { reads = refl; ports = record { offers = refl; out = refl; kept = refl } }) (take.cause.rose (cc), λ told steady. take.absent told steady (cc));
-      keeps = keeps_calm [] _ _ calm;
+      keeps = keeps_unchanged [] _ _ unchanged;
       ports = net_none net;
     }) refl
 
@@ -30,11 +30,11 @@ pub returns-in-Err-NoMemory-clause-run : goal.returns-in-Err-NoMemory-clause-run
 returns-in-Err-NoMemory-clause-run g c =
     let take = c.in-Err-NoMemory.ensures in
     let net = g.N.Net.state c.args.net.now in
-    let calm : IsCalm (g.S.Store.state c.args.store.now) (g.S.Store.state c.take_disk.new.self) = record { same = take.refused; onward = take.onward } in
+    let unchanged : IsUnchanged (g.S.Store.state c.args.store.now) (g.S.Store.state c.take_disk.new.self) = record { same = take.refused; onward = take.onward } in
     unbegun_to (ap answer_in c.not_begun-in-Err-NoMemory.ensures.0) c.not_begun-in-Err-NoMemory.ensures.1 (record {
       touched = [];
       ends = no_memory [] (record { reads = refl; ports = record { offers = refl; out = refl; kept = refl } }) (All-nil (Stays (from_to (g.S.Store.state c.args.store.now) (g.S.Store.state c.take_disk.new.self))));
-      keeps = keeps_calm [] _ _ calm;
+      keeps = keeps_unchanged [] _ _ unchanged;
       ports = net_none net;
     }) refl
 

@@ -1,11 +1,11 @@
 use Rattle.std.proofs.Common.{[], Result, drop}
 use Rattle.aggregator_session.specs.Signing.{Signature}
 use Rattle.stream_io.specs.Store.{pages_state}
-use Rattle.tool_base.proofs.Runs.{calm_on, onward_none, onward_on, part_of}
+use Rattle.tool_base.proofs.Runs.{unchanged_on, onward_none, onward_on, part_of}
 use Rattle.tool_base.specs.Ending.{Ending}
 use Rattle.tool_base.specs.World.{from_to}
 use Rattle.tool_desk.specs.Files.{reference_name}
-use Rattle.tool_base.proofs.Outs.{keeps_calm}
+use Rattle.tool_base.proofs.Outs.{keeps_unchanged}
 use Rattle.tool_sign.proofs.Whole.{goes_in, is_task, keeps_on, run_lacking, signed_with_key, unbegun, whole_ends, whole_keeps}
 use Rattle.tool_sign.specs.Ports.{NetRun, Signing, is_exact, over_net}
 use Rattle.tool_sign.specs.Sessions.{answer_by, ended}
@@ -14,20 +14,20 @@ use Rattle.tool_sign.specs.Tasks.{HasFiles, desk_of, no_key_files, no_reference}
 use Rattle.tool_sign.proofs.task.sign_message.Goals as goal
 
 pub returns-in-Err : goal.returns-in-Err
-returns-in-Err g c = λ first calm.
+returns-in-Err g c = λ first unchanged.
     let last = c.read_key_and_tree.new.store in
     let read = c.in-Err.ensures in
-    unbegun (session_words c.args.words.now) (source_of c.args.message) _ _ _ _ (keeps_calm [] _ _ (calm_on _ _ _ calm read.calm))
-    (no_key_files _ (read.refused first last (part_of _ _ _ _ calm (onward_none _))))
+    unbegun (session_words c.args.words.now) (source_of c.args.message) _ _ _ _ (keeps_unchanged [] _ _ (unchanged_on _ _ _ unchanged read.unchanged))
+    (no_key_files _ (read.refused first last (part_of _ _ _ _ unchanged (onward_none _))))
 
 pub returns-in-Err-view_reference : goal.returns-in-Err-view_reference
 returns-in-Err-view_reference g c = λ first before.
     let last = c.view_reference.new.store in
     let read = c.in-Ok.ensures in
     let viewed = c.in-Err-view_reference.ensures in
-    let calm = calm_on _ _ _ before read.calm in
-    unbegun (session_words c.args.words.now) (source_of c.args.message) _ _ _ _ (keeps_on [] _ _ _ calm viewed.taken.keeps)
-    (no_reference c.in-Ok.files _ (read.files first last (part_of _ _ _ _ before viewed.taken.onward)) (viewed.taken.refused first last (part_of _ _ _ _ calm (onward_none _))))
+    let unchanged = unchanged_on _ _ _ before read.unchanged in
+    unbegun (session_words c.args.words.now) (source_of c.args.message) _ _ _ _ (keeps_on [] _ _ _ unchanged viewed.taken.keeps)
+    (no_reference c.in-Ok.files _ (read.files first last (part_of _ _ _ _ before viewed.taken.onward)) (viewed.taken.refused first last (part_of _ _ _ _ unchanged (onward_none _))))
 
 pub returns-in-Err-read_task : goal.returns-in-Err-read_task
 returns-in-Err-read_task g c = λ first before.
@@ -39,14 +39,14 @@ returns-in-Err-read_task g c = λ first before.
     let read = c.in-Ok.ensures in
     let viewed = c.in-Ok-view_reference.ensures in
     let lacks = c.in-Err-read_task.ensures in
-    let calm = calm_on _ _ _ before read.calm in
-    let later = onward_on _ _ _ lacks.calm.onward c.end_view.ensures.onward in
+    let unchanged = unchanged_on _ _ _ before read.unchanged in
+    let later = onward_on _ _ _ lacks.unchanged.onward c.end_view.ensures.onward in
     let has : HasFiles words (from_to (state first) (state last)) c.in-Ok.files c.in-Ok-view_reference.viewed.1 = record {
       files_are = read.files first last (part_of _ _ _ _ before (onward_on _ _ _ viewed.taken.onward later));
-      reference_is = viewed.taken.found first last (part_of _ _ _ _ calm later);
+      reference_is = viewed.taken.found first last (part_of _ _ _ _ unchanged later);
     } in
     run_lacking words c.args.message c.in-Ok.files c.in-Ok-view_reference.viewed.1 (state first) (state c.read_key_and_tree.new.store) (state c.view_reference.new.store) (state c.read_task.new.store) (state last)
-    (reference_name words.prefix) (pages c.in-Ok-view_reference.viewed.0) calm viewed.viewed viewed.taken.onward lacks.calm c.end_view.ensures.ended c.end_view.ensures.onward
+    (reference_name words.prefix) (pages c.in-Ok-view_reference.viewed.0) unchanged viewed.viewed viewed.taken.onward lacks.unchanged c.end_view.ensures.ended c.end_view.ensures.onward
     (g.N.Net.state c.args.net.now) c.in-Err-read_task.end has lacks.refused
 
 pub returns : goal.returns
@@ -61,7 +61,7 @@ returns g c = λ first before.
     let viewed = c.in-Ok-view_reference.ensures in
     let tasked = c.in-Ok-read_task.ensures in
     let run = c.sign_task-view.ensures.run.run in
-    let calm = calm_on _ _ _ before read.calm in
+    let unchanged = unchanged_on _ _ _ before read.unchanged in
     let files = c.in-Ok.files in
     let header = c.in-Ok-view_reference.viewed.1 in
     let view = pages c.in-Ok-view_reference.viewed.0 in
@@ -77,19 +77,19 @@ returns g c = λ first before.
     let net : NetRun = over_net (g.N.Net.state c.args.net.now) (g.N.Net.state c.sign_task-view.new.net) in
     let answer : Result Signature Ending = answer_by c.sign_task-view.result.1.outcome in
     let keeps = whole_keeps files header (state first) (state c.read_key_and_tree.new.store) (state c.view_reference.new.store) (state c.read_task.new.store) (reference_name words.prefix) view
-    calm viewed.viewed viewed.taken.onward tasked.calm (state c.sign_task-view.new.store) (state last) now c.end_view-2.ensures.ended c.end_view-2.ensures.onward run.touched run.keeps in
+    unchanged viewed.viewed viewed.taken.onward tasked.unchanged (state c.sign_task-view.new.store) (state last) now c.end_view-2.ensures.ended c.end_view-2.ensures.onward run.touched run.keeps in
     let ends = whole_ends files header (state first) (state c.read_key_and_tree.new.store) (state c.view_reference.new.store) (state c.read_task.new.store) (reference_name words.prefix) view
-    calm viewed.viewed viewed.taken.onward tasked.calm (state c.sign_task-view.new.store) (state last) now c.end_view-2.ensures.ended c.end_view-2.ensures.onward signing words.table net answer run.touched run.ends in
+    unchanged viewed.viewed viewed.taken.onward tasked.unchanged (state c.sign_task-view.new.store) (state last) now c.end_view-2.ensures.ended c.end_view-2.ensures.onward signing words.table net answer run.touched run.ends in
     let works = onward_on _ _ _ run.keeps.back.onward c.end_view-2.ensures.onward in
     let has : HasFiles words (from_to (state first) (state last)) files header = record {
-      files_are = read.files first last (part_of _ _ _ _ before (onward_on _ _ _ viewed.taken.onward (onward_on _ _ _ tasked.calm.onward works)));
-      reference_is = viewed.taken.found first last (part_of _ _ _ _ calm (onward_on _ _ _ tasked.calm.onward works));
+      files_are = read.files first last (part_of _ _ _ _ before (onward_on _ _ _ viewed.taken.onward (onward_on _ _ _ tasked.unchanged.onward works)));
+      reference_is = viewed.taken.found first last (part_of _ _ _ _ unchanged (onward_on _ _ _ tasked.unchanged.onward works));
     } in
     let goes = goes_in words c.args.message files header (state first) (state c.read_key_and_tree.new.store) (state c.view_reference.new.store) (state c.read_task.new.store) (state last)
-    (reference_name words.prefix) view calm viewed.viewed viewed.taken.onward tasked.calm task.message.items task.members task.addresses.items tasked.task in
-    let task_is = is_task words files header tasked.sizes (state first) (state c.read_key_and_tree.new.store) (state c.view_reference.new.store) view calm viewed.viewed viewed.reads
+    (reference_name words.prefix) view unchanged viewed.viewed viewed.taken.onward tasked.unchanged task.message.items task.members task.addresses.items tasked.task in
+    let task_is = is_task words files header tasked.sizes (state first) (state c.read_key_and_tree.new.store) (state c.view_reference.new.store) view unchanged viewed.viewed viewed.reads
     (source (from_to (state first) (state last))) (state c.read_task.new.store) (state c.sign_task-view.new.store) (state last) now task.message.items task.members task.addresses.items
-    viewed.taken.onward tasked.calm run.keeps.back.onward c.end_view-2.ensures.ended has goes in
+    viewed.taken.onward tasked.unchanged run.keeps.back.onward c.end_view-2.ensures.ended has goes in
     record {
       touched = run.touched;
       ends = ended signing answer run.touched task_is ends.ends;

@@ -5,13 +5,13 @@ use Rattle.opening_journal.specs.Journal.{Keeps, disk_of, faults_of, state_of}
 use Rattle.opening_journal.specs.Loading.{IsJournalFile, LoadRefused}
 use Rattle.share_files.specs.declared.share.Share.{Share}
 use Rattle.stream_io.specs.Store.{Handed, Taken, handed, pages_state}
-use Rattle.tool_base.proofs.Runs.{calm_none, calm_on, onward_none, onward_on, part_of}
+use Rattle.tool_base.proofs.Runs.{unchanged_none, unchanged_on, onward_none, onward_on, part_of}
 use Rattle.tool_base.specs.Endings.{ending}
-use Rattle.tool_base.specs.World.{IsCalm, Outside, from_to}
+use Rattle.tool_base.specs.World.{IsUnchanged, Outside, from_to}
 use Rattle.tool_base.specs.Disks.{Stays}
 use Rattle.tool_base.specs.Loads.{FailsToLoad}
 use Rattle.tool_base.proofs.Outs.{out_here, taken_out}
-use Rattle.tool_base.proofs.Takes.{back, journal_not_loaded, round_rise, round_stays, stays, taken_calm, whole}
+use Rattle.tool_base.proofs.Takes.{back, journal_not_loaded, round_rise, round_stays, stays, taken_unchanged, whole}
 use Rattle.tool_trustee.specs.Journals.{IsJournal}
 use Rattle.tool_trustee.specs.Trustee.{IsTrustee, handed_of}
 use Rattle.tool_trustee.proofs.Asked.{no_doubts}
@@ -28,9 +28,9 @@ returns-in-Err g c =
     let state = g.S.Store.state in
     let first = c.args.store.now in
     let last = c.read_share_file.new.store in
-    let calm = c.in-Err.ensures.calm in
-    run_unread (trustee_words c.args.words.now) (state first) (state last) _ _ calm _
-    (c.in-Err.ensures.refused first last (part_of _ _ _ _ (calm_none _) (onward_none _)))
+    let unchanged = c.in-Err.ensures.unchanged in
+    run_unread (trustee_words c.args.words.now) (state first) (state last) _ _ unchanged _
+    (c.in-Err.ensures.refused first last (part_of _ _ _ _ (unchanged_none _) (onward_none _)))
 
 pub returns-in-Err-take_disk : goal.returns-in-Err-take_disk
 returns-in-Err-take_disk g c =
@@ -40,11 +40,11 @@ returns-in-Err-take_disk g c =
     let read = c.in-Ok.ensures in
     let take = c.in-Err-take_disk.ensures in
     let is = c.in-Err-take_disk.is in
-    let later : IsCalm (state c.read_share_file.new.store) (state last) = record { same = take.refused; onward = take.onward } in
-    run_untaken (trustee_words c.args.words.now) (state first) (state last) _ _ (calm_on _ _ _ read.calm later) c.in-Ok.share c.in-Err-take_disk.fault _ c.end_of_call.ensures
-    (read.share first last (part_of _ _ _ _ (calm_none _) take.onward))
-    (λ failed. let rose = take.cause.rose (cc) in let begins = read.calm.onward.count in omega (arith, rose, begins))
-    (λ failed told steady. rw (← read.calm.same.names.file) (take.absent (rw read.calm.onward.told told) (rw read.calm.onward.steady steady) (cc)))
+    let later : IsUnchanged (state c.read_share_file.new.store) (state last) = record { same = take.refused; onward = take.onward } in
+    run_untaken (trustee_words c.args.words.now) (state first) (state last) _ _ (unchanged_on _ _ _ read.unchanged later) c.in-Ok.share c.in-Err-take_disk.fault _ c.end_of_call.ensures
+    (read.share first last (part_of _ _ _ _ (unchanged_none _) take.onward))
+    (λ failed. let rose = take.cause.rose (cc) in let begins = read.unchanged.onward.count in omega (arith, rose, begins))
+    (λ failed told steady. rw (← read.unchanged.same.names.file) (take.absent (rw read.unchanged.onward.told told) (rw read.unchanged.onward.steady steady) (cc)))
 
 pub returns-in-Err-load : goal.returns-in-Err-load
 returns-in-Err-load g c =
@@ -60,8 +60,8 @@ returns-in-Err-load g c =
     let now = pages c.in-Err-load.disk in
     let load = c.in-Err-load.ensures in
     let out = c.in-Ok-take_disk.ensures in
-    let taken = taken_calm first _ _ name disk read.calm out.taken in
-    let goes = onward_on _ _ _ read.calm.onward out.onward in
+    let taken = taken_unchanged first _ _ name disk read.unchanged out.taken in
+    let goes = onward_on _ _ _ read.unchanged.onward out.onward in
     let step = c.return_disk.ensures.returned in
     let comes = c.return_disk.ensures.onward in
     let kind = load.unwritten.stays in
@@ -70,7 +70,7 @@ returns-in-Err-load g c =
     let fails : FailsToLoad (journal_header share) (2 ^ share.params.h) (from_to first last) name (ending c.end_of_journal.result) =
     subst (FailsToLoad (journal_header share) (2 ^ share.params.h) (from_to first last) name) (sym c.end_of_journal.ensures)
     (journal_not_loaded first _ last name disk now taken goes step comes kind.told kind.honest kind.steady (journal_header share) (2 ^ share.params.h) refl c.in-Err-load.fault refused load.succeeds load.cause) in
-    run_refused (trustee_words c.args.words.now) first last _ _ share _ (read.share c.args.store.now c.return_disk.new.self (part_of _ _ _ _ (calm_none _) (onward_on _ _ _ out.onward comes)))
+    run_refused (trustee_words c.args.words.now) first last _ _ share _ (read.share c.args.store.now c.return_disk.new.self (part_of _ _ _ _ (unchanged_none _) (onward_on _ _ _ out.onward comes)))
     fails (stays first _ last name disk now taken goes step comes kind.told kind.honest kind.steady load.unwritten.same load.unwritten.images)
     now (back first _ last name disk now taken goes step comes kind.told kind.honest kind.steady)
 
@@ -125,8 +125,8 @@ returns g c =
     let end_is = ended.disk in
     let keeps = served.ended.keeps in
     let touched = served.ended.touched in
-    let taken : Taken first name disk out_state = taken_calm first _ _ name disk read.calm out.taken in
-    let goes = onward_on _ _ _ read.calm.onward out.onward in
+    let taken : Taken first name disk out_state = taken_unchanged first _ _ name disk read.unchanged out.taken in
+    let goes = onward_on _ _ _ read.unchanged.onward out.onward in
     let step = c.return_disk-2.ensures.returned in
     let comes = c.return_disk-2.ensures.onward in
     let told : now.told ≡ disk.told = ap disks.Pages.told end_is ∙ ap (λ (n : TrusteeName). n.told) named ∙ ap (λ j. disks.Pages.told (disk_of j)) journal_is ∙ kind.told in
@@ -152,7 +152,7 @@ returns g c =
     let before : Outside = record { store = first; net = g.N.Net.state c.args.net.now; time = g.T.Clocks.state c.args.time.now } in
     let after : Outside = record { store = last; net = g.N.Net.state c.serve_with_book-trustee.new.net; time = g.T.Clocks.state c.serve_with_book-trustee.new.time } in
     let trustee_is : IsTrustee words before after share old.entries = record {
-      share_is = read.share c.args.store.now c.return_disk-2.new.self (part_of _ _ _ _ (calm_none _) later);
+      share_is = read.share c.args.store.now c.return_disk-2.new.self (part_of _ _ _ _ (unchanged_none _) later);
       journal_is = record { file = disk.reads; is_read = taken.reads; is = λ t. is_journal (taken.given.told t) };
     } in
     let fresh : old.faults ≡ 0 = ap (λ j. faults_of j) journal_is ∙ loaded.faults ∙ taken.given.fresh in

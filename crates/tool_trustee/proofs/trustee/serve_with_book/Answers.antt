@@ -7,7 +7,7 @@ use Rattle.slot_file.specs.State.{HasSlots}
 use Rattle.slot_file.specs.Disks.{Unwritten}
 use Rattle.stream_io.specs.Store.{pages_state}
 use Rattle.tool_base.specs.Endings.{ending}
-use Rattle.tool_base.specs.World.{IsCalm, from_to}
+use Rattle.tool_base.specs.World.{IsUnchanged, from_to}
 use Rattle.tool_base.specs.Loads.{FailsToLoad}
 use Rattle.tool_base.proofs.Takes.{back, reads_as, slots_not_loaded, stays}
 use Rattle.tool_base.specs.Headers.{book_header}
@@ -27,9 +27,9 @@ pub returns-in-Err-clause-ended : goal.returns-in-Err-clause-ended
 returns-in-Err-clause-ended g c =
     let take = c.in-Err.ensures in
     let is = c.in-Err.is in
-    let calm : IsCalm (g.S.Store.state c.args.store.now) (g.S.Store.state c.take_disk.new.self) = record { same = take.refused; onward = take.onward } in
+    let unchanged : IsUnchanged (g.S.Store.state c.args.store.now) (g.S.Store.state c.take_disk.new.self) = record { same = take.refused; onward = take.onward } in
     run_absent (trustee_words c.args.words.now) c.args.share.now (c.args.trustee ≡ c.args.trustee) (trustee_state c.args.trustee) (trustee_state c.args.trustee)
-    _ _ _ _ _ _ c.in-Some.name.now (ap (option_map (λ b. b.now)) c.in-Some.is) (heard_none _ _ _ refl) c.in-Err.fault _ c.end_of_call.ensures refl calm
+    _ _ _ _ _ _ c.in-Some.name.now (ap (option_map (λ b. b.now)) c.in-Some.is) (heard_none _ _ _ refl) c.in-Err.fault _ c.end_of_call.ensures refl unchanged
     (λ failed. take.cause.rose (cc)) (λ failed told steady. take.absent told steady (cc))
 
 pub returns-in-Err-load-clause-ended : goal.returns-in-Err-load-clause-ended
