@@ -7,12 +7,12 @@ use Rattle.tool_base.specs.Outputs.{AreDifferent, IsNew}
 use Rattle.tool_base.specs.declared.outputs.Output.{Output}
 use Rattle.tool_base.specs.World.{from_to}
 use Rattle.tool_base.proofs.Names.{before_differ}
-use Rattle.tool_base.proofs.Runs.{back_calm, back_same, back_written, calm_none}
+use Rattle.tool_base.proofs.Runs.{back_unchanged, back_same, back_written, unchanged_none}
 use Rattle.tool_base.proofs.Writing.{left_more, left_part, left_same, names_of, none_left, stopped_part, stops_after, stops_behind}
 use Rattle.tool_base.proofs.outputs.write_all.Goals as goal
 
 pub outputs-init : goal.outputs-init
-outputs-init g c = (back_calm _ _ (calm_none _), none_left _ _ (calm_none _))
+outputs-init g c = (back_unchanged _ _ (unchanged_none _), none_left _ _ (unchanged_none _))
 
 -- the names so far are others than the one to come
 earlier_differ : (outputs : List Output) (i : ℕ) (output : Output) → i < length outputs → output ≡ get_or outputs i output
@@ -40,8 +40,8 @@ returns-in_err-write_output-clause-refused g c =
     let new : IsNew (from_to (state c.args.store.now) (state c.args.store.now)) (string_bytes output.name) =
     rw own at (All-get_or (IsNew (from_to (state c.args.store.now) (state c.args.store.now))) (map name outputs) i [] size c.requires.new) in
     let left = left_same _ _ _ inv.0.onward.told step.unchanged step.onward _ inv.1 in
-    λ first calm.
-    rw (p.1, p.2) (stopped_part _ _ _ calm _ _ (stops_after _ output_of outputs i output _ h c.output-item.is left
+    λ first unchanged.
+    rw (p.1, p.2) (stopped_part _ _ _ unchanged _ _ (stops_after _ output_of outputs i output _ h c.output-item.is left
     (stops_behind _ _ _ _ inv.0.onward (λ name told. inv.0.out told name) inv.1 _ _ new (earlier_differ outputs i output h c.output-item.is c.requires.differ) step.refused)))
 
 pub returns-in_err-write_output-clause-back : goal.returns-in_err-write_output-clause-back
@@ -62,4 +62,4 @@ outputs-preserved g c =
 pub returns-clause-written : goal.returns-clause-written
 returns-clause-written g c =
     let all = take_all c.outputs.output-index c.args.outputs.now (let end = c.outputs-test.false in omega arith) in
-    λ first calm. left_part _ _ _ calm _ (rw all at c.outputs.invariant.1)
+    λ first unchanged. left_part _ _ _ unchanged _ (rw all at c.outputs.invariant.1)
