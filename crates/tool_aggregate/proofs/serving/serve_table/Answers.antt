@@ -2,7 +2,7 @@ use Rattle.std.proofs.Common.{◌≡◌, ◌^◌, ◌∷◌, [], Some, IsTrue, r
 use Rattle.std.proofs.lemmas.List.Elements.{All-nil}
 use Rattle.leaf_table.specs.Loaded.{IsLoaded}
 use Rattle.leaf_table.specs.Table.{disk_of}
-use Rattle.aggregator_session.specs.Signing.{desk_state}
+use Rattle.aggregator_session.specs.Desks.{desk_state}
 use Rattle.aggregator_session.specs.Tables.{table_seen}
 use Rattle.slot_file.specs.Loading.{LoadRefused}
 use Rattle.stream_io.specs.Store.{Handed, handed, pages_state}
