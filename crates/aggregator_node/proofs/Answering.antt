@@ -1,5 +1,6 @@
 -- One request of a client, read, signed and answered.
 use Rattle.std.proofs.Common.{◌≡◌, ◌≢◌, ◌++◌, ℕ, List, [], ◌∷◌, length, Option, Some, Result, Ok, Err, IfOk, MatchResult, IsTrue, sym, ap, ◌∙◌}
+use Rattle.aggregator_session.specs.Desks.{DeskState}
 use Rattle.aggregator_session.specs.Tasks as tasks
 use Rattle.aggregator_session.specs.declared.fault.SignFault.{SignFault}
 use Rattle.aggregator_session.specs.declared.fault.SignFault.TheVariants as sign
@@ -9,7 +10,7 @@ use Rattle.disk_trait.specs.declared.faults.Faults as faults
 use Rattle.reference_value.specs.Stay.{CellsStay}
 use Rattle.reference_value.specs.declared.cells.Cells as cells
 use Rattle.aggregator_session.specs.Causes.{PortCauses}
-use Rattle.aggregator_session.specs.Signing.{DeskState, Signature, signature_in}
+use Rattle.aggregator_session.specs.Signing.{Signature, signature_in}
 use Rattle.aggregator_session.specs.declared.sign.Signed.{Signed}
 use Rattle.lms_bytes.specs.declared.public_key.PublicKey.{PublicKey}
 use Rattle.lms_verify.specs.Accepts.{AcceptsAt}

@@ -7,7 +7,7 @@ use Rattle.aggregator_node.specs.Gathered.{Gathered}
 use Rattle.aggregator_node.specs.Ports.{IsPortRun, Place, PortRun, ServedClients, requests_in}
 use Rattle.leaf_table.specs.declared.lease.Lease.{Lease}
 use Rattle.leaf_table.specs.declared.table.TableName.{TableName}
-use Rattle.aggregator_session.specs.Signing.{DeskState}
+use Rattle.aggregator_session.specs.Desks.{DeskState}
 use Rattle.aggregator_session.specs.Tables.{TableSeen}
 use Rattle.trustee_node.specs.declared.totals.Totals.{Totals}
 use Rattle.trustee_node.proofs.Finishing.{small-ticket}

@@ -1,4 +1,5 @@
 -- Workers that are done, whose passes are joined.
+use Rattle.aggregator_session.specs.Desks.{DeskState}
 use Rattle.std.proofs.Common.{◌≡◌, ◌+◌, ◌-◌, ◌^◌, ◌<◌, ℕ, false, true≢false, min, Option, List, [], ◌∷◌, ◌++◌, All, length, refl, sym, ap, ◌∙◌, subst, arith, append-nil}
 use Rattle.std.proofs.lemmas.List.{map-append}
 use Rattle.std.proofs.lemmas.List.Elements.{All-cons, All-head, All-nil, All-push, All-tail}
@@ -15,7 +16,6 @@ use Rattle.aggregator_node.proofs.Summing.{done-join}
 use Rattle.aggregator_node.specs.Posts.{Connection}
 use Rattle.leaf_table.specs.declared.lease.Lease.{Lease}
 use Rattle.leaf_table.specs.declared.table.TableName.{TableName}
-use Rattle.aggregator_session.specs.Signing.{DeskState}
 use Rattle.stream_io.specs.Net.{PortOnward, PortState}
 use Rattle.trustee_node.proofs.Prefixes.{prefix-same, prefix-then}
 use Rattle.trustee_node.specs.Ports.{PortEnds, failed, full, none_waits}

@@ -1,4 +1,5 @@
 -- Workers of which some are joined.
+use Rattle.aggregator_session.specs.Desks.{DeskState}
 use Rattle.std.proofs.Common.{◌≡◌, ℕ, List, [], ◌∷◌, ◌++◌, sym, ap, ◌∙◌, subst, append_assoc, append-nil}
 use Rattle.aggregator_node.specs.Gathered.{AreDone, Gathered, IsDone}
 use Rattle.aggregator_node.specs.Ports.{Place}
@@ -7,7 +8,6 @@ use Rattle.aggregator_node.proofs.Gathering.{gathered-one}
 use Rattle.aggregator_node.proofs.Standing.{no-places, split}
 use Rattle.leaf_table.specs.declared.lease.Lease.{Lease}
 use Rattle.leaf_table.specs.declared.table.TableName.{TableName}
-use Rattle.aggregator_session.specs.Signing.{DeskState}
 use Rattle.trustee_node.specs.declared.totals.Totals.{Totals}
 use Rattle.turn_lock.specs.Lock.{Lock}
 use Rattle.turn_lock.specs.Pass.{Seen, first_pass}

@@ -3,6 +3,7 @@ use Rattle.std.proofs.Common.{◌≡◌, ◌+◌, ◌^◌, ◌≤◌, ℕ, List,
 use mathlib.Core.List.{IsPrefix}
 use mathlib.Core.Logic.{dite}
 use native.Mathlib.Decide.{dec_le}
+use Rattle.aggregator_session.specs.Desks.{DeskState}
 use Rattle.aggregator_session.specs.Runs.{CellsRead}
 use Rattle.aggregator_session.specs.declared.fault.SignFault.{SignFault}
 use Rattle.aggregator_session.specs.declared.fault.SignFault.TheVariants.{Table, Worn}
@@ -16,7 +17,7 @@ use Rattle.leaf_table.specs.declared.faults.TableFault.{TableFault}
 use Rattle.leaf_table.specs.declared.faults.TableFault.TheVariants.{Device}
 use Rattle.leaf_table.specs.declared.lease.Lease.{Lease}
 use Rattle.leaf_table.specs.declared.table.TableName.{TableName}
-use Rattle.aggregator_session.specs.Signing.{DeskState, IsEnd, RunsOn, Signature, signed_with}
+use Rattle.aggregator_session.specs.Signing.{IsEnd, RunsOn, Signature, ToSign, signed_with}
 use Rattle.aggregator_session.specs.Signing as sessions
 use Rattle.aggregator_session.specs.Tables.{Entered, TableSeen}
 use Rattle.lms_bytes.specs.declared.message.MessageId.{MessageId}
@@ -123,33 +124,33 @@ never-worn : (leaf : ℕ) (result : Result (List ℕ) SignFault) → IfErr resul
 never-worn leaf (Ok bytes) ends is = absurd (cc)
 never-worn leaf (Err fault) ends is = let same : fault ≡ Worn = cc in subst (IsEnd leaf) same ends
 
-module _ (desk : DeskState) (reads : CellsRead) (members message : List ℕ) where
+module _ (sign : ToSign) where
   pub signs-steps : (old new : Seen Lease TableName) (port now : PortState) (outcome : Result Signature SignFault)
-      → SignsInTurns desk reads members message old port new now outcome → Steps old new 2
+      → SignsInTurns sign old port new now outcome → Steps old new 2
   signs-steps old new port now outcome (signing.too_long long unread) = steps-none old 2
   signs-steps old new port now outcome (signing.not_leased after fault short unread turn) =
-      steps-then old new new 1 1 (steps-leased members _ old new (Err fault) turn) (steps-none new 1)
+      steps-then old new new 1 1 (steps-leased sign.members _ old new (Err fault) turn) (steps-none new 1)
   signs-steps old new port now outcome (signing.leased leaf mid after last result short turn runs burns) =
-      steps-then old mid new 1 1 (steps-leased members _ old mid (Ok leaf) turn) (steps-burnt mid new leaf _ _ burns)
+      steps-then old mid new 1 1 (steps-leased sign.members _ old mid (Ok leaf) turn) (steps-burnt mid new leaf _ _ burns)
 
   pub signs-count : (old new : Seen Lease TableName) (port now : PortState) (outcome : Result Signature SignFault)
-      → SignsInTurns desk reads members message old port new now outcome → reads.before ≤ reads.now
+      → SignsInTurns sign old port new now outcome → sign.reads.before ≤ sign.reads.now
   signs-count old new port now outcome (signing.too_long long unread) = omega (arith, unread)
   signs-count old new port now outcome (signing.not_leased after fault short unread turn) = omega (arith, unread)
-  signs-count old new port now outcome (signing.leased leaf mid after last result short turn runs burns) = run-count desk reads leaf message port now result runs
+  signs-count old new port now outcome (signing.leased leaf mid after last result short turn runs burns) = run-count sign.desk sign.reads leaf sign.message port now result runs
 
   pub signs-device : (old new : Seen Lease TableName) (port now : PortState) (outcome : Result Signature SignFault)
-      → SignsInTurns desk reads members message old port new now outcome → outcome ≡ Err (Table Device) → DiskFailed old new
+      → SignsInTurns sign old port new now outcome → outcome ≡ Err (Table Device) → DiskFailed old new
   signs-device old new port now outcome (signing.too_long long unread) is = absurd (cc)
   signs-device old new port now outcome (signing.not_leased after fault short unread turn) is =
-      let same : fault ≡ Table Device = cc in lease-device members _ old new (Err fault) turn (ap Err same)
+      let same : fault ≡ Table Device = cc in lease-device sign.members _ old new (Err fault) turn (ap Err same)
   signs-device old new port now outcome (signing.leased leaf mid after last result short turn runs burns) is =
-      absurd (never-table leaf Device result (run-ends desk reads leaf message port now result runs) is)
+      absurd (never-table leaf Device result (run-ends sign.desk sign.reads leaf sign.message port now result runs) is)
 
   pub signs-worn : (old new : Seen Lease TableName) (port now : PortState) (outcome : Result Signature SignFault)
-      → SignsInTurns desk reads members message old port new now outcome → outcome ≡ Err Worn → 2 ^ 62 ≤ new.greatest
+      → SignsInTurns sign old port new now outcome → outcome ≡ Err Worn → 2 ^ 62 ≤ new.greatest
   signs-worn old new port now outcome (signing.too_long long unread) is = absurd (cc)
   signs-worn old new port now outcome (signing.not_leased after fault short unread turn) is =
-      let same : fault ≡ Worn = cc in lease-worn members _ old new (Err fault) turn (ap Err same)
+      let same : fault ≡ Worn = cc in lease-worn sign.members _ old new (Err fault) turn (ap Err same)
   signs-worn old new port now outcome (signing.leased leaf mid after last result short turn runs burns) is =
-      absurd (never-worn leaf result (run-ends desk reads leaf message port now result runs) is)
+      absurd (never-worn leaf result (run-ends sign.desk sign.reads leaf sign.message port now result runs) is)

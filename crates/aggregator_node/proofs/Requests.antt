@@ -1,4 +1,5 @@
 -- Requests after requests, and what they made of a pass and of the count of a reference.
+use Rattle.aggregator_session.specs.Desks.{DeskState}
 use Rattle.std.proofs.Common.{◌≡◌, ◌+◌, ◌*◌, ◌-◌, ◌^◌, ◌≤◌, ◌<◌, ℕ, List, [], ◌∷◌, ◌++◌, length, refl, sym, ap, ◌∙◌, subst, arith, append_assoc, append-nil, length-append}
 use Rattle.std.proofs.lemmas.Grind.{flat_map-append}
 use Rattle.aggregator_node.specs.Clients.{IsExact, IsSigned, ReferenceState, Request, Stand}
@@ -8,7 +9,6 @@ use Rattle.aggregator_node.proofs.Statuses.{another, device, other, sixteen, ten
 use Rattle.aggregator_node.proofs.PortTurns.{Steps, signs-count, signs-device, signs-steps, signs-worn, steps-none, steps-then}
 use Rattle.leaf_table.specs.declared.lease.Lease.{Lease}
 use Rattle.leaf_table.specs.declared.table.TableName.{TableName}
-use Rattle.aggregator_session.specs.Signing.{DeskState}
 use Rattle.turn_lock.specs.Pass.{Seen}
 
 -- what requests made of a pass, and of the count of the reference that they read
@@ -64,21 +64,21 @@ module _ (desk : DeskState) (reference : ReferenceState) where
   -- one request that was signed
   pub goes-one : (old new : Stand) (request : Request) → IsSigned desk reference old new request → Goes desk reference old.pass new.pass old.faults new.faults (request ∷ [])
   goes-one old new request s =
-      let steps = signs-steps _ _ _ _ _ _ _ _ _ s.signs in
-      let count = signs-count _ _ _ _ _ _ _ _ _ s.signs in
+      let steps = signs-steps _ _ _ _ _ _ s.signs in
+      let count = signs-count _ _ _ _ _ _ s.signs in
       record {
         steps = steps;
         count = count;
         fresh = λ small. elim (sixteen request.outcome) [
-          | worn is ↦ absurd (let large = signs-worn _ _ _ _ _ _ _ _ _ s.signs is in omega (arith, large, small))
+          | worn is ↦ absurd (let large = signs-worn _ _ _ _ _ _ s.signs is in omega (arith, large, small))
           | another none ↦ omega (arith, none)
         ];
         rises = λ small few.
             let covered = ten-covered request.outcome old.pass.rises new.pass.rises old.faults new.faults steps.rises count
-            (λ is. (signs-device _ _ _ _ _ _ _ _ _ s.signs is).0 small) (λ is. let rose = s.rises is in omega (arith, rose, few)) (ten request.outcome) in
+            (λ is. (signs-device _ _ _ _ _ _ s.signs is).0 small) (λ is. let rose = s.rises is in omega (arith, rose, few)) (ten request.outcome) in
             omega (arith, covered);
         steady = λ is exact. elim (ten request.outcome) [
-          | device failed ↦ absurd ((signs-device _ _ _ _ _ _ _ _ _ s.signs failed).1 is)
+          | device failed ↦ absurd ((signs-device _ _ _ _ _ _ s.signs failed).1 is)
           | unread failed ↦ absurd (s.succeeds exact failed)
           | other none ↦ omega (arith, none)
         ];

@@ -5,7 +5,7 @@ use Rattle.aggregator_node.specs.Clients.{ReferenceState, longest_reply}
 use Rattle.aggregator_node.specs.Ports.{IsPortRun, Place, PortRun, ServedClients}
 use Rattle.aggregator_node.specs.Posts.{Connection, Post, ServesLink, Works, left, next}
 use Rattle.aggregator_node.specs.Roomy.{HasRoomyLinks, NoLinkFails, TakesAll}
-use Rattle.aggregator_session.specs.Signing.{DeskState}
+use Rattle.aggregator_session.specs.Desks.{DeskState}
 use Rattle.aggregator_session.specs.Tables.{TableSeen}
 use Rattle.leaf_table.specs.declared.lease.Lease.{Lease}
 use Rattle.leaf_table.specs.declared.table.TableName.{TableName}

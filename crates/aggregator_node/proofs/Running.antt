@@ -9,8 +9,7 @@ use Rattle.aggregator_node.proofs.Standing.{stand-all, stand-then}
 use Rattle.coalition_map.specs.Coalitions.{PlanNumbers}
 use Rattle.leaf_table.specs.declared.lease.Lease.{Lease}
 use Rattle.leaf_table.specs.declared.table.TableName.{TableName}
-use Rattle.aggregator_session.specs.Desks.{ReadsFor}
-use Rattle.aggregator_session.specs.Signing.{DeskState, desk_state}
+use Rattle.aggregator_session.specs.Desks.{DeskState, ReadsFor, desk_state}
 use Rattle.aggregator_session.specs.declared.desk.Desk.{Desk}
 use Rattle.reference_value.specs.declared.cells.Cells as cells
 use Rattle.trustee_node.specs.declared.totals.Totals.{Totals}

@@ -1,5 +1,6 @@
 -- A connection: what its requests made of pass, reference and port.
 use Rattle.std.proofs.Common.{◌≡◌, ◌+◌, ◌^◌, ◌≤◌, ℕ, List, Option, None, Some, Result, Ok, Err, length, refl, ap, ◌∙◌, arith, length-append}
+use Rattle.aggregator_session.specs.Desks.{DeskState}
 use Rattle.aggregator_session.specs.declared.fault.SignFault.{SignFault}
 use Rattle.aggregator_session.specs.declared.fault.SignFault.TheVariants as sign
 use Rattle.aggregator_node.specs.Clients.{Answers, ReferenceState, Request, SameReference, Serves, Stand, end_after}
@@ -7,7 +8,7 @@ use Rattle.aggregator_node.specs.Clients as clients
 use Rattle.aggregator_node.proofs.Answering.{answers_told}
 use Rattle.aggregator_node.proofs.Requests.{Goes, goes-none, goes-one, goes-then}
 use Rattle.aggregator_node.proofs.PortTurns.{signs-worn}
-use Rattle.aggregator_session.specs.Signing.{DeskState, Signature}
+use Rattle.aggregator_session.specs.Signing.{Signature}
 use Rattle.round_frames.specs.declared.fault.FrameFault.{FrameFault}
 use Rattle.round_frames.specs.declared.fault.FrameFault.TheVariants as frame
 use Rattle.session_core.specs.declared.faults.SessionFault.TheVariants as session
@@ -97,7 +98,7 @@ module _ (desk : DeskState) (reference : ReferenceState) where
   answers-worn old new requests replies ended (clients.no_room mid talk room replied) is = absurd (cc)
   answers-worn old new requests replies ended (clients.no_room_unanswered mid talk room failed) is = absurd (cc)
   answers-worn old new requests replies ended (clients.answered mid talk request exchange replied) is =
-      signs-worn _ _ _ _ _ _ _ _ _ exchange.signed.signs (ends-worn request.outcome is)
+      signs-worn _ _ _ _ _ _ exchange.signed.signs (ends-worn request.outcome is)
   answers-worn old new requests replies ended (clients.unanswered mid talk request exchange failed) is = absurd (cc)
 
   pub serves-go : (old new : Stand) (requests : List Request) (replies : ℕ) (end : ServedEnd) → Serves desk reference old requests replies end new

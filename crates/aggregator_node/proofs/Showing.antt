@@ -2,7 +2,6 @@
 use Rattle.std.proofs.Common.{◌≡◌, ◌⊎◌, ◌+◌, ◌^◌, ◌≤◌, ◌<◌, ℕ, List, [], ◌∷◌, ◌++◌, length, drop, None, Some, Option, IfSome, Result, Ok, Err, is_some, if◌then◌else◌, refl, sym, ap, ◌∙◌, subst, arith, inl, inr, append_assoc, append-nil}
 use Rattle.std.proofs.Math.Seq.{drop-append_seam, drop-length}
 use mathlib.Core.List.{IsPrefix}
-use Rattle.aggregator_session.specs.Runs.{CellsRead}
 use Rattle.aggregator_session.specs.declared.fault.SignFault.{SignFault}
 use Rattle.aggregator_node.specs.Logs.{BurningShows, DiskFailed, IsBurning, LeaseShows, Refuses, Shown, SlotDamaged}
 use Rattle.aggregator_node.specs.Logs as logs
@@ -20,7 +19,7 @@ use Rattle.leaf_table.specs.declared.lease.Lease.{Lease}
 use Rattle.leaf_table.specs.declared.lease.Lease.TheVariants.{Burnt, Leased}
 use Rattle.leaf_table.specs.declared.table.TableName.{TableName}
 use Rattle.leaf_table.proofs.Maps.{map_of-same}
-use Rattle.aggregator_session.specs.Signing.{DeskState, Signature, spent_by}
+use Rattle.aggregator_session.specs.Signing.{Signature, ToSign, spent_by}
 use Rattle.aggregator_session.specs.Tables.{AsksLeaf, Entered, TableSeen}
 use Rattle.lms_bytes.specs.MessageId.{message_id, message_id_bytes}
 use Rattle.lms_bytes.specs.declared.message.MessageId.{MessageId}
@@ -254,18 +253,18 @@ longer plan members message old log more leaf added l on = record {
   stands = prefix-then (l.met ++ added) log more l.stands on;
 }
 
-pub shows : (plan : PlanNumbers) (desk : DeskState) (reads : CellsRead) (members message : List ℕ) (old : Seen Lease TableName) (port : PortState) (new : Seen Lease TableName) (now : PortState)
-    (result : Result Signature SignFault) → IfSome old.name (λ n. n.plan ≡ plan) → SignsInTurns desk reads members message old port new now result
-    → Shown plan members (message_id message) old new result
-shows plan desk reads members message old port new now result is (signing.too_long long unread) =
-    record { added = []; shows = logs.too_long (length message) refl; own = λ zero. sym (append-nil old.own) }
-shows plan desk reads members message old port new now result is (signing.not_leased last fault short unread turn) =
-    turn-shows plan members (message_id message) old last (Err fault) is turn
-shows plan desk reads members message old port new now result is (signing.leased leaf mid last after outcome short turn runs burns) =
-    let l = turn-shows plan members (message_id message) old mid (Ok leaf) is turn in
-    let b = burn-shows old mid last leaf (message_id message) (spent_by outcome) l.3 l.4 l.5 burns in
+pub shows : (plan : PlanNumbers) (sign : ToSign) (old : Seen Lease TableName) (port : PortState) (new : Seen Lease TableName) (now : PortState)
+    (result : Result Signature SignFault) → IfSome old.name (λ n. n.plan ≡ plan) → SignsInTurns sign old port new now result
+    → Shown plan sign.members (message_id sign.message) old new result
+shows plan sign old port new now result is (signing.too_long long unread) =
+    record { added = []; shows = logs.too_long (length sign.message) refl; own = λ zero. sym (append-nil old.own) }
+shows plan sign old port new now result is (signing.not_leased last fault short unread turn) =
+    turn-shows plan sign.members (message_id sign.message) old last (Err fault) is turn
+shows plan sign old port new now result is (signing.leased leaf mid last after outcome short turn runs burns) =
+    let l = turn-shows plan sign.members (message_id sign.message) old mid (Ok leaf) is turn in
+    let b = burn-shows old mid last leaf (message_id sign.message) (spent_by outcome) l.3 l.4 l.5 burns in
     record {
       added = l.0 ++ b.burning;
-      shows = logs.leased leaf l.0 b.burning outcome (longer plan members (message_id message) old.log mid.log last.log leaf l.0 l.1 b.log) b.draws b.shows b.is;
+      shows = logs.leased leaf l.0 b.burning outcome (longer plan sign.members (message_id sign.message) old.log mid.log last.log leaf l.0 l.1 b.log) b.draws b.shows b.is;
       own = λ zero. b.own zero ∙ ap (λ (o : List Lease). o ++ b.burning) (l.2 (let f = b.floor in omega (arith, f, zero))) ∙ append_assoc old.own l.0 b.burning;
     }

@@ -1,6 +1,5 @@
 -- A message that is signed over a table under a lock.
 use Rattle.std.proofs.Common.{◌≡◌, ◌⊎◌, inl, inr, ◌≤◌, ◌<◌, ◌^◌, ℕ, List, length, IfErr, IfOk, Option, Result, Ok, Err, refl, rules, subst, sym}
-use Rattle.aggregator_session.specs.Runs.{CellsRead}
 use Rattle.aggregator_session.specs.declared.fault.SignFault.{SignFault}
 use Rattle.aggregator_session.specs.declared.fault.SignFault.TheVariants.{Table as TableFailed, Worn}
 use Rattle.aggregator_node.specs.Signing.{Burning, LeaseTurn, SignsInTurns, asked, leased, no_turn, not_leased}
@@ -15,7 +14,7 @@ use Rattle.leaf_table.specs.declared.lease.Lease.{Lease}
 use Rattle.leaf_table.specs.declared.table.Table.{Table}
 use Rattle.leaf_table.specs.declared.table.TableName.{TableName}
 use Rattle.aggregator_session.specs.Causes.{PortCauses, ReferenceCauses}
-use Rattle.aggregator_session.specs.Signing.{DeskState, RunsOn, Signature, signed_with, spent_by}
+use Rattle.aggregator_session.specs.Signing.{RunsOn, Signature, ToSign, signed_with, spent_by}
 use Rattle.aggregator_session.specs.Tables.{AsksLeaf, table_seen}
 use Rattle.aggregator_session.proofs.Signing.{entered-as}
 use Rattle.lms_bytes.specs.MessageId.{message_id, message_id_bytes}
@@ -57,14 +56,14 @@ module _ {members : List ℕ} {message : MessageId} {old new : Seen Lease TableN
   pub cells-of : {C V : Type 0} (c : cells.Ghosts C) (f : faults.Ghosts C) (cells : C) → LeaseTurn members message old new (Err fault) → ReferenceCauses {V = V} c f cells cells (Err fault)
   cells-of c f cells turn = none-read c f cells fault (turn-fault members message old new (Err fault) turn)
 
-module _ {desk : DeskState} {reads : CellsRead} {members message : List ℕ} {old new : Seen Lease TableName} {port : PortState} {id : MessageId} where
-  pub refused-as : {fault : SignFault} → length message ≤ 16777216 → reads.now ≡ reads.before → id ≡ message_id message → LeaseTurn members id old new (Err fault)
-      → SignsInTurns desk reads members message old port new port (Err fault)
-  refused-as {fault} short unread named turn = not_leased new fault short unread (subst (λ (m : MessageId). LeaseTurn members m old new (Err fault)) named turn)
+module _ {sign : ToSign} {old new : Seen Lease TableName} {port : PortState} {id : MessageId} where
+  pub refused-as : {fault : SignFault} → length sign.message ≤ 16777216 → sign.reads.now ≡ sign.reads.before → id ≡ message_id sign.message → LeaseTurn sign.members id old new (Err fault)
+      → SignsInTurns sign old port new port (Err fault)
+  refused-as {fault} short unread named turn = not_leased new fault short unread (subst (λ (m : MessageId). LeaseTurn sign.members m old new (Err fault)) named turn)
 
-module _ {desk : DeskState} {reads : CellsRead} {members message : List ℕ} {old mid new : Seen Lease TableName} {port now : PortState} {leaf : ℕ} {id : MessageId} {result : Result (List ℕ) SignFault} where
-  pub leased-as : {end : Result Signature SignFault} {spent : Option ℕ} → end ≡ signed_with leaf result → length message ≤ 16777216 → id ≡ message_id message → LeaseTurn members id old mid (Ok leaf)
-      → RunsOn desk reads leaf message port now result → spent ≡ spent_by result → Burning mid new leaf id spent → SignsInTurns desk reads members message old port new now end
-  leased-as is short named turn runs of burns = subst (λ (e : Result Signature SignFault). SignsInTurns desk reads members message old port new now e) (sym is)
-      (leased leaf mid new now result short (subst (λ (m : MessageId). LeaseTurn members m old mid (Ok leaf)) named turn) runs
+module _ {sign : ToSign} {old mid new : Seen Lease TableName} {port now : PortState} {leaf : ℕ} {id : MessageId} {result : Result (List ℕ) SignFault} where
+  pub leased-as : {end : Result Signature SignFault} {spent : Option ℕ} → end ≡ signed_with leaf result → length sign.message ≤ 16777216 → id ≡ message_id sign.message → LeaseTurn sign.members id old mid (Ok leaf)
+      → RunsOn sign.desk sign.reads leaf sign.message port now result → spent ≡ spent_by result → Burning mid new leaf id spent → SignsInTurns sign old port new now end
+  leased-as is short named turn runs of burns = subst (λ (e : Result Signature SignFault). SignsInTurns sign old port new now e) (sym is)
+      (leased leaf mid new now result short (subst (λ (m : MessageId). LeaseTurn sign.members m old mid (Ok leaf)) named turn) runs
       (subst (λ (m : MessageId). Burning mid new leaf m (spent_by result)) named (subst (λ (o : Option ℕ). Burning mid new leaf id o) of burns)))

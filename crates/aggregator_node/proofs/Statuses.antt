@@ -15,54 +15,60 @@ is_status status outcome = if status_of outcome == status then 1 else 0
 pub with_status-append : (status : ℕ) (requests more : List Request) → with_status status (requests ++ more) ≡ with_status status requests + with_status status more
 with_status-append status requests more = sum_by-append (λ (request : Request). is_status status request.outcome) requests more
 
+-- the outcomes that come to failures 10 and 16, and all others
+data IsTold (outcome : Result Signature SignFault) : Type 0 where
+  told_device : outcome ≡ Err (sign.Table table.Device) → IsTold outcome
+  told_unread : outcome ≡ Err (sign.Session session.Reference) → IsTold outcome
+  told_worn : outcome ≡ Err sign.Worn → IsTold outcome
+  told_otherwise : is_status 10 outcome ≡ 0 → is_status 16 outcome ≡ 0 → IsTold outcome
+
+told : (outcome : Result Signature SignFault) → IsTold outcome
+told (Ok signature) = told_otherwise refl refl
+told (Err (sign.TooLong got)) = told_otherwise refl refl
+told (Err sign.Worn) = told_worn refl
+told (Err (sign.Table table.NotACoalition)) = told_otherwise refl refl
+told (Err (sign.Table table.Device)) = told_device refl
+told (Err (sign.Table (table.Damaged leaf a b))) = told_otherwise refl refl
+told (Err (sign.Table (table.NoLeaf coalition))) = told_otherwise refl refl
+told (Err (sign.Lost member round why)) = told_otherwise refl refl
+told (Err (sign.Stray member round)) = told_otherwise refl refl
+told (Err (sign.Session (session.Missing member round))) = told_otherwise refl refl
+told (Err (sign.Session (session.SpentLeaf leaf member kept))) = told_otherwise refl refl
+told (Err (sign.Session (session.WrongCheck leaf member))) = told_otherwise refl refl
+told (Err (sign.Session (session.WrongRoot leaf got want))) = told_otherwise refl refl
+told (Err (sign.Session (session.MemberRefused member code))) = told_otherwise refl refl
+told (Err (sign.Session session.Reference)) = told_unread refl
+told (Err (sign.Session session.NoMemory)) = told_otherwise refl refl
+told (Err sign.NoMemory) = told_otherwise refl refl
+
 -- what comes to failure 10
 pub data IsTen (outcome : Result Signature SignFault) : Type 0 where
   device : outcome ≡ Err (sign.Table table.Device) → IsTen outcome
   unread : outcome ≡ Err (sign.Session session.Reference) → IsTen outcome
   other : is_status 10 outcome ≡ 0 → IsTen outcome
 
+ten-of : (outcome : Result Signature SignFault) → IsTold outcome → IsTen outcome
+ten-of outcome (told_device is) = device is
+ten-of outcome (told_unread is) = unread is
+ten-of outcome (told_worn is) = other (ap (is_status 10) is)
+ten-of outcome (told_otherwise ten sixteen) = other ten
+
 pub ten : (outcome : Result Signature SignFault) → IsTen outcome
-ten (Ok signature) = other refl
-ten (Err (sign.TooLong got)) = other refl
-ten (Err sign.Worn) = other refl
-ten (Err (sign.Table table.NotACoalition)) = other refl
-ten (Err (sign.Table table.Device)) = device refl
-ten (Err (sign.Table (table.Damaged leaf a b))) = other refl
-ten (Err (sign.Table (table.NoLeaf coalition))) = other refl
-ten (Err (sign.Lost member round why)) = other refl
-ten (Err (sign.Stray member round)) = other refl
-ten (Err (sign.Session (session.Missing member round))) = other refl
-ten (Err (sign.Session (session.SpentLeaf leaf member kept))) = other refl
-ten (Err (sign.Session (session.WrongCheck leaf member))) = other refl
-ten (Err (sign.Session (session.WrongRoot leaf got want))) = other refl
-ten (Err (sign.Session (session.MemberRefused member code))) = other refl
-ten (Err (sign.Session session.Reference)) = unread refl
-ten (Err (sign.Session session.NoMemory)) = other refl
-ten (Err sign.NoMemory) = other refl
+ten outcome = ten-of outcome (told outcome)
 
 -- what comes to failure 16
 pub data IsSixteen (outcome : Result Signature SignFault) : Type 0 where
   worn : outcome ≡ Err sign.Worn → IsSixteen outcome
   another : is_status 16 outcome ≡ 0 → IsSixteen outcome
 
+sixteen-of : (outcome : Result Signature SignFault) → IsTold outcome → IsSixteen outcome
+sixteen-of outcome (told_device is) = another (ap (is_status 16) is)
+sixteen-of outcome (told_unread is) = another (ap (is_status 16) is)
+sixteen-of outcome (told_worn is) = worn is
+sixteen-of outcome (told_otherwise ten sixteen) = another sixteen
+
 pub sixteen : (outcome : Result Signature SignFault) → IsSixteen outcome
-sixteen (Ok signature) = another refl
-sixteen (Err (sign.TooLong got)) = another refl
-sixteen (Err sign.Worn) = worn refl
-sixteen (Err (sign.Table table.NotACoalition)) = another refl
-sixteen (Err (sign.Table table.Device)) = another refl
-sixteen (Err (sign.Table (table.Damaged leaf a b))) = another refl
-sixteen (Err (sign.Table (table.NoLeaf coalition))) = another refl
-sixteen (Err (sign.Lost member round why)) = another refl
-sixteen (Err (sign.Stray member round)) = another refl
-sixteen (Err (sign.Session (session.Missing member round))) = another refl
-sixteen (Err (sign.Session (session.SpentLeaf leaf member kept))) = another refl
-sixteen (Err (sign.Session (session.WrongCheck leaf member))) = another refl
-sixteen (Err (sign.Session (session.WrongRoot leaf got want))) = another refl
-sixteen (Err (sign.Session (session.MemberRefused member code))) = another refl
-sixteen (Err (sign.Session session.Reference)) = another refl
-sixteen (Err (sign.Session session.NoMemory)) = another refl
-sixteen (Err sign.NoMemory) = another refl
+sixteen outcome = sixteen-of outcome (told outcome)
 
 -- failure 10 is covered by one of two counts
 pub ten-covered : (outcome : Result Signature SignFault) (a b c d : ℕ) → a ≤ b → c ≤ d → (outcome ≡ Err (sign.Table table.Device) → a < b)

@@ -1,4 +1,5 @@
 -- A worker, connection by connection.
+use Rattle.aggregator_session.specs.Desks.{DeskState}
 use Rattle.std.proofs.Common.{◌≡◌, ◌+◌, ◌*◌, ◌-◌, ◌^◌, ◌≤◌, ℕ, Bool, true, false, true≢false, min, List, [], ◌∷◌, ◌++◌, length, refl, sym, ap, ◌∙◌, subst, arith, append-nil, length-append}
 use Rattle.std.proofs.lemmas.Grind.{flat_map-append}
 use Rattle.std.proofs.lemmas.List.Sums.{sum_by-append}
@@ -8,7 +9,6 @@ use Rattle.aggregator_node.specs.Posts.{frames_of}
 use Rattle.aggregator_node.specs.Workers.{HasServedLink, Worked, WorkerState}
 use Rattle.aggregator_node.proofs.Serving.{serves-few, serves-port, serves-told, serves-worn}
 use Rattle.trustee_node.proofs.Onward.{onward-same, onward-then}
-use Rattle.aggregator_session.specs.Signing.{DeskState}
 use Rattle.stream_io.specs.Net.{Accepts, PortOnward, PortState, SameLinks}
 use Rattle.stream_io.specs.Store.{RisesWhere}
 use Rattle.stream_io.specs.Talk.{Talk}

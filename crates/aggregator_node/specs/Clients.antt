@@ -1,6 +1,7 @@
 -- A client's connection: its requests are read one after the other, and each is signed and answered.
 use Rattle.std.specs.Prelude.{◌≡◌, ◌≢◌, ◌+◌, ◌*◌, ◌≤◌, ◌++◌, ℕ, Bool, List, [], ◌∷◌, length, Option, None, Some}
 use Rattle.std.specs.Prelude.{Result, Ok, Err, IfOk, IsTrue}
+use Rattle.aggregator_session.specs.Desks.{DeskState}
 use Rattle.aggregator_session.specs.declared.fault.SignFault.{SignFault}
 use Rattle.aggregator_session.specs.declared.fault.SignFault.TheVariants as sign
 use Rattle.aggregator_node.specs.Failures.{failure_of}
@@ -10,7 +11,7 @@ use Rattle.disk_trait.specs.Faults.{Rose}
 use Rattle.leaf_table.specs.declared.lease.Lease.{Lease}
 use Rattle.leaf_table.specs.declared.table.TableName.{TableName}
 use Rattle.aggregator_session.specs.Causes.{PortCauses}
-use Rattle.aggregator_session.specs.Signing.{DeskState, Signature}
+use Rattle.aggregator_session.specs.Signing.{Signature}
 use Rattle.lms_bytes.specs.MessageId.{message_id}
 use Rattle.lms_bytes.specs.Signature.{signature_length}
 use Rattle.lms_bytes.specs.declared.params.Params.{Params}
@@ -136,9 +137,12 @@ pub record Request : Type 0 where
 pub record IsSigned (desk : DeskState) (reference : ReferenceState) (old new : Stand) (request : Request) : Type 0 where
   pub read : List ℕ
   pub read_is : IsTrue reference.told → read ≡ reference.leaves
-  pub signs : SignsInTurns desk
-      (record { told = reference.told; leaves = read; before = old.faults; now = new.faults }) request.members
-      request.message old.pass old.port new.pass new.port request.outcome
+  pub signs : SignsInTurns (record {
+    desk = desk;
+    reads = record { told = reference.told; leaves = read; before = old.faults; now = new.faults };
+    members = request.members;
+    message = request.message;
+  }) old.pass old.port new.pass new.port request.outcome
   pub shows : Shows desk.plan request.members (message_id request.message) old.pass new.pass request.outcome
       request.added
   pub own : new.pass.floor ≡ 0 → new.pass.own ≡ old.pass.own ++ request.added

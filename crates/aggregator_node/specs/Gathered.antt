@@ -1,4 +1,5 @@
 -- Workers that were given places, that are done, and whose passes are joined.
+use Rattle.aggregator_session.specs.Desks.{DeskState}
 use Rattle.std.specs.Prelude.{◌≡◌, ◌≤◌, ◌<◌, ◌+◌, ◌*◌, ◌-◌, ◌^◌, ◌++◌, ℕ, List, [], ◌∷◌, All, length, map}
 use Rattle.aggregator_node.specs.Clients.{IsExact}
 use Rattle.aggregator_node.specs.Turns.{HasSteadyDisk}
@@ -7,7 +8,6 @@ use Rattle.aggregator_node.specs.Posts.{added_by, with_status}
 use Rattle.aggregator_node.specs.Workers.{WorkEnds, Worked, WorkerState}
 use Rattle.leaf_table.specs.declared.lease.Lease.{Lease}
 use Rattle.leaf_table.specs.declared.table.TableName.{TableName}
-use Rattle.aggregator_session.specs.Signing.{DeskState}
 use Rattle.trustee_node.specs.declared.totals.Totals.{Totals}
 use Rattle.turn_lock.specs.Lock.{Lock}
 use Rattle.turn_lock.specs.Pass.{SamePass, Seen, first_pass}

@@ -8,7 +8,7 @@ use Rattle.aggregator_node.specs.Posts.{Connection, Works, added_by, frames_of, 
 use Rattle.disk_trait.specs.declared.faults.Faults as faults
 use Rattle.leaf_table.specs.declared.lease.Lease.{Lease}
 use Rattle.leaf_table.specs.declared.table.TableName.{TableName}
-use Rattle.aggregator_session.specs.Signing.{DeskState}
+use Rattle.aggregator_session.specs.Desks.{DeskState}
 use Rattle.aggregator_session.specs.Tables.{TableSeen}
 use Rattle.reference_value.specs.declared.cells.Cells as cells
 use Rattle.stream_io.specs.Net.{PortOnward, PortState}

@@ -1,12 +1,13 @@
 -- What a worker does with the links of its clients.
 use Rattle.std.specs.Prelude.{◌==◌, ℕ, Bool, List, [], ◌∷◌, Result, Ok, Err, if◌then◌else◌}
 use Rattle.std.specs.List.{flat_map, sum_by}
+use Rattle.aggregator_session.specs.Desks.{DeskState}
 use Rattle.aggregator_session.specs.declared.fault.SignFault.{SignFault}
 use Rattle.aggregator_node.specs.Clients.{HasEnded, ReferenceState, Request, Serves}
 use Rattle.aggregator_node.specs.Failures.{failure_of}
 use Rattle.leaf_table.specs.declared.lease.Lease.{Lease}
 use Rattle.leaf_table.specs.declared.table.TableName.{TableName}
-use Rattle.aggregator_session.specs.Signing.{DeskState, Signature}
+use Rattle.aggregator_session.specs.Signing.{Signature}
 use Rattle.stream_io.specs.Net.{Accepts, KeepsTalk, PortOnward, PortState, SameLinks}
 use Rattle.stream_io.specs.Talk.{Ended, Talk}
 use Rattle.trustee_node.specs.declared.served.Served.{Served}

@@ -1,13 +1,12 @@
 -- One message signed over a table under a lock.
 use Rattle.std.specs.Prelude.{◌≡◌, ◌≤◌, ◌<◌, ℕ, List, length, Option, None, Some, Result, Ok, Err}
-use Rattle.aggregator_session.specs.Runs.{CellsRead}
 use Rattle.aggregator_session.specs.declared.fault.SignFault.{SignFault}
 use Rattle.aggregator_session.specs.declared.fault.SignFault.TheVariants.{Table, TooLong, Worn}
 use Rattle.aggregator_node.specs.Turns.{NotTurned, Turned}
 use Rattle.leaf_table.specs.declared.faults.TableFault.{TableFault}
 use Rattle.leaf_table.specs.declared.lease.Lease.{Lease}
 use Rattle.leaf_table.specs.declared.table.TableName.{TableName}
-use Rattle.aggregator_session.specs.Signing.{DeskState, RunsOn, Signature, signed_with, spent_by}
+use Rattle.aggregator_session.specs.Signing.{RunsOn, Signature, ToSign, signed_with, spent_by}
 use Rattle.aggregator_session.specs.Tables.{AsksLeaf, AsksToBurn, TableSeen}
 use Rattle.lms_bytes.specs.MessageId.{message_id}
 use Rattle.lms_bytes.specs.declared.message.MessageId.{MessageId}
@@ -37,15 +36,15 @@ pub data Burning (old new : Seen Lease TableName) (leaf : ℕ) (message : Messag
 -- What signing a message with a leaf of these members makes of a pass and of the port, and its outcome. The message is
 -- too long, and nothing happened; or no leaf was leased in the turn for it, and nobody was dialled; or a session was
 -- run with the leaf, outside a turn.
-pub data SignsInTurns (desk : DeskState) (reads : CellsRead) (members message : List ℕ) (old : Seen Lease TableName)
-    (port : PortState) : Seen Lease TableName → PortState → Result Signature SignFault → Type 0 where
-  too_long : 16777216 < length message → reads.now ≡ reads.before
-      → SignsInTurns desk reads members message old port old port (Err (TooLong (length message)))
-  not_leased : (new : Seen Lease TableName) (fault : SignFault) → length message ≤ 16777216
-      → reads.now ≡ reads.before → LeaseTurn members (message_id message) old new (Err fault)
-      → SignsInTurns desk reads members message old port new port (Err fault)
+pub data SignsInTurns (sign : ToSign) (old : Seen Lease TableName) (port : PortState)
+    : Seen Lease TableName → PortState → Result Signature SignFault → Type 0 where
+  too_long : 16777216 < length sign.message → sign.reads.now ≡ sign.reads.before
+      → SignsInTurns sign old port old port (Err (TooLong (length sign.message)))
+  not_leased : (new : Seen Lease TableName) (fault : SignFault) → length sign.message ≤ 16777216
+      → sign.reads.now ≡ sign.reads.before → LeaseTurn sign.members (message_id sign.message) old new (Err fault)
+      → SignsInTurns sign old port new port (Err fault)
   leased : (leaf : ℕ) (mid new : Seen Lease TableName) (now : PortState) (result : Result (List ℕ) SignFault)
-      → length message ≤ 16777216 → LeaseTurn members (message_id message) old mid (Ok leaf)
-      → RunsOn desk reads leaf message port now result
-      → Burning mid new leaf (message_id message) (spent_by result)
-      → SignsInTurns desk reads members message old port new now (signed_with leaf result)
+      → length sign.message ≤ 16777216 → LeaseTurn sign.members (message_id sign.message) old mid (Ok leaf)
+      → RunsOn sign.desk sign.reads leaf sign.message port now result
+      → Burning mid new leaf (message_id sign.message) (spent_by result)
+      → SignsInTurns sign old port new now (signed_with leaf result)

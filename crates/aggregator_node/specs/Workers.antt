@@ -7,8 +7,7 @@ use Rattle.aggregator_node.specs.Posts.{Connection, Post, Works, frames_of, requ
 use Rattle.disk_trait.specs.declared.faults.Faults as faults
 use Rattle.leaf_table.specs.declared.lease.Lease.{Lease}
 use Rattle.leaf_table.specs.declared.table.TableName.{TableName}
-use Rattle.aggregator_session.specs.Desks.{ReadsFor}
-use Rattle.aggregator_session.specs.Signing.{DeskState}
+use Rattle.aggregator_session.specs.Desks.{DeskState, ReadsFor}
 use Rattle.aggregator_session.specs.declared.desk.Desk.{Desk}
 use Rattle.reference_value.specs.declared.cells.Cells as cells
 use Rattle.stream_io.specs.Net.{HangsUp, PortOnward, PortState}

@@ -8,7 +8,8 @@ ghost use Rattle.aggregator_node.specs.Ports.{reference_state};
 ghost use Rattle.aggregator_node.specs.Turns.{IsIdle};
 ghost use Rattle.aggregator_node.specs.Workers.{IsReady};
 ghost use Rattle.disk_trait.specs.Faults.{HasCause};
-ghost use Rattle.aggregator_session.specs.Signing.{desk_state, signature_in};
+ghost use Rattle.aggregator_session.specs.Desks.{desk_state};
+ghost use Rattle.aggregator_session.specs.Signing.{signature_in};
 ghost use Rattle.reference_value.specs.Stay.{CellsStay};
 ghost use Rattle.stream_io.specs.Talk.{OnlyWrote, WrotePart};
 

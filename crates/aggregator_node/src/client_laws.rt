@@ -3,7 +3,7 @@
 ghost use Rattle.std.specs.Prelude.{ℕ, All, IsTrue, List, Option, map};
 ghost use Rattle.aggregator_node.specs.Ports.{Place, ServedClients};
 ghost use Rattle.aggregator_node.specs.Roomy.{HasRoomyLinks, NoLinkFails, TakesAll};
-ghost use Rattle.aggregator_session.specs.Signing.{DeskState};
+ghost use Rattle.aggregator_session.specs.Desks.{DeskState};
 ghost use Rattle.aggregator_session.specs.Tables.{TableSeen};
 ghost use Rattle.stream_io.specs.Net.{IsNewPort, NetState};
 ghost use Rattle.trustee_node.specs.declared.totals.Totals.{Totals};

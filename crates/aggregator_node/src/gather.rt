@@ -1,10 +1,10 @@
 //! Workers after they were run.
 
+ghost use Rattle.aggregator_session.specs.Desks.{DeskState};
 ghost use Rattle.std.specs.Prelude.{◌≡◌, ◌≤◌, ◌<◌, ◌+◌, ◌++◌, ℕ, [], ◌∷◌, List, All, vec_len, vec_capacity};
 ghost use Rattle.aggregator_node.specs.Gathered.{AreDone, Gathered, IsDone};
 ghost use Rattle.aggregator_node.specs.Ports.{Place, places_of};
 ghost use Rattle.aggregator_node.specs.Workers.{worker_state};
-ghost use Rattle.aggregator_session.specs.Signing.{DeskState};
 ghost use Rattle.trustee_node.specs.Turns.{IsFree};
 ghost use Rattle.turn_lock.specs.Pass.{first_pass};
 

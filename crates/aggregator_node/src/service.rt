@@ -3,8 +3,7 @@
 ghost use Rattle.std.specs.Prelude.{◌≡◌, ◌≤◌, All, vec_len, IfOk, OnErr};
 ghost use Rattle.aggregator_node.specs.Ports.{ServedClients, places_of};
 ghost use Rattle.leaf_table.specs.Table.{plan_of};
-ghost use Rattle.aggregator_session.specs.Desks.{ReadsFor};
-ghost use Rattle.aggregator_session.specs.Signing.{desk_state};
+ghost use Rattle.aggregator_session.specs.Desks.{ReadsFor, desk_state};
 ghost use Rattle.aggregator_session.specs.Tables.{TableOnward, table_seen};
 
 use crate::gather::gather;

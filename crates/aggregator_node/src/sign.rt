@@ -1,13 +1,12 @@
 //! One message, signed with a leaf that is leased for it in a turn of a table's lock.
 
 ghost use Rattle.std.specs.Prelude.{IfOk};
-ghost use Rattle.aggregator_session.specs.Runs.{reads_of};
 ghost use Rattle.aggregator_node.specs.Logs.{Shown};
 ghost use Rattle.aggregator_node.specs.Signing.{SignsInTurns};
 ghost use Rattle.aggregator_node.specs.Turns.{IsIdle};
 ghost use Rattle.aggregator_node.specs.Workers.{IsReady};
 ghost use Rattle.aggregator_session.specs.Causes.{PortCauses, ReferenceCauses};
-ghost use Rattle.aggregator_session.specs.Signing.{desk_state, signature_in};
+ghost use Rattle.aggregator_session.specs.Signing.{signature_in, to_sign};
 ghost use Rattle.lms_bytes.specs.MessageId.{message_id};
 ghost use Rattle.lms_verify.specs.Accepts.{AcceptsAt};
 
@@ -38,8 +37,8 @@ pub fn sign_one<R: Cells, D: Disk, P: Port>(
     message: &[u8],
 ) -> Result<Signed, SignFault>
     requires ready { IsReady R.Cells.own lock.now desk.now pass.old cells.old }
-    ensures signs { SignsInTurns (desk_state desk.now) (reads_of R.Cells.own R.Faults cells.old cells.new) members
-        message.now pass.old (P.state port.old) pass.new (P.state port.new) (signature_in result) }
+    ensures signs { SignsInTurns (to_sign R.Cells.own R.Faults desk.now cells.old cells.new members message.now)
+        pass.old (P.state port.old) pass.new (P.state port.new) (signature_in result) }
     ensures shows { Shown desk.now.plan.now members (message_id message.now) pass.old pass.new
         (signature_in result) }
     ensures accepted { IfOk result (λ signed.

@@ -1,9 +1,9 @@
 //! Workers, which serve the links of clients one after the other.
 
+ghost use Rattle.aggregator_session.specs.Desks.{desk_state};
 ghost use Rattle.std.specs.Prelude.{◌≡◌, ◌≤◌, ◌<◌, ℕ, All, length, slice_index_or};
 ghost use Rattle.aggregator_node.specs.Ports.{reference_state};
 ghost use Rattle.aggregator_node.specs.Workers.{HasServedLink, IsReady, WorkEnds, Worked, worker_state};
-ghost use Rattle.aggregator_session.specs.Signing.{desk_state};
 ghost use Rattle.reference_value.specs.Stay.{CellsStay};
 
 use crate::serve_client;

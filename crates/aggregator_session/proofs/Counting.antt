@@ -3,9 +3,10 @@ use Rattle.std.proofs.Common.{◌≡◌, ◌≢◌, ◌⊎◌, inl, inr, ◌≤�
 use Rattle.std.specs.declared.alloc.Global.{Global}
 use Rattle.std.specs.declared.vec.Vec.{Vec}
 use Rattle.std.proofs.lemmas.List.Sums.{sum_by-append, sum_by-cons}
+use Rattle.aggregator_session.specs.Desks.{DeskState}
 use Rattle.aggregator_session.specs.Faults.{IsLostBy, LostBy, sign_fault}
 use Rattle.aggregator_session.specs.Hearing.{Asked, IsLoss, awaited, kept_in, unread, unwritten}
-use Rattle.aggregator_session.specs.Runs.{Calls, CellsRead, First, Second, SignRun, bytes_in, dialled, first_all, first_answered, first_lost, first_refused, judged_in_one, judged_in_two, lost_in_one, lost_in_two, no_memory, nowhere, second_all, second_answered, second_lost, second_refused, second_unread, signed, undialled}
+use Rattle.aggregator_session.specs.Runs.{Calls, CellsRead, First, Second, SecondFrames, SignRun, bytes_in, dialled, first_all, first_answered, first_lost, first_refused, judged_in_one, judged_in_two, lost_in_one, lost_in_two, no_memory, nowhere, second_all, second_answered, second_lost, second_refused, second_unread, signed, undialled}
 use Rattle.aggregator_session.proofs.Lasts.{counts_of}
 use Rattle.aggregator_session.specs.declared.desk.Address.{Address}
 use Rattle.aggregator_session.specs.declared.fault.SignFault.{SignFault}
@@ -13,7 +14,6 @@ use Rattle.aggregator_session.specs.declared.fault.SignFault.TheVariants as faul
 use Rattle.aggregator_session.specs.declared.fault.Why.{Why}
 use Rattle.aggregator_session.specs.declared.fault.Why.TheVariants as why
 use Rattle.disk_trait.specs.Faults.{Rose}
-use Rattle.merkle_path.specs.Tree.{TreeNodes}
 use Rattle.round_frames.specs.Replies.{Reply}
 use Rattle.session_core.specs.State.{State}
 use Rattle.session_core.specs.declared.faults.SessionFault.{SessionFault}
@@ -81,15 +81,15 @@ module _ (is : Why) (link : IsLink is) where
   first-counts addresses ask port s members talks last end (first_answered p after x y member rest t later reply e calls granted next) lost =
       more-count t later (first-counts addresses ask after (kept_in x (Ok reply)) rest later y e next lost)
 
-  second-counts : (told : Bool) (leaves : List ℕ) (turned : State) (message : List ℕ) (s : State) (members : List ℕ) (olds news : List Talk) (last : State) (end : Result (Unit {0}) SignFault)
-      → Second told leaves turned message s members olds news last end → LostBy is end → 1 ≤ counts_of news
-  second-counts told leaves turned message s members olds news last end (second_all x) lost = absurd lost
-  second-counts told leaves turned message s members olds news last end (second_unread x member rest o) lost = absurd lost
-  second-counts told leaves turned message s members olds news last end (second_lost x member rest ask old new o f second asks) lost =
+  second-counts : (frames : SecondFrames) (s : State) (members : List ℕ) (olds news : List Talk) (last : State) (end : Result (Unit {0}) SignFault)
+      → Second frames s members olds news last end → LostBy is end → 1 ≤ counts_of news
+  second-counts frames s members olds news last end (second_all x) lost = absurd lost
+  second-counts frames s members olds news last end (second_unread x member rest o) lost = absurd lost
+  second-counts frames s members olds news last end (second_lost x member rest ask old new o f second asks) lost =
       some-count new o old.count (asked-rose x member ask old new (Err f) asks lost)
-  second-counts told leaves turned message s members olds news last end (second_refused x member rest ask old new o reply second asks refused) lost = absurd lost
-  second-counts told leaves turned message s members olds news last end (second_answered x y member rest ask old new o n reply e second asks granted next) lost =
-      more-count (new ∷ []) n (second-counts told leaves turned message (kept_in x (Ok reply)) rest o n y e next lost)
+  second-counts frames s members olds news last end (second_refused x member rest ask old new o reply second asks refused) lost = absurd lost
+  second-counts frames s members olds news last end (second_answered x y member rest ask old new o n reply e second asks granted next) lost =
+      more-count (new ∷ []) n (second-counts frames (kept_in x (Ok reply)) rest o n y e next lost)
 
   judged-not : (f : SessionFault) → IsLostBy is (sign_fault f) → ⊥
   judged-not session.NoMemory lost = lost
@@ -100,22 +100,22 @@ module _ (is : Why) (link : IsLink is) where
   judged-not (session.MemberRefused member code) lost = lost
   judged-not session.Reference lost = lost
 
-  run-counts : (addresses : List Address) (tree : TreeNodes) (reads : CellsRead) (message : List ℕ) (port : PortState) (s : State) (talks : List Talk) (last : State) (result : Result (List ℕ) SignFault)
-      → SignRun addresses tree reads message port s talks last result → LostBy is result → 1 ≤ counts_of talks
-  run-counts addresses tree reads message port s talks last result no_memory lost = absurd lost
-  run-counts addresses tree reads message port s talks last result (lost_in_one t k f first) lost = first-counts _ _ _ _ _ t k (Err f) first lost
-  run-counts addresses tree reads message port s talks last result (judged_in_one t k f first stops) lost = absurd (judged-not f lost)
-  run-counts addresses tree reads message port s talks last result (lost_in_two m t turned k f opens second) lost = second-counts _ _ _ _ _ _ m t k (Err f) second lost
-  run-counts addresses tree reads message port s talks last result (judged_in_two m t turned k f opens second fails) lost = absurd (judged-not f lost)
-  run-counts addresses tree reads message port s talks last result (signed m t turned k bytes opens second signs) lost = absurd lost
+  run-counts : (desk : DeskState) (reads : CellsRead) (message : List ℕ) (port : PortState) (s : State) (talks : List Talk) (last : State) (result : Result (List ℕ) SignFault)
+      → SignRun desk reads message port s talks last result → LostBy is result → 1 ≤ counts_of talks
+  run-counts desk reads message port s talks last result no_memory lost = absurd lost
+  run-counts desk reads message port s talks last result (lost_in_one t k f first) lost = first-counts _ _ _ _ _ t k (Err f) first lost
+  run-counts desk reads message port s talks last result (judged_in_one t k f first stops) lost = absurd (judged-not f lost)
+  run-counts desk reads message port s talks last result (lost_in_two m t turned k f opens second) lost = second-counts _ _ _ m t k (Err f) second lost
+  run-counts desk reads message port s talks last result (judged_in_two m t turned k f opens second fails) lost = absurd (judged-not f lost)
+  run-counts desk reads message port s talks last result (signed m t turned k bytes opens second signs) lost = absurd lost
 
   lost-bytes : (result : Result (Vec ℕ Global) SignFault) → LostBy is result → LostBy is (bytes_in result)
   lost-bytes (Ok bytes) lost = lost
   lost-bytes (Err f) lost = lost
 
   -- a session that lost a member by its link leaves a link that counts a fault
-  pub session-counts : (addresses : List Address) (tree : TreeNodes) (reads : CellsRead) (message : List ℕ) (port : PortState) (s : State) (talks : List Talk) (last : State) (result : Result (Vec ℕ Global) SignFault)
-      → SignRun addresses tree reads message port s talks last (bytes_in result) → LostBy is result → counts_of talks ≢ 0
-  session-counts addresses tree reads message port s talks last result run lost none =
-      let some = run-counts addresses tree reads message port s talks last (bytes_in result) run (lost-bytes result lost) in
+  pub session-counts : (desk : DeskState) (reads : CellsRead) (message : List ℕ) (port : PortState) (s : State) (talks : List Talk) (last : State) (result : Result (Vec ℕ Global) SignFault)
+      → SignRun desk reads message port s talks last (bytes_in result) → LostBy is result → counts_of talks ≢ 0
+  session-counts desk reads message port s talks last result run lost none =
+      let some = run-counts desk reads message port s talks last (bytes_in result) run (lost-bytes result lost) in
       omega (arith, some, none)

@@ -1,9 +1,10 @@
 -- What a session may end with.
 use Rattle.std.proofs.Common.{◌≡◌, ◌⊎◌, inl, inr, ℕ, suc, ◌==◌, ◌&&◌, Bool, true, false, List, [], ◌∷◌, map, IsTrue, IfOk, IfErr, IfSome, Option, Some, None, Result, Ok, Err, slice_index_or, slice_set, refl, sym, ap, subst, ◌∙◌, arith, if◌then◌else◌}
 use Rattle.std.proofs.lemmas.Bool.Decides.{nat_tests}
+use Rattle.aggregator_session.specs.Desks.{DeskState}
 use Rattle.aggregator_session.specs.Faults.{sign_fault}
 use Rattle.aggregator_session.specs.Hearing.{Asked, IsLoss, awaited, is_answer, is_kept, kept_in, unwritten}
-use Rattle.aggregator_session.specs.Runs.{Calls, CellsRead, First, HasRun, Opens, SameSession, Second, SignRun, Stops, dialled, first_all, first_answered, first_frame, first_lost, first_refused, judged_in_one, judged_in_two, lost_in_one, lost_in_two, no_memory, nowhere, second_all, second_answered, second_lost, second_refused, second_unread, signed, undialled}
+use Rattle.aggregator_session.specs.Runs.{Calls, CellsRead, First, HasRun, Opens, SameSession, Second, SecondFrames, SignRun, Stops, dialled, first_all, first_answered, first_frame, first_lost, first_refused, judged_in_one, judged_in_two, lost_in_one, lost_in_two, no_memory, nowhere, second_all, second_answered, second_frames, second_lost, second_refused, second_unread, signed, undialled}
 use Rattle.aggregator_session.specs.declared.desk.Address.{Address}
 use Rattle.aggregator_session.specs.declared.fault.SignFault.{SignFault}
 use Rattle.aggregator_session.specs.declared.fault.SignFault.TheVariants as fault
@@ -12,7 +13,6 @@ use Rattle.aggregator_session.specs.Signing.{IsEnd, IsJudged}
 use Rattle.lms_bytes.specs.Bytes.{bytes_at}
 use Rattle.lms_bytes.specs.declared.message.MessageId.{MessageId}
 use Rattle.lms_bytes.specs.declared.public_key.PublicKey.{PublicKey}
-use Rattle.merkle_path.specs.Tree.{TreeNodes}
 use Rattle.round_frames.specs.Replies.{Reply}
 use Rattle.session_core.specs.Judging.{first_fault, kept_message, opened_fault, refusal_fault, round_fault, seat_fault, spent_fault}
 use Rattle.session_core.specs.Replies.{answers, same_message, step_of, with_delivery}
@@ -224,34 +224,34 @@ first-heard addresses ask port s members talks last end (first_answered p after 
 
 -- round two
 
-pub second-end : (leaf : ℕ) (told : Bool) (leaves : List ℕ) (turned : State) (message : List ℕ) (s : State) (members : List ℕ) (olds news : List Talk) (last : State) (end : Result (Unit {0}) SignFault)
-    → Second told leaves turned message s members olds news last end → IfErr end (IsEnd leaf)
-second-end leaf told leaves turned message s members olds news last end (second_all x) = tt
-second-end leaf told leaves turned message s members olds news last end (second_unread x member rest o) = tt
-second-end leaf told leaves turned message s members olds news last end (second_lost x member rest ask old new o f framed asks) = asked-comes leaf x member ask old new (Err f) asks
-second-end leaf told leaves turned message s members olds news last end (second_refused x member rest ask old new o reply framed asks refused) = tt
-second-end leaf told leaves turned message s members olds news last end (second_answered x y member rest ask old new o n reply e framed asks granted next) =
-    second-end leaf told leaves turned message (kept_in x (Ok reply)) rest o n y e next
+pub second-end : (leaf : ℕ) (frames : SecondFrames) (s : State) (members : List ℕ) (olds news : List Talk) (last : State) (end : Result (Unit {0}) SignFault)
+    → Second frames s members olds news last end → IfErr end (IsEnd leaf)
+second-end leaf frames s members olds news last end (second_all x) = tt
+second-end leaf frames s members olds news last end (second_unread x member rest o) = tt
+second-end leaf frames s members olds news last end (second_lost x member rest ask old new o f framed asks) = asked-comes leaf x member ask old new (Err f) asks
+second-end leaf frames s members olds news last end (second_refused x member rest ask old new o reply framed asks refused) = tt
+second-end leaf frames s members olds news last end (second_answered x y member rest ask old new o n reply e framed asks granted next) =
+    second-end leaf frames (kept_in x (Ok reply)) rest o n y e next
 
 pub record HeardSecond (c : List ℕ) (last : State) : Type 0 where
   pub seats : Begins Refuses last.second
   pub c_is : last.c ≡ Some c
 
-pub second-heard : (c : List ℕ) (told : Bool) (leaves : List ℕ) (turned : State) (message : List ℕ) (s : State) (members : List ℕ) (olds news : List Talk) (last : State) (end : Result (Unit {0}) SignFault)
-    → Second told leaves turned message s members olds news last end → s.c ≡ Some c → Begins (AreOf members) s.second → IfOk end (λ _. HeardSecond c last)
-second-heard c told leaves turned message s members olds news last end (second_all x) some begins = record { seats = none-waits x.second begins; c_is = some }
-second-heard c told leaves turned message s members olds news last end (second_unread x member rest o) some begins = tt
-second-heard c told leaves turned message s members olds news last end (second_lost x member rest ask old new o f framed asks) some begins = tt
-second-heard c told leaves turned message s members olds news last end (second_refused x member rest ask old new o reply framed asks refused) some begins =
+pub second-heard : (c : List ℕ) (frames : SecondFrames) (s : State) (members : List ℕ) (olds news : List Talk) (last : State) (end : Result (Unit {0}) SignFault)
+    → Second frames s members olds news last end → s.c ≡ Some c → Begins (AreOf members) s.second → IfOk end (λ _. HeardSecond c last)
+second-heard c frames s members olds news last end (second_all x) some begins = record { seats = none-waits x.second begins; c_is = some }
+second-heard c frames s members olds news last end (second_unread x member rest o) some begins = tt
+second-heard c frames s members olds news last end (second_lost x member rest ask old new o f framed asks) some begins = tt
+second-heard c frames s members olds news last end (second_refused x member rest ask old new o reply framed asks refused) some begins =
     let k = keeps-second x c member reply some (asked-comes 0 x member ask old new (Ok reply) asks) in
     record {
       seats = subst (λ (y : State). Begins Refuses y.second) (sym k.1)
           (replied (AreOf (member ∷ rest)) Refuses member reply.0.code reply.1 (refusal-step member reply.0.code rest reply.1 refused) x.second k.0 begins);
       c_is = ap (λ (y : State). y.c) k.1 ∙ some;
     }
-second-heard c told leaves turned message s members olds news last end (second_answered x y member rest ask old new o n reply e framed asks granted next) some begins =
+second-heard c frames s members olds news last end (second_answered x y member rest ask old new o n reply e framed asks granted next) some begins =
     let k = keeps-second x c member reply some (asked-comes 0 x member ask old new (Ok reply) asks) in
-    second-heard c told leaves turned message (kept_in x (Ok reply)) rest o n y e next (ap (λ (z : State). z.c) k.1 ∙ some)
+    second-heard c frames (kept_in x (Ok reply)) rest o n y e next (ap (λ (z : State). z.c) k.1 ∙ some)
     (subst (λ (z : State). Begins (AreOf rest) z.second) (sym k.1)
     (replied (AreOf (member ∷ rest)) (AreOf rest) member reply.0.code reply.1 (masks-step member reply.0.code rest reply.1 granted) x.second k.0 begins))
 
@@ -360,30 +360,30 @@ first-seats s none begins = let seats : seats_of s ≡ s.first = rw none refl in
 second-seats : (s : State) (c : List ℕ) → s.c ≡ Some c → Begins Refuses s.second → Begins Refuses (seats_of s)
 second-seats s c some begins = let seats : seats_of s ≡ s.second = rw some refl in subst (Begins Refuses) (sym seats) begins
 
-run-end : (addresses : List Address) (tree : TreeNodes) (reads : CellsRead) (message : List ℕ) (port : PortState) (s : State) (talks : List Talk) (last : State) (result : Result (List ℕ) SignFault) → IsFresh s
-    → SignRun addresses tree reads message port s talks last result → SameSession s last → IfErr result (IsEnd s.leaf)
-run-end addresses tree reads message port s talks last result fresh no_memory same = tt
-run-end addresses tree reads message port s talks last result fresh (lost_in_one t kept f run) same = first-end s.leaf addresses (first_frame s) port s (leaf_members s.plan s.leaf) t kept (Err f) run
-run-end addresses tree reads message port s talks last result fresh (judged_in_one t kept f run stops) same =
+run-end : (desk : DeskState) (reads : CellsRead) (message : List ℕ) (port : PortState) (s : State) (talks : List Talk) (last : State) (result : Result (List ℕ) SignFault) → IsFresh s
+    → SignRun desk reads message port s talks last result → SameSession s last → IfErr result (IsEnd s.leaf)
+run-end desk reads message port s talks last result fresh no_memory same = tt
+run-end desk reads message port s talks last result fresh (lost_in_one t kept f run) same = first-end s.leaf desk.addresses (first_frame s) port s (leaf_members s.plan s.leaf) t kept (Err f) run
+run-end desk reads message port s talks last result fresh (judged_in_one t kept f run stops) same =
     let members = leaf_members s.plan s.leaf in
-    let h = first-heard addresses (first_frame s) port s members t kept (Ok tt) run fresh.c (begins-of members s.first fresh.first) in
+    let h = first-heard desk.addresses (first_frame s) port s members t kept (Ok tt) run fresh.c (begins-of members s.first fresh.first) in
     subst (λ (q : ℕ). Ends q f) same.leaf (stops-end reads kept f (first-seats kept h.c h.seats) stops)
-run-end addresses tree reads message port s talks last result fresh (lost_in_two mids t turned kept f opens run) same =
-    second-end s.leaf reads.told reads.leaves turned message turned (leaf_members s.plan s.leaf) mids t kept (Err f) run
-run-end addresses tree reads message port s talks last result fresh (judged_in_two mids t turned kept f opens run fails) same =
-    let o = opened addresses reads port s turned mids fresh opens in
-    let h = second-heard o.0 reads.told reads.leaves turned message turned (leaf_members s.plan s.leaf) mids t kept (Ok tt) run o.1 o.2 in
-    subst (λ (q : ℕ). Ends q f) same.leaf (fails-end kept message reads.told (joined_bytes kept reads.leaves tree message) reads.before reads.now f (second-seats kept o.0 h.c_is h.seats) fails)
-run-end addresses tree reads message port s talks last result fresh (signed mids t turned kept bytes opens run signs) same = tt
+run-end desk reads message port s talks last result fresh (lost_in_two mids t turned kept f opens run) same =
+    second-end s.leaf (second_frames reads turned message) turned (leaf_members s.plan s.leaf) mids t kept (Err f) run
+run-end desk reads message port s talks last result fresh (judged_in_two mids t turned kept f opens run fails) same =
+    let o = opened desk.addresses reads port s turned mids fresh opens in
+    let h = second-heard o.0 (second_frames reads turned message) turned (leaf_members s.plan s.leaf) mids t kept (Ok tt) run o.1 o.2 in
+    subst (λ (q : ℕ). Ends q f) same.leaf (fails-end kept message reads.told (joined_bytes kept reads.leaves desk.tree message) reads.before reads.now f (second-seats kept o.0 h.c_is h.seats) fails)
+run-end desk reads message port s talks last result fresh (signed mids t turned kept bytes opens run signs) same = tt
 
 numbers : (room : ℕ) (members : List ℕ) → AreOf members (map (empty_seat room) members)
 numbers room [] = refl
 numbers room (m ∷ members) = ap (λ (ms : List ℕ). m ∷ ms) (numbers room members)
 
 -- how a session ends that begins with nothing kept
-pub started-end : (key : PublicKey) (plan : PlanNumbers) (leaf : ℕ) (id : MessageId) (addresses : List Address) (tree : TreeNodes) (reads : CellsRead) (message : List ℕ) (before now : PortState) (last : State)
-    (result : Result (List ℕ) SignFault) → HasRun addresses tree reads message before now (started key plan leaf id) last result → IfErr result (IsEnd leaf)
-started-end key plan leaf id addresses tree reads message before now last result run =
+pub started-end : (key : PublicKey) (plan : PlanNumbers) (leaf : ℕ) (id : MessageId) (desk : DeskState) (reads : CellsRead) (message : List ℕ) (before now : PortState) (last : State)
+    (result : Result (List ℕ) SignFault) → HasRun desk reads message before now (started key plan leaf id) last result → IfErr result (IsEnd leaf)
+started-end key plan leaf id desk reads message before now last result run =
     let s = started key plan leaf id in
-    run-end addresses tree reads message before s run.talks last result
+    run-end desk reads message before s run.talks last result
     (record { c = refl; first = numbers (body_room key.params 1) (leaf_members plan leaf); second = numbers (body_room key.params 2) (leaf_members plan leaf) }) run.run run.same

@@ -1,6 +1,6 @@
 -- The frames of asks.
 use Rattle.std.proofs.Common.{◌≡◌, ◌+◌, ◌≤◌, ℕ, Bool, true, false, List, length, IsTrue, Option, None, Some, Result, refl, ap, ◌∙◌, arith}
-use Rattle.aggregator_session.specs.Runs.{AskedAgain, IsSecondFrame, asked, first_frame, not_read, second_frame}
+use Rattle.aggregator_session.specs.Runs.{AskedAgain, IsSecondFrame, SecondFrames, asked, first_frame, not_read, second_frame}
 use Rattle.aggregator_session.specs.declared.fault.SignFault.{SignFault}
 use Rattle.lms_bytes.specs.declared.ask.Ask.{Ask}
 use Rattle.lms_bytes.specs.declared.ask.Second.{Second}
@@ -36,8 +36,11 @@ length-by params ask message (Some second) small is = rw is (omega (arith, small
 pub longest : (params : Params) (ask : Ask) (message : List ℕ) → ask_length params ask message ≤ 92 + length message
 longest params ask message = length-by params ask message ask.second (let h = params.hash_length in grind (arith, h)) refl
 
+abbrev pub frames-of : Bool → List ℕ → State → List ℕ → SecondFrames
+frames-of told leaves s message = record { told = told; leaves = leaves; session = s; message = message }
+
 pub second-frame : (told : Bool) (leaves : List ℕ) (s : State) (digest message : List ℕ) (member : ℕ) (ask : Ask) → digest ≡ digest_of s message → IsAskOf s digest ask
-    → (IsTrue told → ask ≡ ask_with s (tag_in s.key.params s.plan leaves s.leaf member) digest) → IsSecondFrame told leaves s message member (ask_frame ask message)
+    → (IsTrue told → ask ≡ ask_with s (tag_in s.key.params s.plan leaves s.leaf member) digest) → IsSecondFrame (frames-of told leaves s message) member (ask_frame ask message)
 unfolding second_frame
 second-frame true leaves s digest message member ask is a tag = record {
   tag = tag_in s.key.params s.plan leaves s.leaf member;
@@ -64,15 +67,15 @@ same-frame old new message tag same =
     ∙ ap (λ (c : Option (List ℕ)). frame old.key old.leaf old.message c) same.c))
 
 -- no reply changes what the members are asked
-pub framed-same : (told : Bool) (leaves : List ℕ) (old new : State) (message : List ℕ) (member : ℕ) (ask : List ℕ) → SameAsk old new → IsSecondFrame told leaves new message member ask
-    → IsSecondFrame told leaves old message member ask
-framed-same told leaves old new message member ask same f = record {
+pub framed-same : (frames : SecondFrames) (new : State) (member : ℕ) (ask : List ℕ) → SameAsk frames.session new → IsSecondFrame (record frames { session = new }) member ask
+    → IsSecondFrame frames member ask
+framed-same frames new member ask same f = record {
   tag = f.tag;
-  is = f.is ∙ same-frame old new message f.tag same;
-  tag_is = same-tag told leaves old new f.tag member same f.tag_is;
+  is = f.is ∙ same-frame frames.session new frames.message f.tag same;
+  tag_is = same-tag frames.told frames.leaves frames.session new f.tag member same f.tag_is;
 }
 
-pub framed-as : (t u : Bool) (ls ms : List ℕ) (s : State) (message : List ℕ) (member : ℕ) (ask : List ℕ) → t ≡ u → (IsTrue u → ls ≡ ms) → IsSecondFrame t ls s message member ask → IsSecondFrame u ms s message member ask
+pub framed-as : (t u : Bool) (ls ms : List ℕ) (s : State) (message : List ℕ) (member : ℕ) (ask : List ℕ) → t ≡ u → (IsTrue u → ls ≡ ms) → IsSecondFrame (frames-of t ls s message) member ask → IsSecondFrame (frames-of u ms s message) member ask
 framed-as t u ls ms s message member ask is leaves f = record {
   tag = f.tag;
   is = f.is;
@@ -81,6 +84,6 @@ framed-as t u ls ms s message member ask is leaves f = record {
 
 -- the same of a reference that tells the same
 module _ {old new : State} {message : List ℕ} {member : ℕ} {before now : Talk} where
-  pub asked-as : (t u : Bool) (ls ms : List ℕ) (result : Result Bool SignFault) → t ≡ u → (IsTrue u → ls ≡ ms) → AskedAgain t ls old new message member before now result → AskedAgain u ms old new message member before now result
+  pub asked-as : (t u : Bool) (ls ms : List ℕ) (result : Result Bool SignFault) → t ≡ u → (IsTrue u → ls ≡ ms) → AskedAgain (frames-of t ls old message) new member before now result → AskedAgain (frames-of u ms old message) new member before now result
   asked-as t u ls ms result is leaves (not_read state talk) = not_read state talk
   asked-as t u ls ms result is leaves (asked ask r framed h) = asked ask r (framed-as t u ls ms old message member ask is leaves framed) h

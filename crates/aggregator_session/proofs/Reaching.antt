@@ -2,17 +2,17 @@
 use Rattle.std.proofs.Common.{◌≡◌, ℕ, Bool, false, List, [], ◌∷◌, IfErr, IfSome, IsTrue, Option, Some, None, Result, Ok, Err, refl, sym, ap, subst, ◌∙◌}
 use Rattle.std.specs.Str.{bytes_eq}
 use Rattle.aggregator_session.specs.Addresses.{place_of}
+use Rattle.aggregator_session.specs.Desks.{DeskState}
 use Rattle.aggregator_session.specs.Faults.{IsLostBy, LostBy, sign_fault}
 use Rattle.aggregator_session.specs.Hearing.{Asked, IsLoss, awaited, is_heard, kept_in, unwritten}
 use Rattle.aggregator_session.specs.Reaching.{Apart, Reachable}
-use Rattle.aggregator_session.specs.Runs.{Calls, CellsRead, First, Second, SignRun, dialled, first_all, first_answered, first_frame, first_lost, first_refused, judged_in_one, judged_in_two, lost_in_one, lost_in_two, no_memory, nowhere, second_all, second_answered, second_lost, second_refused, second_unread, signed, undialled}
+use Rattle.aggregator_session.specs.Runs.{Calls, CellsRead, First, Second, SecondFrames, SignRun, dialled, first_all, first_answered, first_frame, first_lost, first_refused, judged_in_one, judged_in_two, lost_in_one, lost_in_two, no_memory, nowhere, second_all, second_answered, second_frames, second_lost, second_refused, second_unread, signed, undialled}
 use Rattle.aggregator_session.specs.declared.desk.Address.{Address}
 use Rattle.aggregator_session.specs.declared.fault.SignFault.{SignFault}
 use Rattle.aggregator_session.specs.declared.fault.SignFault.TheVariants.{Lost, NoMemory, Session, Stray, Table, TooLong, Worn}
 use Rattle.aggregator_session.specs.declared.fault.Why.{Why}
 use Rattle.aggregator_session.specs.declared.fault.Why.TheVariants.{DialFailed}
 use Rattle.coalition_map.specs.Coalitions.{leaf_members}
-use Rattle.merkle_path.specs.Tree.{TreeNodes}
 use Rattle.round_frames.specs.Replies.{Reply}
 use Rattle.session_core.specs.State.{State}
 use Rattle.session_core.specs.declared.faults.SessionFault as session
@@ -100,17 +100,17 @@ first-reached addresses ask port s members talks last end f (first_answered p af
     let a = call-after addresses ask x member p after rest t _ reply calls refl told steady reach in
     first-reached addresses ask after (kept_in x (Ok reply)) rest later y e f next is a.told a.steady a.reach by
 
-second-reached : (told : Bool) (leaves : List ℕ) (turned : State) (message : List ℕ) (s : State) (members : List ℕ) (olds news : List Talk) (last : State) (end : Result (Unit {0}) SignFault) (f : SignFault)
-    → Second told leaves turned message s members olds news last end → end ≡ Err f → IsLostBy DialFailed f → ⊥
-second-reached told leaves turned message s members olds news last end f (second_all x) is by = absurd (cc)
-second-reached told leaves turned message s members olds news last end f (second_unread x member rest o) is by =
+second-reached : (frames : SecondFrames) (s : State) (members : List ℕ) (olds news : List Talk) (last : State) (end : Result (Unit {0}) SignFault) (f : SignFault)
+    → Second frames s members olds news last end → end ≡ Err f → IsLostBy DialFailed f → ⊥
+second-reached frames s members olds news last end f (second_all x) is by = absurd (cc)
+second-reached frames s members olds news last end f (second_unread x member rest o) is by =
     let lost = subst (λ (e : Result (Unit {0}) SignFault). LostBy DialFailed e) (sym is) by in
     absurd lost
-second-reached told leaves turned message s members olds news last end f (second_lost x member rest ask old new o why framed asks) is by =
+second-reached frames s members olds news last end f (second_lost x member rest ask old new o why framed asks) is by =
     asked-not x member ask old new (no_reply why) f asks (let same : why ≡ f = cc in ap no_reply same) by
-second-reached told leaves turned message s members olds news last end f (second_refused x member rest ask old new o reply framed asks refused) is by = absurd (cc)
-second-reached told leaves turned message s members olds news last end f (second_answered x y member rest ask old new o n reply e framed asks granted next) is by =
-    second-reached told leaves turned message (kept_in x (Ok reply)) rest o n y e f next is by
+second-reached frames s members olds news last end f (second_refused x member rest ask old new o reply framed asks refused) is by = absurd (cc)
+second-reached frames s members olds news last end f (second_answered x y member rest ask old new o n reply e framed asks granted next) is by =
+    second-reached frames (kept_in x (Ok reply)) rest o n y e f next is by
 
 sign-not : (f : session.SessionFault) → IsLostBy DialFailed (sign_fault f) → ⊥
 sign-not (fault.Missing member round) by = by
@@ -121,13 +121,13 @@ sign-not (fault.MemberRefused member code) by = by
 sign-not fault.Reference by = by
 sign-not fault.NoMemory by = by
 
-pub sign-reached : (addresses : List Address) (tree : TreeNodes) (reads : CellsRead) (message : List ℕ) (port : PortState) (s last : State) (talks : List Talk) (result : Result (List ℕ) SignFault)
-    → SignRun addresses tree reads message port s talks last result → IsTrue port.told → IsTrue port.steady → Reachable addresses port.reaches (leaf_members s.plan s.leaf) → LostBy DialFailed result → ⊥
-sign-reached addresses tree reads message port s last talks result no_memory told steady reach by = by
-sign-reached addresses tree reads message port s last talks result (lost_in_one t kept f first) told steady reach by =
-    first-reached addresses (first_frame s) port s (leaf_members s.plan s.leaf) t kept (Err f) f first refl told steady reach by
-sign-reached addresses tree reads message port s last talks result (judged_in_one t kept f first stops) told steady reach by = sign-not f by
-sign-reached addresses tree reads message port s last talks result (lost_in_two mids t turned kept f opens second) told steady reach by =
-    second-reached reads.told reads.leaves turned message turned (leaf_members s.plan s.leaf) mids t kept (Err f) f second refl by
-sign-reached addresses tree reads message port s last talks result (judged_in_two mids t turned kept f opens second fails) told steady reach by = sign-not f by
-sign-reached addresses tree reads message port s last talks result (signed mids t turned kept bytes opens second signs) told steady reach by = by
+pub sign-reached : (desk : DeskState) (reads : CellsRead) (message : List ℕ) (port : PortState) (s last : State) (talks : List Talk) (result : Result (List ℕ) SignFault)
+    → SignRun desk reads message port s talks last result → IsTrue port.told → IsTrue port.steady → Reachable desk.addresses port.reaches (leaf_members s.plan s.leaf) → LostBy DialFailed result → ⊥
+sign-reached desk reads message port s last talks result no_memory told steady reach by = by
+sign-reached desk reads message port s last talks result (lost_in_one t kept f first) told steady reach by =
+    first-reached desk.addresses (first_frame s) port s (leaf_members s.plan s.leaf) t kept (Err f) f first refl told steady reach by
+sign-reached desk reads message port s last talks result (judged_in_one t kept f first stops) told steady reach by = sign-not f by
+sign-reached desk reads message port s last talks result (lost_in_two mids t turned kept f opens second) told steady reach by =
+    second-reached (second_frames reads turned message) turned (leaf_members s.plan s.leaf) mids t kept (Err f) f second refl by
+sign-reached desk reads message port s last talks result (judged_in_two mids t turned kept f opens second fails) told steady reach by = sign-not f by
+sign-reached desk reads message port s last talks result (signed mids t turned kept bytes opens second signs) told steady reach by = by

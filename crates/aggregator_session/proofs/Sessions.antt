@@ -1,6 +1,7 @@
 -- How a session ends.
 use Rattle.std.proofs.Common.{◌≡◌, ◌⊎◌, ◌≤◌, ℕ, Bool, true, false, ◌==◌, ◌&&◌, List, [], ◌∷◌, length, map, IsTrue, Option, Some, None, IfErr, IfSome, Result, Ok, Err, refl, sym, ap, subst, ◌∙◌, arith, inl, inr, if◌then◌else◌}
-use Rattle.aggregator_session.proofs.Frames.{framed-as}
+use Rattle.aggregator_session.proofs.Frames.{framed-as, frames-of}
+use Rattle.aggregator_session.specs.Desks.{DeskState}
 use Rattle.aggregator_session.specs.Faults.{sign_fault}
 use Rattle.aggregator_session.specs.Hearing.{Asked, IsLoss, awaited, kept_in, unwritten}
 use Rattle.aggregator_session.specs.Runs.{Calls, CellsRead, DealtC, First, Opens, Second, SignRun, dialled, first_all, first_answered, first_frame, first_lost, first_refused, nowhere, second_all, second_answered, second_lost, second_refused, second_unread, undialled}
@@ -174,7 +175,7 @@ fails-as s message tree t u ls ms a b now f is leaves le fails = elim fails [
 ]
 
 pub second-as : (t u : Bool) (ls ms : List ℕ) (turned : State) (message : List ℕ) (s : State) (members : List ℕ) (olds news : List Talk) (last : State) (end : Result (Unit {0}) SignFault) → t ≡ u → (IsTrue u → ls ≡ ms)
-    → Second t ls turned message s members olds news last end → Second u ms turned message s members olds news last end
+    → Second (frames-of t ls turned message) s members olds news last end → Second (frames-of u ms turned message) s members olds news last end
 second-as t u ls ms turned message s members olds news last end is leaves (second_all x) = second_all x
 second-as t u ls ms turned message s members olds news last end is leaves (second_unread x member rest o) = second_unread x member rest o
 second-as t u ls ms turned message s members olds news last end is leaves (second_lost x member rest ask old new o fault framed asks) =
@@ -220,15 +221,15 @@ whole-as len p q m n is params plan = is ∙ (ap (λ (x : Params). leaves_length
 pub count-as : (a b : ℕ) → b ≡ a → a ≤ b
 count-as a b is = omega arith
 
-module _ {addresses : List Address} {tree : TreeNodes} {reads : CellsRead} {message : List ℕ} {port : PortState} {s : State} {talks : List Talk} {end : Result (List ℕ) SignFault} where
-  pub run-as : (k l : State) → l ≡ k → SignRun addresses tree reads message port s talks k end → SignRun addresses tree reads message port s talks l end
-  run-as k l is run = subst (λ (x : State). SignRun addresses tree reads message port s talks x end) (sym is) run
+module _ {desk : DeskState} {reads : CellsRead} {message : List ℕ} {port : PortState} {s : State} {talks : List Talk} {end : Result (List ℕ) SignFault} where
+  pub run-as : (k l : State) → l ≡ k → SignRun desk reads message port s talks k end → SignRun desk reads message port s talks l end
+  run-as k l is run = subst (λ (x : State). SignRun desk reads message port s talks x end) (sym is) run
 
 module _ {turned s : State} {message : List ℕ} {olds news : List Talk} {last : State} where
   pub second-end : (t u : Bool) (ls ms : List ℕ) (m n : List ℕ) (e f : Result (Unit {0}) SignFault) → t ≡ u → (IsTrue u → ls ≡ ms) → m ≡ n → e ≡ f
-      → Second t ls turned message s m olds news last e → Second u ms turned message s n olds news last f
+      → Second (frames-of t ls turned message) s m olds news last e → Second (frames-of u ms turned message) s n olds news last f
   second-end t u ls ms m n e f is leaves members end run =
-      subst (λ (x : List ℕ). Second u ms turned message s x olds news last f) members (subst (λ (x : Result (Unit {0}) SignFault). Second u ms turned message s m olds news last x) end
+      subst (λ (x : List ℕ). Second (frames-of u ms turned message) s x olds news last f) members (subst (λ (x : Result (Unit {0}) SignFault). Second (frames-of u ms turned message) s m olds news last x) end
       (second-as t u ls ms turned message s m olds news last e is leaves run))
 
 module _ {C : Type 0} {k : cells.Ghosts C} {f : faults.Ghosts C} {x y : C} where

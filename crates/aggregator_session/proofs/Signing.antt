@@ -1,6 +1,5 @@
 -- A message that is signed with a leaf of a table.
 use Rattle.std.proofs.Common.{◌≡◌, ◌≤◌, ◌<◌, ◌^◌, ℕ, List, length, IfOk, Option, None, Result, Ok, Err, subst, sym, ◌∙◌}
-use Rattle.aggregator_session.specs.Runs.{CellsRead}
 use Rattle.aggregator_session.specs.declared.fault.SignFault.{SignFault}
 use Rattle.disk_trait.specs.declared.disk.Pages as pages
 use Rattle.disk_trait.specs.declared.faults.Faults as faults
@@ -11,7 +10,7 @@ use Rattle.leaf_table.specs.Table.{Enters, Stays, plan_of, state_of}
 use Rattle.leaf_table.specs.declared.faults.TableFault.{TableFault}
 use Rattle.leaf_table.specs.declared.table.Table.{Table}
 use Rattle.aggregator_session.specs.Ended.{LeasedTo, RunsTo, last_of}
-use Rattle.aggregator_session.specs.Signing.{DeskState, Signature, SignsLeased, Spends, leased, signed_with, spent_by}
+use Rattle.aggregator_session.specs.Signing.{Signature, SignsLeased, Spends, ToSign, leased, signed_with, spent_by}
 use Rattle.aggregator_session.specs.Tables.{AsksLeaf, Entered, TableSeen, name_of, table_seen}
 use Rattle.lms_bytes.specs.MessageId.{message_id, message_id_bytes}
 use Rattle.lms_bytes.specs.declared.message.MessageId.{MessageId}
@@ -35,15 +34,15 @@ module _ {D : Type 0} {p : pages.Ghosts D} {f : faults.Ghosts D} {old new : Tabl
     entered = entered-as enters;
   })
 
-module _ {desk : DeskState} {reads : CellsRead} {members message : List ℕ} {before mid after : TableSeen} {port now : PortState} {leaf : ℕ} {id : MessageId} {result : Result (List ℕ) SignFault} {session : Option State} where
-  pub leased-to : {end : Result Signature SignFault} {spent : Option ℕ} → end ≡ signed_with leaf result → length message ≤ 16777216 → id ≡ message_id message → AsksLeaf before members (message_id message) (Ok leaf) mid
-      → RunsTo desk reads leaf message port now result session → spent ≡ spent_by result → Spends mid leaf id spent after → LeasedTo desk reads members message before port after now end session
-  leased-to is short named asks runs of spends = subst (λ (e : Result Signature SignFault). LeasedTo desk reads members message before port after now e session) (sym is) (record {
+module _ {sign : ToSign} {before mid after : TableSeen} {port now : PortState} {leaf : ℕ} {id : MessageId} {result : Result (List ℕ) SignFault} {session : Option State} where
+  pub leased-to : {end : Result Signature SignFault} {spent : Option ℕ} → end ≡ signed_with leaf result → length sign.message ≤ 16777216 → id ≡ message_id sign.message → AsksLeaf before sign.members (message_id sign.message) (Ok leaf) mid
+      → RunsTo sign.desk sign.reads leaf sign.message port now result session → spent ≡ spent_by result → Spends mid leaf id spent after → LeasedTo sign before port after now end session
+  leased-to is short named asks runs of spends = subst (λ (e : Result Signature SignFault). LeasedTo sign before port after now e session) (sym is) (record {
     signs = leased leaf mid after now result short asks runs.runs (subst (λ (m : MessageId). Spends mid leaf m (spent_by result) after) named (subst (λ (o : Option ℕ). Spends mid leaf id o after) of spends));
     session_is = runs.session_is;
   })
 
-module _ {desk : DeskState} {reads : CellsRead} {members message : List ℕ} {before after : TableSeen} {port now : PortState} {end : Result Signature SignFault} {fault : SignFault} {session : Option State} where
-  pub not-begun : end ≡ Err fault → session ≡ None → (signs : SignsLeased desk reads members message before port after now (Err fault)) → last_of signs ≡ None
-      → LeasedTo desk reads members message before port after now end session
-  not-begun is none signs last = subst (λ (e : Result Signature SignFault). LeasedTo desk reads members message before port after now e session) (sym is) (record { signs = signs; session_is = none ∙ sym last })
+module _ {sign : ToSign} {before after : TableSeen} {port now : PortState} {end : Result Signature SignFault} {fault : SignFault} {session : Option State} where
+  pub not-begun : end ≡ Err fault → session ≡ None → (signs : SignsLeased sign before port after now (Err fault)) → last_of signs ≡ None
+      → LeasedTo sign before port after now end session
+  not-begun is none signs last = subst (λ (e : Result Signature SignFault). LeasedTo sign before port after now e session) (sym is) (record { signs = signs; session_is = none ∙ sym last })

@@ -4,7 +4,7 @@ use Rattle.std.specs.declared.alloc.Global.{Global}
 use Rattle.std.specs.declared.vec.Vec.{Vec}
 use Rattle.aggregator_session.specs.Causes.{DialCauses}
 use Rattle.aggregator_session.specs.Faults.{IsLostBy, LostBy, sign_fault}
-use Rattle.aggregator_session.specs.Runs.{HasCalled, bytes_in, first_frame}
+use Rattle.aggregator_session.specs.Runs.{Dialling, HasCalled, bytes_in, first_frame}
 use Rattle.aggregator_session.specs.Tasks.{OnlyDials, RisesOnce}
 use Rattle.aggregator_session.specs.declared.desk.Address.{Address}
 use Rattle.aggregator_session.specs.declared.fault.SignFault.{SignFault}
@@ -14,7 +14,6 @@ use Rattle.disk_trait.specs.Faults.{Rose}
 use Rattle.session_core.specs.State.{SameAsk, State}
 use Rattle.session_core.specs.declared.faults.SessionFault.{SessionFault}
 use Rattle.session_core.specs.declared.faults.SessionFault.TheVariants as session
-use Rattle.stream_io.specs.Talk.{Talk}
 use Rattle.stream_io.specs.Net.{PortOnward, PortState}
 
 pub onward-then : (a b c : PortState) → PortOnward a b → PortOnward b c → PortOnward a c
@@ -44,9 +43,9 @@ pub frame-same : (a b : State) → SameAsk a b → first_frame b ≡ first_frame
 unfolding first_frame
 frame-same a b same = rw (same.key, same.leaf, same.message) refl
 
-module _ {addresses : List Address} {old new : State} {member : ℕ} {before now : PortState} {olds news : List Talk} {result : Result Bool SignFault} where
-  pub called-as : (f g : List ℕ) → g ≡ f → HasCalled addresses g old new member before now olds news result → HasCalled addresses f old new member before now olds news result
-  called-as f g is h = subst (λ (x : List ℕ). HasCalled addresses x old new member before now olds news result) is h
+module _ {addresses : List Address} {member : ℕ} {old new : Dialling} {result : Result Bool SignFault} where
+  pub called-as : (f g : List ℕ) → g ≡ f → HasCalled addresses g member old new result → HasCalled addresses f member old new result
+  called-as f g is h = subst (λ (x : List ℕ). HasCalled addresses x member old new result) is h
 
 pub rose-later : (a b c : ℕ) → a ≤ b → Rose b c → Rose a c
 rose-later a b c le rose = omega arith

@@ -1,10 +1,10 @@
 -- Links of a port that tells its content tell their bytes.
 use Rattle.std.proofs.Common.{◌≡◌, ◌++◌, Bool, ℕ, List, [], ◌∷◌, IsTrue, Result, Ok, ◌∙◌}
+use Rattle.aggregator_session.specs.Desks.{DeskState}
 use Rattle.aggregator_session.specs.Hearing.{Asked, awaited, kept_in, unwritten}
-use Rattle.aggregator_session.specs.Runs.{Calls, CellsRead, First, Second, SignRun, dialled, first_all, first_answered, first_lost, first_refused, judged_in_one, judged_in_two, lost_in_one, lost_in_two, no_memory, nowhere, second_all, second_answered, second_lost, second_refused, second_unread, signed, undialled}
+use Rattle.aggregator_session.specs.Runs.{Calls, CellsRead, First, Second, SecondFrames, SignRun, dialled, first_all, first_answered, first_lost, first_refused, judged_in_one, judged_in_two, lost_in_one, lost_in_two, no_memory, nowhere, second_all, second_answered, second_lost, second_refused, second_unread, signed, undialled}
 use Rattle.aggregator_session.specs.declared.desk.Address.{Address}
 use Rattle.aggregator_session.specs.declared.fault.SignFault.{SignFault}
-use Rattle.merkle_path.specs.Tree.{TreeNodes}
 use Rattle.round_frames.specs.Replies.{Reply}
 use Rattle.session_core.specs.State.{State}
 use Rattle.stream_io.specs.Net.{PortState}
@@ -39,25 +39,25 @@ first-tell addresses ask port s members talks last end (first_answered p after x
     let one = calls-tell addresses ask x member p after t _ calls tells in
     tell-then t later one.0 (first-tell addresses ask after (kept_in x (Ok reply)) rest later y e next one.1)
 
-second-tell : (told : Bool) (leaves : List ℕ) (turned : State) (message : List ℕ) (s : State) (members : List ℕ) (olds news : List Talk) (last : State) (end : Result (Unit {0}) SignFault)
-    → Second told leaves turned message s members olds news last end → AllTell olds → AllTell news
-second-tell told leaves turned message s members olds news last end (second_all x) tell = tell
-second-tell told leaves turned message s members olds news last end (second_unread x member rest o) tell = tell
-second-tell told leaves turned message s members olds news last end (second_lost x member rest ask old new o fault framed asks) tell =
+second-tell : (frames : SecondFrames) (s : State) (members : List ℕ) (olds news : List Talk) (last : State) (end : Result (Unit {0}) SignFault)
+    → Second frames s members olds news last end → AllTell olds → AllTell news
+second-tell frames s members olds news last end (second_all x) tell = tell
+second-tell frames s members olds news last end (second_unread x member rest o) tell = tell
+second-tell frames s members olds news last end (second_lost x member rest ask old new o fault framed asks) tell =
     (asked-told x member ask old new _ asks ∙ tell.0, tell.1)
-second-tell told leaves turned message s members olds news last end (second_refused x member rest ask old new o reply framed asks refused) tell =
+second-tell frames s members olds news last end (second_refused x member rest ask old new o reply framed asks refused) tell =
     (asked-told x member ask old new _ asks ∙ tell.0, tell.1)
-second-tell told leaves turned message s members olds news last end (second_answered x y member rest ask old new o n reply e framed asks granted next) tell =
-    (asked-told x member ask old new _ asks ∙ tell.0, second-tell told leaves turned message (kept_in x (Ok reply)) rest o n y e next tell.1)
+second-tell frames s members olds news last end (second_answered x y member rest ask old new o n reply e framed asks granted next) tell =
+    (asked-told x member ask old new _ asks ∙ tell.0, second-tell frames (kept_in x (Ok reply)) rest o n y e next tell.1)
 
-pub sign-tell : (addresses : List Address) (tree : TreeNodes) (reads : CellsRead) (message : List ℕ) (port : PortState) (s last : State) (talks : List Talk) (result : Result (List ℕ) SignFault)
-    → SignRun addresses tree reads message port s talks last result → IsTrue port.told → AllTell talks
-sign-tell addresses tree reads message port s last talks result no_memory tells = tt
-sign-tell addresses tree reads message port s last talks result (lost_in_one t kept fault first) tells = first-tell addresses _ port s _ t kept _ first tells
-sign-tell addresses tree reads message port s last talks result (judged_in_one t kept fault first stops) tells = first-tell addresses _ port s _ t kept _ first tells
-sign-tell addresses tree reads message port s last talks result (lost_in_two mids t turned kept fault opens second) tells =
-    second-tell _ _ _ _ _ _ mids t kept _ second (first-tell addresses _ port s _ mids opens.kept _ opens.first tells)
-sign-tell addresses tree reads message port s last talks result (judged_in_two mids t turned kept fault opens second fails) tells =
-    second-tell _ _ _ _ _ _ mids t kept _ second (first-tell addresses _ port s _ mids opens.kept _ opens.first tells)
-sign-tell addresses tree reads message port s last talks result (signed mids t turned kept bytes opens second signs) tells =
-    second-tell _ _ _ _ _ _ mids t kept _ second (first-tell addresses _ port s _ mids opens.kept _ opens.first tells)
+pub sign-tell : (desk : DeskState) (reads : CellsRead) (message : List ℕ) (port : PortState) (s last : State) (talks : List Talk) (result : Result (List ℕ) SignFault)
+    → SignRun desk reads message port s talks last result → IsTrue port.told → AllTell talks
+sign-tell desk reads message port s last talks result no_memory tells = tt
+sign-tell desk reads message port s last talks result (lost_in_one t kept fault first) tells = first-tell desk.addresses _ port s _ t kept _ first tells
+sign-tell desk reads message port s last talks result (judged_in_one t kept fault first stops) tells = first-tell desk.addresses _ port s _ t kept _ first tells
+sign-tell desk reads message port s last talks result (lost_in_two mids t turned kept fault opens second) tells =
+    second-tell _ _ _ mids t kept _ second (first-tell desk.addresses _ port s _ mids opens.kept _ opens.first tells)
+sign-tell desk reads message port s last talks result (judged_in_two mids t turned kept fault opens second fails) tells =
+    second-tell _ _ _ mids t kept _ second (first-tell desk.addresses _ port s _ mids opens.kept _ opens.first tells)
+sign-tell desk reads message port s last talks result (signed mids t turned kept bytes opens second signs) tells =
+    second-tell _ _ _ mids t kept _ second (first-tell desk.addresses _ port s _ mids opens.kept _ opens.first tells)

@@ -1,14 +1,14 @@
 -- What is written, ask by ask.
 use Rattle.std.proofs.Common.{◌≡◌, ◌≤◌, ◌+◌, ◌-◌, ◌++◌, ◌^◌, Bool, ℕ, zero, suc, List, [], ◌∷◌, length, min, take, IsTrue, Result, Ok, refl, sym, ap, ◌∙◌, arith, inl, inr, take_all}
+use Rattle.aggregator_session.specs.Desks.{DeskState}
 use Rattle.aggregator_session.specs.Hearing.{Asked, awaited, kept_in, unwritten}
-use Rattle.aggregator_session.specs.Runs.{Calls, CellsRead, First, IsSecondFrame, Opens, Second, SignRun, dialled, first_all, first_answered, first_frame, first_lost, first_refused, judged_in_one, judged_in_two, lost_in_one, lost_in_two, no_memory, nowhere, second_all, second_answered, second_lost, second_refused, second_unread, signed, undialled}
+use Rattle.aggregator_session.specs.Runs.{Calls, CellsRead, First, IsSecondFrame, Opens, Second, SecondFrames, SignRun, dialled, first_all, first_answered, first_frame, first_lost, first_refused, judged_in_one, judged_in_two, lost_in_one, lost_in_two, no_memory, nowhere, second_all, second_answered, second_frames, second_lost, second_refused, second_unread, signed, undialled}
 use Rattle.aggregator_session.proofs.Telling.{AllTell, asked-told, sign-tell}
 use Rattle.aggregator_session.specs.Tasks.{AllEnded}
 use Rattle.aggregator_session.specs.Written.{Written, Wrote, WroteBoth, Wrotes}
 use Rattle.aggregator_session.specs.declared.desk.Address.{Address}
 use Rattle.aggregator_session.specs.declared.fault.SignFault.{SignFault}
 use Rattle.coalition_map.specs.Coalitions.{leaf_members}
-use Rattle.merkle_path.specs.Tree.{TreeNodes}
 use Rattle.round_frames.specs.Replies.{Reply}
 use Rattle.session_core.specs.State.{State}
 use Rattle.stream_io.specs.Net.{PortState}
@@ -50,15 +50,15 @@ Wholes first members [] = Unit {0}
 Wholes first [] (talk ∷ talks) = ⊥
 Wholes first (member ∷ members) (talk ∷ talks) = (IsTrue talk.told × (talk.written ≡ first)) × Wholes first members talks
 
-module _ (told : Bool) (leaves : List ℕ) (turned : State) (message first : List ℕ) where
-  wholes-wrote : (members : List ℕ) (talks : List Talk) → Wholes first members talks → Wrotes told leaves turned message first 0 members talks
+module _ (frames : SecondFrames) (first : List ℕ) where
+  wholes-wrote : (members : List ℕ) (talks : List Talk) → Wholes first members talks → Wrotes frames first 0 members talks
   wholes-wrote members [] w = tt
   wholes-wrote [] (talk ∷ talks) w = absurd w
   wholes-wrote (member ∷ members) (talk ∷ talks) w = (all-wrote talk first w.0.1, wholes-wrote members talks w.1)
 
   -- a call of round one, the members after it not being dialled
   call-wrote : (addresses : List Address) (s : State) (member : ℕ) (port after : PortState) (members : List ℕ) (talks : List Talk) (answer : Result Reply SignFault)
-      → Calls addresses first s member port after talks answer → IsTrue port.told → Wrotes told leaves turned message first 0 (member ∷ members) talks
+      → Calls addresses first s member port after talks answer → IsTrue port.told → Wrotes frames first 0 (member ∷ members) talks
   call-wrote addresses s member port after members talks answer (nowhere none) tells = tt
   call-wrote addresses s member port after members talks answer (undialled place a found onward rose same nobody) tells = tt
   call-wrote addresses s member port after members talks answer (dialled place start talk steady a x found onward quiet dials asks) tells =
@@ -66,15 +66,15 @@ module _ (told : Bool) (leaves : List ℕ) (turned : State) (message first : Lis
 
   -- a call that was answered, before those of the members after it
   call-more : (addresses : List Address) (s : State) (member : ℕ) (port after : PortState) (members : List ℕ) (talks later : List Talk) (answer : Result Reply SignFault) (reply : Reply) → answer ≡ Ok reply
-      → Calls addresses first s member port after talks answer → IsTrue port.told → (IsTrue after.told → Wrotes told leaves turned message first 0 members later)
-      → Wrotes told leaves turned message first 0 (member ∷ members) (talks ++ later)
+      → Calls addresses first s member port after talks answer → IsTrue port.told → (IsTrue after.told → Wrotes frames first 0 members later)
+      → Wrotes frames first 0 (member ∷ members) (talks ++ later)
   call-more addresses s member port after members talks later answer reply is (nowhere none) tells next = absurd (cc)
   call-more addresses s member port after members talks later answer reply is (undialled place a found onward rose same nobody) tells next = absurd (cc)
   call-more addresses s member port after members talks later answer reply is (dialled place start talk steady a x found onward quiet dials asks) tells next =
       (asked-wrote s member first start talk x [] asks (dials.link.told tells) (dials.link.written tells), next (onward.told ∙ tells))
 
   first-wrote : (addresses : List Address) (port : PortState) (s : State) (members : List ℕ) (talks : List Talk) (last : State) (end : Result (Unit {0}) SignFault)
-      → First addresses first port s members talks last end → IsTrue port.told → Wrotes told leaves turned message first 0 members talks
+      → First addresses first port s members talks last end → IsTrue port.told → Wrotes frames first 0 members talks
   first-wrote addresses port s members talks last end (first_all p x) tells = tt
   first-wrote addresses port s members talks last end (first_lost p after x member rest t fault calls) tells = call-wrote addresses x member p after rest t _ calls tells
   first-wrote addresses port s members talks last end (first_refused p after x member rest t reply calls refused) tells = call-wrote addresses x member p after rest t _ calls tells
@@ -85,14 +85,14 @@ module _ (told : Bool) (leaves : List ℕ) (turned : State) (message first : Lis
   record Reached (members : List ℕ) (news : List Talk) : Type 0 where
     reach : ℕ
     most : reach ≤ length members
-    wrotes : Wrotes told leaves turned message first reach members news
+    wrotes : Wrotes frames first reach members news
 
-  both : (s : State) (member : ℕ) (ask : List ℕ) (old new : Talk) (answer : Result Reply SignFault) → IsSecondFrame told leaves turned message member ask → Asked s member ask old new answer
-      → IsTrue old.told → old.written ≡ first → WroteBoth told leaves turned message first member new
+  both : (s : State) (member : ℕ) (ask : List ℕ) (old new : Talk) (answer : Result Reply SignFault) → IsSecondFrame frames member ask → Asked s member ask old new answer
+      → IsTrue old.told → old.written ≡ first → WroteBoth frames first member new
   both s member ask old new answer framed asks tells was = record { second = ask; framed = framed; wrote = asked-wrote s member ask old new answer first asks tells was }
 
   second-reached : (s : State) (members : List ℕ) (olds news : List Talk) (last : State) (end : Result (Unit {0}) SignFault) → Wholes first members olds
-      → Second told leaves turned message s members olds news last end → Reached members news
+      → Second frames s members olds news last end → Reached members news
   second-reached s members olds news last end w (second_all x) = record { reach = 0; most = omega arith; wrotes = tt }
   second-reached s members olds news last end w (second_unread x member rest o) = record { reach = 0; most = omega arith; wrotes = wholes-wrote (member ∷ rest) o w }
   second-reached s members olds news last end w (second_lost x member rest ask old new o fault framed asks) = record {
@@ -138,32 +138,32 @@ module _ (first : List ℕ) where
   first-whole addresses port s members talks last end is (first_answered p after x y member rest t later reply e calls granted next) tells =
       call-whole addresses x member p after rest t later _ reply refl calls tells (first-whole addresses after (kept_in x (Ok reply)) rest later y e is next)
 
-module _ (addresses : List Address) (tree : TreeNodes) (reads : CellsRead) (message : List ℕ) (port : PortState) (s : State) where
-  in-one : (talks : List Talk) (last : State) (end : Result (Unit {0}) SignFault) → First addresses (first_frame s) port s (leaf_members s.plan s.leaf) talks last end → IsTrue port.told
-      → Written addresses reads message port s talks
+module _ (desk : DeskState) (reads : CellsRead) (message : List ℕ) (port : PortState) (s : State) where
+  in-one : (talks : List Talk) (last : State) (end : Result (Unit {0}) SignFault) → First desk.addresses (first_frame s) port s (leaf_members s.plan s.leaf) talks last end → IsTrue port.told
+      → Written desk.addresses reads message port s talks
   in-one talks last end run tells = record {
     turned = s;
     reach = 0;
     most = omega arith;
     opened = inl refl;
-    wrotes = first-wrote reads.told reads.leaves s message (first_frame s) addresses port s (leaf_members s.plan s.leaf) talks last end run tells;
+    wrotes = first-wrote (second_frames reads s message) (first_frame s) desk.addresses port s (leaf_members s.plan s.leaf) talks last end run tells;
   }
 
-  in-two : (mids talks : List Talk) (turned last : State) (end : Result (Unit {0}) SignFault) → Opens addresses reads port s turned mids
-      → Second reads.told reads.leaves turned message turned (leaf_members s.plan s.leaf) mids talks last end → IsTrue port.told → Written addresses reads message port s talks
+  in-two : (mids talks : List Talk) (turned last : State) (end : Result (Unit {0}) SignFault) → Opens desk.addresses reads port s turned mids
+      → Second (second_frames reads turned message) turned (leaf_members s.plan s.leaf) mids talks last end → IsTrue port.told → Written desk.addresses reads message port s talks
   in-two mids talks turned last end opens run tells =
-      let w = first-whole (first_frame s) addresses port s (leaf_members s.plan s.leaf) mids opens.kept (Ok tt) refl opens.first tells in
-      let r = second-reached reads.told reads.leaves turned message (first_frame s) turned (leaf_members s.plan s.leaf) mids talks last end w run in
+      let w = first-whole (first_frame s) desk.addresses port s (leaf_members s.plan s.leaf) mids opens.kept (Ok tt) refl opens.first tells in
+      let r = second-reached (second_frames reads turned message) (first_frame s) turned (leaf_members s.plan s.leaf) mids talks last end w run in
       record { turned = turned; reach = r.reach; most = r.most; opened = inr (record { mids = mids; opens = opens }); wrotes = r.wrotes }
 
-talks-written : (addresses : List Address) (tree : TreeNodes) (reads : CellsRead) (message : List ℕ) (port : PortState) (s last : State) (talks : List Talk) (result : Result (List ℕ) SignFault)
-    → SignRun addresses tree reads message port s talks last result → IsTrue port.told → Written addresses reads message port s talks
-talks-written addresses tree reads message port s last talks result no_memory tells = record { turned = s; reach = 0; most = omega arith; opened = inl refl; wrotes = tt }
-talks-written addresses tree reads message port s last talks result (lost_in_one t kept fault first) tells = in-one addresses tree reads message port s t kept _ first tells
-talks-written addresses tree reads message port s last talks result (judged_in_one t kept fault first stops) tells = in-one addresses tree reads message port s t kept _ first tells
-talks-written addresses tree reads message port s last talks result (lost_in_two mids t turned kept fault opens second) tells = in-two addresses tree reads message port s mids t turned kept _ opens second tells
-talks-written addresses tree reads message port s last talks result (judged_in_two mids t turned kept fault opens second fails) tells = in-two addresses tree reads message port s mids t turned kept _ opens second tells
-talks-written addresses tree reads message port s last talks result (signed mids t turned kept bytes opens second signs) tells = in-two addresses tree reads message port s mids t turned kept _ opens second tells
+talks-written : (desk : DeskState) (reads : CellsRead) (message : List ℕ) (port : PortState) (s last : State) (talks : List Talk) (result : Result (List ℕ) SignFault)
+    → SignRun desk reads message port s talks last result → IsTrue port.told → Written desk.addresses reads message port s talks
+talks-written desk reads message port s last talks result no_memory tells = record { turned = s; reach = 0; most = omega arith; opened = inl refl; wrotes = tt }
+talks-written desk reads message port s last talks result (lost_in_one t kept fault first) tells = in-one desk reads message port s t kept _ first tells
+talks-written desk reads message port s last talks result (judged_in_one t kept fault first stops) tells = in-one desk reads message port s t kept _ first tells
+talks-written desk reads message port s last talks result (lost_in_two mids t turned kept fault opens second) tells = in-two desk reads message port s mids t turned kept _ opens second tells
+talks-written desk reads message port s last talks result (judged_in_two mids t turned kept fault opens second fails) tells = in-two desk reads message port s mids t turned kept _ opens second tells
+talks-written desk reads message port s last talks result (signed mids t turned kept bytes opens second signs) tells = in-two desk reads message port s mids t turned kept _ opens second tells
 
 -- as the links ended
 
@@ -184,9 +184,9 @@ last-wrote talk last bytes told ended wrote = record {
   whole = λ none. ended.whole told none ∙ wrote.whole (let le = ended.count in omega (arith, le, none));
 }
 
-module _ (told : Bool) (leaves : List ℕ) (turned : State) (message first : List ℕ) where
+module _ (frames : SecondFrames) (first : List ℕ) where
   lasts-wrote : (reach : ℕ) (members : List ℕ) (talks lasts : List Talk) → AllTell talks → AllEnded talks lasts
-      → Wrotes told leaves turned message first reach members talks → Wrotes told leaves turned message first reach members lasts
+      → Wrotes frames first reach members talks → Wrotes frames first reach members lasts
   lasts-wrote reach members [] [] tell all w = tt
   lasts-wrote reach members [] (last ∷ lasts) tell all w = absurd all
   lasts-wrote reach members (talk ∷ talks) [] tell all w = absurd all
@@ -199,15 +199,15 @@ module _ (told : Bool) (leaves : List ℕ) (turned : State) (message first : Lis
         lasts-wrote reach members talks lasts tell.1 all.1 w.1,
       )
 
-pub sign-written : (addresses : List Address) (tree : TreeNodes) (reads : CellsRead) (message : List ℕ) (port : PortState) (s last : State) (talks lasts : List Talk) (result : Result (List ℕ) SignFault)
-    → SignRun addresses tree reads message port s talks last result → AllEnded talks lasts → IsTrue port.told → Written addresses reads message port s lasts
-sign-written addresses tree reads message port s last talks lasts result run ended tells =
-    let w = talks-written addresses tree reads message port s last talks result run tells in
-    let tell = sign-tell addresses tree reads message port s last talks result run tells in
+pub sign-written : (desk : DeskState) (reads : CellsRead) (message : List ℕ) (port : PortState) (s last : State) (talks lasts : List Talk) (result : Result (List ℕ) SignFault)
+    → SignRun desk reads message port s talks last result → AllEnded talks lasts → IsTrue port.told → Written desk.addresses reads message port s lasts
+sign-written desk reads message port s last talks lasts result run ended tells =
+    let w = talks-written desk reads message port s last talks result run tells in
+    let tell = sign-tell desk reads message port s last talks result run tells in
     record {
       turned = w.turned;
       reach = w.reach;
       most = w.most;
       opened = w.opened;
-      wrotes = lasts-wrote reads.told reads.leaves w.turned message (first_frame s) w.reach (leaf_members s.plan s.leaf) talks lasts tell ended w.wrotes;
+      wrotes = lasts-wrote (second_frames reads w.turned message) (first_frame s) w.reach (leaf_members s.plan s.leaf) talks lasts tell ended w.wrotes;
     }

@@ -4,6 +4,7 @@ use Rattle.std.specs.Prelude.{Some, None, Result, Ok, Err}
 use Rattle.std.specs.declared.alloc.Global.{Global}
 use Rattle.std.specs.declared.vec.Vec.{Vec}
 use Rattle.aggregator_session.specs.Addresses.{place_of}
+use Rattle.aggregator_session.specs.Desks.{DeskState}
 use Rattle.aggregator_session.specs.Faults.{LostBy, sign_fault}
 use Rattle.aggregator_session.specs.Hearing.{Asked, HasAsked, granted, is_masks, kept_in}
 use Rattle.aggregator_session.specs.Tasks.{AllEnded, RisesOnce, faulty_links}
@@ -52,12 +53,24 @@ first_frame s = frame 1 (first_payload (ask_with s [] []))
 unfoldable pub second_frame : State → List ℕ → List ℕ → List ℕ
 second_frame s message tag = ask_frame (ask_with s tag (digest_of s message)) message
 
+-- what the frames of round two are made of: the reference, with whether it is told, the session, of which no reply
+-- changes what is asked, and the message
+pub record SecondFrames : Type 0 where
+  pub told : Bool
+  pub leaves : List ℕ
+  pub session : State
+  pub message : List ℕ
+
+abbrev pub second_frames : CellsRead → State → List ℕ → SecondFrames
+second_frames reads s message =
+    record { told = reads.told; leaves = reads.leaves; session = s; message = message }
+
 -- this is the frame of the ask of round two to a member: its tag is that of the reference, where this is told
-pub record IsSecondFrame
-    (told : Bool) (leaves : List ℕ) (s : State) (message : List ℕ) (member : ℕ) (bytes : List ℕ) : Type 0 where
+pub record IsSecondFrame (frames : SecondFrames) (member : ℕ) (bytes : List ℕ) : Type 0 where
   pub tag : List ℕ
-  pub is : bytes ≡ second_frame s message tag
-  pub tag_is : IsTrue told → tag ≡ tag_in s.key.params s.plan leaves s.leaf member
+  pub is : bytes ≡ second_frame frames.session frames.message tag
+  pub tag_is : IsTrue frames.told
+      → tag ≡ tag_in frames.session.key.params frames.session.plan frames.leaves frames.session.leaf member
 
 -- A member is dialled and asked in round one: the port and the session as they stand before, the port after, the talk
 -- on its link if there is one, and what came. The port's count rises where dialling failed, and nowhere else.
@@ -101,44 +114,50 @@ pub data First (addresses : List Address) (ask : List ℕ)
 
 -- Round two over these members, from a session as it stands, over links as they stand: the talks after it, and what is
 -- kept and came at the end. Nobody after the first that is lost, strays or refuses is asked.
-pub data Second (told : Bool) (leaves : List ℕ) (turned : State) (message : List ℕ)
+pub data Second (frames : SecondFrames)
     : State → List ℕ → List Talk → List Talk → State → Result (Unit {0}) SignFault → Type 0 where
-  second_all : (s : State) → Second told leaves turned message s [] [] [] s (Ok tt)
+  second_all : (s : State) → Second frames s [] [] [] s (Ok tt)
   second_unread : (s : State) (member : ℕ) (members : List ℕ) (olds : List Talk)
-      → Second told leaves turned message s (member ∷ members) olds olds s (Err (Session Reference))
+      → Second frames s (member ∷ members) olds olds s (Err (Session Reference))
   second_lost : (s : State) (member : ℕ) (members ask : List ℕ) (old new : Talk) (olds : List Talk)
-      (fault : SignFault) → IsSecondFrame told leaves turned message member ask → Asked s member ask old new (Err fault)
-      → Second told leaves turned message s (member ∷ members) (old ∷ olds) (new ∷ olds) s (Err fault)
+      (fault : SignFault) → IsSecondFrame frames member ask → Asked s member ask old new (Err fault)
+      → Second frames s (member ∷ members) (old ∷ olds) (new ∷ olds) s (Err fault)
   second_refused : (s : State) (member : ℕ) (members ask : List ℕ) (old new : Talk) (olds : List Talk)
-      (reply : Reply) → IsSecondFrame told leaves turned message member ask → Asked s member ask old new (Ok reply)
+      (reply : Reply) → IsSecondFrame frames member ask → Asked s member ask old new (Ok reply)
       → is_masks reply ≡ false
-      → Second told leaves turned message s (member ∷ members) (old ∷ olds) (new ∷ olds) (kept_in s (Ok reply)) (Ok tt)
+      → Second frames s (member ∷ members) (old ∷ olds) (new ∷ olds) (kept_in s (Ok reply)) (Ok tt)
   second_answered : (s last : State) (member : ℕ) (members ask : List ℕ) (old new : Talk) (olds news : List Talk)
       (reply : Reply) (end : Result (Unit {0}) SignFault)
-      → IsSecondFrame told leaves turned message member ask → Asked s member ask old new (Ok reply)
+      → IsSecondFrame frames member ask → Asked s member ask old new (Ok reply)
       → is_masks reply ≡ true
-      → Second told leaves turned message (kept_in s (Ok reply)) members olds news last end
-      → Second told leaves turned message s (member ∷ members) (old ∷ olds) (new ∷ news) last end
+      → Second frames (kept_in s (Ok reply)) members olds news last end
+      → Second frames s (member ∷ members) (old ∷ olds) (new ∷ news) last end
+
+-- internal: round one as it stands: the session, the port, and the talks on the links that were dialled
+pub record Dialling : Type 0 where
+  pub session : State
+  pub port : PortState
+  pub talks : List Talk
 
 -- internal: a member was dialled and asked in round one, or was not reached
-pub record HasCalled (addresses : List Address) (ask : List ℕ) (old new : State) (member : ℕ) (before now : PortState)
-    (olds news : List Talk) (result : Result Bool SignFault) : Type 0 where
+pub record HasCalled (addresses : List Address) (ask : List ℕ) (member : ℕ) (old new : Dialling)
+    (result : Result Bool SignFault) : Type 0 where
   pub answer : Result Reply SignFault
   pub talks : List Talk
-  pub calls : Calls addresses ask old member before now talks answer
-  pub links : news ≡ olds ++ talks
-  pub state : new ≡ kept_in old answer
-  pub same : SameAsk old new
+  pub calls : Calls addresses ask old.session member old.port new.port talks answer
+  pub links : new.talks ≡ old.talks ++ talks
+  pub state : new.session ≡ kept_in old.session answer
+  pub same : SameAsk old.session new.session
   pub told : result ≡ granted answer
 
--- internal: a member was asked in round two, or the reference was not read
-pub data AskedAgain (told : Bool) (leaves : List ℕ) (old new : State) (message : List ℕ) (member : ℕ)
-    (before now : Talk) : Result Bool SignFault → Type 0 where
-  not_read : new ≡ old → now ≡ before
-      → AskedAgain told leaves old new message member before now (Err (Session Reference))
-  asked : (ask : List ℕ) (result : Result Bool SignFault) → IsSecondFrame told leaves old message member ask
-      → HasAsked old new member ask before now result
-      → AskedAgain told leaves old new message member before now result
+-- internal: a member was asked in round two by a frame of the session as it stood, or the reference was not read
+pub data AskedAgain (frames : SecondFrames) (new : State) (member : ℕ) (before now : Talk)
+    : Result Bool SignFault → Type 0 where
+  not_read : new ≡ frames.session → now ≡ before
+      → AskedAgain frames new member before now (Err (Session Reference))
+  asked : (ask : List ℕ) (result : Result Bool SignFault) → IsSecondFrame frames member ask
+      → HasAsked frames.session new member ask before now result
+      → AskedAgain frames new member before now result
 
 -- what was kept of round one does not lead to round two: its first fault by member, or a reference that was not read
 abbrev pub Stops : CellsRead → State → SessionFault → Type 0
@@ -175,42 +194,42 @@ pub record Signs (reads : CellsRead) (tree : TreeNodes) (s : State) (message byt
 
 -- A session from its start: the talks of the links that were dialled, in their order, the session at the end, and what
 -- came of it.
-pub data SignRun (addresses : List Address) (tree : TreeNodes) (reads : CellsRead) (message : List ℕ) (port : PortState)
-    (s : State) : List Talk → State → Result (List ℕ) SignFault → Type 0 where
-  no_memory : SignRun addresses tree reads message port s [] s (Err NoMemory)
+pub data SignRun (desk : DeskState) (reads : CellsRead) (message : List ℕ) (port : PortState) (s : State)
+    : List Talk → State → Result (List ℕ) SignFault → Type 0 where
+  no_memory : SignRun desk reads message port s [] s (Err NoMemory)
   lost_in_one : (talks : List Talk) (kept : State) (fault : SignFault)
-      → First addresses (first_frame s) port s (leaf_members s.plan s.leaf) talks kept (Err fault)
-      → SignRun addresses tree reads message port s talks kept (Err fault)
+      → First desk.addresses (first_frame s) port s (leaf_members s.plan s.leaf) talks kept (Err fault)
+      → SignRun desk reads message port s talks kept (Err fault)
   judged_in_one : (talks : List Talk) (kept : State) (fault : SessionFault)
-      → First addresses (first_frame s) port s (leaf_members s.plan s.leaf) talks kept (Ok tt)
+      → First desk.addresses (first_frame s) port s (leaf_members s.plan s.leaf) talks kept (Ok tt)
       → Stops reads kept fault
-      → SignRun addresses tree reads message port s talks kept (Err (sign_fault fault))
+      → SignRun desk reads message port s talks kept (Err (sign_fault fault))
   lost_in_two : (mids talks : List Talk) (turned kept : State) (fault : SignFault)
-      → Opens addresses reads port s turned mids
-      → Second reads.told reads.leaves turned message turned (leaf_members s.plan s.leaf) mids talks kept (Err fault)
-      → SignRun addresses tree reads message port s talks kept (Err fault)
+      → Opens desk.addresses reads port s turned mids
+      → Second (second_frames reads turned message) turned (leaf_members s.plan s.leaf) mids talks kept (Err fault)
+      → SignRun desk reads message port s talks kept (Err fault)
   judged_in_two : (mids talks : List Talk) (turned kept : State) (fault : SessionFault)
-      → Opens addresses reads port s turned mids
-      → Second reads.told reads.leaves turned message turned (leaf_members s.plan s.leaf) mids talks kept (Ok tt)
-      → FinishFails kept message reads.told (joined_bytes kept reads.leaves tree message) reads.before reads.now fault
-      → SignRun addresses tree reads message port s talks kept (Err (sign_fault fault))
+      → Opens desk.addresses reads port s turned mids
+      → Second (second_frames reads turned message) turned (leaf_members s.plan s.leaf) mids talks kept (Ok tt)
+      → FinishFails kept message reads.told (joined_bytes kept reads.leaves desk.tree message) reads.before reads.now fault
+      → SignRun desk reads message port s talks kept (Err (sign_fault fault))
   signed : (mids talks : List Talk) (turned kept : State) (bytes : List ℕ)
-      → Opens addresses reads port s turned mids
-      → Second reads.told reads.leaves turned message turned (leaf_members s.plan s.leaf) mids talks kept (Ok tt)
-      → Signs reads tree kept message bytes
-      → SignRun addresses tree reads message port s talks kept (Ok bytes)
+      → Opens desk.addresses reads port s turned mids
+      → Second (second_frames reads turned message) turned (leaf_members s.plan s.leaf) mids talks kept (Ok tt)
+      → Signs reads desk.tree kept message bytes
+      → SignRun desk reads message port s talks kept (Ok bytes)
 
 -- All of a session's call: the talks that were hung up, in their order, what came of them, and how each then ended. Of
 -- the session it is the replies that are kept, and the randomizer in round two, that may be other than before. The port
 -- counts each link that ended with a fault, and beside these a dial that failed, which is the last: so no member is
 -- dialled twice.
-pub record HasRun (addresses : List Address) (tree : TreeNodes) (reads : CellsRead) (message : List ℕ)
-    (before now : PortState) (old new : State) (result : Result (List ℕ) SignFault) : Type 0 where
+pub record HasRun (desk : DeskState) (reads : CellsRead) (message : List ℕ) (before now : PortState) (old new : State)
+    (result : Result (List ℕ) SignFault) : Type 0 where
   pub talks : List Talk
   pub lasts : List Talk
   pub ended : AllEnded talks lasts
   pub hung_up : IsTrue before.told → now.talks ≡ before.talks ++ lasts
-  pub run : SignRun addresses tree reads message before old talks new result
+  pub run : SignRun desk reads message before old talks new result
   pub same : SameSession old new
   pub later : reads.before ≤ reads.now
   pub rises : faulty_links lasts ≢ 0 → Rose before.count now.count

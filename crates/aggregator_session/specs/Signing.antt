@@ -1,40 +1,36 @@
 -- One message signed with a leaf that is leased for it.
 use Rattle.std.specs.Prelude.{◌≡◌, ◌≤◌, ◌<◌, ℕ, List, length, Option, Some, None, Result, Ok, Err, IfErr}
-use Rattle.aggregator_session.specs.Runs.{CellsRead, HasRun}
-use Rattle.aggregator_session.specs.declared.desk.Address.{Address}
+use Rattle.aggregator_session.specs.Desks.{DeskState, desk_state}
+use Rattle.aggregator_session.specs.Runs.{CellsRead, HasRun, reads_of}
 use Rattle.aggregator_session.specs.declared.desk.Desk.{Desk}
 use Rattle.aggregator_session.specs.declared.fault.SignFault.{SignFault}
 use Rattle.aggregator_session.specs.declared.fault.SignFault.TheVariants.{Lost, NoMemory, Session, Stray, Table}
 use Rattle.aggregator_session.specs.declared.fault.SignFault.TheVariants.{TooLong}
 use Rattle.aggregator_session.specs.declared.fault.SignFault.TheVariants.{Worn}
-use Rattle.coalition_map.specs.Coalitions.{PlanNumbers}
+use Rattle.disk_trait.specs.declared.faults.Faults as faults
 use Rattle.leaf_table.specs.declared.faults.TableFault.{TableFault}
 use Rattle.aggregator_session.specs.Tables.{AsksLeaf, AsksToBurn, TableSeen}
 use Rattle.aggregator_session.specs.declared.sign.Signed.{Signed}
 use Rattle.lms_bytes.specs.MessageId.{message_id}
 use Rattle.lms_bytes.specs.declared.message.MessageId.{MessageId}
-use Rattle.lms_bytes.specs.declared.public_key.PublicKey.{PublicKey}
-use Rattle.merkle_path.specs.Tree.{TreeNodes}
+use Rattle.reference_value.specs.declared.cells.Cells as cells
 use Rattle.session_core.specs.State.{State, started}
 use Rattle.session_core.specs.declared.faults.SessionFault as session
 use Rattle.session_core.specs.declared.faults.SessionFault.TheVariants.{MemberRefused, Missing, Reference, SpentLeaf}
 use Rattle.session_core.specs.declared.faults.SessionFault.TheVariants.{WrongCheck, WrongRoot}
 use Rattle.stream_io.specs.Net.{PortState}
 
--- what an aggregator signs with
-pub record DeskState : Type 0 where
-  pub key : PublicKey
-  pub plan : PlanNumbers
-  pub tree : TreeNodes
-  pub addresses : List Address
+-- what is to be signed, and with what: the desk, the reference as it is read, the members and the message
+pub record ToSign : Type 0 where
+  pub desk : DeskState
+  pub reads : CellsRead
+  pub members : List ℕ
+  pub message : List ℕ
 
-abbrev pub desk_state : Desk → DeskState
-desk_state desk = record {
-  key = desk.key.now;
-  plan = desk.plan.now;
-  tree = desk.tree.now;
-  addresses = desk.addresses.now;
-}
+-- the same of a desk and of cells, as they stand before and after
+abbrev pub to_sign : {C : Type 0} → cells.Ghosts C → faults.Ghosts C → Desk → C → C → List ℕ → List ℕ → ToSign
+to_sign c f desk old new members message =
+    record { desk = desk_state desk; reads = reads_of c f old new; members = members; message = message }
 
 -- a signature, and the leaf that signed
 pub record Signature : Type 0 where
@@ -108,21 +104,21 @@ pub data RunsOn (desk : DeskState) (reads : CellsRead) (leaf : ℕ) (message : L
     : PortState → Result (List ℕ) SignFault → Type 0 where
   not_started : reads.now ≡ reads.before → RunsOn desk reads leaf message port port (Err NoMemory)
   ran : (after : PortState) (last : State) (result : Result (List ℕ) SignFault)
-      → HasRun desk.addresses desk.tree reads message port after
+      → HasRun desk reads message port after
       (started desk.key desk.plan leaf (message_id message)) last result → IfErr result (IsEnd leaf)
       → RunsOn desk reads leaf message port after result
 
 -- What signing a message with a leaf of these members makes of the table and the port, and its outcome. The message is
 -- too long, and nothing happened; or no leaf was leased, and nobody was dialled; or a session was run with the leaf.
-pub data SignsLeased (desk : DeskState) (reads : CellsRead) (members message : List ℕ) (before : TableSeen)
-    (port : PortState) : TableSeen → PortState → Result Signature SignFault → Type 0 where
-  too_long : 16777216 < length message → reads.now ≡ reads.before
-      → SignsLeased desk reads members message before port before port (Err (TooLong (length message)))
-  not_leased : (after : TableSeen) (fault : TableFault) → length message ≤ 16777216 → reads.now ≡ reads.before
-      → AsksLeaf before members (message_id message) (Err fault) after
-      → SignsLeased desk reads members message before port after port (Err (Table fault))
+pub data SignsLeased (sign : ToSign) (before : TableSeen) (port : PortState)
+    : TableSeen → PortState → Result Signature SignFault → Type 0 where
+  too_long : 16777216 < length sign.message → sign.reads.now ≡ sign.reads.before
+      → SignsLeased sign before port before port (Err (TooLong (length sign.message)))
+  not_leased : (after : TableSeen) (fault : TableFault) → length sign.message ≤ 16777216 → sign.reads.now ≡ sign.reads.before
+      → AsksLeaf before sign.members (message_id sign.message) (Err fault) after
+      → SignsLeased sign before port after port (Err (Table fault))
   leased : (leaf : ℕ) (mid after : TableSeen) (now : PortState) (result : Result (List ℕ) SignFault)
-      → length message ≤ 16777216 → AsksLeaf before members (message_id message) (Ok leaf) mid
-      → RunsOn desk reads leaf message port now result
-      → Spends mid leaf (message_id message) (spent_by result) after
-      → SignsLeased desk reads members message before port after now (signed_with leaf result)
+      → length sign.message ≤ 16777216 → AsksLeaf before sign.members (message_id sign.message) (Ok leaf) mid
+      → RunsOn sign.desk sign.reads leaf sign.message port now result
+      → Spends mid leaf (message_id sign.message) (spent_by result) after
+      → SignsLeased sign before port after now (signed_with leaf result)

@@ -1,7 +1,7 @@
 -- What is written in a session: the ask of round one on each link, and behind it the ask of round two on the first
 -- links, up to the last that is asked.
-use Rattle.std.specs.Prelude.{◌≡◌, ◌⊎◌, ◌≤◌, ◌++◌, Bool, ℕ, zero, suc, List, [], ◌∷◌, length, take}
-use Rattle.aggregator_session.specs.Runs.{CellsRead, IsSecondFrame, Opens, first_frame}
+use Rattle.std.specs.Prelude.{◌≡◌, ◌⊎◌, ◌≤◌, ◌++◌, ℕ, zero, suc, List, [], ◌∷◌, length, take}
+use Rattle.aggregator_session.specs.Runs.{CellsRead, IsSecondFrame, Opens, SecondFrames, first_frame, second_frames}
 use Rattle.aggregator_session.specs.declared.desk.Address.{Address}
 use Rattle.coalition_map.specs.Coalitions.{leaf_members}
 use Rattle.session_core.specs.State.{State}
@@ -15,20 +15,19 @@ pub record Wrote (talk : Talk) (bytes : List ℕ) : Type 0 where
   pub whole : talk.count ≡ 0 → talk.written ≡ bytes
 
 -- the ask of round one, and behind it that of round two to this member
-pub record WroteBoth
-    (told : Bool) (leaves : List ℕ) (turned : State) (message first : List ℕ) (member : ℕ) (talk : Talk) : Type 0 where
+pub record WroteBoth (frames : SecondFrames) (first : List ℕ) (member : ℕ) (talk : Talk) : Type 0 where
   pub second : List ℕ
-  pub framed : IsSecondFrame told leaves turned message member second
+  pub framed : IsSecondFrame frames member second
   pub wrote : Wrote talk (first ++ second)
 
 -- on the links of these members, of which so many were asked twice
-abbrev pub Wrotes : Bool → List ℕ → State → List ℕ → List ℕ → ℕ → List ℕ → List Talk → Type 0
-Wrotes told leaves turned message first reach members [] = Unit {0}
-Wrotes told leaves turned message first reach [] (talk ∷ talks) = ⊥
-Wrotes told leaves turned message first zero (member ∷ members) (talk ∷ talks) =
-    Wrote talk first × Wrotes told leaves turned message first zero members talks
-Wrotes told leaves turned message first (suc reach) (member ∷ members) (talk ∷ talks) =
-    WroteBoth told leaves turned message first member talk × Wrotes told leaves turned message first reach members talks
+abbrev pub Wrotes : SecondFrames → List ℕ → ℕ → List ℕ → List Talk → Type 0
+Wrotes frames first reach members [] = Unit {0}
+Wrotes frames first reach [] (talk ∷ talks) = ⊥
+Wrotes frames first zero (member ∷ members) (talk ∷ talks) =
+    Wrote talk first × Wrotes frames first zero members talks
+Wrotes frames first (suc reach) (member ∷ members) (talk ∷ talks) =
+    WroteBoth frames first member talk × Wrotes frames first reach members talks
 
 -- the session went to round two
 pub record HasOpened (addresses : List Address) (reads : CellsRead) (port : PortState) (s turned : State) : Type 0 where
@@ -43,5 +42,4 @@ pub record Written (addresses : List Address) (reads : CellsRead) (message : Lis
   pub reach : ℕ
   pub most : reach ≤ length (leaf_members s.plan s.leaf)
   pub opened : (reach ≡ 0) ⊎ HasOpened addresses reads port s turned
-  pub wrotes :
-      Wrotes reads.told reads.leaves turned message (first_frame s) reach (leaf_members s.plan s.leaf) talks
+  pub wrotes : Wrotes (second_frames reads turned message) (first_frame s) reach (leaf_members s.plan s.leaf) talks

@@ -1,16 +1,15 @@
 //! What follows from the definitions. No function here does anything.
 
 ghost use Rattle.std.specs.Prelude.{ℕ, List, IsTrue, Result};
+ghost use Rattle.aggregator_session.specs.Desks.{DeskState};
 ghost use Rattle.aggregator_session.specs.Faults.{LostBy};
 ghost use Rattle.aggregator_session.specs.Reaching.{Reachable};
 ghost use Rattle.aggregator_session.specs.Runs.{CellsRead, SignRun};
 ghost use Rattle.aggregator_session.specs.Tasks.{AllEnded};
 ghost use Rattle.aggregator_session.specs.Written.{Written};
-ghost use Rattle.aggregator_session.specs.declared.desk.Address.{Address};
 ghost use Rattle.aggregator_session.specs.declared.fault.SignFault.{SignFault};
 ghost use Rattle.aggregator_session.specs.declared.fault.Why.TheVariants.{DialFailed};
 ghost use Rattle.coalition_map.specs.Coalitions.{leaf_members};
-ghost use Rattle.merkle_path.specs.Tree.{TreeNodes};
 ghost use Rattle.session_core.specs.State.{State};
 ghost use Rattle.stream_io.specs.Net.{PortState};
 ghost use Rattle.stream_io.specs.Talk.{Talk};
@@ -18,17 +17,17 @@ ghost use Rattle.stream_io.specs.Talk.{Talk};
 /// What a session writes on its links, where the port tells its content, as they end: the ask of round one on each, and
 /// the ask of round two behind it on the first of them, and only where all members answered round one with masks.
 pub fn written()
-    ensures { (addresses : List Address) (tree : TreeNodes) (reads : CellsRead) (message : List ℕ) (port : PortState)
-        (s last : State) (talks lasts : List Talk) (result : Result (List ℕ) SignFault)
-        → SignRun addresses tree reads message port s talks last result → AllEnded talks lasts → IsTrue port.told
-        → Written addresses reads message port s lasts }
+    ensures { (desk : DeskState) (reads : CellsRead) (message : List ℕ) (port : PortState) (s last : State)
+        (talks lasts : List Talk) (result : Result (List ℕ) SignFault)
+        → SignRun desk reads message port s talks last result → AllEnded talks lasts → IsTrue port.told
+        → Written desk.addresses reads message port s lasts }
 {}
 
 /// A session at a steady port that tells its content loses nobody by a failed dial, where at the place of each member
 /// somebody is there and no two have one place.
 pub fn reached()
-    ensures { (addresses : List Address) (tree : TreeNodes) (reads : CellsRead) (message : List ℕ) (port : PortState)
-        (s last : State) (talks : List Talk) (result : Result (List ℕ) SignFault)
-        → SignRun addresses tree reads message port s talks last result → IsTrue port.told → IsTrue port.steady
-        → Reachable addresses port.reaches (leaf_members s.plan s.leaf) → ¬ LostBy DialFailed result }
+    ensures { (desk : DeskState) (reads : CellsRead) (message : List ℕ) (port : PortState) (s last : State)
+        (talks : List Talk) (result : Result (List ℕ) SignFault)
+        → SignRun desk reads message port s talks last result → IsTrue port.told → IsTrue port.steady
+        → Reachable desk.addresses port.reaches (leaf_members s.plan s.leaf) → ¬ LostBy DialFailed result }
 {}

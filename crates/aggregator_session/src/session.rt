@@ -5,8 +5,8 @@ ghost use Rattle.std.specs.Prelude.{IfOk, IfSome, IsSome, IsTrue, OnOk, map};
 ghost use Rattle.aggregator_session.specs.Causes.{DialCauses, LinkCauses, PortCauses, ReferenceCauses, asks_length};
 ghost use Rattle.std.specs.Vec.{vec_capacity, vec_len};
 ghost use Rattle.aggregator_session.specs.Runs.{AskedAgain, First, HasCalled, HasRun, SameSession, Second, SignRun};
-ghost use Rattle.aggregator_session.specs.Runs.{bytes_in, first_frame, reads_of};
-ghost use Rattle.aggregator_session.specs.Desks.{ReadsFor};
+ghost use Rattle.aggregator_session.specs.Runs.{bytes_in, first_frame, reads_of, second_frames};
+ghost use Rattle.aggregator_session.specs.Desks.{ReadsFor, desk_state};
 ghost use Rattle.aggregator_session.specs.Tasks.{AddsAsked, AreAsked, HangsUpAll, MayRun, StandsAgain, StandsFirst};
 ghost use Rattle.coalition_map.specs.Coalitions.{leaf_members};
 ghost use Rattle.session_core.specs.State.{SameAsk};
@@ -45,9 +45,8 @@ pub fn run_session<R: Cells, P: Port>(
 ) -> Result<Vec<u8>, SignFault>
     requires session { MayRun desk.now.key.now desk.now.plan.now message.now session.old }
     requires cells { ReadsFor R.Cells.own desk.now cells.old }
-    ensures ran { HasRun desk.now.addresses.now desk.now.tree.now
-        (reads_of R.Cells.own R.Faults cells.old cells.new) message.now (P.state port.old) (P.state port.new)
-        session.old session.new (bytes_in result) }
+    ensures ran { HasRun (desk_state desk.now) (reads_of R.Cells.own R.Faults cells.old cells.new) message.now
+        (P.state port.old) (P.state port.new) session.old session.new (bytes_in result) }
     ensures port { PortCauses message.now (P.state port.old) (P.state port.new) result }
     ensures cells { ReferenceCauses R.Cells.own R.Faults cells.old cells.new result }
 {
@@ -116,9 +115,9 @@ fn ask_all<R: Cells, P: Port>(
     requires task { StandsFirst task.now session.old (R.set cells.old) (R.plan cells.old) (length room.old) }
     requires none { links.old.items ≡ [] }
     requires space { length task.now.members.now ≤ vec_capacity links.old }
-    ensures run { SignRun task.now.desk.now.addresses.now task.now.desk.now.tree.now
-        (reads_of R.Cells.own R.Faults cells.old cells.new) task.now.message.now (P.state port.old) session.old
-        (map (λ link. P.Link.talk link) links.new.items) session.new (bytes_in result) }
+    ensures run { SignRun (desk_state task.now.desk.now) (reads_of R.Cells.own R.Faults cells.old cells.new)
+        task.now.message.now (P.state port.old) session.old (map (λ link. P.Link.talk link) links.new.items)
+        session.new (bytes_in result) }
     ensures dials { DialCauses (asks_length task.now.message.now) (P.state port.old) (P.state port.new) result }
     ensures cells { ReferenceCauses R.Cells.own R.Faults cells.old cells.new result }
     ensures same { SameSession session.old session.new }
@@ -172,9 +171,10 @@ fn dial_member<R: Cells, P: Port>(
     requires task { StandsFirst task.now session.old (R.set cells.old) (R.plan cells.old) (length room.old) }
     requires member { Contains (leaf_members session.old.plan session.old.leaf) member }
     requires space { vec_len links.old < vec_capacity links.old }
-    ensures called { HasCalled task.now.desk.now.addresses.now (first_frame session.old) session.old session.new member
-        (P.state port.old) (P.state port.new) (map (λ link. P.Link.talk link) links.old.items)
-        (map (λ link. P.Link.talk link) links.new.items) result }
+    ensures called { let talk = P.Link.Stream.talk in
+        HasCalled task.now.desk.now.addresses.now (first_frame session.old) member
+        (record { session = session.old; port = P.state port.old; talks = map talk links.old.items })
+        (record { session = session.new; port = P.state port.new; talks = map talk links.new.items }) result }
     ensures dials { DialCauses 64 (P.state port.old) (P.state port.new) result }
     ensures links { AddsAsked P.Link.steady P.Link.room (P.state port.old) links.old.items links.new.items }
     ensures cells { cells.new ≡ cells.old }
@@ -214,9 +214,9 @@ fn ask_again<R: Cells, L: Source + Sink>(
 ) -> Result<(), SignFault>
     requires task { StandsAgain task.now session.old (R.set cells.old) (R.plan cells.old) (length room.old) digest.now }
     requires links { vec_len links.old ≡ length task.now.members.now }
-    ensures run { Second (R.told cells.old) (R.leaves cells.old) session.old task.now.message.now session.old
-        task.now.members.now (map (λ link. L.talk link) links.old.items) (map (λ link. L.talk link) links.new.items)
-        session.new result }
+    ensures run { Second (second_frames (reads_of R.Cells.own R.Faults cells.old cells.new) session.old
+        task.now.message.now) session.old task.now.members.now (map (λ link. L.talk link) links.old.items)
+        (map (λ link. L.talk link) links.new.items) session.new result }
     ensures cells { ReferenceCauses R.Cells.own R.Faults cells.old cells.new result }
     ensures links { LinkCauses (All (λ link. IsTrue (L.steady link)) links.old.items)
         (All (λ link. 92 + length task.now.message.now ≤ L.room link) links.old.items) result }
@@ -244,8 +244,8 @@ fn ask_once_more<R: Cells, L: Source + Sink>(
 ) -> Result<bool, SignFault>
     requires task { StandsAgain task.now session.old (R.set cells.old) (R.plan cells.old) (length room.old) digest.now }
     requires member { Contains (leaf_members session.old.plan session.old.leaf) member }
-    ensures asked { AskedAgain (R.told cells.old) (R.leaves cells.old) session.old session.new task.now.message.now
-        member (L.talk link.old) (L.talk link.new) result }
+    ensures asked { AskedAgain (second_frames (reads_of R.Cells.own R.Faults cells.old cells.new) session.old
+        task.now.message.now) session.new member (L.talk link.old) (L.talk link.new) result }
     ensures cells { ReferenceCauses R.Cells.own R.Faults cells.old cells.new result }
     ensures links { LinkCauses (IsTrue (L.steady link.old))
         (92 + length task.now.message.now ≤ L.room link.old) result }

@@ -5,10 +5,10 @@ ghost use Rattle.aggregator_session.specs.Runs.{bytes_in, reads_of};
 ghost use Rattle.leaf_table.specs.Entries.{IsLeased, map_of};
 ghost use Rattle.leaf_table.specs.Table.{Stays, plan_of, state_of};
 ghost use Rattle.aggregator_session.specs.Causes.{PortCauses, ReferenceCauses};
-ghost use Rattle.aggregator_session.specs.Desks.{ReadsFor};
+ghost use Rattle.aggregator_session.specs.Desks.{ReadsFor, desk_state};
 ghost use Rattle.aggregator_session.specs.Ended.{LeasedTo, RunsTo};
-ghost use Rattle.aggregator_session.specs.Signing.{SignsLeased, Spends, desk_state, signature_in, signed_with};
-ghost use Rattle.aggregator_session.specs.Signing.{spent_by};
+ghost use Rattle.aggregator_session.specs.Signing.{SignsLeased, Spends, signature_in, signed_with, spent_by};
+ghost use Rattle.aggregator_session.specs.Signing.{to_sign};
 ghost use Rattle.aggregator_session.specs.Tables.{table_seen};
 ghost use Rattle.lms_bytes.specs.MessageId.{message_id, message_id_bytes};
 ghost use Rattle.lms_verify.specs.Accepts.{AcceptsAt};
@@ -55,9 +55,8 @@ pub fn sign_leased<R: Cells, D: Disk, P: Port>(
 ) -> Result<Signed, SignFault>
     requires plan { plan_of table.old ≡ desk.now.plan.now }
     requires cells { ReadsFor R.Cells.own desk.now cells.old }
-    ensures signs { SignsLeased (desk_state desk.now) (reads_of R.Cells.own R.Faults cells.old cells.new)
-        members message.now (table_seen table.old) (P.state port.old) (table_seen table.new) (P.state port.new)
-        (signature_in result) }
+    ensures signs { SignsLeased (to_sign R.Cells.own R.Faults desk.now cells.old cells.new members message.now)
+        (table_seen table.old) (P.state port.old) (table_seen table.new) (P.state port.new) (signature_in result) }
     ensures accepted { IfOk result (λ signed.
         AcceptsAt desk.now.key.now message.now signed.bytes.items signed.leaf) }
     ensures port { PortCauses message.now (P.state port.old) (P.state port.new) result }
@@ -80,8 +79,8 @@ pub fn run_leased<R: Cells, D: Disk, P: Port>(
 ) -> Ended<Result<Signed, SignFault>>
     requires plan { plan_of table.old ≡ desk.now.plan.now }
     requires cells { ReadsFor R.Cells.own desk.now cells.old }
-    ensures signs { LeasedTo (desk_state desk.now) (reads_of R.Cells.own R.Faults cells.old cells.new)
-        members message.now (table_seen table.old) (P.state port.old) (table_seen table.new) (P.state port.new)
+    ensures signs { LeasedTo (to_sign R.Cells.own R.Faults desk.now cells.old cells.new members message.now)
+        (table_seen table.old) (P.state port.old) (table_seen table.new) (P.state port.new)
         (signature_in result.outcome) result.session }
     ensures accepted { IfOk result.outcome (λ signed.
         AcceptsAt desk.now.key.now message.now signed.bytes.items signed.leaf) }

@@ -2,6 +2,7 @@
 use Rattle.std.proofs.Common.{◌≡◌, ◌^◌, ◌≤◌, ◌<◌, ◌++◌, ℕ, List, All, None, Result, Ok, Err, IsTrue, IsSomeAnd, length, inl, inr, refl, sym, ap, subst, ◌∙◌, arith}
 use Rattle.aggregator_session.proofs.Telling.{sign-tell}
 use Rattle.aggregator_session.specs.Addresses.{place_of}
+use Rattle.aggregator_session.specs.Desks.{DeskState}
 use Rattle.aggregator_session.specs.Faults.{LostBy}
 use Rattle.aggregator_session.specs.Runs.{CellsRead}
 use Rattle.aggregator_session.specs.declared.fault.SignFault.{SignFault}
@@ -21,7 +22,7 @@ use Rattle.leaf_table.specs.Leasing.{IsCoalition, LeaseOf}
 use Rattle.leaf_table.specs.declared.faults.TableFault.TheVariants.{Device}
 use Rattle.leaf_table.specs.declared.lease.Lease.{Lease}
 use Rattle.leaf_table.specs.declared.table.TableName.{TableName}
-use Rattle.aggregator_session.specs.Signing.{DeskState, RunsOn, Signature, signed_with}
+use Rattle.aggregator_session.specs.Signing.{RunsOn, Signature, signed_with}
 use Rattle.aggregator_session.specs.Signing as sessions
 use Rattle.lms_bytes.specs.MessageId.{message_id, message_id_bytes}
 use Rattle.lms_bytes.specs.declared.message.MessageId.{MessageId}
@@ -99,10 +100,10 @@ module _ (words : AggregateWords) (store : StoreRun) (d : Dealing) (key : Undivi
         let begins : State = started desk.key desk.plan leaf id in
         let lasts : AllGave d (started public d.plan leaf id) message (leaf_members d.plan leaf) has.lasts =
         subst (λ (l : List ℕ). AllGave d (started public d.plan leaf id) message l has.lasts) (sym (own-members leaf own)) (gave has.lasts (has.hung_up tells)) in
-        let tell = sign-tell desk.addresses desk.tree reads message port begins last has.talks result has.run tells in
+        let tell = sign-tell desk reads message port begins last has.talks result has.run tells in
         let all = all-gave-before d (started public d.plan leaf id) message (leaf_members d.plan leaf) has.talks has.lasts tell has.ended lasts in
         let there = subst (λ (l : List ℕ). All (λ t. place_of desk.addresses t ≡ None → ⊥) l) (sym (own-members leaf own)) placed in
-        let goes = session-goes d key public leaf message reads desk.tree (is-ready leaf own) desk.addresses port tells there begins last has.talks result has.run (start-is leaf) dials read all in
+        let goes = session-goes d key public leaf message reads desk (is-ready leaf own) port tells there begins last has.talks result has.run (start-is leaf) dials read all in
         elim goes [
           | inl none ↦ subst (λ (r : Result (List ℕ) SignFault). Complete new (signed_with leaf r)) (sym none) (answer no_memory)
           | inr made ↦ subst (λ (r : Result (List ℕ) SignFault). Complete new (signed_with leaf r)) (sym made) (answer (signed leaf))
@@ -124,7 +125,7 @@ module _ (words : AggregateWords) (store : StoreRun) (d : Dealing) (key : Undivi
     found-own new result leaf (turn_worn large) is = absurd (cc)
 
     pub signs-complete : (old new : Seen Lease TableName) (port now : PortState) (outcome : Result Signature SignFault)
-        → (signs : SignsInTurns desk reads members message old port new now outcome)
+        → (signs : SignsInTurns (record { desk = desk; reads = reads; members = members; message = message }) old port new now outcome)
         → IsSomeAnd old.name (λ (name : TableName). (name.plan ≡ d.plan) × IsTrue name.told) → IsTrue port.told → (outcome ≡ Err (sign.Table Device) → ⊥)
         → (LeaseOf d.plan new.log c (message_id_bytes id) None → ⊥) → (LostBy DialFailed outcome → ⊥) → (outcome ≡ Err (sign.Session Reference) → ⊥)
         → ((leaf : ℕ) (talks : List Talk) → RanWith leaf signs → now.talks ≡ port.talks ++ talks → AllGave d (started public d.plan leaf id) message members talks)
@@ -153,7 +154,7 @@ module _ (words : AggregateWords) (store : StoreRun) (d : Dealing) (key : Undivi
       let has = well.leaf in
       let none = well.failed in
       signs-complete _ refl (λ is. s.read_is is) request.members request.message has.number has.coalition has.limit (places words store d key header desk place dealt request.members has.placed)
-      old.pass new.pass old.port new.port request.outcome s.signs fits none.port (λ is. none.disk (signs-device _ _ _ _ _ _ _ _ _ s.signs is)) has.left
+      old.pass new.pass old.port new.port request.outcome s.signs fits none.port (λ is. none.disk (signs-device _ _ _ _ _ _ s.signs is)) has.left
       (λ lost. none.links (s.port.dialled lost)) (λ is. elim none.reference_is [
         | inl steady ↦ s.succeeds (is-exact steady) is
         | inr quiet ↦ quiet (s.rises is)

@@ -1,6 +1,7 @@
 -- Each request at a port came to a leaf, or its outcome is one before which no leaf was leased.
 use Rattle.std.proofs.Common.{◌≡◌, ◌⊎◌, ◌<◌, ℕ, zero, suc, List, [], ◌∷◌, length, get_or, Contains, Option, None, Some, Result, Ok, Err, IfOk, inl, inr, refl, sym, subst, arith}
 use Rattle.std.proofs.lemmas.List.Elements.{Contains-append_cases}
+use Rattle.aggregator_session.specs.Desks.{DeskState}
 use Rattle.aggregator_session.specs.declared.fault.SignFault.{SignFault}
 use Rattle.laws_signing.specs.Uses.{AnsweredWith, CameTo, Comes, IsUnleased, ServedWith, SignedWith, Uses, WorkedWith}
 use Rattle.aggregator_node.specs.Clients.{Answers, IsSigned, ReferenceState, Request, Serves, Stand}
@@ -13,7 +14,7 @@ use Rattle.aggregator_node.specs.Posts as posts
 use Rattle.coalition_map.specs.Coalitions.{PlanNumbers}
 use Rattle.leaf_table.specs.declared.lease.Lease.{Lease}
 use Rattle.leaf_table.specs.declared.table.TableName.{TableName}
-use Rattle.aggregator_session.specs.Signing.{DeskState, Signature, signed_with}
+use Rattle.aggregator_session.specs.Signing.{Signature, signed_with}
 use Rattle.aggregator_session.specs.Tables.{TableSeen}
 use Rattle.lms_bytes.specs.declared.message.MessageId.{MessageId}
 use Rattle.trustee_node.specs.declared.served.ServedEnd.{ServedEnd}

@@ -1,11 +1,11 @@
 -- A desk of a dealing has the dealing's key, plan, tree and reference.
 use Rattle.std.proofs.Common.{◌≡◌, ℕ, List, All, Contains, None, get_or, refl, sym, ap, ◌∙◌}
 use Rattle.aggregator_session.specs.Addresses.{place_of}
+use Rattle.aggregator_session.specs.Desks.{DeskState}
 use Rattle.laws_signing.specs.Requests.{IsDealtDesk}
 use Rattle.aggregator_node.specs.Ports.{Place}
 use Rattle.dealer.specs.Dealt.{dealt_tree}
 use Rattle.dealer.specs.Files.{public_file, reference_file, tree_file}
-use Rattle.aggregator_session.specs.Signing.{DeskState}
 use Rattle.lms_bytes.specs.PublicKey.{public_bytes}
 use Rattle.lms_bytes.specs.declared.params.Params.{Params}
 use Rattle.lms_bytes.specs.declared.public_key.PublicKey.{PublicKey}

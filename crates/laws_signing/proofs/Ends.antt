@@ -2,6 +2,7 @@
 use Rattle.std.proofs.Common.{◌≡◌, ◌≢◌, ◌⊎◌, ◌++◌, ◌+◌, ◌-◌, ◌^◌, ◌<◌, ◌≤◌, min, ℕ, zero, suc, true, false, List, All, IsTrue, Some, None, Result, Ok, Err, length, refl, sym, ap, subst, ◌∙◌, inl, inr, arith}
 use Rattle.aggregator_session.proofs.Telling.{sign-tell}
 use Rattle.aggregator_session.specs.Addresses.{place_of}
+use Rattle.aggregator_session.specs.Desks.{DeskState}
 use Rattle.aggregator_session.specs.Faults.{LostBy}
 use Rattle.aggregator_session.specs.Runs.{SignRun}
 use Rattle.aggregator_session.specs.declared.fault.SignFault.{SignFault}
@@ -13,7 +14,7 @@ use Rattle.leaf_table.specs.Leasing.{LeaseOf, Leases}
 use Rattle.leaf_table.specs.declared.faults.TableFault.{TableFault}
 use Rattle.leaf_table.specs.declared.faults.TableFault.TheVariants.{Device}
 use Rattle.leaf_table.specs.declared.lease.Lease.{Lease}
-use Rattle.aggregator_session.specs.Signing.{DeskState, RunsOn, Signature, SignsLeased, leased, not_leased, not_started, ran, signed_with, too_long}
+use Rattle.aggregator_session.specs.Signing.{RunsOn, Signature, SignsLeased, leased, not_leased, not_started, ran, signed_with, too_long}
 use Rattle.aggregator_session.specs.Tables.{Entered, TableSeen}
 use Rattle.lms_bytes.specs.MessageId.{message_id, message_id_bytes}
 use Rattle.lms_bytes.specs.declared.public_key.PublicKey.{PublicKey}
@@ -31,7 +32,7 @@ use Rattle.tool_base.specs.World.{StoreRun, file_limit}
 use Rattle.tool_desk.specs.Files.{reference_name}
 use Rattle.tool_desk.specs.Members.{members_placed}
 use Rattle.tool_base.specs.Loads.{FailsToLoad, damaged, device, no_memory, other_file}
-use Rattle.tool_sign.specs.Ports.{NetRun, SignedOver, Signing, answer_of}
+use Rattle.tool_sign.specs.Ports.{NetRun, SignedOver, Signing, answer_of, sign_of}
 use Rattle.tool_sign.specs.Signs.{SignedTable, TableEnds}
 use Rattle.tool_sign.specs.Signs as signs
 use Rattle.tool_sign.specs.Tables.{IsTable, table_header}
@@ -176,10 +177,10 @@ module _ (words : SignWords) (store : StoreRun) (net : NetRun) (d : Dealing) (ke
         let port_told = over.made.told well.fails.net_told in
         let lasts : over.done.talks ≡ has.lasts = ap (λ (p : PortState). p.talks) is ∙ (has.hung_up port_told ∙ ap (λ (l : List Talk). l ++ has.lasts) over.made.talks) in
         let begins : State = started signing.desk.key signing.desk.plan leaf (message_id signing.message) in
-        let run = subst (λ (m : List ℕ). SignRun signing.desk.addresses signing.desk.tree signing.reads m over.port begins has.talks last result) message-is has.run in
-        let tell = sign-tell signing.desk.addresses signing.desk.tree signing.reads message over.port begins last has.talks result run port_told in
+        let run = subst (λ (m : List ℕ). SignRun signing.desk signing.reads m over.port begins has.talks last result) message-is has.run in
+        let tell = sign-tell signing.desk signing.reads message over.port begins last has.talks result run port_told in
         let answers = all-gave-before d (started public d.plan leaf (message_id message)) message (leaf_members d.plan leaf) has.talks has.lasts tell has.ended (gave has.lasts lasts) in
-        let goes = session-goes d key public leaf message signing.reads signing.desk.tree is-ready signing.desk.addresses over.port port_told places begins last has.talks result run start-is
+        let goes = session-goes d key public leaf message signing.reads signing.desk is-ready over.port port_told places begins last has.talks result run start-is
         (λ lost. dials-not (subst (λ (o : Result Signature SignFault). LostBy DialFailed o) (sym same) (lost-in leaf result lost)))
         (λ unread. reads-not (same ∙ unread-in leaf result unread)) answers in
         elim goes [
@@ -211,7 +212,7 @@ module _ (words : SignWords) (store : StoreRun) (net : NetRun) (d : Dealing) (ke
         leases-well d.plan st.old.state after.state (members_placed words.places) (message_id message) answer well.leased.number leaf now st.fresh.doubt well.leased.coalition old-leaf
 
     signs-well : (new : TableSeen) (port now : PortState) (o : Result Signature SignFault) → new ≡ st.new → st.over.port ≡ port → st.over.done ≡ now → outcome ≡ o
-        → SignsLeased signing.desk signing.reads signing.members signing.message st.old port new now o → Well o
+        → SignsLeased (sign_of signing) st.old port new now o → Well o
     signs-well new port now o new_is port_is done_is is (too_long long idle) =
         let size : length signing.message ≡ length message = ap length message-is in
         let limit = well.files.limit in

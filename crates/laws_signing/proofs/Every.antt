@@ -1,6 +1,7 @@
 -- Every request of a run for which all is well comes to an answer.
 use Rattle.std.proofs.Common.{◌≡◌, ◌<◌, ℕ, zero, suc, List, [], ◌∷◌, All, length, get_or, Option, None, Some, Result, Err, IsTrue, IsSomeAnd, sym, subst, ◌∙◌, arith}
 use Rattle.std.proofs.lemmas.List.{get_or-map, length-map}
+use Rattle.aggregator_session.specs.Desks.{DeskState}
 use Rattle.aggregator_session.specs.declared.fault.SignFault.{SignFault}
 use Rattle.aggregator_session.specs.declared.fault.SignFault.TheVariants as sign
 use Rattle.laws_signing.specs.Every.{AllAnswered, EachServed, EachWorked, IsAnswered, OneAnswered}
@@ -16,7 +17,7 @@ use Rattle.aggregator_node.proofs.Serving.{serves-go}
 use Rattle.aggregator_node.proofs.Statuses.{is_status, with_status-append}
 use Rattle.leaf_table.specs.declared.lease.Lease.{Lease}
 use Rattle.leaf_table.specs.declared.table.TableName.{TableName}
-use Rattle.aggregator_session.specs.Signing.{DeskState, Signature}
+use Rattle.aggregator_session.specs.Signing.{Signature}
 use Rattle.lms_verify.specs.UndividedKey.{UndividedKey}
 use Rattle.reference_value.specs.Dealing.{Dealing}
 use Rattle.share_files.specs.declared.reference.RefHeader.{RefHeader}

@@ -2,7 +2,7 @@
 use Rattle.std.proofs.Common.{◌≡◌, ◌≤◌, ◌<◌, ◌^◌, ℕ, Bool, true, false, List, length, take, drop, Option, Some, Result, is_some, if◌then◌else◌, inl, inr, refl, sym, ap, ◌∙◌, subst, arith}
 use Rattle.std.proofs.lemmas.List.{drop_at, take_at}
 use Rattle.std.proofs.lemmas.Nat.{from_be_bytes-to_be_bytes_4}
-use Rattle.aggregator_session.specs.Runs.{CellsRead}
+use Rattle.aggregator_session.specs.Desks.{DeskState}
 use Rattle.aggregator_session.specs.declared.fault.SignFault.{SignFault}
 use Rattle.laws_signing.specs.Uses.{AnsweredWith, CameTo, ServedWith, SignedWith, Uses, WorkedWith}
 use Rattle.aggregator_node.specs.Clients.{Answers, IsSigned, ReferenceState, Request, Serves, Stand}
@@ -17,7 +17,7 @@ use Rattle.aggregator_node.specs.Posts as posts
 use Rattle.coalition_map.specs.Coalitions.{PlanNumbers}
 use Rattle.leaf_table.specs.declared.lease.Lease.{Lease}
 use Rattle.leaf_table.specs.declared.table.TableName.{TableName}
-use Rattle.aggregator_session.specs.Signing.{DeskState, Signature, spent_by}
+use Rattle.aggregator_session.specs.Signing.{Signature, ToSign, spent_by}
 use Rattle.aggregator_session.specs.Tables.{TableSeen}
 use Rattle.lms_bytes.specs.Bytes.{str_to_u32, u32str}
 use Rattle.lms_bytes.specs.MessageId.{message_id_bytes}
@@ -54,11 +54,11 @@ came-draws leaf (logs.leased own added burning result lease draws burnt is_burni
     omega (arith, draws, more)
 
 -- so the message was not too long
-signs-short : (desk : DeskState) (reads : CellsRead) (members message : List ℕ) (old new : Seen Lease TableName) (port now : PortState) (outcome : Result Signature SignFault)
-    → SignsInTurns desk reads members message old port new now outcome → old.draws < new.draws → length message ≤ 16777216
-signs-short desk reads members message old new port now outcome (signing.too_long long unread) drawn = absurd (omega (arith, drawn))
-signs-short desk reads members message old new port now outcome (signing.not_leased after fault short unread turn) drawn = short
-signs-short desk reads members message old new port now outcome (signing.leased leaf mid after later result short turn runs burns) drawn = short
+signs-short : (sign : ToSign) (old new : Seen Lease TableName) (port now : PortState) (outcome : Result Signature SignFault)
+    → SignsInTurns sign old port new now outcome → old.draws < new.draws → length sign.message ≤ 16777216
+signs-short sign old new port now outcome (signing.too_long long unread) drawn = absurd (omega (arith, drawn))
+signs-short sign old new port now outcome (signing.not_leased after fault short unread turn) drawn = short
+signs-short sign old new port now outcome (signing.leased leaf mid after later result short turn runs burns) drawn = short
 
 module _ (request : Request) (leaf : ℕ) (desk : DeskState) (reference : ReferenceState) where
   abbrev Short : Type 0
@@ -67,7 +67,7 @@ module _ (request : Request) (leaf : ℕ) (desk : DeskState) (reference : Refere
   signed-short : (old new : Stand) (one : Request) (signed : IsSigned desk reference old new one) → SignedWith request leaf signed → Short
   signed-short old new one signed with =
       subst (λ (r : Request). length r.message ≤ 16777216) (sym with.request_is)
-      (signs-short desk _ one.members one.message old.pass new.pass old.port new.port one.outcome signed.signs (came-draws leaf signed.shows with.leaf_is))
+      (signs-short _ old.pass new.pass old.port new.port one.outcome signed.signs (came-draws leaf signed.shows with.leaf_is))
 
   answered-short : (old new : Stand) (requests : List Request) (replies : ℕ) (ended : Option ServedEnd) (answers : Answers desk reference old requests replies ended new)
       → AnsweredWith request leaf answers → Short

@@ -1,6 +1,7 @@
 -- The leases of requests in the logs of their passes.
 use Rattle.std.proofs.Common.{◌≡◌, ◌<◌, ◌^◌, ℕ, List, ◌++◌, Option, Some, Result, inl, inr, refl, sym, ap, ◌∙◌, subst, append-nil}
 use mathlib.Core.List.{IsPrefix}
+use Rattle.aggregator_session.specs.Desks.{DeskState}
 use Rattle.aggregator_session.specs.declared.fault.SignFault.{SignFault}
 use Rattle.laws_signing.specs.Uses.{AnsweredWith, CameTo, ServedWith, SignedWith, Uses, WorkedWith}
 use Rattle.laws_signing.proofs.Prefixes.{either-begins, legal-front}
@@ -22,7 +23,7 @@ use Rattle.leaf_table.specs.Leasing.{WasLeasedFor}
 use Rattle.leaf_table.specs.declared.lease.Lease.{Lease}
 use Rattle.leaf_table.specs.declared.lease.Lease.TheVariants.{Leased}
 use Rattle.leaf_table.specs.declared.table.TableName.{TableName}
-use Rattle.aggregator_session.specs.Signing.{DeskState, Signature}
+use Rattle.aggregator_session.specs.Signing.{Signature}
 use Rattle.aggregator_session.specs.Tables.{TableSeen}
 use Rattle.lms_bytes.specs.MessageId.{message_id, message_id_bytes}
 use Rattle.lms_bytes.specs.declared.message.MessageId.{MessageId}

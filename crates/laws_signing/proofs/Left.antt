@@ -1,4 +1,5 @@
 -- What the leases of requests leave in the file of a table.
+use Rattle.aggregator_session.specs.Desks.{DeskState}
 use Rattle.std.proofs.Common.{◌≡◌, ◌<◌, ◌^◌, ℕ, List, [], ◌∷◌, length, inl, inr, refl, sym, subst, append-nil, arith}
 use Rattle.laws_signing.specs.Uses.{LeafIsLeft, Uses}
 use Rattle.laws_signing.proofs.Ids.{same-id, used-short}
@@ -11,7 +12,6 @@ use Rattle.leaf_table.specs.Runs.{KeepsOneLease}
 use Rattle.leaf_table.specs.Slots.{use_of_slot}
 use Rattle.leaf_table.specs.State.{StandsFor, TableState, lease_of}
 use Rattle.leaf_table.specs.declared.lease.Lease.{Lease}
-use Rattle.aggregator_session.specs.Signing.{DeskState}
 use Rattle.lms_bytes.specs.MessageId.{message_id, message_id_bytes}
 use Rattle.share_files.specs.declared.reference.RefHeader.{RefHeader}
 use Rattle.slot_file.specs.Layout.{slot_at}

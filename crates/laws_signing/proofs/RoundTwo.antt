@@ -1,9 +1,9 @@
 -- Round two, where the members' links gave the dealer's masks.
-use Rattle.std.proofs.Common.{◌≡◌, ◌++◌, ◌+◌, ℕ, ◌==◌, Bool, true, List, [], ◌∷◌, All, IsTrue, Some, Result, Ok, Err, map, refl, sym, ap, subst, ◌∙◌, append-nil, arith}
+use Rattle.std.proofs.Common.{◌≡◌, ◌++◌, ◌+◌, ℕ, ◌==◌, true, List, [], ◌∷◌, All, IsTrue, Some, Result, Ok, Err, map, refl, sym, ap, subst, ◌∙◌, append-nil, arith}
 use Rattle.std.specs.List.{AllZip}
 use Rattle.std.proofs.lemmas.List.Elements.{All-append, All-cons, All-head, All-nil, All-tail}
 use Rattle.aggregator_session.specs.Hearing.{Asked, hear, is_masks, kept_in}
-use Rattle.aggregator_session.specs.Runs.{Calls, First, Second, dialled, first_all, first_answered, first_lost, first_refused, nowhere, second_all, second_answered, second_lost, second_refused, second_unread, undialled}
+use Rattle.aggregator_session.specs.Runs.{Calls, First, Second, SecondFrames, dialled, first_all, first_answered, first_lost, first_refused, nowhere, second_all, second_answered, second_lost, second_refused, second_unread, undialled}
 use Rattle.aggregator_session.specs.declared.desk.Address.{Address}
 use Rattle.aggregator_session.specs.declared.fault.SignFault.{SignFault}
 use Rattle.aggregator_session.specs.declared.fault.SignFault.TheVariants.{Session}
@@ -102,17 +102,17 @@ module _ (d : Dealing) (key : PublicKey) (leaf : ℕ) (id : MessageId) (message 
         faultless = omega arith;
       }
 
-  pub all-before : (told : Bool) (leaves : List ℕ) (turned : State) (text : List ℕ) (s : State) (members : List ℕ) (olds news : List Talk) (last : State) (end : Result (Unit {0}) SignFault)
-      → Second told leaves turned text s members olds news last end → All IsTold olds → AllGave d start message members news → AllGave d start message members olds
-  all-before told leaves turned text s members olds news last end (second_all x) tell gave = tt
-  all-before told leaves turned text s members olds news last end (second_unread x member rest o) tell gave = gave
-  all-before told leaves turned text s members olds news last end (second_lost x member rest ask old new o why framed asks) tell gave =
+  pub all-before : (frames : SecondFrames) (s : State) (members : List ℕ) (olds news : List Talk) (last : State) (end : Result (Unit {0}) SignFault)
+      → Second frames s members olds news last end → All IsTold olds → AllGave d start message members news → AllGave d start message members olds
+  all-before frames s members olds news last end (second_all x) tell gave = tt
+  all-before frames s members olds news last end (second_unread x member rest o) tell gave = gave
+  all-before frames s members olds news last end (second_lost x member rest ask old new o why framed asks) tell gave =
       (gave-before member old new (asked-later x member ask old new (Err why) asks) (All-head IsTold old o tell) gave.0, gave.1)
-  all-before told leaves turned text s members olds news last end (second_refused x member rest ask old new o reply framed asks refused) tell gave =
+  all-before frames s members olds news last end (second_refused x member rest ask old new o reply framed asks refused) tell gave =
       (gave-before member old new (asked-later x member ask old new (Ok reply) asks) (All-head IsTold old o tell) gave.0, gave.1)
-  all-before told leaves turned text s members olds news last end (second_answered x y member rest ask old new o n reply e framed asks granted next) tell gave = (
+  all-before frames s members olds news last end (second_answered x y member rest ask old new o n reply e framed asks granted next) tell gave = (
     gave-before member old new (asked-later x member ask old new (Ok reply) asks) (All-head IsTold old o tell) gave.0,
-    all-before told leaves turned text (kept_in x (Ok reply)) rest o n y e next (All-tail IsTold old o tell) gave.1,
+    all-before frames (kept_in x (Ok reply)) rest o n y e next (All-tail IsTold old o tell) gave.1,
   )
 
   -- the session after round two
@@ -148,32 +148,32 @@ module _ (d : Dealing) (key : PublicKey) (leaf : ℕ) (id : MessageId) (message 
           taken = asked-taken s member ask old new answer (ready.second.head, mask_two member) asks came.answer_is;
         }
 
-    pub second-goes : (told : Bool) (leaves : List ℕ) (turned : State) (text : List ℕ) (s : State) (members : List ℕ) (olds news : List Talk) (last : State) (end : Result (Unit {0}) SignFault)
-        → Second told leaves turned text s members olds news last end → (front : List Seat) (a e : ℕ)
+    pub second-goes : (frames : SecondFrames) (s : State) (members : List ℕ) (olds news : List Talk) (last : State) (end : Result (Unit {0}) SignFault)
+        → Second frames s members olds news last end → (front : List Seat) (a e : ℕ)
         → s ≡ two key d.plan leaf id random firsts (front ++ map (empty_seat room_two) members) → Front room_two mask_two a front → IsAscendingIn a e members
         → map number front ++ members ≡ leaf_members d.plan leaf → (end ≡ Err (Session Reference) → ⊥) → AllZip (Ready d start message) members olds → AllGave d start message members news
         → Ends firsts (leaf_members d.plan leaf) last end
-    second-goes told leaves turned text s members olds news last end (second_all x) front a e is f ascending all read ready gave = record {
+    second-goes frames s members olds news last end (second_all x) front a e is f ascending all read ready gave = record {
       end_is = refl;
       seats = front;
       last_is = is ∙ ap (two key d.plan leaf id random firsts) (append-nil front);
       kept = f.kept;
       numbers = sym (append-nil (map number front)) ∙ all;
     }
-    second-goes told leaves turned text s members olds news last end (second_unread x member rest o) front a e is f ascending all read ready gave = absurd (read refl)
-    second-goes told leaves turned text s members olds news last end (second_lost x member rest ask old new o why framed asks) front a e is f ascending all read ready gave =
+    second-goes frames s members olds news last end (second_unread x member rest o) front a e is f ascending all read ready gave = absurd (read refl)
+    second-goes frames s members olds news last end (second_lost x member rest ask old new o why framed asks) front a e is f ascending all read ready gave =
         let g = front-later room_two mask_two a member front ascending.0 f in
         let c = ask-goes x member ask old new (Err why) front rest asks is g.below all ready.0 gave.0.faultless in
         let is_ok = c.answer_is in
         absurd (cc)
-    second-goes told leaves turned text s members olds news last end (second_refused x member rest ask old new o reply framed asks refused) front a e is f ascending all read ready gave =
+    second-goes frames s members olds news last end (second_refused x member rest ask old new o reply framed asks refused) front a e is f ascending all read ready gave =
         let g = front-later room_two mask_two a member front ascending.0 f in
         let c = ask-goes x member ask old new (Ok reply) front rest asks is g.below all ready.0 gave.0.faultless in
         let is_ok = c.answer_is in
         let same : reply ≡ (c.head, mask_two member) = cc in
         let granted : is_masks reply ≡ true = ap is_masks same ∙ ap (λ (n : ℕ). n == 0) c.granted in
         absurd (cc)
-    second-goes told leaves turned text s members olds news last end (second_answered x y member rest ask old new o n reply w framed asks granted next) front a e is f ascending all read ready gave =
+    second-goes frames s members olds news last end (second_answered x y member rest ask old new o n reply w framed asks granted next) front a e is f ascending all read ready gave =
         let g = front-later room_two mask_two a member front ascending.0 f in
         let c = ask-goes x member ask old new (Ok reply) front rest asks is g.below all ready.0 gave.0.faultless in
         let is_ok = c.answer_is in
@@ -183,5 +183,5 @@ module _ (d : Dealing) (key : PublicKey) (leaf : ℕ) (id : MessageId) (message 
         let state : kept_in x (Ok reply) ≡ two key d.plan leaf id random firsts ((front ++ seat ∷ []) ++ map (empty_seat room_two) rest) =
         ap (λ (r : Reply). with_delivery x r.0 r.1) same ∙ (ap (λ (z : State). with_delivery z c.head (mask_two member)) is
         ∙ deliver-two key d.plan leaf id random firsts front (map (empty_seat room_two) rest) member room_two c.head (mask_two member) g.below c.granted taken) in
-        second-goes told leaves turned text (kept_in x (Ok reply)) rest o n y w next (front ++ seat ∷ []) (member + 1) e state (front-more room_two mask_two member front g) ascending.2
+        second-goes frames (kept_in x (Ok reply)) rest o n y w next (front ++ seat ∷ []) (member + 1) e state (front-more room_two mask_two member front g) ascending.2
         (numbers-more front seat rest ∙ all) read ready.1 gave.1

@@ -4,9 +4,9 @@ use Rattle.std.proofs.Common.{◌≡◌, ◌⊎◌, ◌+◌, ◌*◌, ◌%◌, �
 use Rattle.std.specs.List.{AllZip}
 use Rattle.std.proofs.lemmas.List.Elements.{All-weaker}
 use Rattle.aggregator_session.specs.Addresses.{place_of}
+use Rattle.aggregator_session.specs.Desks.{DeskState}
 use Rattle.aggregator_session.specs.Faults.{LostBy, sign_fault}
-use Rattle.aggregator_session.specs.Runs.{CellsRead, First, Opens, Second, SignRun, Stops, first_frame, judged_in_one, judged_in_two, lost_in_one, lost_in_two, no_memory, signed}
-use Rattle.aggregator_session.specs.declared.desk.Address.{Address}
+use Rattle.aggregator_session.specs.Runs.{CellsRead, First, Opens, Second, SignRun, Stops, first_frame, judged_in_one, judged_in_two, lost_in_one, lost_in_two, no_memory, second_frames, signed}
 use Rattle.aggregator_session.specs.declared.fault.SignFault.{SignFault}
 use Rattle.aggregator_session.specs.declared.fault.SignFault.TheVariants.{NoMemory, Session}
 use Rattle.aggregator_session.specs.declared.fault.Why.TheVariants.{DialFailed}
@@ -61,7 +61,7 @@ pub record IsReady (d : Dealing) (undivided : UndividedKey) (key : PublicKey) (l
   pub leaves_are : reads.leaves ≡ reference d
   pub tree_is : tree ≡ tree_of undivided.params undivided.id (leaf_key undivided)
 
-module _ (d : Dealing) (undivided : UndividedKey) (key : PublicKey) (leaf : ℕ) (message : List ℕ) (reads : CellsRead) (tree : TreeNodes) (r : IsReady d undivided key leaf message reads tree) where
+module _ (d : Dealing) (undivided : UndividedKey) (key : PublicKey) (leaf : ℕ) (message : List ℕ) (reads : CellsRead) (desk : DeskState) (r : IsReady d undivided key leaf message reads desk.tree) where
   abbrev id : MessageId
   id = message_id message
 
@@ -129,7 +129,7 @@ module _ (d : Dealing) (undivided : UndividedKey) (key : PublicKey) (leaf : ℕ)
   first-masks seats kept = All-weaker (Kept room_one mask_one) (λ (seat : Seat). (seat.code ≡ Some 0) × (seat.body ≡ random_mask d leaf seat.member)) (λ seat k. (k.code, k.body)) seats kept
 
   is-answered : (firsts seats : List Seat) → All (Kept room_two mask_two) seats
-      → IsAnswered d undivided (two key d.plan leaf id random firsts seats) (digest_of (two key d.plan leaf id random firsts seats) message) reads.leaves tree
+      → IsAnswered d undivided (two key d.plan leaf id random firsts seats) (digest_of (two key d.plan leaf id random firsts seats) message) reads.leaves desk.tree
   is-answered firsts seats kept = record {
     dealing = record {
       plan_is = r.of.plan_is;
@@ -157,12 +157,12 @@ module _ (d : Dealing) (undivided : UndividedKey) (key : PublicKey) (leaf : ℕ)
   -- no other root than the key's
   not-astray : (firsts seats : List Seat) (last : State) (fault : session.SessionFault) → last ≡ two key d.plan leaf id random firsts seats
       → All (Kept room_one mask_one) firsts → map number firsts ≡ all → All (Kept room_two mask_two) seats → map number seats ≡ all
-      → Astray last message reads.told (joined_bytes last reads.leaves tree message) fault → ⊥
+      → Astray last message reads.told (joined_bytes last reads.leaves desk.tree message) fault → ⊥
   not-astray firsts seats last fault is kept_one is_one kept_two is_two astray =
       let session = subst (λ (s : State). IsSession s) (sym is) (is-session firsts seats kept_one is_one kept_two is_two) in
-      let answered = subst (λ (s : State). IsAnswered d undivided s (digest_of s message) reads.leaves tree) (sym is) (is-answered firsts seats kept_two) in
-      let accepted = signature-accepted d undivided last reads.leaves tree message session answered in
-      astray.other (one-root last.key message (joined_bytes last reads.leaves tree message) last.leaf astray.got last.key.root (astray.leads r.told) accepted)
+      let answered = subst (λ (s : State). IsAnswered d undivided s (digest_of s message) reads.leaves desk.tree) (sym is) (is-answered firsts seats kept_two) in
+      let accepted = signature-accepted d undivided last reads.leaves desk.tree message session answered in
+      astray.other (one-root last.key message (joined_bytes last reads.leaves desk.tree message) last.leaf astray.got last.key.root (astray.leads r.told) accepted)
 
   -- round one leads to round two, and all links are ready for it
   record Opened (firsts : List Seat) (turned : State) (mids : List Talk) : Type 0 where
@@ -171,15 +171,15 @@ module _ (d : Dealing) (undivided : UndividedKey) (key : PublicKey) (leaf : ℕ)
     turned_is : turned ≡ two key d.plan leaf id random firsts (map (empty_seat room_two) all)
     ready : AllZip (Ready d start message) all mids
 
-  module _ (addresses : List Address) (port : PortState) (told : IsTrue port.told) (places : All (λ t. place_of addresses t ≡ None → ⊥) all) where
+  module _ (port : PortState) (told : IsTrue port.told) (places : All (λ t. place_of desk.addresses t ≡ None → ⊥) all) where
     first-ends : (s last : State) (talks : List Talk) (end : Result (Unit {0}) SignFault) → s ≡ start
-        → First addresses (first_frame s) port s (leaf_members s.plan s.leaf) talks last end → (LostBy DialFailed end → ⊥) → AllGave d start message all talks
+        → First desk.addresses (first_frame s) port s (leaf_members s.plan s.leaf) talks last end → (LostBy DialFailed end → ⊥) → AllGave d start message all talks
         → Goes d key leaf id message all all talks last end
     first-ends s last talks end is first dials gave =
-        let here : First addresses (first_frame s) port s all talks last end = subst (λ (z : State). First addresses (first_frame s) port s (leaf_members z.plan z.leaf) talks last end) is first in
-        first-goes d key leaf id message addresses (first_frame s) port s all talks last end here [] 1 (d.plan.n + 1) is (front-none room_one mask_one 1) ascending refl places dials told gave
+        let here : First desk.addresses (first_frame s) port s all talks last end = subst (λ (z : State). First desk.addresses (first_frame s) port s (leaf_members z.plan z.leaf) talks last end) is first in
+        first-goes d key leaf id message desk.addresses (first_frame s) port s all talks last end here [] 1 (d.plan.n + 1) is (front-none room_one mask_one 1) ascending refl places dials told gave
 
-    opened : (s turned : State) (mids : List Talk) → s ≡ start → (opens : Opens addresses reads port s turned mids) → AllGave d start message all mids → (firsts : List Seat) × Opened firsts turned mids
+    opened : (s turned : State) (mids : List Talk) → s ≡ start → (opens : Opens desk.addresses reads port s turned mids) → AllGave d start message all mids → (firsts : List Seat) × Opened firsts turned mids
     opened s turned mids is opens gave =
         let goes = first-ends s opens.kept mids (Ok tt) is opens.first (λ lost. lost) gave in
         let seats = goes.seats in
@@ -196,17 +196,17 @@ module _ (d : Dealing) (undivided : UndividedKey) (key : PublicKey) (leaf : ℕ)
         )
 
     -- what the links gave when round one was over
-    mids-gave : (s turned last : State) (mids talks : List Talk) (end : Result (Unit {0}) SignFault) → s ≡ start → (opens : Opens addresses reads port s turned mids)
-        → Second reads.told reads.leaves turned message turned all mids talks last end → AllGave d start message all talks → AllGave d start message all mids
+    mids-gave : (s turned last : State) (mids talks : List Talk) (end : Result (Unit {0}) SignFault) → s ≡ start → (opens : Opens desk.addresses reads port s turned mids)
+        → Second (second_frames reads turned message) turned all mids talks last end → AllGave d start message all talks → AllGave d start message all mids
     mids-gave s turned last mids talks end is opens second gave =
-        all-before d key leaf id message reads.told reads.leaves turned message turned all mids talks last end second
-        (first-told addresses (first_frame s) port s (leaf_members s.plan s.leaf) mids opens.kept (Ok tt) opens.first told) gave
+        all-before d key leaf id message (second_frames reads turned message) turned all mids talks last end second
+        (first-told desk.addresses (first_frame s) port s (leaf_members s.plan s.leaf) mids opens.kept (Ok tt) opens.first told) gave
 
     second-ends : (firsts : List Seat) (turned last : State) (mids talks : List Talk) (end : Result (Unit {0}) SignFault) → Opened firsts turned mids
-        → Second reads.told reads.leaves turned message turned all mids talks last end → (end ≡ Err (Session Reference) → ⊥) → AllGave d start message all talks
+        → Second (second_frames reads turned message) turned all mids talks last end → (end ≡ Err (Session Reference) → ⊥) → AllGave d start message all talks
         → Ends d key leaf id message firsts all last end
     second-ends firsts turned last mids talks end o second read gave =
-        second-goes d key leaf id message firsts reads.told reads.leaves turned message turned all mids talks last end second [] 1 (d.plan.n + 1) o.turned_is (front-none room_two mask_two 1) ascending refl
+        second-goes d key leaf id message firsts (second_frames reads turned message) turned all mids talks last end second [] 1 (d.plan.n + 1) o.turned_is (front-none room_two mask_two 1) ascending refl
         read o.ready gave
 
     -- the undivided key's signature, or want of memory
@@ -214,7 +214,7 @@ module _ (d : Dealing) (undivided : UndividedKey) (key : PublicKey) (leaf : ℕ)
     Well result = (result ≡ failed NoMemory) ⊎ (result ≡ Ok (rfc_signature undivided leaf random message))
 
     finish-goes : (firsts seats : List Seat) (last : State) (fault : session.SessionFault) → last ≡ two key d.plan leaf id random firsts seats → All (Kept room_one mask_one) firsts
-        → map number firsts ≡ all → All (Kept room_two mask_two) seats → map number seats ≡ all → FinishFails last message reads.told (joined_bytes last reads.leaves tree message) reads.before reads.now fault
+        → map number firsts ≡ all → All (Kept room_two mask_two) seats → map number seats ≡ all → FinishFails last message reads.told (joined_bytes last reads.leaves desk.tree message) reads.before reads.now fault
         → (failed (sign_fault fault) ≡ failed (Session Reference) → ⊥) → Well (failed (sign_fault fault))
     finish-goes firsts seats last fault is kept_one is_one kept_two is_two (inl none) read = inl (ap (λ (f : session.SessionFault). failed (sign_fault f)) none)
     finish-goes firsts seats last fault is kept_one is_one kept_two is_two (inr (inl found)) read =
@@ -231,11 +231,11 @@ module _ (d : Dealing) (undivided : UndividedKey) (key : PublicKey) (leaf : ℕ)
     stops-not seats last fault is kept (inr unread) read = read (ap (λ (f : session.SessionFault). failed (sign_fault f)) unread.reference)
 
     second-of : (s turned last : State) (mids talks : List Talk) (end : Result (Unit {0}) SignFault) → s ≡ start
-        → Second reads.told reads.leaves turned message turned (leaf_members s.plan s.leaf) mids talks last end → Second reads.told reads.leaves turned message turned all mids talks last end
+        → Second (second_frames reads turned message) turned (leaf_members s.plan s.leaf) mids talks last end → Second (second_frames reads turned message) turned all mids talks last end
     second-of s turned last mids talks end is second =
-        subst (λ (z : State). Second reads.told reads.leaves turned message turned (leaf_members z.plan z.leaf) mids talks last end) is second
+        subst (λ (z : State). Second (second_frames reads turned message) turned (leaf_members z.plan z.leaf) mids talks last end) is second
 
-    pub session-goes : (s last : State) (talks : List Talk) (result : Result (List ℕ) SignFault) → SignRun addresses tree reads message port s talks last result → s ≡ start
+    pub session-goes : (s last : State) (talks : List Talk) (result : Result (List ℕ) SignFault) → SignRun desk reads message port s talks last result → s ≡ start
         → (LostBy DialFailed result → ⊥) → (result ≡ failed (Session Reference) → ⊥) → AllGave d start message all talks → Well result
     session-goes s last talks result no_memory is dials read gave = inl refl
     session-goes s last talks result (lost_in_one t kept fault first) is dials read gave =
@@ -260,6 +260,6 @@ module _ (d : Dealing) (undivided : UndividedKey) (key : PublicKey) (leaf : ℕ)
         let there = second-of s turned kept mids t (Ok tt) is second in
         let o = opened s turned mids is opens (mids-gave s turned kept mids t (Ok tt) is opens there gave) in
         let ends = second-ends o.0 turned kept mids t (Ok tt) o.1 there (λ same. absurd (cc)) gave in
-        let answered = subst (λ (z : State). IsAnswered d undivided z (digest_of z message) reads.leaves tree) (sym ends.last_is) (is-answered o.0 ends.seats ends.kept) in
+        let answered = subst (λ (z : State). IsAnswered d undivided z (digest_of z message) reads.leaves desk.tree) (sym ends.last_is) (is-answered o.0 ends.seats ends.kept) in
         let made : bytes ≡ rfc_signature undivided kept.leaf (leaf_randomizer d kept.leaf) message = signs.dealt r.told d undivided answered in
         inr (ap okay (made ∙ ap (λ (z : State). rfc_signature undivided z.leaf (leaf_randomizer d z.leaf) message) ends.last_is))

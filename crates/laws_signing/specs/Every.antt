@@ -6,7 +6,7 @@ use Rattle.aggregator_node.specs.Clients as clients
 use Rattle.aggregator_node.specs.Ports.{Place, PortRun, ServedClients}
 use Rattle.aggregator_node.specs.Posts.{Connection, Post, Works}
 use Rattle.aggregator_node.specs.Posts as posts
-use Rattle.aggregator_session.specs.Signing.{DeskState}
+use Rattle.aggregator_session.specs.Desks.{DeskState}
 use Rattle.aggregator_session.specs.Tables.{TableSeen}
 use Rattle.lms_verify.specs.UndividedKey.{UndividedKey}
 use Rattle.reference_value.specs.Dealing.{Dealing}

@@ -1,7 +1,7 @@
 -- When all is well for a request of a client: the desk is of a dealing, nothing outside fails, and the members answer.
 use Rattle.std.specs.Prelude.{◌≡◌, ◌⊎◌, ◌≤◌, ◌^◌, ◌++◌, ℕ, List, All, Contains, length, None, Some, Result, Ok, Err}
 use Rattle.std.specs.Prelude.{IsSomeAnd, IsTrue}
-use Rattle.aggregator_session.specs.Runs.{CellsRead}
+use Rattle.aggregator_session.specs.Desks.{DeskState}
 use Rattle.aggregator_session.specs.declared.fault.SignFault.{SignFault}
 use Rattle.aggregator_session.specs.declared.fault.SignFault.TheVariants as sign
 use Rattle.aggregator_node.specs.Clients.{IsSigned, ReferenceState, Request, Stand}
@@ -13,7 +13,7 @@ use Rattle.dealer.specs.Files.{public_file, reference_file, tree_file}
 use Rattle.leaf_table.specs.Leasing.{IsCoalition, LeaseOf}
 use Rattle.leaf_table.specs.declared.lease.Lease.{Lease}
 use Rattle.leaf_table.specs.declared.table.TableName.{TableName}
-use Rattle.aggregator_session.specs.Signing.{DeskState, Signature}
+use Rattle.aggregator_session.specs.Signing.{Signature, ToSign}
 use Rattle.lms_bytes.specs.MessageId.{message_id, message_id_bytes}
 use Rattle.lms_verify.specs.UndividedKey.{UndividedKey, public_key_of, rfc_signature}
 use Rattle.reference_value.specs.Dealing.{Dealing, leaf_randomizer}
@@ -73,9 +73,9 @@ pub record NothingFailed (reference : ReferenceState) (old new : Stand) : Type 0
   pub links : IsQuiet old.port.count new.port.count
 
 -- a session was run with this leaf
-abbrev pub RanWith : ℕ → {desk : DeskState} {reads : CellsRead} {members message : List ℕ} {old : Seen Lease TableName}
-    {port : PortState} {new : Seen Lease TableName} {now : PortState} {outcome : Result Signature SignFault}
-    → SignsInTurns desk reads members message old port new now outcome → Type 0
+abbrev pub RanWith : ℕ → {to : ToSign} {old : Seen Lease TableName} {port : PortState} {new : Seen Lease TableName}
+    {now : PortState} {outcome : Result Signature SignFault}
+    → SignsInTurns to old port new now outcome → Type 0
 RanWith leaf (signing.too_long long unread) = ⊥
 RanWith leaf (signing.not_leased new fault short unread turn) = ⊥
 RanWith leaf (signing.leased own mid new now result short turn runs burning) = leaf ≡ own

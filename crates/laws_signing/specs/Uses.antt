@@ -1,5 +1,6 @@
 -- The leaves that the requests of clients came to.
 use Rattle.std.specs.Prelude.{◌≡◌, ◌⊎◌, ◌<◌, ℕ, Contains, List, Option, Result, Ok, Err, IfOk, length}
+use Rattle.aggregator_session.specs.Desks.{DeskState}
 use Rattle.aggregator_session.specs.declared.fault.SignFault.{SignFault}
 use Rattle.aggregator_session.specs.declared.fault.SignFault.TheVariants as sign
 use Rattle.aggregator_node.specs.Clients.{Answers, IsSigned, ReferenceState, Request, Serves, Stand}
@@ -14,7 +15,7 @@ use Rattle.leaf_table.specs.Entries.{map_of}
 use Rattle.leaf_table.specs.Leasing.{WasLeasedFor}
 use Rattle.leaf_table.specs.declared.lease.Lease.{Lease}
 use Rattle.leaf_table.specs.declared.table.TableName.{TableName}
-use Rattle.aggregator_session.specs.Signing.{DeskState, Signature}
+use Rattle.aggregator_session.specs.Signing.{Signature}
 use Rattle.aggregator_session.specs.Tables.{TableSeen}
 use Rattle.lms_bytes.specs.MessageId.{message_id, message_id_bytes}
 use Rattle.lms_bytes.specs.declared.message.MessageId.{MessageId}

@@ -4,7 +4,7 @@ use Rattle.std.proofs.lemmas.List.{length-map}
 use Rattle.aggregator_node.specs.Ports.{Place, ServedClients, places_of}
 use Rattle.disk_trait.specs.Faults.{Rose}
 use Rattle.disk_trait.specs.declared.faults.Faults as faults
-use Rattle.aggregator_session.specs.Signing.{DeskState}
+use Rattle.aggregator_session.specs.Desks.{DeskState}
 use Rattle.aggregator_session.specs.Tables.{TableSeen}
 use Rattle.memory.specs.declared.NoMemory.{NoMemory}
 use Rattle.reference_value.specs.declared.cells.Cells as cells

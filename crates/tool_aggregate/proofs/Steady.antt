@@ -1,4 +1,5 @@
 -- How the command ends over a steady store that tells its content, and over such a net.
+use Rattle.aggregator_session.specs.Desks.{DeskState}
 use Rattle.std.proofs.Common.{◌≡◌, ◌∙◌, ℕ, List, [], ◌∷◌, All, Option, Some, IsTrue, length, map, inl, inr, false, sym, ap, subst}
 use Rattle.std.proofs.lemmas.List.Elements.{All-cons, All-head, All-nil, All-tail}
 use Rattle.aggregator_node.specs.Clients.{IsExact}
@@ -6,7 +7,6 @@ use Rattle.aggregator_node.specs.Ports.{IsPortRun, Place, PortRun, requests_in}
 use Rattle.aggregator_node.specs.Posts.{with_status}
 use Rattle.leaf_table.specs.declared.lease.Lease.{Lease}
 use Rattle.leaf_table.specs.declared.table.TableName.{TableName}
-use Rattle.aggregator_session.specs.Signing.{DeskState}
 use Rattle.share_files.specs.Reference.{leaves_length}
 use Rattle.share_files.specs.declared.reference.RefHeader.{RefHeader}
 use Rattle.stream_io.specs.Net.{IsNewPort, NetState, PortState}

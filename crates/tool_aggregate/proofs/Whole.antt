@@ -1,4 +1,5 @@
 -- What is said while views are out, of the whole command.
+use Rattle.aggregator_session.specs.Desks.{DeskState}
 use Rattle.std.proofs.Common.{◌≡◌, ◌+◌, ◌-◌, ◌^◌, ◌≤◌, ◌++◌, min, ℕ, List, [], ◌∷◌, All, length, drop, map, Some, IsTrue, refl, sym, ap, ◌∙◌, subst, arith}
 use Rattle.std.proofs.Math.Seq.{drop-append_seam}
 use Rattle.std.proofs.lemmas.List.Elements.{All-cons, All-head, All-nil, All-tail, All-weaker}
@@ -8,7 +9,6 @@ use Rattle.coalition_map.specs.Coalitions.{PlanNumbers}
 use Rattle.disk_trait.specs.declared.disk.Pages as pages
 use Rattle.disk_trait.specs.declared.faults.Faults as faults
 use Rattle.leaf_table.specs.State.{TableState}
-use Rattle.aggregator_session.specs.Signing.{DeskState}
 use Rattle.reference_value.specs.Paged.{pages_of}
 use Rattle.reference_value.specs.declared.cells.Cells as cells
 use Rattle.reference_value.specs.declared.paged.Paged.{Paged}

@@ -1,9 +1,9 @@
 -- How `aggregate` ends: it reads the files of the dealing, with a view of the reference for each worker, loads the
 -- table, makes ports, serves, and gives all back.
+use Rattle.aggregator_session.specs.Desks.{DeskState}
 use Rattle.std.specs.Prelude.{◌≡◌, ◌^◌, ℕ, List, [], ◌∷◌, All, IsTrue, false}
 use Rattle.disk_trait.specs.Faults.{Rose}
 use Rattle.leaf_table.specs.declared.lease.Lease.{Lease}
-use Rattle.aggregator_session.specs.Signing.{DeskState}
 use Rattle.share_files.specs.declared.reference.RefHeader.{RefHeader}
 use Rattle.tool_base.specs.Ending as ending
 use Rattle.tool_base.specs.Ending.{Ending}

@@ -1,7 +1,7 @@
 -- What an aggregator signs with for its clients, by the files that its words name.
+use Rattle.aggregator_session.specs.Desks.{DeskState}
 use Rattle.std.specs.Prelude.{◌≡◌, map, IsTrue}
 use Rattle.aggregator_node.specs.Ports.{Place}
-use Rattle.aggregator_session.specs.Signing.{DeskState}
 use Rattle.share_files.specs.Reference.{HasReferenceLayout}
 use Rattle.share_files.specs.declared.reference.RefHeader.{RefHeader}
 use Rattle.tool_base.specs.Ending as ending

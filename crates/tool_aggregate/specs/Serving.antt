@@ -5,7 +5,7 @@ use Rattle.std.specs.List.{sum_by}
 use Rattle.aggregator_node.specs.Ports.{Place, ServedClients, reference_state}
 use Rattle.disk_trait.specs.Faults.{Rose}
 use Rattle.disk_trait.specs.declared.faults.Faults as faults
-use Rattle.aggregator_session.specs.Signing.{DeskState}
+use Rattle.aggregator_session.specs.Desks.{DeskState}
 use Rattle.aggregator_session.specs.Tables.{TableSeen}
 use Rattle.reference_value.specs.declared.cells.Cells as cells
 use Rattle.share_files.specs.declared.reference.RefHeader.{RefHeader}

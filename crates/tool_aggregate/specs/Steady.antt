@@ -1,7 +1,7 @@
 -- What serving clients comes to where no call of the net fails but for its arguments.
+use Rattle.aggregator_session.specs.Desks.{DeskState}
 use Rattle.std.specs.Prelude.{◌≡◌, All}
 use Rattle.aggregator_node.specs.Roomy.{NoLinkFails, TakesAll}
-use Rattle.aggregator_session.specs.Signing.{DeskState}
 use Rattle.share_files.specs.declared.reference.RefHeader.{RefHeader}
 use Rattle.tool_base.specs.Ending as ending
 use Rattle.tool_base.specs.Ending.{Ending}

@@ -1,9 +1,9 @@
 //! What follows from the definitions. No function here does anything.
 
+ghost use Rattle.aggregator_session.specs.Desks.{DeskState};
 ghost use Rattle.std.specs.Prelude.{◌≡◌, IsTrue};
 ghost use Rattle.aggregator_node.specs.Ports.{requests_in};
 ghost use Rattle.aggregator_node.specs.Posts.{with_status};
-ghost use Rattle.aggregator_session.specs.Signing.{DeskState};
 ghost use Rattle.share_files.specs.declared.reference.RefHeader.{RefHeader};
 ghost use Rattle.tool_base.specs.Ending.{Ending};
 ghost use Rattle.tool_base.specs.World.{from_to};

@@ -2,8 +2,7 @@
 
 ghost use Rattle.std.specs.Prelude.{◌≡◌, All, vec_len};
 ghost use Rattle.leaf_table.specs.Table.{plan_of};
-ghost use Rattle.aggregator_session.specs.Desks.{ReadsFor};
-ghost use Rattle.aggregator_session.specs.Signing.{desk_state};
+ghost use Rattle.aggregator_session.specs.Desks.{ReadsFor, desk_state};
 ghost use Rattle.aggregator_session.specs.Tables.{TableOnward, table_seen};
 ghost use Rattle.tool_base.specs.Endings.{ending};
 ghost use Rattle.tool_base.specs.World.{IsNetBack, from_to};

@@ -1,11 +1,12 @@
 -- The session of a message that was signed with a table, as it stands at its end.
 use Rattle.std.proofs.Common.{◌≡◌, ℕ, List, Option, Some, None, Result, Ok, Err, IfErr, IfSome, IsTrue, is_some, refl, sym, ap, ◌∙◌}
+use Rattle.aggregator_session.specs.Desks.{DeskState}
 use Rattle.aggregator_session.specs.Runs.{CellsRead}
 use Rattle.aggregator_session.specs.declared.fault.SignFault.{SignFault}
 use Rattle.aggregator_session.specs.declared.fault.SignFault.TheVariants as fault
 use Rattle.leaf_table.specs.declared.faults.TableFault.TheVariants as table
 use Rattle.aggregator_session.specs.Ended.{last_of, last_on}
-use Rattle.aggregator_session.specs.Signing.{DeskState, RunsOn, Signature, SignsLeased, not_started, ran, signed_with}
+use Rattle.aggregator_session.specs.Signing.{RunsOn, Signature, SignsLeased, ToSign, not_started, ran, signed_with}
 use Rattle.aggregator_session.specs.Signing as signing
 use Rattle.aggregator_session.specs.Tables.{TableSeen}
 use Rattle.session_core.specs.State.{State}
@@ -24,7 +25,7 @@ use Rattle.tool_base.specs.Loads.{FailsToLoad}
 use Rattle.tool_base.specs.Loads as loads
 use Rattle.tool_sign.specs.Ended.{last_in}
 use Rattle.tool_sign.specs.Faults.{end_of_fault}
-use Rattle.tool_sign.specs.Ports.{NetRun, Signing, answer_of}
+use Rattle.tool_sign.specs.Ports.{NetRun, Signing, answer_of, sign_of}
 use Rattle.tool_sign.specs.Sessions.{answer_by}
 use Rattle.tool_sign.specs.Signs.{SignedTable, TableEnds}
 use Rattle.tool_sign.specs.Signs as signs
@@ -65,12 +66,12 @@ with-session : (leaf : ℕ) (result : Result (List ℕ) SignFault) (f : SessionF
 with-session leaf (Ok bytes) f is = absurd (cc)
 with-session leaf (Err why) f is = let same : why ≡ fault.Session f = cc in ap failed_with same
 
-begun-of : (desk : DeskState) (reads : CellsRead) (members message : List ℕ) (before after : TableSeen) (port now : PortState) (result : Result Signature SignFault) (f : SessionFault)
-    → result ≡ Err (fault.Session f) → (signs : SignsLeased desk reads members message before port after now result) → IsTrue (is_some (last_of signs))
-begun-of desk reads members message before _ port _ _ f is (signing.too_long long same) = absurd (cc)
-begun-of desk reads members message before _ port _ _ f is (signing.not_leased after why short same asks) = absurd (cc)
-begun-of desk reads members message before _ port _ _ f is (signing.leased leaf mid after now result short asks runs spends) =
-    begun-on desk reads leaf message port now result f (with-session leaf result f is) runs
+begun-of : (sign : ToSign) (before after : TableSeen) (port now : PortState) (result : Result Signature SignFault) (f : SessionFault)
+    → result ≡ Err (fault.Session f) → (signs : SignsLeased sign before port after now result) → IsTrue (is_some (last_of signs))
+begun-of sign before _ port _ _ f is (signing.too_long long same) = absurd (cc)
+begun-of sign before _ port _ _ f is (signing.not_leased after why short same asks) = absurd (cc)
+begun-of sign before _ port _ _ f is (signing.leased leaf mid after now result short asks runs spends) =
+    begun-on sign.desk sign.reads leaf sign.message port now result f (with-session leaf result f is) runs
 
 -- the session is of the desk that it was started with
 desk-on : (desk : DeskState) (reads : CellsRead) (leaf : ℕ) (message : List ℕ) (port now : PortState) (result : Result (List ℕ) SignFault) (runs : RunsOn desk reads leaf message port now result)
@@ -80,11 +81,11 @@ desk-on desk reads leaf message port _ _ (ran after end result run ends) last is
     let same : end ≡ last = cc in
     record { key = ap (λ (s : State). s.key) (sym same) ∙ run.same.key; plan = ap (λ (s : State). s.plan) (sym same) ∙ run.same.plan }
 
-desk-of : (desk : DeskState) (reads : CellsRead) (members message : List ℕ) (before after : TableSeen) (port now : PortState) (result : Result Signature SignFault)
-    (signs : SignsLeased desk reads members message before port after now result) (last : State) → last_of signs ≡ Some last → IsOfDesk desk last
-desk-of desk reads members message before _ port _ _ (signing.too_long long same) last is = absurd (cc)
-desk-of desk reads members message before _ port _ _ (signing.not_leased after why short same asks) last is = absurd (cc)
-desk-of desk reads members message before _ port _ _ (signing.leased leaf mid after now result short asks runs spends) last is = desk-on desk reads leaf message port now result runs last is
+desk-of : (sign : ToSign) (before after : TableSeen) (port now : PortState) (result : Result Signature SignFault)
+    (signs : SignsLeased sign before port after now result) (last : State) → last_of signs ≡ Some last → IsOfDesk sign.desk last
+desk-of sign before _ port _ _ (signing.too_long long same) last is = absurd (cc)
+desk-of sign before _ port _ _ (signing.not_leased after why short same asks) last is = absurd (cc)
+desk-of sign before _ port _ _ (signing.leased leaf mid after now result short asks runs spends) last is = desk-on sign.desk sign.reads leaf sign.message port now result runs last is
 
 module _ (s : Signing) (name : List ℕ) (store : StoreRun) (net : NetRun) where
   other-status : (header : Header) (count : ℕ) (end : Ending) → FailsToLoad header count store name end → status_of end ≡ 8 → ⊥
@@ -95,7 +96,7 @@ module _ (s : Signing) (name : List ℕ) (store : StoreRun) (net : NetRun) where
 
   fault-begun : (f : SignFault) → IsOfSession f → (signed : SignedTable s name store net (Err f)) → IsTrue (is_some (last_of signed.over.signs))
   fault-begun _ (of_session f) signed =
-      begun-of s.desk s.reads s.members s.message signed.old signed.new signed.over.port signed.over.done (Err (fault.Session f)) f refl signed.over.signs
+      begun-of (sign_of s) signed.old signed.new signed.over.port signed.over.done (Err (fault.Session f)) f refl signed.over.signs
 
   outcome-begun : (end : Ending) → status_of end ≡ 8 → (outcome : Result Signature SignFault) → answer_of outcome ≡ Err end → (signed : SignedTable s name store net outcome)
       → IsTrue (is_some (last_of signed.over.signs))
@@ -120,7 +121,7 @@ module _ (s : Signing) (name : List ℕ) (store : StoreRun) (net : NetRun) where
   desk_is _ _ (signs.not_loaded end idle fails stays) last is = absurd (cc)
   desk_is _ _ (signs.no_port entries idle reads rose never stays) last is = absurd (cc)
   desk_is _ _ (signs.signed outcome signed) last is =
-      desk-of s.desk s.reads s.members s.message signed.old signed.new signed.over.port signed.over.done outcome signed.over.signs last is
+      desk-of (sign_of s) signed.old signed.new signed.over.port signed.over.done outcome signed.over.signs last is
 
   -- commitments that go with the reference go with the session
   pub session_fits : {V : Type 0} (answer : Result Signature Ending) (touched : List (List ℕ)) (ends : TableEnds s name store net answer touched) (session : Option State) → session ≡ last_in ends

@@ -1,8 +1,9 @@
 -- What each command has found by the time that it ends, over a store that tells its content.
 use Rattle.std.proofs.Common.{◌≡◌, ◌⊎◌, ℕ, Bool, List, [], ◌∷◌, Option, Some, Result, Ok, Err, IsTrue, is_some, refl, sym, ap, subst, inl, inr}
 use Rattle.std.proofs.lemmas.List.Elements.{All-cons, All-nil}
+use Rattle.aggregator_session.specs.Desks.{DeskState}
 use Rattle.aggregator_session.specs.Runs.{CellsRead}
-use Rattle.aggregator_session.specs.Signing.{DeskState, Signature}
+use Rattle.aggregator_session.specs.Signing.{Signature}
 use Rattle.lms_bytes.specs.PublicKey.{public_bytes}
 use Rattle.session_core.specs.State.{State}
 use Rattle.share_files.specs.declared.reference.RefHeader.{RefHeader}

@@ -1,6 +1,6 @@
 -- What a command that served was run with, and that the net offers its place.
+use Rattle.aggregator_session.specs.Desks.{DeskState}
 use Rattle.std.proofs.Common.{◌≡◌, ℕ, List, Option, Some, IsTrue, subst}
-use Rattle.aggregator_session.specs.Signing.{DeskState}
 use Rattle.share_files.specs.declared.reference.RefHeader.{RefHeader}
 use Rattle.slot_file.specs.declared.header.Header.{Header}
 use Rattle.tool_aggregate.specs.Aggregate.{AggregateEnds}

@@ -1,6 +1,7 @@
 -- Which count rose, by the end of the command.
 use Rattle.std.proofs.Common.{◌≡◌, ◌⊎◌, inl, inr, ◌+◌, ◌-◌, ◌^◌, ◌≤◌, min, ℕ, Bool, true, false, List, [], Option, Result, Ok, Err, IfErr, refl, sym, ap, ◌∙◌, subst, arith}
 use Rattle.std.proofs.lemmas.Bool.{false≢true}
+use Rattle.aggregator_session.specs.Desks.{DeskState}
 use Rattle.aggregator_session.specs.Faults.{LostBy}
 use Rattle.aggregator_session.specs.Runs.{CellsRead}
 use Rattle.aggregator_session.specs.declared.fault.SignFault.{SignFault}
@@ -9,7 +10,7 @@ use Rattle.aggregator_session.specs.declared.fault.Why.TheVariants.{DialFailed, 
 use Rattle.disk_trait.specs.Faults.{Rose}
 use Rattle.leaf_table.specs.declared.faults.TableFault.{TableFault}
 use Rattle.leaf_table.specs.declared.faults.TableFault.TheVariants as table
-use Rattle.aggregator_session.specs.Signing.{DeskState, IsEnd, RunsOn, Signature, SignsLeased, not_started, ran, signed_with}
+use Rattle.aggregator_session.specs.Signing.{IsEnd, RunsOn, Signature, SignsLeased, not_started, ran, signed_with}
 use Rattle.aggregator_session.specs.Signing as signing
 use Rattle.aggregator_session.specs.Tables.{TableSeen}
 use Rattle.share_files.specs.declared.reference.RefHeader.{RefHeader}
@@ -32,7 +33,7 @@ use Rattle.tool_base.specs.Loads as loads
 use Rattle.tool_base.specs.Touched.{DeviceRose}
 use Rattle.slot_file.specs.declared.header.Header.{Header}
 use Rattle.tool_sign.specs.Faults.{end_of_fault}
-use Rattle.tool_sign.specs.Ports.{NetRun, SignedOver, Signing, answer_of}
+use Rattle.tool_sign.specs.Ports.{NetRun, SignedOver, Signing, answer_of, sign_of}
 use Rattle.tool_sign.specs.Sessions.{SessionEnds}
 use Rattle.tool_sign.specs.Sessions as sessions
 use Rattle.tool_sign.specs.Sign.{SignEnds, SigningRun, session_words}
@@ -94,7 +95,7 @@ with-fault leaf (Ok bytes) f is = absurd (cc)
 with-fault leaf (Err why) f is = let same : why ≡ f = cc in ap failed_with same
 
 device-count : (s : Signing) (old new : TableSeen) (port done : PortState) (outcome : Result Signature SignFault) → outcome ≡ Err (fault.Table table.Device)
-    → SignsLeased s.desk s.reads s.members s.message old port new done outcome → Rose old.faults new.faults
+    → SignsLeased (sign_of s) old port new done outcome → Rose old.faults new.faults
 device-count s old new port done _ is (signing.too_long long unread) = absurd (cc)
 device-count s old new port done _ is (signing.not_leased after f short unread asks) = let same : f ≡ table.Device = cc in asks.entered.cause.failed (ap no_leaf same)
 device-count s old new port done _ is (signing.leased leaf mid after now result short asks runs spends) =

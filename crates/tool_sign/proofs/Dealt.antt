@@ -1,13 +1,12 @@
 -- Sessions over what a dealer made: what they sign.
 use Rattle.std.proofs.Common.{◌≡◌, ℕ, Bool, true, false, List, Option, Some, Result, Ok, if◌then◌else◌, refl, sym, ap, ◌∙◌}
+use Rattle.aggregator_session.specs.Desks.{DeskState}
 use Rattle.aggregator_session.specs.Hearing.{kept_in}
-use Rattle.aggregator_session.specs.Runs.{CellsRead, HasRun, SameSession, Second, SignRun, second_all, second_answered, second_lost, second_refused, second_unread, signed}
+use Rattle.aggregator_session.specs.Runs.{CellsRead, HasRun, SameSession, Second, SecondFrames, SignRun, second_all, second_answered, second_frames, second_lost, second_refused, second_unread, signed}
 use Rattle.aggregator_session.specs.Runs as runs
-use Rattle.aggregator_session.specs.declared.desk.Address.{Address}
 use Rattle.aggregator_session.specs.declared.fault.SignFault.{SignFault}
 use Rattle.lms_bytes.specs.declared.public_key.PublicKey.{PublicKey}
 use Rattle.lms_verify.specs.UndividedKey.{UndividedKey, rfc_signature}
-use Rattle.merkle_path.specs.Tree.{TreeNodes}
 use Rattle.reference_value.specs.Dealing.{Dealing, leaf_randomizer}
 use Rattle.round_frames.specs.Replies.{Reply}
 use Rattle.session_core.specs.Dealing.{FirstMasks, IsAnswered, IsOfDealing}
@@ -41,16 +40,16 @@ delivered s c reply some =
     let with : with_seats s seats ≡ record s { second = seats } = rw some refl in
     which s (answers s reply.0 reply.1) (is_filled (seat_of (seats_of s) reply.0.member)) (with_seats s seats) (with ∙ ap (λ (x : State). apart s x) (sym with))
 
-second-apart : (told : Bool) (leaves : List ℕ) (turned : State) (message : List ℕ) (s : State) (members : List ℕ) (olds news : List Talk) (last : State) (end : Result (Unit {0}) SignFault)
-    → Second told leaves turned message s members olds news last end → (c : List ℕ) → s.c ≡ Some c → last ≡ apart s last
-second-apart told leaves turned message s members olds news last end (second_all x) c some = refl
-second-apart told leaves turned message s members olds news last end (second_unread x member rest o) c some = refl
-second-apart told leaves turned message s members olds news last end (second_lost x member rest ask old new o f framed asks) c some = refl
-second-apart told leaves turned message s members olds news last end (second_refused x member rest ask old new o reply framed asks refused) c some = delivered x c reply some
-second-apart told leaves turned message s members olds news last end (second_answered x y member rest ask old new o n reply e framed asks granted next) c some =
+second-apart : (frames : SecondFrames) (s : State) (members : List ℕ) (olds news : List Talk) (last : State) (end : Result (Unit {0}) SignFault)
+    → Second frames s members olds news last end → (c : List ℕ) → s.c ≡ Some c → last ≡ apart s last
+second-apart frames s members olds news last end (second_all x) c some = refl
+second-apart frames s members olds news last end (second_unread x member rest o) c some = refl
+second-apart frames s members olds news last end (second_lost x member rest ask old new o f framed asks) c some = refl
+second-apart frames s members olds news last end (second_refused x member rest ask old new o reply framed asks refused) c some = delivered x c reply some
+second-apart frames s members olds news last end (second_answered x y member rest ask old new o n reply e framed asks granted next) c some =
     let one = delivered x c reply some in
     let still : (kept_in x (Ok reply)).c ≡ Some c = ap (λ (z : State). z.c) one ∙ some in
-    same-then x (kept_in x (Ok reply)) y one (second-apart told leaves turned message (kept_in x (Ok reply)) rest o n y e next c still)
+    same-then x (kept_in x (Ok reply)) y one (second-apart frames (kept_in x (Ok reply)) rest o n y e next c still)
 
 of-dealing : (d : Dealing) (key : UndividedKey) (s other : State) → other.key ≡ s.key → other.plan ≡ s.plan → IsOfDealing d key s → IsOfDealing d key other
 of-dealing d key s other same plan of = record {
@@ -70,26 +69,26 @@ first-masks d s other first leaf masks = rw (first, leaf) masks
 abbrev some_of : List ℕ → Option (List ℕ)
 some_of c = Some c
 
-sign-dealt : (d : Dealing) (key : UndividedKey) (addresses : List Address) (tree : TreeNodes) (reads : CellsRead) (message : List ℕ) (port : PortState) (s : State) (talks : List Talk) (last : State)
-    (result : Result (List ℕ) SignFault) → SignRun addresses tree reads message port s talks last result → SameSession s last → IsDealt d key reads tree message s last
+sign-dealt : (d : Dealing) (key : UndividedKey) (desk : DeskState) (reads : CellsRead) (message : List ℕ) (port : PortState) (s : State) (talks : List Talk) (last : State)
+    (result : Result (List ℕ) SignFault) → SignRun desk reads message port s talks last result → SameSession s last → IsDealt d key reads desk.tree message s last
     → (bytes : List ℕ) → result ≡ Ok bytes → bytes ≡ rfc_signature key s.leaf (leaf_randomizer d s.leaf) message
-sign-dealt d key addresses tree reads message port s talks last _ runs.no_memory same dealt bytes is = absurd (cc)
-sign-dealt d key addresses tree reads message port s talks last _ (runs.lost_in_one t kept fault run) same dealt bytes is = absurd (cc)
-sign-dealt d key addresses tree reads message port s talks last _ (runs.judged_in_one t kept fault run stops) same dealt bytes is = absurd (cc)
-sign-dealt d key addresses tree reads message port s talks last _ (runs.lost_in_two mids t turn kept fault opens run) same dealt bytes is = absurd (cc)
-sign-dealt d key addresses tree reads message port s talks last _ (runs.judged_in_two mids t turn kept fault opens run fails) same dealt bytes is = absurd (cc)
-sign-dealt d key addresses tree reads message port s talks last _ (signed mids t turn kept got opens run signs) same dealt bytes is =
+sign-dealt d key desk reads message port s talks last _ runs.no_memory same dealt bytes is = absurd (cc)
+sign-dealt d key desk reads message port s talks last _ (runs.lost_in_one t kept fault run) same dealt bytes is = absurd (cc)
+sign-dealt d key desk reads message port s talks last _ (runs.judged_in_one t kept fault run stops) same dealt bytes is = absurd (cc)
+sign-dealt d key desk reads message port s talks last _ (runs.lost_in_two mids t turn kept fault opens run) same dealt bytes is = absurd (cc)
+sign-dealt d key desk reads message port s talks last _ (runs.judged_in_two mids t turn kept fault opens run fails) same dealt bytes is = absurd (cc)
+sign-dealt d key desk reads message port s talks last _ (signed mids t turn kept got opens run signs) same dealt bytes is =
     let one : got ≡ bytes = cc in
     let c = opens.turns.c in
     let some : turn.c ≡ Some c = ap (λ (x : State). x.c) opens.turns.same in
-    let whole : kept ≡ apart turn kept = second-apart reads.told reads.leaves turn message turn _ mids t kept (Ok tt) run c some in
+    let whole : kept ≡ apart turn kept = second-apart (second_frames reads turn message) turn _ mids t kept (Ok tt) run c some in
     let joined_is : kept ≡ apart (turned opens.kept c) kept = whole ∙ ap (λ (x : State). record x { second = kept.second }) opens.turns.same in
     let first : opens.kept.first ≡ kept.first = sym (ap (λ (x : State). x.first) joined_is) in
     let leaf : opens.kept.leaf ≡ kept.leaf = sym (ap (λ (x : State). x.leaf) joined_is) in
     let of = of-dealing d key s opens.kept (sym (ap (λ (x : State). x.key) joined_is) ∙ same.key) (sym (ap (λ (x : State). x.plan) joined_is) ∙ same.plan) dealt.dealing in
     let joined = opens.dealt dealt.told d key dealt.leaves_are of (first-masks d kept opens.kept first leaf dealt.first) in
     let c_is : kept.c ≡ Some (leaf_randomizer d kept.leaf) = ap (λ (x : State). x.c) whole ∙ ap (λ (x : State). x.c) joined ∙ ap (λ (q : ℕ). some_of (leaf_randomizer d q)) leaf in
-    let answered : IsAnswered d key kept (digest_of kept message) reads.leaves tree = record {
+    let answered : IsAnswered d key kept (digest_of kept message) reads.leaves desk.tree = record {
       dealing = of-dealing d key s kept same.key same.plan dealt.dealing;
       leaves_are = dealt.leaves_are;
       tree_is = dealt.tree_is;
@@ -98,7 +97,7 @@ sign-dealt d key addresses tree reads message port s talks last _ (signed mids t
     } in
     sym one ∙ signs.dealt dealt.told d key answered ∙ ap (λ (q : ℕ). rfc_signature key q (leaf_randomizer d q) message) same.leaf
 
-pub dealt-signature : (d : Dealing) (key : UndividedKey) (addresses : List Address) (tree : TreeNodes) (reads : CellsRead) (message : List ℕ) (before now : PortState) (s last : State) (bytes : List ℕ)
-    → HasRun addresses tree reads message before now s last (Ok bytes) → IsDealt d key reads tree message s last → bytes ≡ rfc_signature key s.leaf (leaf_randomizer d s.leaf) message
-dealt-signature d key addresses tree reads message before now s last bytes has dealt =
-    sign-dealt d key addresses tree reads message before s has.talks last (Ok bytes) has.run has.same dealt bytes refl
+pub dealt-signature : (d : Dealing) (key : UndividedKey) (desk : DeskState) (reads : CellsRead) (message : List ℕ) (before now : PortState) (s last : State) (bytes : List ℕ)
+    → HasRun desk reads message before now s last (Ok bytes) → IsDealt d key reads desk.tree message s last → bytes ≡ rfc_signature key s.leaf (leaf_randomizer d s.leaf) message
+dealt-signature d key desk reads message before now s last bytes has dealt =
+    sign-dealt d key desk reads message before s has.talks last (Ok bytes) has.run has.same dealt bytes refl

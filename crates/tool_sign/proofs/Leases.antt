@@ -25,7 +25,7 @@ use Rattle.slot_file.specs.declared.slot.Slot.TheVariants.{Full}
 use Rattle.stream_io.specs.Net.{PortState}
 use Rattle.tool_base.specs.World.{StoreRun}
 use Rattle.tool_sign.specs.Leases.{AllLeave, IsBurntIn, IsLeasedIn, LeaseIsLeft, leased, not_leased, too_long}
-use Rattle.tool_sign.specs.Ports.{Signing}
+use Rattle.tool_sign.specs.Ports.{Signing, sign_of}
 use Rattle.tool_sign.specs.Tables.{LeavesTable, table_header}
 
 settled-none : (state settled : TableState) → SettlesTo state settled → settled.doubt ≡ None
@@ -120,7 +120,7 @@ all-leave store name header plan state Is leaves every = record {
 module _ (s : Signing) (table : List ℕ) (store : StoreRun) where
   pub lease-of : (old new : TableSeen) (port done : PortState) (outcome : Result Signature SignFault) → old.name.plan ≡ s.desk.plan
       → LeavesTable store table (table_header s.desk.key) s.desk.plan new.state → min (store.before.disk_count + new.faults) (2 ^ 64 - 1) ≤ store.after.disk_count
-      → SignsLeased s.desk s.reads s.members s.message old port new done outcome → LeaseIsLeft s table store outcome
+      → SignsLeased (sign_of s) old port new done outcome → LeaseIsLeft s table store outcome
   lease-of old new port done _ plan leaves rise (signing.too_long long unread) = too_long _
   lease-of old new port done _ plan leaves rise (signing.not_leased after fault short unread asks) = not_leased fault
   lease-of old new port done _ plan leaves rise (signing.leased leaf mid after now result short asks runs spends) =

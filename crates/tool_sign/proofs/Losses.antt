@@ -1,5 +1,6 @@
 -- What a lost member comes from.
 use Rattle.std.proofs.Common.{◌≡◌, ◌⊎◌, ◌≤◌, inl, inr, ℕ, List, [], length, IsTrue, Option, Result, Ok, Err, IfErr, refl, ap, subst, arith}
+use Rattle.aggregator_session.specs.Desks.{DeskState}
 use Rattle.aggregator_session.specs.Runs.{CellsRead}
 use Rattle.aggregator_session.specs.declared.fault.SignFault.{SignFault}
 use Rattle.aggregator_session.specs.declared.fault.SignFault.TheVariants as fault
@@ -7,7 +8,7 @@ use Rattle.aggregator_session.specs.declared.fault.Why.{Why}
 use Rattle.aggregator_session.specs.declared.fault.Why.TheVariants.{DialFailed, Ended, Garbled, NoAddress, ReadFailed, WriteFailed}
 use Rattle.disk_trait.specs.Faults.{Rose}
 use Rattle.leaf_table.specs.declared.faults.TableFault.TheVariants as table
-use Rattle.aggregator_session.specs.Signing.{DeskState, IsEnd, RunsOn, Signature, SignsLeased, not_started, ran, signed_with}
+use Rattle.aggregator_session.specs.Signing.{IsEnd, RunsOn, Signature, SignsLeased, not_started, ran, signed_with}
 use Rattle.aggregator_session.specs.Signing as signing
 use Rattle.aggregator_session.specs.Tables.{TableSeen}
 use Rattle.session_core.specs.declared.faults.SessionFault.TheVariants as session
@@ -32,7 +33,7 @@ use Rattle.tool_base.specs.Loads as loads
 use Rattle.tool_sign.proofs.Causes.{links-rose, with-fault}
 use Rattle.tool_sign.specs.Faults.{end_of_fault}
 use Rattle.tool_sign.specs.Lost.{IsOfPeer, IsUnfailed, LosesMember, LosesPeer, longest_asks}
-use Rattle.tool_sign.specs.Ports.{NetRun, SignedOver, Signing, answer_of}
+use Rattle.tool_sign.specs.Ports.{NetRun, SignedOver, Signing, answer_of, sign_of}
 use Rattle.tool_sign.specs.Sessions.{SessionEnds}
 use Rattle.tool_sign.specs.Sessions as sessions
 use Rattle.tool_sign.specs.Sign.{SignEnds, SigningRun, session_words}
@@ -85,7 +86,7 @@ module _ (member round : ℕ) where
   run-misses desk reads leaf message port _ _ (ran after last result run ends) is = subst (λ (r : Result (List ℕ) SignFault). IfErr r (IsEnd leaf)) is ends
 
   leased-misses : (s : Signing) (old new : TableSeen) (port done : PortState) (outcome : Result Signature SignFault) → outcome ≡ Err (fault.Session (session.Missing member round))
-      → SignsLeased s.desk s.reads s.members s.message old port new done outcome → ⊥
+      → SignsLeased (sign_of s) old port new done outcome → ⊥
   leased-misses s old new port done _ is (signing.too_long long unread) = absurd (cc)
   leased-misses s old new port done _ is (signing.not_leased after f short unread asks) = absurd (cc)
   leased-misses s old new port done _ is (signing.leased leaf mid after now result short asks runs spends) =
@@ -197,7 +198,7 @@ module _ (member round : ℕ) where
 module _ (member round : ℕ) (asked : SessionWords) (store : StoreRun) (source : MessageSource) (net : NetRun) (steady : IsTrue net.before.steady) (room : longest_asks ≤ net.before.room) where
   -- a session that lost a member has a message of which an ask can be made
   short-of : (s : Signing) (old new : TableSeen) (port done : PortState) (why : Why) (outcome : Result Signature SignFault) → outcome ≡ lost_with member round why
-      → SignsLeased s.desk s.reads s.members s.message old port new done outcome → length s.message ≤ 16777216
+      → SignsLeased (sign_of s) old port new done outcome → length s.message ≤ 16777216
   short-of s old new port done why _ is (signing.too_long long unread) = absurd (cc)
   short-of s old new port done why _ is (signing.not_leased after f short unread asks) = short
   short-of s old new port done why _ is (signing.leased leaf mid after now result short asks runs spends) = short

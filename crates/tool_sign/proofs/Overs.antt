@@ -14,7 +14,7 @@ use Rattle.stream_io.specs.Store.{RisesWhere}
 use Rattle.tool_base.specs.Ending as ending
 use Rattle.tool_base.specs.Ending.{Ending}
 use Rattle.tool_sign.specs.Ended.{NetTo, last_over}
-use Rattle.tool_sign.specs.Ports.{IsIdle, IsUnread, NetRun, Signing, SignedOver, answer_of, no_memory, no_port, over_net, signed}
+use Rattle.tool_sign.specs.Ports.{IsIdle, IsUnread, NetRun, SignedOver, Signing, answer_of, no_memory, no_port, over_net, sign_of, signed}
 
 module _ {P : Type 0} (f : P → PortState) where
   none-one : length (map f []) ≡ 1 → ⊥
@@ -82,7 +82,7 @@ module _ (signing : Signing) (old new : TableSeen) (a b c : NetState) (port done
   -- what was signed over the port, which was made and came back
   pub over_one : (made returned : List PortState) (outcome : Result Signature SignFault) (session : Option State) → made ≡ port ∷ [] → returned ≡ done ∷ [] → MakesPorts a None 1 made b → Gathers b returned c
       → b.told ≡ a.told → b.count ≡ a.count → b.port_count ≡ a.port_count
-      → LeasedTo signing.desk signing.reads signing.members signing.message old port new done outcome session
+      → LeasedTo (sign_of signing) old port new done outcome session
       → IfOk outcome (λ signature. AcceptsAt signing.desk.key signing.message signature.bytes signature.leaf) → PortCauses signing.message port done outcome → IsUnread signing outcome
       → SignedTo outcome session
   over_one made returned outcome session is back makes gathers told count port_count leased accepted causes unread =

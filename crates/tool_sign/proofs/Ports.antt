@@ -1,11 +1,12 @@
 -- What a session says of a port and of the reference, by its outcome.
 use Rattle.std.proofs.Common.{◌≡◌, ℕ, List, IfOk, Result, Ok, Err, ap}
+use Rattle.aggregator_session.specs.Desks.{DeskState}
 use Rattle.aggregator_session.specs.Runs.{reads_of}
 use Rattle.aggregator_session.specs.declared.fault.SignFault.{SignFault}
 use Rattle.aggregator_session.specs.declared.fault.SignFault.TheVariants.{Session}
 use Rattle.disk_trait.specs.declared.faults.Faults as faults
 use Rattle.aggregator_session.specs.Causes.{PortCauses, ReferenceCauses}
-use Rattle.aggregator_session.specs.Signing.{DeskState, signature_in}
+use Rattle.aggregator_session.specs.Signing.{signature_in}
 use Rattle.aggregator_session.specs.declared.sign.Signed.{Signed}
 use Rattle.lms_bytes.specs.declared.public_key.PublicKey.{PublicKey}
 use Rattle.lms_verify.specs.Accepts.{AcceptsAt}

@@ -26,7 +26,7 @@ use Rattle.tool_base.specs.Loads.{FailsToLoad}
 use Rattle.tool_base.specs.Loads as loads
 use Rattle.tool_sign.proofs.Causes.{no_leaf, run-table, with-fault}
 use Rattle.tool_sign.specs.Faults.{end_of_fault}
-use Rattle.tool_sign.specs.Ports.{NetRun, Signing, answer_of}
+use Rattle.tool_sign.specs.Ports.{NetRun, Signing, answer_of, sign_of}
 use Rattle.tool_sign.specs.Sessions.{SessionEnds}
 use Rattle.tool_sign.specs.Sessions as sessions
 use Rattle.tool_sign.specs.Sign.{SignEnds, SigningRun, session_words}
@@ -101,7 +101,7 @@ module _ (lacks unoffered : Type 0) where
 
     -- a table that tells its content on a steady disk does not fail
     device-never : (s : Signing) (old new : TableSeen) (port done : PortState) (outcome : Result Signature SignFault) → IsTrue old.name.steady → IsTrue old.name.told
-        → outcome ≡ Err (fault.Table table.Device) → SignsLeased s.desk s.reads s.members s.message old port new done outcome → ⊥
+        → outcome ≡ Err (fault.Table table.Device) → SignsLeased (sign_of s) old port new done outcome → ⊥
     device-never s old new port done _ firm tells is (signing.too_long long unread) = absurd (cc)
     device-never s old new port done _ firm tells is (signing.not_leased after f short unread asks) =
         let same : f ≡ table.Device = cc in asks.entered.succeeds firm tells (ap no_leaf same)

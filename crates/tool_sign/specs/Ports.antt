@@ -1,6 +1,7 @@
 -- A port of a net that only dials, and what was signed over it.
 use Rattle.std.specs.Prelude.{◌≡◌, ◌≢◌, ◌++◌, ◌&&◌, ◌==◌, ℕ, Bool, List, [], ◌∷◌, drop, length, None}
 use Rattle.std.specs.Prelude.{Result, Ok, Err, IfOk, IsTrue}
+use Rattle.aggregator_session.specs.Desks.{DeskState, desk_state}
 use Rattle.aggregator_session.specs.Runs.{CellsRead, reads_of}
 use Rattle.aggregator_session.specs.declared.desk.Desk.{Desk}
 use Rattle.aggregator_session.specs.declared.fault.SignFault.{SignFault}
@@ -10,7 +11,7 @@ use Rattle.disk_trait.specs.Faults.{Rose}
 use Rattle.disk_trait.specs.declared.disk.Pages as pages
 use Rattle.disk_trait.specs.declared.faults.Faults as faults
 use Rattle.aggregator_session.specs.Causes.{PortCauses}
-use Rattle.aggregator_session.specs.Signing.{DeskState, Signature, SignsLeased, desk_state}
+use Rattle.aggregator_session.specs.Signing.{Signature, SignsLeased, ToSign}
 use Rattle.aggregator_session.specs.Tables.{TableSeen}
 use Rattle.lms_bytes.specs.declared.params.Params.{Params}
 use Rattle.lms_verify.specs.Accepts.{AcceptsAt}
@@ -39,6 +40,15 @@ pub record Signing : Type 0 where
   pub exact : Bool
   pub members : List ℕ
   pub message : List ℕ
+
+-- the same as the session's call has it
+abbrev pub sign_of : Signing → ToSign
+sign_of signing = record {
+  desk = signing.desk;
+  reads = signing.reads;
+  members = signing.members;
+  message = signing.message;
+}
 
 -- whether a reference gives what it has whenever it is asked: it tells all leaves, and its calls do not fail
 abbrev pub is_exact : Bool → Bool → List ℕ → Params → PlanNumbers → Bool
@@ -80,7 +90,7 @@ pub record SignedOver (signing : Signing) (old new : TableSeen) (net : NetRun) (
   pub port : PortState
   pub done : PortState
   pub made : IsNewPort net.before None port
-  pub signs : SignsLeased signing.desk signing.reads signing.members signing.message old port new done outcome
+  pub signs : SignsLeased (sign_of signing) old port new done outcome
   pub accepted : IfOk outcome (λ signature. AcceptsAt signing.desk.key signing.message signature.bytes signature.leaf)
   pub dialled : PortCauses signing.message port done outcome
   pub unread : IsUnread signing outcome

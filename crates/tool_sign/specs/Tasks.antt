@@ -1,7 +1,7 @@
 -- What a session signs, by the files that its words name and the message that it is given.
 use Rattle.std.specs.Prelude.{◌≡◌, ◌+◌, ◌-◌, ◌^◌, ◌≤◌, min, map, ℕ, List, Option, IsTrue}
+use Rattle.aggregator_session.specs.Desks.{DeskState}
 use Rattle.aggregator_session.specs.declared.desk.Address.{Address}
-use Rattle.aggregator_session.specs.Signing.{DeskState}
 use Rattle.share_files.specs.Reference.{HasReferenceLayout}
 use Rattle.share_files.specs.declared.reference.RefHeader.{RefHeader}
 use Rattle.tool_base.specs.Ending as ending

@@ -1,14 +1,13 @@
 //! What follows from the definitions. No function here does anything.
 
 ghost use Rattle.std.specs.Prelude.{◌≡◌, ℕ, List, Ok, Result};
+ghost use Rattle.aggregator_session.specs.Desks.{DeskState};
 ghost use Rattle.aggregator_session.specs.Runs.{CellsRead, HasRun};
-ghost use Rattle.aggregator_session.specs.declared.desk.Address.{Address};
 ghost use Rattle.aggregator_session.specs.declared.fault.SignFault.{SignFault};
 ghost use Rattle.disk_trait.specs.Faults.{Rose};
 ghost use Rattle.aggregator_session.specs.Signing.{Signature};
 ghost use Rattle.aggregator_session.specs.Tables.{TableSeen};
 ghost use Rattle.lms_verify.specs.UndividedKey.{UndividedKey, rfc_signature};
-ghost use Rattle.merkle_path.specs.Tree.{TreeNodes};
 ghost use Rattle.reference_value.specs.Dealing.{Dealing, leaf_randomizer};
 ghost use Rattle.session_core.specs.State.{State};
 ghost use Rattle.stream_io.specs.Net.{PortState};
@@ -42,8 +41,8 @@ pub fn causes<S: Store>(before: &S, after: &S)
 /// A signature of a session over what a dealer made is that of the undivided key, for the session's leaf, the dealer's
 /// randomizer and the message.
 pub fn dealt_signature()
-    ensures { (d : Dealing) (key : UndividedKey) (addresses : List Address) (tree : TreeNodes) (reads : CellsRead)
-        (message : List ℕ) (before now : PortState) (s last : State) (bytes : List ℕ)
-        → HasRun addresses tree reads message before now s last (Ok bytes) → IsDealt d key reads tree message s last
+    ensures { (d : Dealing) (key : UndividedKey) (desk : DeskState) (reads : CellsRead) (message : List ℕ)
+        (before now : PortState) (s last : State) (bytes : List ℕ)
+        → HasRun desk reads message before now s last (Ok bytes) → IsDealt d key reads desk.tree message s last
         → bytes ≡ rfc_signature key s.leaf (leaf_randomizer d s.leaf) message }
 {}

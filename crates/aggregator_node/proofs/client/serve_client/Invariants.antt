@@ -1,7 +1,7 @@
+use Rattle.aggregator_session.specs.Desks.{desk_state}
 use Rattle.std.proofs.Common.{◌≡◌, ◌+◌, ◌*◌, ◌≤◌, ℕ, List}
 use Rattle.aggregator_node.specs.Clients.{HasServed, ReferenceState, Request, Serves, Stand, longest_reply}
 use Rattle.aggregator_node.specs.Turns.{IsIdle}
-use Rattle.aggregator_session.specs.Signing.{desk_state}
 use Rattle.reference_value.specs.Stay.{CellsStay}
 use Rattle.trustee_node.specs.declared.served.ServedEnd.{ServedEnd}
 use Rattle.aggregator_node.proofs.client.serve_client.Given as goal

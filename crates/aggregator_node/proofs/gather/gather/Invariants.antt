@@ -1,9 +1,9 @@
+use Rattle.aggregator_session.specs.Desks.{DeskState}
 use Rattle.std.proofs.Common.{◌≡◌, ◌+◌, ◌≤◌, false, ℕ, List, All, vec_len, vec_capacity}
 use Rattle.aggregator_node.specs.Gathered.{AreDone}
 use Rattle.aggregator_node.specs.Ports.{Place, places_of}
 use Rattle.aggregator_node.specs.Workers.{worker_state}
 use Rattle.aggregator_node.proofs.Joining.{InHand}
-use Rattle.aggregator_session.specs.Signing.{DeskState}
 use Rattle.turn_lock.specs.Pass.{first_pass}
 use Rattle.aggregator_node.proofs.gather.gather.Given as goal
 

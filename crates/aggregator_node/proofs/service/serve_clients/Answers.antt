@@ -5,8 +5,7 @@ use Rattle.aggregator_node.proofs.Finishing.{ends-served}
 use Rattle.aggregator_node.proofs.Running.{done-after, idle-after, joined-all, ready-begun}
 use Rattle.aggregator_node.proofs.Standing.{places-many}
 use Rattle.aggregator_node.proofs.Starting.{begun-of}
-use Rattle.aggregator_session.specs.Desks.{ReadsFor}
-use Rattle.aggregator_session.specs.Signing.{desk_state}
+use Rattle.aggregator_session.specs.Desks.{ReadsFor, desk_state}
 use Rattle.trustee_node.proofs.Starting.{fresh-own}
 use Rattle.turn_lock.specs.Pass.{first_pass}
 use Rattle.aggregator_session.specs.Tables.{name_of, table_seen}

@@ -1,7 +1,6 @@
 use Rattle.std.proofs.Common.{refl, arith}
 use Rattle.std.proofs.lemmas.Result.{err_from_is_err_and}
 use Rattle.aggregator_node.specs.Signing.{too_long}
-use Rattle.aggregator_session.specs.Signing.{desk_state}
 use Rattle.aggregator_node.proofs.Showing.{shows}
 use Rattle.aggregator_node.proofs.Signing.{cells-of, leased-as, port-of, refused-as}
 use Rattle.aggregator_session.proofs.Answering.{signed-err, signed-ok}
@@ -35,13 +34,13 @@ returns-clause-signs g c =
 
 pub returns-then-message-clause-shows : goal.returns-then-message-clause-shows
 returns-then-message-clause-shows g c =
-    shows _ (desk_state c.args.desk.now) _ c.args.members c.args.message.now _ _ _ _ _ c.requires.ready.idle.2 (returns-then-message-clause-signs g c)
+    shows _ _ _ _ _ _ _ c.requires.ready.idle.2 (returns-then-message-clause-signs g c)
 
 pub returns-in-Err-clause-shows : goal.returns-in-Err-clause-shows
-returns-in-Err-clause-shows g c = shows _ _ _ _ c.args.message.now _ _ _ _ _ c.requires.ready.idle.2 (returns-in-Err-clause-signs g c)
+returns-in-Err-clause-shows g c = shows _ _ _ _ _ _ _ c.requires.ready.idle.2 (returns-in-Err-clause-signs g c)
 
 pub returns-in_err-outcome-clause-shows : goal.returns-in_err-outcome-clause-shows
-returns-in_err-outcome-clause-shows g c = shows _ _ _ _ c.args.message.now _ _ _ _ _ c.requires.ready.idle.2 (returns-in_err-outcome-clause-signs g c)
+returns-in_err-outcome-clause-shows g c = shows _ _ _ _ _ _ _ c.requires.ready.idle.2 (returns-in_err-outcome-clause-signs g c)
 
 pub returns-clause-shows : goal.returns-clause-shows
-returns-clause-shows g c = shows _ _ _ _ c.args.message.now _ _ _ _ _ c.requires.ready.idle.2 (returns-clause-signs g c)
+returns-clause-shows g c = shows _ _ _ _ _ _ _ c.requires.ready.idle.2 (returns-clause-signs g c)

@@ -1,8 +1,8 @@
+use Rattle.aggregator_session.specs.Desks.{desk_state}
 use Rattle.std.proofs.Common.{true, refl, arith, rules}
 use Rattle.aggregator_node.specs.Ports.{reference_state}
 use Rattle.aggregator_node.specs.Workers.{worker_state}
 use Rattle.aggregator_node.proofs.Working.{accepted-as, link-worn, rises-nowhere, worked-all, worked-refused, working-more, working-none}
-use Rattle.aggregator_session.specs.Signing.{desk_state}
 use Rattle.aggregator_node.proofs.worker.work.Goals as goal
 
 pub loop-init : goal.loop-init

@@ -1,7 +1,7 @@
+use Rattle.aggregator_session.specs.Desks.{desk_state}
 use Rattle.std.proofs.Common.{◌≡◌, false}
 use Rattle.aggregator_node.specs.Workers.{IsReady, worker_state}
 use Rattle.aggregator_node.proofs.Working.{Working}
-use Rattle.aggregator_session.specs.Signing.{desk_state}
 use Rattle.aggregator_node.proofs.worker.work.Given as goal
 
 abbrev pub invariant-loop : goal.invariant-loop

@@ -2,7 +2,7 @@ use Rattle.std.proofs.Common.{◌≡◌, ◌+◌, ◌<◌, ◌≤◌, true, fals
 use Rattle.std.proofs.lemmas.List.{get_or-set_other, length-set}
 use Rattle.std.proofs.lemmas.List.Elements.{All-set}
 use Rattle.std.proofs.lemmas.Result.{err_from_is_err_and}
-use Rattle.aggregator_session.proofs.Frames.{asked-as}
+use Rattle.aggregator_session.proofs.Frames.{asked-as, frames-of}
 use Rattle.aggregator_session.proofs.Rounds.{ok-is, second-done, second-ends, second-more, second-refuses}
 use Rattle.aggregator_session.proofs.Tasks.{lost-as, same-then}
 use Rattle.reference_value.proofs.Staying.{stays-then}
@@ -13,7 +13,7 @@ returns-in_err-ask_once_more-clause-run g c =
     let v = c.members.invariant in
     let talk = g.L.Stream.talk in
     let p = err_from_is_err_and c.from_residual.result c.from_residual.ensures.1 in
-    rw (p.1, p.2) (second-ends talk (g.R.Cells.told c.args.cells.now) (g.R.Cells.leaves c.args.cells.now) c.args.session.now c.args.task.now.message.now c.args.task.now.members.now _ c.members.session c.members.i
+    rw (p.1, p.2) (second-ends talk (frames-of (g.R.Cells.told c.args.cells.now) (g.R.Cells.leaves c.args.cells.now) c.args.session.now c.args.task.now.message.now) c.args.task.now.members.now _ c.members.session c.members.i
     c.members.links.items c.members-test.true v.many v.run 0 c.index_mut.result.now c.ask_once_more.new.link _ c.ask_once_more.new.session c.index_mut.ensures.value refl
     c.ask_once_more.result c.in_err-ask_once_more.field-0.0 (asked-as _ _ _ _ _ v.stays.told v.stays.leaves c.ask_once_more.ensures.asked) v.same c.in_err-ask_once_more.was)
 
@@ -21,7 +21,7 @@ pub returns-then-not-branch-clause-run : goal.returns-then-not-branch-clause-run
 returns-then-not-branch-clause-run g c =
     let v = c.members.invariant in
     let talk = g.L.Stream.talk in
-    second-refuses talk (g.R.Cells.told c.args.cells.now) (g.R.Cells.leaves c.args.cells.now) c.args.session.now c.args.task.now.message.now c.args.task.now.members.now _ c.members.session c.members.i
+    second-refuses talk (frames-of (g.R.Cells.told c.args.cells.now) (g.R.Cells.leaves c.args.cells.now) c.args.session.now c.args.task.now.message.now) c.args.task.now.members.now _ c.members.session c.members.i
     c.members.links.items c.members-test.true v.many v.run 0 c.index_mut.result.now c.ask_once_more.new.link _ c.ask_once_more.new.session c.index_mut.ensures.value refl
     c.ask_once_more.result (asked-as _ _ _ _ _ v.stays.told v.stays.leaves c.ask_once_more.ensures.asked) v.same (ok-is _ _ false c.in_ok-ask_once_more.was c.if-not-branch.true)
 
@@ -33,7 +33,7 @@ members-preserved g c =
     let is_steady = λ (link : _). g.L.Faults.steady link ≡ true in
     let is_wide = λ (link : _). 92 + length c.args.task.now.message.now ≤ g.L.Sink.room link in
     record {
-      run = second-more talk (g.R.Cells.told c.args.cells.now) (g.R.Cells.leaves c.args.cells.now) c.args.session.now c.args.task.now.message.now c.args.task.now.members.now _ c.members.session c.members.i
+      run = second-more talk (frames-of (g.R.Cells.told c.args.cells.now) (g.R.Cells.leaves c.args.cells.now) c.args.session.now c.args.task.now.message.now) c.args.task.now.members.now _ c.members.session c.members.i
           c.members.links.items c.members-test.true v.many v.run 0 c.index_mut.result.now c.ask_once_more.new.link _ c.ask_once_more.new.session c.index_mut.ensures.value refl
           c.ask_once_more.result (asked-as _ _ _ _ _ v.stays.told v.stays.leaves a.asked) v.same (ok-is _ _ true c.in_ok-ask_once_more.was c.if-not-branch.false);
       many = length-set c.members.links.items c.members.i c.ask_once_more.new.link ∙ v.many;
@@ -54,7 +54,7 @@ members-preserved g c =
 pub returns-clause-run : goal.returns-clause-run
 returns-clause-run g c =
     let v = c.members.invariant in
-    second-done g.L.Stream.talk (g.R.Cells.told c.args.cells.now) (g.R.Cells.leaves c.args.cells.now) c.args.session.now c.args.task.now.message.now c.args.task.now.members.now _ c.members.session c.members.i
+    second-done g.L.Stream.talk (frames-of (g.R.Cells.told c.args.cells.now) (g.R.Cells.leaves c.args.cells.now) c.args.session.now c.args.task.now.message.now) c.args.task.now.members.now _ c.members.session c.members.i
     c.members.links.items c.members-test.false v.many v.run
 
 pub returns-in_err-ask_once_more-clause-links : goal.returns-in_err-ask_once_more-clause-links

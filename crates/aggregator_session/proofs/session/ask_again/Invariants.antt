@@ -1,4 +1,5 @@
 use Rattle.std.proofs.Common.{◌≡◌, ◌+◌, ◌<◌, ◌≤◌, ℕ, IsTrue, All, get_or, length, map, take, drop}
+use Rattle.aggregator_session.proofs.Frames.{frames-of}
 use Rattle.aggregator_session.proofs.Rounds.{SecondFrom}
 use Rattle.reference_value.specs.Stay.{CellsStay}
 use Rattle.session_core.specs.State.{SameAsk}
@@ -12,7 +13,7 @@ invariant-members g l =
     let is_steady = λ (link : _). IsTrue (g.L.Faults.steady link) in
     let is_wide = λ (link : _). 92 + length l.task.message.now ≤ g.L.Sink.room link in
     record {
-      run : SecondFrom (cells.told l.fn.cells) (cells.leaves l.fn.cells) l.fn.session l.task.message.now l.task.members.now (map talk l.fn.links.items) l.session
+      run : SecondFrom (frames-of (cells.told l.fn.cells) (cells.leaves l.fn.cells) l.fn.session l.task.message.now) l.task.members.now (map talk l.fn.links.items) l.session
           (drop l.i l.task.members.now) (map talk (drop l.i l.links.items)) (map talk (take l.i l.links.items));
       many : length l.links.items ≡ length l.task.members.now;
       steady : All is_steady l.fn.links.items → All is_steady l.links.items;

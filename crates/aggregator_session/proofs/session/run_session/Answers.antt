@@ -1,57 +1,26 @@
-use Rattle.std.proofs.Common.{[], ◌++◌, List, map, inl, inr, refl, sym, ap, ◌∙◌, arith}
-use Rattle.std.proofs.lemmas.List.{append-nil}
+use Rattle.std.proofs.Common.{◌++◌, List, map, inl, inr, refl, ap, ◌∙◌, arith}
 use Rattle.std.proofs.lemmas.Result.{err_from_is_err_and}
-use Rattle.aggregator_session.specs.Runs.{no_memory}
 use Rattle.aggregator_session.specs.declared.fault.Why.TheVariants.{DialFailed, ReadFailed, WriteFailed}
 use Rattle.aggregator_session.proofs.Counting.{session-counts}
 use Rattle.aggregator_session.proofs.Lasts.{ended-faulty}
+use Rattle.aggregator_session.proofs.Running.{run-none}
 use Rattle.aggregator_session.proofs.Tasks.{bytes-lost, onward-then, rose-later}
 use Rattle.aggregator_session.proofs.session.run_session.Goals as goal
 
 pub returns-in_err-members-clause-ran : goal.returns-in_err-members-clause-ran
 returns-in_err-members-clause-ran g c =
     let p = err_from_is_err_and c.from_residual.result c.from_residual.ensures.1 in
-    rw (p.1, p.2) (record {
-      talks = [];
-      lasts = [];
-      ended = tt;
-      hung_up = λ _. sym (append-nil _);
-      run = no_memory;
-      same = record { key = refl; plan = refl; leaf = refl; message = refl };
-      later = omega arith;
-      rises = λ some. absurd (some refl);
-      counts = record { once = omega arith; same = λ _. omega arith };
-    })
+    rw (p.1, p.2) (run-none _ _ _ _ _ (omega arith))
 
 pub returns-in_err-room-clause-ran : goal.returns-in_err-room-clause-ran
 returns-in_err-room-clause-ran g c =
     let p = err_from_is_err_and c.from_residual-in_err-room.result c.from_residual-in_err-room.ensures.1 in
-    rw (p.1, p.2) (record {
-      talks = [];
-      lasts = [];
-      ended = tt;
-      hung_up = λ _. sym (append-nil _);
-      run = no_memory;
-      same = record { key = refl; plan = refl; leaf = refl; message = refl };
-      later = omega arith;
-      rises = λ some. absurd (some refl);
-      counts = record { once = omega arith; same = λ _. omega arith };
-    })
+    rw (p.1, p.2) (run-none _ _ _ _ _ (omega arith))
 
 pub returns-in_err-links-clause-ran : goal.returns-in_err-links-clause-ran
 returns-in_err-links-clause-ran g c =
     let p = err_from_is_err_and c.from_residual-in_err-links.result c.from_residual-in_err-links.ensures.1 in
-    rw (p.1, p.2) (record {
-      talks = [];
-      lasts = [];
-      ended = tt;
-      hung_up = λ _. sym (append-nil _);
-      run = no_memory;
-      same = record { key = refl; plan = refl; leaf = refl; message = refl };
-      later = omega arith;
-      rises = λ some. absurd (some refl);
-      counts = record { once = omega arith; same = λ _. omega arith };
-    })
+    rw (p.1, p.2) (run-none _ _ _ _ _ (omega arith))
 
 pub returns-clause-ran : goal.returns-clause-ran
 returns-clause-ran g c =
@@ -81,9 +50,9 @@ returns-clause-port g c =
     record {
       dialled = λ lost. (let rose = a.dials.dialled lost in let later = h.onward.count in omega (arith, rose, later));
       unwritten = λ lost. rose-later _ _ _ only.onward.count
-          (h.rises (ended-faulty _ _ h.ended (session-counts WriteFailed (inl refl) _ _ _ _ _ _ _ _ _ a.run lost)));
+          (h.rises (ended-faulty _ _ h.ended (session-counts WriteFailed (inl refl) _ _ _ _ _ _ _ _ a.run lost)));
       unread = λ lost. rose-later _ _ _ only.onward.count
-          (h.rises (ended-faulty _ _ h.ended (session-counts ReadFailed (inr refl) _ _ _ _ _ _ _ _ _ a.run lost)));
+          (h.rises (ended-faulty _ _ h.ended (session-counts ReadFailed (inr refl) _ _ _ _ _ _ _ _ a.run lost)));
       reads = a.dials.reads;
       writes = a.dials.writes;
       onward = onward-then _ _ _ only.onward h.onward;

@@ -1,7 +1,7 @@
+use Rattle.aggregator_session.specs.Desks.{DeskState}
 use Rattle.std.proofs.Common.{◌+◌, ◌∙◌, ℕ, [], length, map, refl, ap, arith}
 use Rattle.std.proofs.lemmas.List.{length-map}
 use Rattle.std.proofs.lemmas.List.Elements.{All-weaker}
-use Rattle.aggregator_session.specs.Signing.{DeskState}
 use Rattle.reference_value.specs.Paged.{pages_of}
 use Rattle.reference_value.specs.declared.paged.Paged.{Paged}
 use Rattle.stream_io.specs.Store.{pages_state}

@@ -1,6 +1,6 @@
 use Rattle.std.proofs.Common.{◌≡◌, ◌++◌, ◌∙◌, map, refl, ap, arith}
 use Rattle.std.proofs.lemmas.List.{length-map}
-use Rattle.aggregator_session.specs.Signing.{desk_state}
+use Rattle.aggregator_session.specs.Desks.{desk_state}
 use Rattle.aggregator_session.specs.Tables.{table_seen}
 use Rattle.tool_base.proofs.Heard.{heard_none}
 use Rattle.tool_base.proofs.Nets.{net_back}

@@ -1,7 +1,7 @@
 use Rattle.std.proofs.Common.{◌≡◌, ◌∷◌, [], Some, refl, ap, ◌∙◌, subst}
 use Rattle.std.proofs.lemmas.List.Elements.{All-nil}
 use Rattle.leaf_table.specs.Loaded.{IsLoaded}
-use Rattle.aggregator_session.specs.Signing.{desk_state}
+use Rattle.aggregator_session.specs.Desks.{desk_state}
 use Rattle.aggregator_session.specs.Tables.{table_seen}
 use Rattle.tool_base.specs.World.{IsUnchanged, from_to}
 use Rattle.tool_base.specs.Disks.{Stays}
