@@ -1,5 +1,5 @@
 -- Links of a port that tells its content tell their bytes.
-use Rattle.std.proofs.Common.{◌≡◌, ◌++◌, Bool, ℕ, List, [], ◌∷◌, IsTrue, Result, Ok, ◌∙◌}
+use Rattle.std.proofs.Common.{◌≡◌, ◌++◌, ℕ, List, [], ◌∷◌, IsTrue, Result, Ok, ◌∙◌}
 use Rattle.aggregator_session.specs.Desks.{DeskState}
 use Rattle.aggregator_session.specs.Hearing.{Asked, awaited, kept_in, unwritten}
 use Rattle.aggregator_session.specs.Runs.{Calls, CellsRead, First, Second, SecondFrames, SignRun, dialled, first_all, first_answered, first_lost, first_refused, judged_in_one, judged_in_two, lost_in_one, lost_in_two, no_memory, nowhere, second_all, second_answered, second_lost, second_refused, second_unread, signed, undialled}

@@ -1,5 +1,5 @@
 -- What is written, ask by ask.
-use Rattle.std.proofs.Common.{◌≡◌, ◌≤◌, ◌+◌, ◌-◌, ◌++◌, ◌^◌, Bool, ℕ, zero, suc, List, [], ◌∷◌, length, min, take, IsTrue, Result, Ok, refl, sym, ap, ◌∙◌, arith, inl, inr, take_all}
+use Rattle.std.proofs.Common.{◌≡◌, ◌≤◌, ◌+◌, ◌-◌, ◌++◌, ◌^◌, ℕ, zero, suc, List, [], ◌∷◌, length, min, take, IsTrue, Result, Ok, refl, sym, ap, ◌∙◌, arith, inl, inr, take_all}
 use Rattle.aggregator_session.specs.Desks.{DeskState}
 use Rattle.aggregator_session.specs.Hearing.{Asked, awaited, kept_in, unwritten}
 use Rattle.aggregator_session.specs.Runs.{Calls, CellsRead, First, IsSecondFrame, Opens, Second, SecondFrames, SignRun, dialled, first_all, first_answered, first_frame, first_lost, first_refused, judged_in_one, judged_in_two, lost_in_one, lost_in_two, no_memory, nowhere, second_all, second_answered, second_frames, second_lost, second_refused, second_unread, signed, undialled}

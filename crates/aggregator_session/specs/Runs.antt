@@ -211,7 +211,8 @@ pub data SignRun (desk : DeskState) (reads : CellsRead) (message : List ℕ) (po
   judged_in_two : (mids talks : List Talk) (turned kept : State) (fault : SessionFault)
       → Opens desk.addresses reads port s turned mids
       → Second (second_frames reads turned message) turned (leaf_members s.plan s.leaf) mids talks kept (Ok tt)
-      → FinishFails kept message reads.told (joined_bytes kept reads.leaves desk.tree message) reads.before reads.now fault
+      → FinishFails kept message reads.told
+      (joined_bytes kept reads.leaves desk.tree message) reads.before reads.now fault
       → SignRun desk reads message port s talks kept (Err (sign_fault fault))
   signed : (mids talks : List Talk) (turned kept : State) (bytes : List ℕ)
       → Opens desk.addresses reads port s turned mids

@@ -114,8 +114,8 @@ pub data SignsLeased (sign : ToSign) (before : TableSeen) (port : PortState)
     : TableSeen → PortState → Result Signature SignFault → Type 0 where
   too_long : 16777216 < length sign.message → sign.reads.now ≡ sign.reads.before
       → SignsLeased sign before port before port (Err (TooLong (length sign.message)))
-  not_leased : (after : TableSeen) (fault : TableFault) → length sign.message ≤ 16777216 → sign.reads.now ≡ sign.reads.before
-      → AsksLeaf before sign.members (message_id sign.message) (Err fault) after
+  not_leased : (after : TableSeen) (fault : TableFault) → length sign.message ≤ 16777216
+      → sign.reads.now ≡ sign.reads.before → AsksLeaf before sign.members (message_id sign.message) (Err fault) after
       → SignsLeased sign before port after port (Err (Table fault))
   leased : (leaf : ℕ) (mid after : TableSeen) (now : PortState) (result : Result (List ℕ) SignFault)
       → length sign.message ≤ 16777216 → AsksLeaf before sign.members (message_id sign.message) (Ok leaf) mid
