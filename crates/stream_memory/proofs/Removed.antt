@@ -51,19 +51,19 @@ elsewhere name place other here away = other-way (bytes_eq name other) refl wher
       cc
 
 -- A link goes from those that wait to those that were given: whether all are steady is as it was.
-accepted-moves : (unchanged gave link waiting dialled : Bool) → ((unchanged && (gave && link)) && (waiting && dialled)) ≡ ((unchanged && gave) && ((link && waiting) && dialled))
+accepted-moves : (calm gave link waiting dialled : Bool) → ((calm && (gave && link)) && (waiting && dialled)) ≡ ((calm && gave) && ((link && waiting) && dialled))
 accepted-moves false gave link waiting dialled = refl
 accepted-moves true false link waiting dialled = refl
 accepted-moves true true false waiting dialled = refl
 accepted-moves true true true waiting dialled = refl
 
-pub steady-accepted : (still unchanged gave link waiting waited dialled : Bool) → still ≡ unchanged → waited ≡ (link && waiting)
-    → ((still && (gave && link)) && (waiting && dialled)) ≡ ((unchanged && gave) && (waited && dialled))
-steady-accepted still unchanged gave link waiting waited dialled e f = rw (e, f) (accepted-moves unchanged gave link waiting dialled)
+pub steady-accepted : (still calm gave link waiting waited dialled : Bool) → still ≡ calm → waited ≡ (link && waiting)
+    → ((still && (gave && link)) && (waiting && dialled)) ≡ ((calm && gave) && (waited && dialled))
+steady-accepted still calm gave link waiting waited dialled e f = rw (e, f) (accepted-moves calm gave link waiting dialled)
 
 -- the link is among them
-pub given : (unchanged gave link rest : Bool) → ((unchanged && (gave && link)) && rest) ≡ true → link ≡ true
-given unchanged gave true rest e = refl
+pub given : (calm gave link rest : Bool) → ((calm && (gave && link)) && rest) ≡ true → link ≡ true
+given calm gave true rest e = refl
 given false gave false rest e = cc
 given true true false rest e = cc
 given true false false rest e = cc
