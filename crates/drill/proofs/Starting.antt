@@ -18,7 +18,7 @@ use Rattle.session_core.specs.Seats.{Seat, empty_seat}
 use Rattle.session_core.specs.State.{IsSession, State, seats_of, started}
 use Rattle.session_core.specs.Verdicts.{digest_of}
 use Rattle.share_files.specs.declared.share.Share.{Share}
-use Rattle.drill.specs.Courses.{AllKept, AreFree, Awaits, GoesTo, Grows, HaveShares, IsGoing, IsNext, IsOnCourse, IsOnly, IsOut, IsShareOf, asked, count_filled, steps_in, HasEnded, Steps}
+use Rattle.drill.specs.Courses.{AllKept, AreFree, Awaits, GoesTo, Grows, HaveShares, IsGoing, IsNext, IsOnCourse, IsOnly, IsOut, IsShareOf, asked, count_filled, steps_in, HasEnded, Steps, world}
 use Rattle.drill.specs.Ids.{id_of}
 use Rattle.drill.specs.declared.asks.NextAsk.{NextAsk}
 use Rattle.drill.specs.declared.desk.Desk.{Desk}
@@ -95,7 +95,7 @@ others-stay old new member leaf i state uses sets leased theirs t q own within o
 
 pub lease-moves : (desk : Desk) (d : Dealing) (i : ℕ) (uses after : ℕ → LeafUse) (old : Trustees) (leaf : ℕ) (s : State) → HaveShares d old → AreFree uses (leaf_at old)
     → Grows i uses after → IsNew i uses after leaf → s ≡ started desk.dealt.public desk.plan leaf (message_id (message_bytes i)) → IsSession s
-    → Steps desk d i uses after old old Waiting (Running s) (record { put = 0; granted = 0; cut = 0 })
+    → Steps desk d i (world uses old) (world after old) Waiting (Running s) (record { put = 0; granted = 0; cut = 0 })
 lease-moves desk d i uses after old leaf s shares free grows new same session =
     let st = starts desk d i after (leaf_at old) leaf (subst (λ (z : State). IsSession z) same session) new.own new.leased new.only (λ t own. free t leaf own new.within (inl new.was)) in
     let steps : steps_in s ≡ 1 = ap steps_in same ∙ st.steps in
@@ -120,7 +120,7 @@ not-all s session plan awaited all =
 pub ask-moves : (desk : Desk) (d : Dealing) (i : ℕ) (uses : ℕ → LeafUse) (old new : Trustees) (s : State) (next : NextAsk) (place : Place) (asks : Asks)
     → IsOnCourse desk d i uses (leaf_at old) s → IsNext desk s (message_bytes i) next → HaveShares d new → SetsAt old new next.member s.leaf (state_after (asked s (message_bytes i)))
     → GoesTo desk d i uses (leaf_at new) (suc (steps_in s)) place → asks.granted + asks.cut ≡ asks.put → asks.put ≡ 1
-    → Steps desk d i uses uses old new (Running s) place asks
+    → Steps desk d i (world uses old) (world uses new) (Running s) place asks
 ask-moves desk d i uses old new s next place asks course is shares sets goes parts one =
     let steps = goes.steps_are in
     record {
@@ -137,7 +137,7 @@ ask-moves desk d i uses old new s next place asks course is shares sets goes par
 
 -- a session that has ended stays where it is
 pub ended-stays : (desk : Desk) (d : Dealing) (i : ℕ) (uses : ℕ → LeafUse) (old : Trustees) (place : Place) → HasEnded place → IsGoing desk d i uses (leaf_at old) place → HaveShares d old
-    → Steps desk d i uses uses old old place place (record { put = 0; granted = 0; cut = 0 })
+    → Steps desk d i (world uses old) (world uses old) place place (record { put = 0; granted = 0; cut = 0 })
 ended-stays desk d i uses old Waiting ended going shares = absurd ended
 ended-stays desk d i uses old (Running s) ended going shares = absurd ended
 ended-stays desk d i uses old (Signed leaf) ended going shares = record {
@@ -148,3 +148,10 @@ ended-stays desk d i uses old Refused ended going shares = record {
   moves = record { grows = inl (λ q within. refl); going = going; shares = shares; stays = λ t q own within other. refl; parts = refl };
   advances = record { least = omega arith; exact = λ has. refl; put = refl };
 }
+
+-- the same, where the session's seat is known to be at this place
+pub has-ended : (desk : Desk) (d : Dealing) (i : ℕ) (uses : ℕ → LeafUse) (old : Trustees) (seat place : Place) → seat ≡ place → HasEnded place → IsGoing desk d i uses (leaf_at old) seat
+    → HaveShares d old → Steps desk d i (world uses old) (world uses old) seat place (record { put = 0; granted = 0; cut = 0 })
+has-ended desk d i uses old seat place is ended going shares =
+    let on = subst (λ (x : Place). IsGoing desk d i uses (leaf_at old) x) is going in
+    subst (λ (x : Place). Steps desk d i (world uses old) (world uses old) x place (record { put = 0; granted = 0; cut = 0 })) (sym is) (ended-stays desk d i uses old place ended on shares)

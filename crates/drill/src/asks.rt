@@ -72,8 +72,7 @@ fn ask_of(desk: &Desk, session: &Session, member: u8, message: &[u8]) -> Ask
     requires key { session.now.key ≡ desk.now.dealt.public }
     requires plan { session.now.plan ≡ desk.now.plan }
     requires member { Contains (leaf_members session.now.plan session.now.leaf) member }
-    ensures c { IfSome result.second (λ second. length second.c ≡ 32) }
-    ensures digest { IfSome result.second (λ second. length second.digest ≡ 32) }
+    ensures sizes { IsSized result }
     ensures ask { result ≡ ask_with session.now
         (tag_in session.now.key.params session.now.plan desk.now.dealt.reference.items session.now.leaf member)
         (digest_of session.now message.now) }
@@ -93,8 +92,7 @@ pub(crate) fn next_ask(desk: &Desk, session: &Session, message: &[u8]) -> Option
     requires key { session.now.key ≡ desk.now.dealt.public }
     requires plan { session.now.plan ≡ desk.now.plan }
     ensures within { IfSome result (λ next. (1 ≤ next.member) × (next.member ≤ 3)) }
-    ensures c { IfSome result (λ next. IfSome next.ask.second (λ second. length second.c ≡ 32)) }
-    ensures digest { IfSome result (λ next. IfSome next.ask.second (λ second. length second.digest ≡ 32)) }
+    ensures sizes { IfSome result (λ next. IsSized next.ask) }
     ensures next { IfSome result (IsNext desk.now session.now message.now) }
     ensures none { IfNone result (AllKept session.now) }
 {

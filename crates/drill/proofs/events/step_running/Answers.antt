@@ -1,5 +1,5 @@
 use Rattle.std.proofs.Common.{◌∙◌, List, ℕ, subst}
-use Rattle.drill.specs.Courses.{IsNext}
+use Rattle.drill.specs.Courses.{IsNext, world}
 use Rattle.drill.proofs.Asked.{granted-digest}
 use Rattle.drill.proofs.Going.{may-ask}
 use Rattle.drill.proofs.Noting.{keeps-all, noted, second-there}
@@ -26,7 +26,7 @@ returns-clause-goes c = λ own map shares course awaited.
     let granted = asked.granted may in
     let sets = sets-for desk s _ next c.args.trustees new is (asked.sets may) in
     let now = same-shares own.dealing c.args.trustees new shares asked.shares in
-    let goes = c.in_ok-seat.ensures.goes own map c.args.trustees
+    let goes = c.in_ok-seat.ensures.goes own (world map c.args.trustees)
     (record { course = course; next_is = is; shares = now; sets = sets; granted = granted; ask = asked.ask }) in
     ask-moves desk own.dealing i map c.args.trustees new s next c.in_ok-seat.seat c.one-asks.result course is now sets goes (c.one-asks.ensures.granted (c.is_some.ensures ∙ granted)) c.one-asks.ensures.put
 
@@ -47,7 +47,7 @@ returns-clause-openings c = λ own map count inside different shares course awai
     let granted = asked.granted may in
     let sets = sets-for desk s _ next c.args.trustees new is (asked.sets may) in
     let now = same-shares own.dealing c.args.trustees new shares asked.shares in
-    let goes = c.in_ok-seat.ensures.goes own map c.args.trustees
+    let goes = c.in_ok-seat.ensures.goes own (world map c.args.trustees)
     (record { course = course; next_is = is; shares = now; sets = sets; granted = granted; ask = asked.ask }) in
     record {
       own = noted desk own.dealing i count inside map _ s next _ _ different course is asked.notes before;
