@@ -6,6 +6,7 @@ pub mod Joins
 pub mod Mapped
 pub mod SameTree
 pub mod Undivided
+pub mod Wanting
 pub mod Sums
 pub mod Signers
 pub mod Rehearsing

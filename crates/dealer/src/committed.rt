@@ -5,7 +5,7 @@ ghost use Rattle.coalition_map.specs.Coalitions.{IsPlan};
 ghost use Rattle.reference_value.specs.Dealing.{reference};
 ghost use Rattle.share_files.specs.Commits.{commits_head_of, commits_length, leaf_commits_length};
 ghost use Rattle.share_files.specs.Reference.{leaf_length, leaves_length};
-ghost use Rattle.dealer.specs.Committed.{FailsCommitted, commits_file};
+ghost use Rattle.dealer.specs.Committed.{DealsCommitted, FailsCommitted, commits_file};
 ghost use Rattle.dealer.specs.Dealt.{IsDealt};
 ghost use Rattle.dealer.specs.Entropy.{dealing_of, entropy_length};
 ghost use Rattle.dealer.specs.Faults.{HasFault, IsDealable};
@@ -55,16 +55,7 @@ pub fn deal_committed(
     entropy: &[u8],
 ) -> Result<(Dealt, Vec<u8>), CommittedFault>
     requires { plan.now.h ≡ params.now.h }
-    ensures dealt { IfOk result (λ both. IsDealt (dealing_of params.now plan.now entropy.now) both.0) }
-    ensures commitments { IfOk result (λ both. both.1.items
-        ≡ commits_file (dealing_of params.now plan.now entropy.now)) }
-    ensures dealable { OnOk result (IsDealable params.now plan.now entropy.now) }
-    ensures small { OnOk result (commits_length params.now plan.now ≤ 67108864) }
-    ensures shares { IfOk result (λ both. 0 < length both.0.shares.items) }
-    ensures refused { (fault : DealFault) → HasFault params.now plan.now entropy.now fault → result ≡ Err (Deal fault) }
-    ensures too_large { IsDealable params.now plan.now entropy.now → 67108864 < commits_length params.now plan.now
-        → result ≡ Err (TooLarge (commits_length params.now plan.now)) }
-    ensures cause { IfErr result (FailsCommitted params.now plan.now entropy.now) }
+    ensures { DealsCommitted params.now plan.now entropy.now result }
 {
     test_committed(params, plan, entropy)?;
     match build_committed(alloc, params, plan, entropy) {
@@ -83,16 +74,7 @@ pub fn deal_committed_beside<R: Threads + Sync>(
     entropy: &[u8],
 ) -> Result<(Dealt, Vec<u8>), CommittedFault>
     requires { plan.now.h ≡ params.now.h }
-    ensures dealt { IfOk result (λ both. IsDealt (dealing_of params.now plan.now entropy.now) both.0) }
-    ensures commitments { IfOk result (λ both. both.1.items
-        ≡ commits_file (dealing_of params.now plan.now entropy.now)) }
-    ensures dealable { OnOk result (IsDealable params.now plan.now entropy.now) }
-    ensures small { OnOk result (commits_length params.now plan.now ≤ 67108864) }
-    ensures shares { IfOk result (λ both. 0 < length both.0.shares.items) }
-    ensures refused { (fault : DealFault) → HasFault params.now plan.now entropy.now fault → result ≡ Err (Deal fault) }
-    ensures too_large { IsDealable params.now plan.now entropy.now → 67108864 < commits_length params.now plan.now
-        → result ≡ Err (TooLarge (commits_length params.now plan.now)) }
-    ensures cause { IfErr result (FailsCommitted params.now plan.now entropy.now) }
+    ensures { DealsCommitted params.now plan.now entropy.now result }
 {
     test_committed(params, plan, entropy)?;
     match build_committed_beside(rt, alloc, params, plan, entropy) {

@@ -11,7 +11,7 @@ use Rattle.leaf_table.specs.State.{IsSound, StandsFor, TableState, lease_of, sta
 use Rattle.leaf_table.specs.Table.{Holds, Keeps, header_of, state_of}
 use Rattle.leaf_table.specs.declared.lease.Lease.{Lease}
 use Rattle.leaf_table.specs.declared.table.Table.{Table}
-use Rattle.leaf_table.proofs.Legal.{legal-more}
+use Rattle.slot_file.proofs.Logs.{legal-more}
 use Rattle.leaf_table.proofs.Sound.{have-made, leaf_of-lease, may-follow}
 use Rattle.slot_file.specs.State.{CacheState, HasSlots, StandsFor as CacheStandsFor, slot_in, with_made}
 use Rattle.slot_file.specs.declared.doubted.Doubted.{Doubted}
@@ -55,7 +55,7 @@ follows-doubted state d sound is =
 keeps-sound : (state : TableState) → IsSound state → KeepsOneLease state
 keeps-sound state sound settled (inl same) = subst (λ (s : TableState). OneLease s.entries) (sym same) sound.legal
 keeps-sound state sound settled (inr made) =
-    subst (λ (s : TableState). OneLease s.entries) (sym made.2) (legal-more state.entries (lease_of made.0) sound.legal (follows-doubted state made.0 sound made.1))
+    subst (λ (s : TableState). OneLease s.entries) (sym made.2) (legal-more Follows state.entries (lease_of made.0) sound.legal (follows-doubted state made.0 sound made.1))
 
 module _ {D : Type 0} {p : pages.Ghosts D} {f : faults.Ghosts D} (table : Table D p f) where
   keeps : (file : List ℕ) → CacheStandsFor (header_of table) (cache_state table.slots) file → Keeps table file

@@ -1,11 +1,10 @@
 mod BodyBytes
-mod Legal
-mod Listed
 pub mod Maps
 mod Sound
 pub mod Held
 mod Found
 mod Events
+mod Putting
 mod Entering
 mod Running
 mod Once

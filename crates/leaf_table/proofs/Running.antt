@@ -16,7 +16,7 @@ use Rattle.leaf_table.specs.State.{SettlesTo, TableState, lease_of, with_doubt, 
 use Rattle.leaf_table.specs.declared.faults.TableFault.{TableFault}
 use Rattle.leaf_table.specs.declared.lease.Lease.{Lease}
 use Rattle.leaf_table.specs.declared.lease.Lease.TheVariants.{Leased, Burnt}
-use Rattle.leaf_table.proofs.Legal.{legal-more}
+use Rattle.slot_file.proofs.Logs.{legal-more}
 use Rattle.leaf_table.proofs.Maps.{map_of-other, map_of-same}
 use Rattle.slot_file.specs.declared.doubted.Doubted.{Doubted}
 use Rattle.slot_file.specs.declared.slot.Slot.{Slot}
@@ -36,7 +36,7 @@ keeps-settled before settled keeps settles = keeps-sure settled (settled-sure be
 
 keeps-made : (settled : TableState) (lease : Lease) (leaf : ℕ) (slot : Slot) → OneLease settled.entries → Follows settled.entries lease
     → KeepsOneLease (with_lease settled lease leaf slot)
-keeps-made settled lease leaf slot legal follows = keeps-sure (with_lease settled lease leaf slot) refl (legal-more settled.entries lease legal follows)
+keeps-made settled lease leaf slot legal follows = keeps-sure (with_lease settled lease leaf slot) refl (legal-more Follows settled.entries lease legal follows)
 
 keeps-doubt : (settled : TableState) (leaf : ℕ) (slot : Slot) → OneLease settled.entries → Follows settled.entries (lease_of_slot leaf slot)
     → KeepsOneLease (with_doubt settled leaf slot)
@@ -45,7 +45,7 @@ keeps-doubt settled leaf slot legal follows after (inr put) =
     let there : Doubted = record { slot = leaf; after = slot } in
     let is : ◌≡◌ {A = Option Doubted} (Some there) (Some put.0) = put.1 in
     let one : there ≡ put.0 = cc in
-    let legal' = legal-more settled.entries (lease_of there) legal follows in
+    let legal' = legal-more Follows settled.entries (lease_of there) legal follows in
     subst (λ (s : TableState). OneLease s.entries) (sym put.2) (subst (λ (d : Doubted). OneLease (settled.entries ++ lease_of d ∷ [])) one legal')
 
 leases-keep : (plan : PlanNumbers) (before after : TableState) (members : List ℕ) (message : MessageId) (answer : Result ℕ TableFault)

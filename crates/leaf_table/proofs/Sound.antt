@@ -3,12 +3,13 @@ use Rattle.std.proofs.Common.{◌≡◌, ℕ, ◌+◌, ◌<◌, List, [], ◌∷
 use Rattle.std.proofs.lemmas.Bool.{cases_eq}
 use Rattle.std.proofs.lemmas.List.{get_or-set_same, get_or-set_other, length-set}
 use Rattle.std.proofs.lemmas.List.Sums.{sum_by-set}
-use Rattle.leaf_table.specs.Entries.{leaf_of, map_of, may_follow, use_after}
-use Rattle.leaf_table.specs.Slots.{lease_of_slot, may_become, room_in, room_of, use_of_slot}
+use Rattle.leaf_table.specs.Entries.{Follows, leaf_of, map_of, may_follow, use_after}
+use Rattle.leaf_table.specs.Slots.{lease_of_slot, may_become, use_of_slot}
+use Rattle.slot_file.specs.Logs.{room_in, room_of}
 use Rattle.leaf_table.specs.State.{IsSound, TableState, lease_of, with_doubt, with_lease}
 use Rattle.leaf_table.specs.declared.lease.Lease.{Lease}
 use Rattle.leaf_table.specs.declared.lease.Lease.TheVariants.{Leased, Burnt}
-use Rattle.leaf_table.proofs.Legal.{legal-more}
+use Rattle.slot_file.proofs.Logs.{legal-more}
 use Rattle.leaf_table.proofs.Maps.{map_of-other, map_of-same}
 use Rattle.slot_file.specs.State.{slot_in}
 use Rattle.slot_file.specs.declared.doubted.Doubted.{Doubted}
@@ -78,7 +79,7 @@ module _ (state : TableState) (lease : Lease) (leaf : ℕ) (slot : Slot) (within
   pub sound-made : IsSound (with_lease state lease leaf slot)
   sound-made = record {
     slots = have-made;
-    legal = legal-more state.entries lease sound.legal follows;
+    legal = legal-more Follows state.entries lease sound.legal follows;
     within = λ doubted is. absurd (cc);
     next = λ doubted is. absurd (cc);
     makes = λ doubted is. absurd (cc);
@@ -96,10 +97,3 @@ sound-doubt state leaf slot within sound may makes =
       next = λ doubted is. subst (λ (d : Doubted). may_become (slot_in state.slots d.slot) d.after ≡ true) (same doubted is) may;
       makes = λ doubted is. subst (λ (d : Doubted). use_after (lease_of d) ≡ use_of_slot d.after) (same doubted is) makes;
     }
-
--- the put in doubt is made
-pub sound-with_made : (state : TableState) (doubted : Doubted) → IsSound state → state.doubt ≡ Some doubted
-    → IsSound (with_lease state (lease_of doubted) doubted.slot doubted.after)
-sound-with_made state doubted sound is =
-    sound-made state (lease_of doubted) doubted.slot doubted.after (sound.within doubted is) sound (sound.next doubted is)
-    (leaf_of-lease doubted.slot doubted.after) (sound.makes doubted is)

@@ -1,9 +1,9 @@
 -- The entries of a leaf table, and what they make of each leaf.
-use Rattle.std.specs.Prelude.{◌≡◌, ◌<◌, ℕ, Bool, true, false, List, length, take, fold, slice_index_or}
+use Rattle.std.specs.Prelude.{◌≡◌, ℕ, Bool, true, false, List, fold}
 use Rattle.lms_bytes.specs.MessageId.{message_id_bytes}
 use Rattle.leaf_table.specs.declared.lease.Lease.{Lease}
 use Rattle.leaf_table.specs.declared.lease.Lease.TheVariants.{Leased, Burnt}
-use Rattle.slot_file.specs.Logs.{with_entry}
+use Rattle.slot_file.specs.Logs.{IsLegal, with_entry}
 
 -- A leaf is free, leased for a message by its id of 36 bytes, or burnt. A slot whose gate B is open and gate A is not
 -- is torn.
@@ -45,5 +45,4 @@ Follows entries entry = may_follow entry (map_of entries (leaf_of entry)) ≡ tr
 -- One leaf, one message: each entry is a lease of a leaf that was never leased before, or the first burning of a leaf
 -- that was leased before.
 abbrev pub OneLease : List Lease → Type 0
-OneLease entries = (place : ℕ) (none : Lease) → place < length entries
-    → Follows (take place entries) (slice_index_or entries place none)
+OneLease entries = IsLegal Follows entries

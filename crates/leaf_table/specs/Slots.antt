@@ -1,5 +1,5 @@
 -- What the slots of a leaf table's file mean.
-use Rattle.std.specs.Prelude.{◌≡◌, ◌<◌, ℕ, Bool, true, false, List, [], ◌∷◌, ◌++◌, replicate, sum_by}
+use Rattle.std.specs.Prelude.{◌≡◌, ◌<◌, ℕ, Bool, true, false, List, [], ◌∷◌, ◌++◌, replicate}
 use Rattle.lms_bytes.specs.MessageId.{message_id_of}
 use Rattle.leaf_table.specs.Entries.{LeafUse, IsFree, IsLeased, IsBurnt, IsTorn, map_of}
 use Rattle.leaf_table.specs.declared.lease.Lease.{Lease}
@@ -36,16 +36,6 @@ abbrev pub may_become : Slot → Slot → Bool
 may_become Free (Half a) = true
 may_become (Half a) (Full b c moment) = true
 may_become _ _ = false
-
--- how many entries may still be made of a slot, and of all
-abbrev pub room_of : Slot → ℕ
-room_of Free = 2
-room_of (Half a) = 1
-room_of (Full a b moment) = 0
-room_of (Damaged a b) = 2
-
-abbrev pub room_in : List Slot → ℕ
-room_in slots = sum_by room_of slots
 
 -- the file, of version 1, has just these entries, for so many leaves
 abbrev pub HasEntries : ℕ → List ℕ → List Lease → Type 0

@@ -32,9 +32,6 @@ module _ {D : Type 0} {p : pages.Ghosts D} {f : faults.Ghosts D} where
   abbrev pub IsTold : Table D p f → Type 0
   IsTold table = IsTrue (p.told (disk_of table))
 
-  abbrev pub IsHonest : Table D p f → Type 0
-  IsHonest table = IsTrue (p.honest (disk_of table))
-
   abbrev pub IsSteady : Table D p f → Type 0
   IsSteady table = IsTrue (f.steady (disk_of table))
 
@@ -48,8 +45,8 @@ module _ {D : Type 0} {p : pages.Ghosts D} {f : faults.Ghosts D} where
   -- the one in doubt too.
   pub record Holds (table : Table D p f) : Type 0 where
     pub reads : IsTold table → Keeps table (p.reads (disk_of table))
-    pub images : IsTold table → IsHonest table → (image : List ℕ) → p.may_leave (disk_of table) image
-        → Keeps table image
+    pub images : IsTold table → IsTrue (p.honest (disk_of table))
+        → (image : List ℕ) → p.may_leave (disk_of table) image → Keeps table image
     pub cause : faults_of table ≡ 0 → (state_of table).doubt ≡ None
     pub one_lease : KeepsOneLease (state_of table)
 

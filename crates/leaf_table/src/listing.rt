@@ -3,7 +3,8 @@
 ghost use Rattle.std.specs.Prelude.{◌≡◌, ◌≢◌, ◌+◌, ◌<◌, ◌≤◌, ◌++◌, ◌∷◌, [], ℕ, length, false, vec_capacity, IfOk};
 ghost use Rattle.leaf_table.specs.Entries.{IsFree, OneLease, map_of};
 ghost use Rattle.leaf_table.specs.Loading.{entries_of};
-ghost use Rattle.leaf_table.specs.Slots.{entries_of_slot, room_in, use_of_slot};
+ghost use Rattle.leaf_table.specs.Slots.{entries_of_slot, use_of_slot};
+ghost use Rattle.slot_file.specs.Logs.{room_in};
 ghost use Rattle.slot_file.specs.Cache.{count_of, state_of as cache_state};
 ghost use Rattle.slot_file.specs.State.{IsWhole, slot_in};
 ghost use Rattle.slot_file.specs.Copies.{is_damaged};

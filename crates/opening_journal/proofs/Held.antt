@@ -2,8 +2,8 @@
 use Rattle.std.proofs.Common.{ℕ, List, inl, inr, sym, subst}
 use Rattle.disk_trait.specs.declared.disk.Pages as pages
 use Rattle.disk_trait.specs.declared.faults.Faults as faults
-use Rattle.opening_journal.specs.Entries.{IsLegalList, StandsFor}
-use Rattle.opening_journal.proofs.Legal.{legal-more}
+use Rattle.opening_journal.specs.Entries.{Follows, IsLegalList, StandsFor}
+use Rattle.slot_file.proofs.Logs.{legal-more}
 use Rattle.opening_journal.specs.Journal.{Holds, Keeps, header_of, state_of}
 use Rattle.opening_journal.specs.Loading.{IsJournalFile}
 use Rattle.opening_journal.specs.declared.journal.Journal.{Journal}
@@ -33,6 +33,6 @@ module _ {D : Type 0} {p : pages.Ghosts D} {f : faults.Ghosts D} (journal : Jour
         cause = λ none. doubt-none journal.params.n (cache_state journal.slots) journal.entries.items journal.doubt journal.held (cache.cause none);
         legal = λ entries settles. elim settles [
           | inl as_before ↦ subst IsLegalList (sym as_before) journal.held.legal
-          | inr made ↦ subst IsLegalList (sym made.2) (legal-more journal.entries.items made.0 journal.held.legal (journal.held.adds made.0 made.1))
+          | inr made ↦ subst IsLegalList (sym made.2) (legal-more Follows journal.entries.items made.0 journal.held.legal (journal.held.adds made.0 made.1))
         ];
       }

@@ -6,13 +6,14 @@ use Rattle.std.proofs.lemmas.List.Sums.{sum_by-set}
 use Rattle.lms_bytes.specs.HashLength.{IsHashLength}
 use Rattle.lms_bytes.specs.MessageId.{message_id_bytes}
 use Rattle.opening_journal.specs.Answers.{HasSizes}
-use Rattle.opening_journal.specs.Entries.{Adds, HasEntries, IsLegalList, IsOpened, StandsFor, leaf_of, map_of, state_after, state_before, state_of_slot}
-use Rattle.opening_journal.specs.EntrySlots.{room_in, room_of, slot_before, slot_with}
+use Rattle.opening_journal.specs.Entries.{Adds, Follows, HasEntries, IsLegalList, IsOpened, StandsFor, leaf_of, map_of, state_after, state_before, state_of_slot}
+use Rattle.opening_journal.specs.EntrySlots.{slot_before, slot_with}
+use Rattle.slot_file.specs.Logs.{room_in, room_of}
 use Rattle.opening_journal.specs.Inside.{HaveEntries, IsHeld}
 use Rattle.opening_journal.specs.declared.entry.Entry.{Entry}
 use Rattle.opening_journal.specs.declared.entry.Entry.TheVariants.{Bound, Opened}
 use Rattle.opening_journal.proofs.BodyBytes.{pair-front, pair-back}
-use Rattle.opening_journal.proofs.Legal.{legal-more}
+use Rattle.slot_file.proofs.Logs.{legal-more}
 use Rattle.opening_journal.proofs.Maps.{map_of-other, map_of-same}
 use Rattle.slot_file.specs.State.{CacheState, HasSlots, StandsFor as CacheStandsFor, settled_with, slot_in, with_made}
 use Rattle.slot_file.specs.declared.doubted.Doubted.{Doubted}
@@ -74,7 +75,7 @@ module _ (n : ℕ) (slots : List Slot) (entries : List Entry) (entry : Entry) (w
         subst (λ (s : CacheState). IsHeld n s (entries ++ entry ∷ []) doubt) (sym is)
         (subst (λ (d : Option Entry). IsHeld n (settled_with made) (entries ++ entry ∷ []) d) (sym none) (record {
           slots = have-made;
-          legal = legal-more entries entry legal adds;
+          legal = legal-more Follows entries entry legal adds;
           none = λ no. refl;
           some = λ other is_other. absurd (cc);
           after = λ other is_other. absurd (cc);

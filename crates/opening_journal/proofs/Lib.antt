@@ -2,6 +2,6 @@ mod Answered
 mod BodyBytes
 pub mod Held
 mod Holding
-mod Legal
-mod Listed
+mod Putting
+mod Refused
 pub mod Maps

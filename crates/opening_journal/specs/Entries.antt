@@ -1,11 +1,11 @@
 -- What a journal keeps of each leaf: by its entries, and by the slots of its file.
-use Rattle.std.specs.Prelude.{◌≡◌, ◌<◌, ◌⊎◌, ℕ, List, ◌∷◌, ◌++◌, [], length, take, drop, fold, slice_index_or}
+use Rattle.std.specs.Prelude.{◌≡◌, ◌<◌, ◌⊎◌, ℕ, List, ◌∷◌, ◌++◌, [], take, drop, fold}
 use Rattle.std.specs.Prelude.{Option, Some}
 use Rattle.lms_bytes.specs.MessageId.{message_id_bytes}
 use Rattle.opening_journal.specs.declared.entry.Entry.{Entry}
 use Rattle.opening_journal.specs.declared.entry.Entry.TheVariants.{Bound, Opened}
 use Rattle.slot_file.specs.Layout.{slot_at}
-use Rattle.slot_file.specs.Logs.{with_entry}
+use Rattle.slot_file.specs.Logs.{IsLegal, with_entry}
 use Rattle.slot_file.specs.declared.slot.Slot.{Slot}
 use Rattle.slot_file.specs.declared.slot.Slot.TheVariants.{Free, Half, Full, Damaged}
 
@@ -39,10 +39,13 @@ map_of entries = fold (with_entry leaf_of state_after) (λ leaf. IsFree) entries
 abbrev pub Adds : Entry → LeafState → Type 0
 Adds entry state = state ≡ state_before entry
 
+-- an entry may follow these
+abbrev pub Follows : List Entry → Entry → Type 0
+Follows entries entry = Adds entry (map_of entries (leaf_of entry))
+
 -- each entry may follow those before it
 abbrev pub IsLegalList : List Entry → Type 0
-IsLegalList entries = (place : ℕ) (none : Entry) → place < length entries
-    → let entry = slice_index_or entries place none in Adds entry (map_of (take place entries) (leaf_of entry))
+IsLegalList entries = IsLegal Follows entries
 
 -- this project's profile: body A of a slot is the message id, and body B is C and Q, each filled to 32 bytes; n is the
 -- hash length

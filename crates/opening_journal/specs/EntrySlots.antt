@@ -1,10 +1,10 @@
 -- The slots of a journal's entries.
-use Rattle.std.specs.Prelude.{◌-◌, ℕ, List, ◌++◌, length, replicate, sum_by}
+use Rattle.std.specs.Prelude.{◌-◌, ℕ, List, ◌++◌, length, replicate}
 use Rattle.lms_bytes.specs.MessageId.{message_id_bytes}
 use Rattle.opening_journal.specs.declared.entry.Entry.{Entry}
 use Rattle.opening_journal.specs.declared.entry.Entry.TheVariants.{Bound, Opened}
 use Rattle.slot_file.specs.declared.slot.Slot.{Slot}
-use Rattle.slot_file.specs.declared.slot.Slot.TheVariants.{Free, Half, Full, Damaged}
+use Rattle.slot_file.specs.declared.slot.Slot.TheVariants.{Free, Half, Full}
 
 -- a value with zeros up to 32 bytes
 abbrev pub filled : List ℕ → List ℕ
@@ -18,13 +18,3 @@ slot_before (Opened leaf message c digest moment) = Half (message_id_bytes messa
 abbrev pub slot_with : Entry → Slot
 slot_with (Bound leaf message) = Half (message_id_bytes message)
 slot_with (Opened leaf message c digest moment) = Full (message_id_bytes message) (filled c ++ filled digest) moment
-
--- how many entries may still be made of a slot, and of all
-abbrev pub room_of : Slot → ℕ
-room_of Free = 2
-room_of (Half a) = 1
-room_of (Full a b moment) = 0
-room_of (Damaged a b) = 2
-
-abbrev pub room_in : List Slot → ℕ
-room_in slots = sum_by room_of slots

@@ -34,9 +34,6 @@ module _ {D : Type 0} {p : pages.Ghosts D} {f : faults.Ghosts D} where
   abbrev pub IsTold : Journal D p f → Type 0
   IsTold journal = IsTrue (p.told (disk_of journal))
 
-  abbrev pub IsHonest : Journal D p f → Type 0
-  IsHonest journal = IsTrue (p.honest (disk_of journal))
-
   abbrev pub IsSteady : Journal D p f → Type 0
   IsSteady journal = IsTrue (f.steady (disk_of journal))
 
@@ -50,8 +47,8 @@ module _ {D : Type 0} {p : pages.Ghosts D} {f : faults.Ghosts D} where
   -- before it, the one in doubt too.
   pub record Holds (journal : Journal D p f) : Type 0 where
     pub reads : IsTold journal → Keeps journal (p.reads (disk_of journal))
-    pub images : IsTold journal → IsHonest journal → (image : List ℕ) → p.may_leave (disk_of journal) image
-        → Keeps journal image
+    pub images : IsTold journal → IsTrue (p.honest (disk_of journal))
+        → (image : List ℕ) → p.may_leave (disk_of journal) image → Keeps journal image
     pub cause : faults_of journal ≡ 0 → (state_of journal).doubt ≡ None
     pub legal : (entries : List Entry) → SettlesTo (state_of journal) entries → IsLegalList entries
 

@@ -1,6 +1,5 @@
 -- The entries of a journal's file, and why it is not loaded.
 use Rattle.std.specs.Prelude.{◌≡◌, ℕ, List, [], ◌∷◌, Some, None, take, drop}
-use Rattle.std.specs.List.{flat_map, range_with_len}
 use Rattle.lms_bytes.specs.MessageId.{message_id_of}
 use Rattle.opening_journal.specs.declared.entry.Entry.{Entry}
 use Rattle.opening_journal.specs.declared.entry.Entry.TheVariants.{Bound, Opened}
@@ -8,7 +7,7 @@ use Rattle.opening_journal.specs.declared.faults.JournalLoad.{JournalLoad}
 use Rattle.opening_journal.specs.declared.faults.JournalLoad.TheVariants as load
 use Rattle.slot_file.specs.Copies.{IsFirstDamaged}
 use Rattle.slot_file.specs.Layout.{load_fault, slot_at}
-use Rattle.slot_file.specs.Logs.{IsWhole}
+use Rattle.slot_file.specs.Logs.{IsWhole, entries_in}
 use Rattle.slot_file.specs.declared.header.Header.{Header}
 use Rattle.slot_file.specs.declared.header.LoadFault.{LoadFault}
 use Rattle.slot_file.specs.declared.slot.Slot.{Slot}
@@ -23,8 +22,8 @@ entries_of_slot n leaf (Full a b moment) =
 entries_of_slot n leaf (Damaged a b) = []
 
 -- those of so many slots, leaf by leaf
-unfoldable pub entries_of : ℕ → ℕ → (ℕ → Slot) → List Entry
-entries_of n count slots = flat_map (λ leaf. entries_of_slot n leaf (slots leaf)) (range_with_len 0 count)
+abbrev pub entries_of : ℕ → ℕ → (ℕ → Slot) → List Entry
+entries_of n count slots = entries_in (entries_of_slot n) count slots
 
 -- those of a file
 abbrev pub entries_of_file : ℕ → ℕ → List ℕ → List Entry

@@ -4,7 +4,7 @@ ghost use Rattle.std.specs.Prelude.{◌≡◌, ◌≢◌, ◌^◌, ◌+◌, ◌<
 ghost use Rattle.std.specs.Prelude.{Some, Ok, Err};
 ghost use Rattle.opening_journal.specs.Answers.{HasSizes, Makes, Settles};
 ghost use Rattle.opening_journal.specs.Entries.{Adds, leaf_of, map_of};
-ghost use Rattle.opening_journal.specs.EntrySlots.{room_in};
+ghost use Rattle.slot_file.specs.Logs.{room_in};
 ghost use Rattle.opening_journal.specs.Inside.{IsHeld};
 ghost use Rattle.opening_journal.specs.Opening.{Binds, Opens};
 ghost use Rattle.slot_file.specs.Cache.{count_of, header_of as cache_header, state_of as cache_state};

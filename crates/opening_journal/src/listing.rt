@@ -3,7 +3,7 @@
 ghost use Rattle.std.specs.Prelude.{◌≡◌, ◌≢◌, ◌*◌, ◌+◌, ◌<◌, ◌≤◌, ◌++◌, ◌∷◌, [], ℕ, length, false, vec_capacity, IfOk};
 ghost use Rattle.lms_bytes.specs.HashLength.{IsHashLength};
 ghost use Rattle.opening_journal.specs.Entries.{IsFree, IsLegalList, map_of, state_of_slot};
-ghost use Rattle.opening_journal.specs.EntrySlots.{room_in};
+ghost use Rattle.slot_file.specs.Logs.{room_in};
 ghost use Rattle.opening_journal.specs.Inside.{HaveEntries};
 ghost use Rattle.opening_journal.specs.Loading.{entries_of, entries_of_slot};
 ghost use Rattle.slot_file.specs.Cache.{count_of, state_of as cache_state};

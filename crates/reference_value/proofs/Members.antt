@@ -1,12 +1,12 @@
 -- A leaf in the making: some of its members have put their masks on it.
-use Rattle.std.proofs.Common.{Contains, nat_lt, take_all, ◌≡◌, ℕ, zero, suc, ◌+◌, ◌-◌, ◌*◌, ◌^◌, ◌<◌, ◌≤◌, List, [], ◌∷◌, ◌++◌, length, map, take, drop, refl, sym, ◌∙◌, ap, arith, length-append, append-nil, append_assoc, zero-add}
+use Rattle.std.proofs.Common.{Contains, nat_lt, take_all, ◌%◌, ◌≡◌, ℕ, zero, suc, ◌+◌, ◌-◌, ◌*◌, ◌^◌, ◌<◌, ◌≤◌, List, [], ◌∷◌, ◌++◌, length, map, take, drop, refl, sym, ◌∙◌, ap, arith, length-append, append-nil, append_assoc, zero-add}
 use Rattle.std.specs.List.{concat}
 use Rattle.std.proofs.lemmas.List.Sums.{fold-append, length-filter, count_by-le-length}
 use Rattle.std.proofs.lemmas.List.Folds.{concat-append}
 use Rattle.std.proofs.lemmas.List.{map-append}
 use Rattle.std.proofs.Math.Seq.{take-add, take-append_seam, drop-append_seam}
 use Rattle.std.proofs.lemmas.List.{take-take}
-use Rattle.coalition_map.specs.Coalitions.{IsSubset}
+use Rattle.coalition_map.specs.Coalitions.{IsSubset, PlanNumbers, coalition, count_of, leaf_members}
 use Rattle.coalition_map.specs.Members.{below, IsAscendingIn}
 use Rattle.coalition_map.proofs.MemberLaws.{below-more_in}
 use Rattle.lms_bytes.specs.Bytes.{bytes_at, joined, xor}
@@ -135,6 +135,10 @@ built d q place front chains b size =
 
 length-below-le : (t : ℕ) (l : List ℕ) → length (below t l) ≤ length l
 length-below-le t l = omega (arith, length-filter (λ x. nat_lt x t) l, count_by-le-length (λ x. nat_lt x t) l)
+
+-- the members of leaf q are those of its coalition
+pub members-are : (plan : PlanNumbers) (q c : ℕ) (members : List ℕ) → members ≡ coalition plan c → c ≡ q % count_of plan → members ≡ leaf_members plan q
+members-are plan q c members is number = is ∙ rw number refl
 
 -- there is room for one more tag
 pub member-room : (e t : ℕ) (l : List ℕ) → IsAscendingIn 1 e l → Contains l t → length (below t l) + 1 ≤ length l

@@ -1,12 +1,12 @@
 -- The dealer's commitments to the masks of all members, by this project's own formulas.
-use Rattle.std.specs.Prelude.{ℕ, ◌+◌, ◌*◌, ◌^◌, List, ◌++◌, length, map}
+use Rattle.std.specs.Prelude.{ℕ, ◌+◌, ◌*◌, ◌^◌, List, ◌++◌, map}
 use Rattle.std.specs.List.{concat}
 use Rattle.sha2.specs.Sha256.{sha256}
-use Rattle.coalition_map.specs.Coalitions.{PlanNumbers, leaf_members}
-use Rattle.coalition_map.specs.Members.{below}
+use Rattle.coalition_map.specs.Coalitions.{PlanNumbers}
 use Rattle.lms_bytes.specs.Bytes.{bytes_at, joined}
 use Rattle.lms_bytes.specs.declared.params.Params.{Params}
 use Rattle.reference_value.specs.Dealing.{Dealing, chain_mask, members_of, random_mask}
+use Rattle.reference_value.specs.Places.{rank_place}
 use Rattle.share_files.specs.Commits.{leaf_commits_length}
 
 -- SHA-256 of a mask, of the mask of each of these trustees
@@ -27,10 +27,6 @@ commitments d = joined (leaf_commitments d) (2 ^ d.params.h)
 -- where the commitments of leaf q begin
 abbrev pub leaf_commits_place : Params → PlanNumbers → ℕ → ℕ
 leaf_commits_place params plan q = leaf_commits_length params plan.k * q
-
--- where that of trustee t lies among those of the members of leaf q
-abbrev pub rank_place : PlanNumbers → ℕ → ℕ → ℕ
-rank_place plan q t = 32 * length (below t (leaf_members plan q))
 
 -- the commitment to trustee t's mask of the randomizer of leaf q
 unfoldable pub random_commitment_in : Params → PlanNumbers → List ℕ → ℕ → ℕ → List ℕ

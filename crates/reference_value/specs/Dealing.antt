@@ -21,6 +21,17 @@ pub record Dealing : Type 0 where
   -- the keys of the trustees, that of trustee 1 first
   pub keys : List (List ℕ)
 
+-- a dealing from its parts, in this order
+abbrev pub dealing_from : Params → PlanNumbers → List ℕ → List ℕ → List ℕ → List (List ℕ) → Dealing
+dealing_from params plan id seed random_key keys = record {
+  params = params;
+  plan = plan;
+  id = id;
+  seed = seed;
+  random_key = random_key;
+  keys = keys;
+}
+
 -- a value XOR each of these masks
 abbrev pub masked : List ℕ → List (List ℕ) → List ℕ
 masked value masks = fold xor value masks

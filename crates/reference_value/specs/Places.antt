@@ -10,9 +10,17 @@ use Rattle.share_files.specs.Reference.{leaf_length}
 abbrev pub leaf_place : Params → PlanNumbers → ℕ → ℕ
 leaf_place params plan q = leaf_length params plan.k * q
 
+-- how many members of leaf q have lesser numbers than trustee t
+abbrev pub rank_of : PlanNumbers → ℕ → ℕ → ℕ
+rank_of plan q t = length (below t (leaf_members plan q))
+
+-- where the 32 bytes of trustee t lie among those of the members of leaf q
+abbrev pub rank_place : PlanNumbers → ℕ → ℕ → ℕ
+rank_place plan q t = 32 * rank_of plan q t
+
 -- where the tag of trustee t lies, behind those of the members with lesser numbers
 abbrev pub tag_place : Params → PlanNumbers → ℕ → ℕ → ℕ
-tag_place params plan q t = leaf_place params plan q + params.n + 32 * length (below t (leaf_members plan q))
+tag_place params plan q t = leaf_place params plan q + params.n + rank_place plan q t
 
 -- where the cell of chain i after j steps lies
 abbrev pub cell_place : Params → PlanNumbers → ℕ → ℕ → ℕ → ℕ

@@ -5,7 +5,7 @@ ghost use Rattle.lms_bytes.specs.Bytes.{bytes_at, joined};
 ghost use Rattle.reference_value.specs.Commitments.{commitments_to, leaf_commitments};
 ghost use Rattle.reference_value.specs.Committing.{AreMembers, cell_commits, mask_with, masked_cell, masked_row};
 ghost use Rattle.reference_value.specs.Committing.{member_mask, member_tag, row_commits};
-ghost use Rattle.reference_value.specs.Dealing.{leaf_part, masked, value_of_seed};
+ghost use Rattle.reference_value.specs.Dealing.{dealing_from, leaf_part, masked, value_of_seed};
 ghost use Rattle.share_files.specs.Commits.{leaf_commits_length};
 ghost use Rattle.share_files.specs.Reference.{leaf_length};
 ghost use Rattle.std.specs.List.{concat};
@@ -144,22 +144,9 @@ pub fn build_committed_leaf(
     requires keys { length keys.now ≡ plan.now.n }
     requires room { length out.old ≡ leaf_length params.now plan.now.k }
     requires commits { length commits.old ≡ leaf_commits_length params.now plan.now.k }
-    ensures leaf { out.new ≡ leaf_part (record {
-      params = params.now;
-      plan = plan.now;
-      id = id.now;
-      seed = seed.now;
-      random_key = random_key.now;
-      keys = keys.now;
-    }) q }
-    ensures commitments { commits.new ≡ leaf_commitments (record {
-      params = params.now;
-      plan = plan.now;
-      id = id.now;
-      seed = seed.now;
-      random_key = random_key.now;
-      keys = keys.now;
-    }) q }
+    ensures leaf { out.new ≡ leaf_part (dealing_from params.now plan.now id.now seed.now random_key.now keys.now) q }
+    ensures commitments { commits.new
+        ≡ leaf_commitments (dealing_from params.now plan.now id.now seed.now random_key.now keys.now) q }
 {
     let members = plan.members(plan.coalition_of(q));
     let leaf = Leaf {

@@ -2,12 +2,29 @@
 
 ghost use Rattle.std.specs.Prelude.{◌≡◌, ◌+◌, ◌*◌, ◌<◌, ◌≤◌, ◌^◌, Contains};
 ghost use Rattle.coalition_map.specs.Coalitions.{leaf_members};
-ghost use Rattle.reference_value.specs.Places.{cell_place, leaf_place, tag_place};
+ghost use Rattle.reference_value.specs.Places.{cell_place, leaf_place, rank_of, tag_place};
 ghost use Rattle.share_files.specs.Reference.{leaf_length, leaves_length};
 
 use coalition_map::Plan;
 use lms_bytes::Params;
 use share_files::{TAG, chain_bytes, leaf_bytes};
+
+/// How many members of leaf `q` come before its member `t`.
+pub fn rank(plan: &Plan, q: u32, t: u8) -> usize
+    requires leaf { q < 2 ^ plan.now.h }
+    requires member { Contains (leaf_members plan.now q) t }
+    ensures value { result ≡ rank_of plan.now q t }
+    ensures within { result < plan.now.k }
+{
+    let members = plan.members(plan.coalition_of(q));
+    let mut before = 0;
+    'others: for other in 1..t {
+        if members.has(other) {
+            before += 1;
+        }
+    }
+    before
+}
 
 /// The parameter set and the plan of a reference, which say where its values lie among the leaves.
 #[derive(Clone, Copy, Debug)]
@@ -48,14 +65,7 @@ impl Layout {
         ensures within { result + 32 ≤ leaves_length self.now.params self.now.plan }
         ensures small { leaves_length self.now.params self.now.plan ≤ 2 ^ 50 }
     {
-        let members = self.plan.members(self.plan.coalition_of(q));
-        let mut place = self.leaf(q) + self.params.n as usize;
-        'others: for other in 1..t {
-            if members.has(other) {
-                place += TAG;
-            }
-        }
-        place
+        self.leaf(q) + self.params.n as usize + TAG * rank(&self.plan, q, t)
     }
 
     /// Where the cell of chain `i` of leaf `q` after `j` steps begins.

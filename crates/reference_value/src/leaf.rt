@@ -3,7 +3,7 @@
 ghost use Rattle.std.specs.Prelude.{◌≡◌, ◌+◌, ◌-◌, ◌*◌, ◌<◌, ◌≤◌, ◌^◌, ◌++◌, length, take, drop};
 ghost use Rattle.lms_bytes.specs.Bytes.{bytes_at, joined, xor};
 ghost use Rattle.mask_prf.specs.Masks.{chain_mask_of, check_tag_of, random_mask_of};
-ghost use Rattle.reference_value.specs.Dealing.{leaf_part, values_of_seed};
+ghost use Rattle.reference_value.specs.Dealing.{dealing_from, leaf_part, values_of_seed};
 ghost use Rattle.reference_value.specs.Masking.{masked_at, masked_chain};
 ghost use Rattle.share_files.specs.Reference.{leaf_length};
 
@@ -121,14 +121,7 @@ pub fn build_leaf(
     requires seed { length seed.now ≡ params.now.n }
     requires keys { length keys.now ≡ plan.now.n }
     requires room { length out.old ≡ leaf_length params.now plan.now.k }
-    ensures { out.new ≡ leaf_part (record {
-      params = params.now;
-      plan = plan.now;
-      id = id.now;
-      seed = seed.now;
-      random_key = random_key.now;
-      keys = keys.now;
-    }) q }
+    ensures { out.new ≡ leaf_part (dealing_from params.now plan.now id.now seed.now random_key.now keys.now) q }
 {
     let members = plan.members(plan.coalition_of(q));
     let c = randomizer(random_key, params, id, q);

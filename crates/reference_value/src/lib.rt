@@ -13,6 +13,7 @@ mod whole;
 pub use cells::{Cells, RefFault};
 pub use committed::build_committed_leaf;
 pub use joins::{join_chains, join_randomizer};
+pub use layout::rank;
 pub use leaf::build_leaf;
 pub use paged::{Paged, read_behind_header};
 pub use share_files::leaf_bytes;

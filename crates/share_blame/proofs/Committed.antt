@@ -11,7 +11,8 @@ use Rattle.coalition_map.specs.Members.{below, IsAscendingIn}
 use Rattle.coalition_map.proofs.MemberLaws.{All-from_IsAscendingIn, Contains-cases, Contains-nil, below-none}
 use Rattle.lms_bytes.specs.Bytes.{bytes_at, joined}
 use Rattle.lms_bytes.proofs.Joined.{length-joined, part-left, row-fits}
-use Rattle.reference_value.specs.Commitments.{cell_commitment_in, cell_commits_place, commitments, commitments_to, leaf_commitments, leaf_commits_place, random_commitment_in, rank_place}
+use Rattle.reference_value.specs.Commitments.{cell_commitment_in, cell_commits_place, commitments, commitments_to, leaf_commitments, leaf_commits_place, random_commitment_in}
+use Rattle.reference_value.specs.Places.{rank_place}
 use Rattle.reference_value.specs.Dealing.{Dealing, chain_mask, members_of, random_mask}
 use Rattle.reference_value.proofs.Members.{tag-room}
 use Rattle.reference_value.proofs.Reference.{joined-inside, length-members_of, part-second}

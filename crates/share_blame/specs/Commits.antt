@@ -6,6 +6,7 @@ use Rattle.disk_trait.specs.Faults.{HasCause}
 use Rattle.disk_trait.specs.declared.disk.Pages as pages
 use Rattle.disk_trait.specs.declared.faults.Faults as faults
 use Rattle.lms_bytes.specs.declared.params.Params.{Params}
+use Rattle.session_core.specs.State.{IsSession, State}
 use Rattle.share_files.specs.Commits.{all_commits_length}
 use Rattle.share_blame.specs.declared.commits.Commits.{Commits}
 
@@ -24,6 +25,12 @@ plan_of commits = commits.places.plan
 pub record AreOf {V : Type 0} (params : Params) (numbers : PlanNumbers) (commits : Commits V) : Type 0 where
   pub set : set_of commits ≡ params
   pub plan : plan_of commits ≡ numbers
+
+-- internal: commitments are of a session's set and plan, and q is its leaf
+pub record AreOfSession {V : Type 0} (s : State) (q : ℕ) (commits : Commits V) : Type 0 where
+  pub are : AreOf s.key.params s.plan commits
+  pub session : IsSession s
+  pub leaf : q ≡ s.leaf
 
 -- what the pages give, where they are told, and their kind are as they were
 pub record PagesStay {V : Type 0} (p : pages.Ghosts V) (f : faults.Ghosts V) (old new : V) : Type 0 where

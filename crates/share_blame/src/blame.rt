@@ -5,11 +5,10 @@ ghost use Rattle.coalition_map.specs.Coalitions.{leaf_members};
 ghost use Rattle.disk_trait.specs.Faults.{HasCause};
 ghost use Rattle.lms_bytes.specs.Digits.{digit_of};
 ghost use Rattle.reference_value.specs.Commitments.{cell_commitment_in};
-ghost use Rattle.session_core.specs.State.{IsSession};
 ghost use Rattle.sha2.specs.Sha256.{sha256};
 ghost use Rattle.share_files.specs.Commits.{all_commits_length};
 ghost use Rattle.share_blame.specs.Blamed.{AreBlamed, ChainsDiffer, FirstDiffers, IsBlamed, SecondDiffers};
-ghost use Rattle.share_blame.specs.Commits.{AreOf, Looks, leaves_on, pages_of, plan_of, set_of};
+ghost use Rattle.share_blame.specs.Commits.{AreOf, AreOfSession, Looks, leaves_on, pages_of, plan_of, set_of};
 
 use crate::commits::{Commits, is_other};
 use crate::places::Places;
@@ -53,9 +52,7 @@ fn is_blamed<V: Pages>(
     digest: &Val,
     t: u8,
 ) -> Result<bool, RefFault>
-    requires commits { AreOf session.now.key.params session.now.plan commits.old }
-    requires session { IsSession session.now }
-    requires leaf { q ≡ session.now.leaf }
+    requires commits { AreOfSession session.now q commits.old }
     requires digest { length digest.now ≡ session.now.key.params.n }
     ensures blamed { IsTrue (V.told (pages_of commits.old)) → IfOk result (λ b. IsTrue b
         ↔ IsBlamed (leaves_on V.Pages.own (pages_of commits.old)) session.now digest.now t) }
@@ -75,9 +72,7 @@ fn first_differs<V: Pages>(
     q: u32,
     t: u8,
 ) -> Result<bool, RefFault>
-    requires commits { AreOf session.now.key.params session.now.plan commits.old }
-    requires session { IsSession session.now }
-    requires leaf { q ≡ session.now.leaf }
+    requires commits { AreOfSession session.now q commits.old }
     ensures differs { IsTrue (V.told (pages_of commits.old)) → IfOk result (λ b. IsTrue b
         ↔ FirstDiffers (leaves_on V.Pages.own (pages_of commits.old)) session.now t) }
     ensures looks { Looks V.Pages.own V.Faults session.now.key.params session.now.plan commits.old commits.new result }
@@ -99,9 +94,7 @@ fn second_differs<V: Pages>(
     digest: &Val,
     t: u8,
 ) -> Result<bool, RefFault>
-    requires commits { AreOf session.now.key.params session.now.plan commits.old }
-    requires session { IsSession session.now }
-    requires leaf { q ≡ session.now.leaf }
+    requires commits { AreOfSession session.now q commits.old }
     requires digest { length digest.now ≡ session.now.key.params.n }
     ensures differs { IsTrue (V.told (pages_of commits.old)) → IfOk result (λ b. IsTrue b
         ↔ SecondDiffers (leaves_on V.Pages.own (pages_of commits.old)) session.now digest.now t) }

@@ -2,11 +2,13 @@
 
 ghost use Rattle.std.specs.Prelude.{◌≡◌, ◌+◌, ◌*◌, ◌<◌, ◌≤◌, ◌^◌, Contains};
 ghost use Rattle.coalition_map.specs.Coalitions.{IsPlan, leaf_members};
-ghost use Rattle.reference_value.specs.Commitments.{cell_commits_place, leaf_commits_place, rank_place};
+ghost use Rattle.reference_value.specs.Commitments.{cell_commits_place, leaf_commits_place};
+ghost use Rattle.reference_value.specs.Places.{rank_place};
 ghost use Rattle.share_files.specs.Commits.{all_commits_length, leaf_commits_length};
 
 use coalition_map::Plan;
 use lms_bytes::Params;
+use reference_value::rank;
 use share_files::{COMMITMENT, chain_commits_bytes, leaf_commits_bytes};
 
 /// The parameter set and the plan of commitments, which say where each of them lies among the leaves.
@@ -30,23 +32,6 @@ impl Places {
         leaf_commits_bytes(&self.params, self.plan.k()) * q as usize
     }
 
-    /// How far the commitment of member `t` of leaf `q` lies behind that of the first member.
-    fn rank(&self, q: u32, t: u8) -> usize
-        requires leaf { q < 2 ^ self.now.params.h }
-        requires member { Contains (leaf_members self.now.plan q) t }
-        ensures place { result ≡ rank_place self.now.plan q t }
-        ensures within { result + 32 ≤ 32 * self.now.plan.k }
-    {
-        let members = self.plan.members(self.plan.coalition_of(q));
-        let mut place = 0;
-        'others: for other in 1..t {
-            if members.has(other) {
-                place += COMMITMENT;
-            }
-        }
-        place
-    }
-
     /// Where the commitment to the mask lies that member `t` has for the randomizer of leaf `q`.
     pub(crate) fn randomizer(&self, q: u32, t: u8) -> usize
         requires leaf { q < 2 ^ self.now.params.h }
@@ -56,7 +41,7 @@ impl Places {
         ensures within { result + 32 ≤ all_commits_length self.now.params self.now.plan }
         ensures small { result ≤ 2 ^ 50 }
     {
-        self.leaf(q) + self.rank(q, t)
+        self.leaf(q) + COMMITMENT * rank(&self.plan, q, t)
     }
 
     /// Where the commitment to the mask lies that member `t` has for the value of chain `i` of leaf `q` after `j`
@@ -74,6 +59,7 @@ impl Places {
         let k = self.plan.k();
         let cell = COMMITMENT * k as usize;
         let chain = chain_commits_bytes(&self.params, k);
-        self.leaf(q) + cell + chain * i as usize + cell * j as usize + self.rank(q, t)
+        let row = self.leaf(q) + cell + chain * i as usize;
+        row + cell * j as usize + COMMITMENT * rank(&self.plan, q, t)
     }
 }

@@ -22,7 +22,7 @@ plan_lies magic header head four parts =
     head_lies-any magic 0 header.plan.k header.plan.n header.params header.id [] head four header.id_length
     (parts ∙ sym (append-nil (plan_head magic header)))
 
-length_of-codes : (params : Params) (k : ℕ) → length_of params.lms params.ots k ≡ 32 + leaf_length params k * 2 ^ params.h
+pub length_of-codes : (params : Params) (k : ℕ) → length_of params.lms params.ots k ≡ 32 + leaf_length params k * 2 ^ params.h
 length_of-codes params k = rw (node_length-lms params, height_of-lms params, chain_count-ots params, width_of-ots params) refl
 
 -- the length that the reader asks for
@@ -32,11 +32,6 @@ want_is params head k want lms ots threshold size = size ∙ (sym (length_of-cod
 
 pub commits_length_of-codes : (params : Params) (k : ℕ) → commits_length_of params.lms params.ots k ≡ 32 + leaf_commits_length params k * 2 ^ params.h
 commits_length_of-codes params k = rw (height_of-lms params, chain_count-ots params, width_of-ots params) refl
-
--- the length that the reader of a commitment file asks for
-pub commits_want_is : (params : Params) (head : List ℕ) (k want : ℕ) → params.lms ≡ lms_at head → params.ots ≡ ots_at head → k ≡ slice_index head 6
-    → want ≡ 32 + leaf_commits_length params k * 2 ^ params.h → want ≡ commits_length_of (lms_at head) (ots_at head) (slice_index head 6)
-commits_want_is params head k want lms ots threshold size = size ∙ (sym (commits_length_of-codes params k) ∙ rw (lms, ots, threshold) refl)
 
 -- the head that the leaves of a reference file follow
 pub front_is : (header : RefHeader) (leaves bytes : List ℕ) → bytes ≡ reference_head header ++ leaves → take 32 bytes ≡ reference_head header

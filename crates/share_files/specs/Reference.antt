@@ -47,6 +47,12 @@ pub record SameHeader (a b : RefHeader) : Type 0 where
   pub plan : b.plan ≡ a.plan
   pub id : b.id ≡ a.id
 
+-- internal: what a head says of the set and of the threshold is what the header has
+pub record HasCodes (head : List ℕ) (header : RefHeader) : Type 0 where
+  pub lms : lms_at head ≡ header.params.lms
+  pub ots : ots_at head ≡ header.params.ots
+  pub threshold : slice_index head 6 ≡ header.plan.k
+
 -- bytes are the reference file with this header and these leaves
 pub record HasReferenceLayout (header : RefHeader) (bytes leaves : List ℕ) : Type 0 where
   pub dealt : CanBeDealt header.params

@@ -1,7 +1,8 @@
 //! How the head of a commitment file is read and written.
 
 ghost use Rattle.std.specs.Prelude.{◌≡◌, ◌+◌, ◌*◌, ◌^◌, None, Some, OnOk, IfOk, IfErr, IsOkAnd};
-ghost use Rattle.share_files.specs.Commits.{commits_head, commits_head_fault, commits_length, leaf_commits_length};
+ghost use Rattle.share_files.specs.Commits.{commits_head, commits_head_fault, commits_length, commits_length_of};
+ghost use Rattle.share_files.specs.Commits.{leaf_commits_length};
 ghost use Rattle.share_files.specs.Reference.{SameHeader};
 ghost use Rattle.share_files.specs.Sets.{CanBeDealt};
 ghost use Rattle.share_files.specs.declared.reference.RefHeader.{RefHeader};
@@ -17,6 +18,7 @@ use lms_bytes::Params;
 const COMMITS_MAGIC: &[u8; 4] = b"TLCM";
 
 /// Reads the head of a commitment file of this length in bytes. It says what the head of a reference file says.
+#[tactic(auto, unfolding(crate::specs::Commits::commits_head_fault, crate::specs::Head::first_fault))]
 pub fn read_commits_header(head: &[u8; 32], file_length: u64) -> Result<RefHeader, FileFault>
     ensures header { IfOk result (λ header. head.now ≡ commits_head header) }
     ensures size { IfOk result (λ header. file_length ≡ commits_length header.params header.plan) }
@@ -27,11 +29,16 @@ pub fn read_commits_header(head: &[u8; 32], file_length: u64) -> Result<RefHeade
     ensures refused { IfErr result (λ fault. commits_head_fault head.now file_length ≡ Some fault) }
 {
     let header = read_plan_head(COMMITS_MAGIC, head)?;
-    check_length(
-        file_length,
-        length_of_commits(&header.params, header.plan.k()),
-    )?;
+    check_length(file_length, length_of_file(&header))?;
     Ok(header)
+}
+
+/// How long the file with this header is, in bytes.
+fn length_of_file(header: &RefHeader) -> u64
+    ensures length { result ≡ commits_length header.now.params header.now.plan }
+    ensures codes { result ≡ commits_length_of header.now.params.lms header.now.params.ots header.now.plan.k }
+{
+    length_of_commits(&header.params, header.plan.k())
 }
 
 /// Writes the head of a commitment file, which the leaves follow.

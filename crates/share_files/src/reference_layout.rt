@@ -1,8 +1,8 @@
 //! How reference files are read and written.
 
 ghost use Rattle.std.specs.Prelude.{◌≡◌, ℕ, List, ◌+◌, ◌*◌, ◌^◌, None, Some, OnOk, IfOk, IfErr, IsOkAnd};
-ghost use Rattle.share_files.specs.Reference.{HasReferenceLayout, leaf_length, reference_fault, reference_head};
-ghost use Rattle.share_files.specs.Reference.{reference_head_fault, reference_length, SameHeader};
+ghost use Rattle.share_files.specs.Reference.{HasReferenceLayout, SameHeader, leaf_length, length_of, reference_fault};
+ghost use Rattle.share_files.specs.Reference.{reference_head, reference_head_fault, reference_length};
 ghost use Rattle.share_files.specs.Sets.{CanBeDealt};
 ghost use Rattle.share_files.specs.declared.reference.RefHeader.{RefHeader};
 
@@ -18,6 +18,7 @@ use lms_bytes::bytes::part;
 const REFERENCE_MAGIC: &[u8; 4] = b"TLRF";
 
 /// Reads the head of a reference file of this length in bytes.
+#[tactic(auto, unfolding(crate::specs::Reference::reference_head_fault, crate::specs::Head::first_fault))]
 pub fn read_ref_header(head: &[u8; 32], file_length: u64) -> Result<RefHeader, FileFault>
     ensures header { IfOk result (λ header. head.now ≡ reference_head header) }
     ensures size { IfOk result (λ header. file_length ≡ reference_length header) }
@@ -28,7 +29,7 @@ pub fn read_ref_header(head: &[u8; 32], file_length: u64) -> Result<RefHeader, F
     ensures refused { IfErr result (λ fault. reference_head_fault head.now file_length ≡ Some fault) }
 {
     let header = read_plan_head(REFERENCE_MAGIC, head)?;
-    check_length(file_length, length_of_file(&header.params, header.plan.k()))?;
+    check_length(file_length, length_of_file(&header))?;
     Ok(header)
 }
 
@@ -56,8 +57,16 @@ pub fn write_ref_head(header: &RefHeader, out: &mut [u8; 32])
     write_plan_head(REFERENCE_MAGIC, header, out);
 }
 
+/// How long the file with this header is, in bytes.
+fn length_of_file(header: &RefHeader) -> u64
+    ensures length { result ≡ reference_length header.now }
+    ensures codes { result ≡ length_of header.now.params.lms header.now.params.ots header.now.plan.k }
+{
+    length_of_reference(&header.params, header.plan.k())
+}
+
 /// How long the reference file of a parameter set and a threshold is, in bytes.
-fn length_of_file(params: &Params, k: u8) -> u64
+fn length_of_reference(params: &Params, k: u8) -> u64
     ensures { result ≡ 32 + leaf_length params.now k * 2 ^ params.now.h }
 {
     HEAD as u64 + leaf_bytes(params, k) as u64 * u64::from(params.leaves())

@@ -1,13 +1,14 @@
 -- The file of a header and free slots.
-use Rattle.std.proofs.Common.{◌≡◌, ◌⊎◌, ℕ, zero, suc, ◌+◌, ◌*◌, ◌-◌, ◌^◌, ◌<◌, ◌≤◌, List, [], ◌∷◌, ◌++◌, length, get_or, take, drop, replicate, refl, sym, ◌∙◌, ap, arith, inl, inr, subst, length-append}
+use Rattle.std.proofs.Common.{◌≡◌, ◌⊎◌, ℕ, zero, suc, ◌+◌, ◌*◌, ◌-◌, ◌^◌, ◌<◌, ◌≤◌, List, [], ◌∷◌, ◌++◌, length, get_or, take, drop, replicate, refl, sym, ◌∙◌, ap, arith, inl, inr, subst, ⊎_elim, IsTrue, length-append}
 use Rattle.std.proofs.lemmas.List.{length-replicate, append-nil, take_at, take-append-le, get_or-append_right}
 use Rattle.std.proofs.lemmas.Bool.{cases_eq}
 use Rattle.byteorder.specs.Endian.{big_number, big_bytes}
 use Rattle.byteorder.specs.Numbers.{big_number-reads_back}
 use Rattle.disk_trait.specs.Images.{written, Torn}
+use Rattle.disk_trait.specs.declared.disk.Pages as pages
 use Rattle.slot_file.specs.declared.header.Header.{Header}
 use Rattle.slot_file.specs.declared.slot.Slot.TheVariants.{Free}
-use Rattle.slot_file.specs.Fresh.{HasFields, IsBlank, IsNew, IsUnready}
+use Rattle.slot_file.specs.Fresh.{HasFields, IsBlank, IsNew, IsUnready, NeverHalf, OpensLast}
 use Rattle.slot_file.specs.Files.{IsFile}
 use Rattle.slot_file.specs.Layout.{part, slot_size, slot_start, header_in, header_block, blank_file, slot_at}
 use Rattle.slot_file.proofs.Loads.{opens_file}
@@ -98,3 +99,23 @@ closed_unready header slots file is = shut_unready file (ap (λ (l : List ℕ). 
 -- the blank file is new
 pub is_new : (header : Header) → HasFields header → (count : ℕ) (file : List ℕ) → file ≡ blank_file header count → IsNew header count file
 is_new header fields count file is = (is, subst (IsBlank header count) (sym is) (is_blank header fields count))
+
+-- A file that is whole but for its gate, whose gate is opened last: a crash or a read never shows half of it.
+pub never-half : {D : Type 0} (p : pages.Ghosts D) (header : Header) (rest : List ℕ) (whole : List ℕ → Type 0) (old mid new : D)
+    → p.told mid ≡ p.told old → p.honest mid ≡ p.honest old
+    → (IsTrue (p.told old) → p.reads mid ≡ header_block 0 header ++ rest) → whole (header_block 0xA7 header ++ rest)
+    → (IsTrue (p.told old) → IsTrue (p.honest old) → (image : List ℕ) → p.may_leave mid image → IsUnready image)
+    → OpensLast p mid new → NeverHalf p whole old new
+never-half p header rest whole old mid new told_is honest_is closed is_whole unready last =
+    let torn_from : IsTrue (p.told old) → (image : List ℕ) → Torn 0 1 (p.reads mid) image → Torn 0 1 (header_block 0 header ++ rest) image = λ told image.
+    subst (λ (l : List ℕ). Torn 0 1 l image) (closed told) in
+    record {
+      images = λ told honest image leaves.
+          ⊎_elim (λ before. inl (unready told honest image before))
+          (λ torn. ⊎_elim inl (λ all. inr (subst whole (sym all) is_whole)) (any-gate header rest image (torn_from told image torn)))
+          (last.images (told_is ∙ told) (honest_is ∙ honest) image leaves);
+      shows = λ told honest.
+          ⊎_elim (λ same. inl (closed_unready header rest (p.reads new) (same ∙ closed told)))
+          (λ all. inr (header_block 0xA7 header ++ rest, is_whole, λ image leaves. rest-same header rest image (torn_from told image (all image leaves))))
+          (last.shows (told_is ∙ told) (honest_is ∙ honest));
+    }

@@ -1,18 +1,18 @@
 -- The slots of a file that is copied.
-use Rattle.std.proofs.Common.{◌≡◌, ◌≢◌, ◌⊎◌, ◌==◌, ℕ, zero, suc, ◌+◌, ◌*◌, ◌<◌, ◌≤◌, Bool, true, false, not, List, [], ◌∷◌, ◌++◌, length, get_or, drop, replicate, count_by, fold, if◌then◌else◌, refl, sym, ◌∙◌, ap, subst, arith, inl, inr, ⊎_elim, add-one, length-append, length-take, length-drop}
+use Rattle.std.proofs.Common.{◌≡◌, ◌≢◌, ◌==◌, ℕ, zero, suc, ◌+◌, ◌*◌, ◌<◌, ◌≤◌, Bool, true, false, not, List, [], ◌∷◌, ◌++◌, length, get_or, drop, replicate, count_by, fold, if◌then◌else◌, refl, sym, ◌∙◌, ap, arith, inl, inr, add-one, length-append, length-take, length-drop}
 use Rattle.std.proofs.lemmas.Bool.{cases_lt, false≢true}
 use Rattle.std.proofs.lemmas.List.{flat_map_more, same_lists, places}
 use Rattle.std.specs.List.{flat_map}
 use Rattle.byteorder.specs.Endian.{big_number}
-use Rattle.disk_trait.specs.Images.{written, Torn}
+use Rattle.disk_trait.specs.Images.{written}
 use Rattle.slot_file.specs.declared.header.Header.{Header}
 use Rattle.slot_file.specs.declared.slot.Slot.{Slot}
 use Rattle.slot_file.specs.declared.slot.Slot.TheVariants.{Free, Half, Full, Damaged}
 use Rattle.slot_file.specs.Copies.{is_free, is_damaged, slots_in, taken_count, slot_block, with_part, IsCopy}
 use Rattle.slot_file.specs.Files.{without_moment}
-use Rattle.slot_file.specs.Fresh.{HasFields, IsUnready, AllBut}
+use Rattle.slot_file.specs.Fresh.{HasFields}
 use Rattle.slot_file.specs.Layout.{part, header_block, slot_size, slot_start, file_size, slot_at, slot_of, moment_of}
-use Rattle.slot_file.proofs.Blank.{get_or-zeros, length-header_block, is_file_of, any-gate, rest-same, closed_unready}
+use Rattle.slot_file.proofs.Blank.{get_or-zeros, length-header_block, is_file_of}
 use Rattle.slot_file.proofs.Kept.{slot-within}
 use Rattle.slot_file.proofs.Parts.{Outside, outside_both, outside_wider, outside_written, part-outside, part-written, get_or-written}
 use Rattle.slot_file.proofs.Puts.{least_size}
@@ -192,14 +192,3 @@ module _ (version count : ℕ) (file : List ℕ) (size : length file ≡ file_si
         opens = (is_file_of header fields count (blocks count) (length-blocks count (omega arith) ∙ omega (arith, ap (λ (n : ℕ). n * count) size_of))).opens;
         slots = λ slot below. copy-slot slot below ∙ block-shows (slot_at version slot file) (slot_at-bodies version count slot file size below) (sound slot below);
       }
-
--- the file that is copied, with its gate closed yet, and what a torn gate leaves of it
-module _ (header : Header) (count version : ℕ) (from rest closed : List ℕ) (is : closed ≡ header_block 0 header ++ rest) (whole : IsCopy header count version from (header_block 0xA7 header ++ rest)) where
-  pub copy-torn : (image : List ℕ) → Torn 0 1 closed image → IsUnready image ⊎ IsCopy header count version from image
-  copy-torn image torn =
-      ⊎_elim inl (λ all. inr (subst (IsCopy header count version from) (sym all) whole)) (any-gate header rest image (subst (λ (l : List ℕ). Torn 0 1 l image) is torn))
-
-  pub copy-shown : {Leaves : List ℕ → Type 0} (file : List ℕ) → (file ≡ closed) ⊎ AllBut closed Leaves → IsUnready file ⊎ ((all : List ℕ) × IsCopy header count version from all × ((image : List ℕ) → Leaves image → drop 1 image ≡ drop 1 all))
-  copy-shown file shows =
-      ⊎_elim (λ same. inl (closed_unready header rest file (same ∙ is)))
-      (λ torn. inr (header_block 0xA7 header ++ rest, whole, λ image leaves. rest-same header rest image (subst (λ (l : List ℕ). Torn 0 1 l image) is (torn image leaves)))) shows

@@ -18,3 +18,4 @@ mod Read
 mod Same
 mod Sure
 mod CachedRuns
+mod CachedPuts

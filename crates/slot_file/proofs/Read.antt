@@ -1,16 +1,21 @@
 -- Why a file is not loaded.
-use Rattle.std.proofs.Common.{◌≡◌, ◌⊎◌, ◌<◌, ◌+◌, ◌-◌, ℕ, List, length, None, Some, false, inl, inr, sym, ◌∙◌, ap, arith}
+use Rattle.std.proofs.Common.{◌≡◌, ◌⊎◌, ◌<◌, ◌+◌, ◌-◌, ℕ, List, length, None, Some, false, inl, inr, refl, sym, ◌∙◌, ap, subst, arith}
+use Rattle.disk_trait.specs.declared.disk.Pages as pages
+use Rattle.disk_trait.specs.declared.faults.Faults as faults
 use Rattle.slot_file.specs.Loading.{LoadRefused, damaged, device, other_file}
 use Rattle.slot_file.specs.Reading.{IsReadRefused, IsRunRefused, refused_by}
 use Rattle.slot_file.specs.declared.faults.CacheLoad.{CacheLoad}
 use Rattle.slot_file.specs.declared.faults.CacheLoad.TheVariants as load
-use Rattle.slot_file.specs.State.{HasSlots, slot_in}
+use Rattle.slot_file.specs.Opened.{IsOpened}
+use Rattle.slot_file.specs.Slots.{IsTold, file_of, header_of, slot_now}
+use Rattle.slot_file.specs.State.{HasSlots, IsWhole, slot_in}
 use Rattle.slot_file.specs.Copies.{is_damaged}
 use Rattle.slot_file.specs.Layout.{load_fault, slot_at}
 use Rattle.slot_file.specs.Runs.{IsRun}
 use Rattle.slot_file.specs.declared.slot.Slot.{Slot}
 use Rattle.slot_file.specs.declared.header.Header.{Header}
 use Rattle.slot_file.specs.declared.header.LoadFault.{LoadFault}
+use Rattle.slot_file.specs.declared.slots.Slots.{Slots}
 use Rattle.slot_file.specs.declared.header.LoadFault.TheVariants.{Device, Foreign, Length, NotReady, Version}
 
 module _ (header : Header) (count : ℕ) (file : List ℕ) where
@@ -58,4 +63,27 @@ has-read header was list file old count names same size opens shows sound =
       opens = ap (λ (n : ℕ). load_fault header n file) size ∙ opens;
       shows = λ k below. at k ∙ shows k (omega (arith, below, size));
       sound = λ k below. ap is_damaged (at k) ∙ sound k (omega (arith, below, size));
+    }
+
+-- the list of a cache whose slots were all read
+pub record AllRead (header : Header) (count : ℕ) (told : Type 0) (file : List ℕ) (list : List Slot) : Type 0 where
+  pub size : length list ≡ count
+  pub whole : IsWhole list
+  pub has : told → HasSlots header list file
+
+pub all-read : {D : Type 0} {p : pages.Ghosts D} {f : faults.Ghosts D} (header : Header) (count : ℕ) (disk : D) (slots : Slots D p f) (list read : List Slot)
+    → IsOpened p f header count disk slots → list ≡ read → length read ≡ count → IsWhole read
+    → (IsTold slots → (k : ℕ) → k < count → slot_now slots k ≡ slot_in read k) → AllRead header count (IsTold slots) (file_of slots) list
+all-read {p} header count disk slots list read opened is size whole shows =
+    let long : length list ≡ count = ap length is ∙ size in
+    let sound : IsWhole list = subst IsWhole (sym is) whole in
+    record {
+      size = long;
+      whole = sound;
+      has = λ told_now.
+          let told = sym opened.unwritten.stays.told ∙ told_now in
+          let same : (k : ℕ) → k < count → slot_now slots k ≡ slot_in list k = λ k below. shows told_now k below ∙ ap (λ (l : List Slot). slot_in l k) (sym is) in
+          has-read header (header_of slots) list (file_of slots) (file_of slots) count opened.named refl long
+          (ap (load_fault header count) (opened.unwritten.same told) ∙ opened.opens told) same
+          (λ k below. ap is_damaged (same k below) ∙ sound k (omega (arith, below, long)));
     }

@@ -48,6 +48,14 @@ module _ {D : Type 0} (p : pages.Ghosts D) where
 abbrev pub AllBut : List ℕ → (List ℕ → Type 0) → Type 0
 AllBut file images = (image : List ℕ) → images image → Torn 0 1 file image
 
+-- internal: A gate is opened last. A crash leaves what it could leave before, or the file with any gate; a read shows
+-- another gate only where all else is stable.
+pub record OpensLast {D : Type 0} (p : pages.Ghosts D) (old new : D) : Type 0 where
+  pub images : IsTrue (p.told old) → IsTrue (p.honest old) → (image : List ℕ) → p.may_leave new image
+      → p.may_leave old image ⊎ Torn 0 1 (p.reads old) image
+  pub shows : IsTrue (p.told old) → IsTrue (p.honest old)
+      → (p.reads new ≡ p.reads old) ⊎ AllBut (p.reads old) (p.may_leave new)
+
 -- the fields of a header have their sizes
 pub record HasFields (header : Header) : Type 0 where
   pub lms : header.lms < 2 ^ 32

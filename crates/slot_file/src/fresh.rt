@@ -1,10 +1,10 @@
 //! The steps by which a file is made. Its header's gate is closed until all else is stable.
 
-ghost use Rattle.std.specs.Prelude.{◌≡◌, ◌⊎◌, ◌≤◌, ◌+◌, ℕ, List, [], ◌∷◌, ◌++◌, length, IsTrue, IsOk, OnOk};
+ghost use Rattle.std.specs.Prelude.{◌≡◌, ◌≤◌, ◌+◌, ℕ, List, [], ◌∷◌, ◌++◌, length, IsTrue, IsOk, OnOk};
 ghost use Rattle.disk_trait.specs.Faults.{HasCause};
-ghost use Rattle.disk_trait.specs.Images.{Only, Torn, written};
+ghost use Rattle.disk_trait.specs.Images.{Only, written};
 ghost use Rattle.slot_file.specs.Disks.{SameDisk};
-ghost use Rattle.slot_file.specs.Fresh.{AllBut, AreUnready, IsShut, StaysShut};
+ghost use Rattle.slot_file.specs.Fresh.{AreUnready, IsShut, OpensLast, StaysShut};
 
 use crate::header::OPEN;
 use disk_trait::{Disk, DiskFault};
@@ -44,18 +44,14 @@ pub(crate) fn append<D: Disk>(disk: &mut D, at: u64, bytes: &[u8]) -> Result<(),
     disk.write_at(at, bytes)
 }
 
-/// Syncs, opens the header's gate, and syncs.
+/// Opens the gate of a file that is written but for it. The first sync makes the rest stable before the gate is
+/// written, and the second the gate, so neither a crash nor a read shows an open gate before a file that is not whole.
 pub(crate) fn open_gate<D: Disk>(disk: &mut D) -> Result<(), DiskFault>
     ensures bytes { IsTrue (D.told disk.old)
         → OnOk result (D.reads disk.new ≡ written (D.reads disk.old) 0 (0xA7 ∷ [])) }
     ensures stable { IsTrue (D.told disk.old) → IsTrue (D.honest disk.old)
         → OnOk result (Only (D.reads disk.new) (D.may_leave disk.new)) }
-    ensures images { IsTrue (D.told disk.old) → IsTrue (D.honest disk.old)
-        → (image : List ℕ) → D.may_leave disk.new image
-        → D.may_leave disk.old image ⊎ Torn 0 1 (D.reads disk.old) image }
-    // a read shows another gate only where all else is stable
-    ensures shows { IsTrue (D.told disk.old) → IsTrue (D.honest disk.old)
-        → (D.reads disk.new ≡ D.reads disk.old) ⊎ AllBut (D.reads disk.old) (D.may_leave disk.new) }
+    ensures last { OpensLast D.Pages.own disk.old disk.new }
 
     ensures succeeds { IsTrue (D.steady disk.old) → IsTrue (D.told disk.old) → 1 ≤ D.room disk.old → IsOk result }
     ensures cause { HasCause (D.count disk.old) (D.count disk.new) result }

@@ -3,12 +3,9 @@ use Rattle.std.proofs.Common.{◌≡◌, ◌+◌, ◌-◌, ◌≤◌, ◌++◌, 
 use Rattle.std.proofs.lemmas.List.{places, same_lists}
 use Rattle.disk_trait.specs.Disks.{SameKind}
 use Rattle.disk_trait.specs.Images.{written, Torn, Follows}
-use Rattle.stream_host.specs.Files.{Untouched}
+use Rattle.stream_io.specs.RawFiles.{Untouched}
 
 module _ {F : Type 0} (told honest steady : F → Bool) (room : F → ℕ) where
-  pub kind-same : (a : F) → SameKind told honest steady room a a
-  kind-same a = record { told = refl; honest = refl; steady = refl; room = refl }
-
   pub kind-then : (a b c : F) → SameKind told honest steady room a b → SameKind told honest steady room b c
       → SameKind told honest steady room a c
   kind-then a b c x y = record {
@@ -18,30 +15,22 @@ module _ {F : Type 0} (told honest steady : F → Bool) (room : F → ℕ) where
     room = y.room ∙ x.room;
   }
 
-  module _ (reads : F → List ℕ) (leaves : F → List ℕ → Type 0) (grown failed : F → Bool) where
+module _ {F : Type 0} (told honest : F → Bool) (reads : F → List ℕ) (leaves : F → List ℕ → Type 0) (grown failed : F → Bool)
+  where
     abbrev Same : F → F → Type 0
-    Same = Untouched told honest steady room reads leaves grown failed
+    Same = Untouched told honest reads leaves grown failed
 
-    pub untouched-same : (a : F) → Same a a
-    untouched-same a = record {
-      same = λ is. refl;
-      images = λ is image. ((λ x. x), (λ x. x));
-      syncs = λ is. record { grown = refl; failed = refl };
-      stays = kind-same a;
-    }
-
-    pub untouched-then : (a b c : F) → Same a b → Same b c → Same a c
-    untouched-then a b c x y = record {
-      same = λ is. y.same (x.stays.told ∙ is) ∙ x.same is;
+    pub untouched-then : (a b c : F) → told b ≡ told a → honest b ≡ honest a → Same a b → Same b c → Same a c
+    untouched-then a b c as_told as_honest x y = record {
+      same = λ is. y.same (as_told ∙ is) ∙ x.same is;
       images = λ is image.
           let p = x.images is image in
-          let q = y.images (x.stays.honest ∙ is) image in
+          let q = y.images (as_honest ∙ is) image in
           ((λ i. p.0 (q.0 i)), (λ i. q.1 (p.1 i)));
       syncs = λ is.
           let p = x.syncs is in
-          let q = y.syncs (x.stays.told ∙ is) in
+          let q = y.syncs (as_told ∙ is) in
           record { grown = q.grown ∙ p.grown; failed = q.failed ∙ p.failed };
-      stays = kind-then a b c x.stays y.stays;
     }
 
 -- one more piece that was read

@@ -1,10 +1,10 @@
 -- What has gone over a link that reads ahead and holds back what is written.
-use Rattle.std.specs.Prelude.{◌≡◌, ◌≤◌, ◌-◌, ◌++◌, ℕ, List, [], false, length, take, IsTrue, OnOk, Result}
-use Rattle.std.specs.Prelude.{if◌then◌else◌}
+use Rattle.std.specs.Prelude.{◌≡◌, ◌≤◌, ◌+◌, ◌-◌, ◌++◌, ℕ, List, [], false, length, take, IsTrue, IfOk, OnOk, OnErr}
+use Rattle.std.specs.Prelude.{Result, if◌then◌else◌}
 use Rattle.disk_trait.specs.Faults.{HasCause}
 use Rattle.stream_io.specs.declared.failed.Failed.{Failed}
 use Rattle.stream_io.specs.Net.{PortState}
-use Rattle.stream_io.specs.Talk.{Talk}
+use Rattle.stream_io.specs.Talk.{OnlyWrote, Talk}
 
 -- The bytes that were read ahead are not taken, but left; those that are held back are written.
 abbrev pub buffered_talk : Talk → List ℕ → List ℕ → Talk
@@ -38,6 +38,20 @@ pub record SameBytes (old new : Talk) : Type 0 where
   pub written : new.written ≡ old.written
   pub room : old.room ≤ new.room
   pub count : old.count ≤ new.count
+
+-- internal: Bytes were read before anyone asked for them: none after a refusal, and otherwise none exactly at the end.
+pub record ReadsAhead (old new : Talk) (ahead : List ℕ) (result : Result (Unit {0}) Failed) : Type 0 where
+  pub bytes : IsTrue old.told → old.left ≡ ahead ++ new.left
+  pub taken : IsTrue old.told → new.taken ≡ old.taken ++ ahead
+  pub end : IsTrue old.told → IfOk result (λ _. ahead ≡ [] → old.left ≡ [])
+  pub none : OnErr result (ahead ≡ [])
+
+-- internal: a beginning of what was held was written, and the rest of it is held
+pub record Passes (old new : Talk) (held rest : List ℕ) : Type 0 where
+  pub less : length rest ≤ length held
+  pub passed : IsTrue old.told → new.written ++ rest ≡ old.written ++ held
+  pub only : OnlyWrote old new
+  pub room : old.room + length rest ≤ new.room + length held
 
 -- What the link below has when all is over: the bytes that nobody has read were taken of it, and all that was written
 -- reached it, or a beginning of that, and then the count has risen.

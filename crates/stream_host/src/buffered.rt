@@ -1,10 +1,10 @@
 //! Links that read ahead and hold back what is written.
 
 ghost use Rattle.std.specs.Prelude.{◌≡◌, ◌+◌, ◌-◌, ◌<◌, ◌≤◌, ◌++◌, [], length, take, min, refl, false, IsTrue, IsOk};
-ghost use Rattle.std.specs.Prelude.{IfOk, MatchResult, OnErr};
+ghost use Rattle.std.specs.Prelude.{IfOk, OnErr};
 ghost use Rattle.disk_trait.specs.Faults.{HasCause};
-ghost use Rattle.stream_host.specs.Buffered.{Ends, SameBytes, buffered_talk};
-ghost use Rattle.stream_io.specs.Talk.{OnlyRead, OnlyWrote, Took};
+ghost use Rattle.stream_host.specs.Buffered.{Ends, Passes, ReadsAhead, SameBytes, buffered_talk};
+ghost use Rattle.stream_io.specs.Talk.{HasRead, HasWritten, OnlyRead, OnlyWrote, TakesRoom, Took};
 
 use crate::read_ahead::{self, ReadAhead};
 use crate::write_behind::WriteBehind;
@@ -73,13 +73,8 @@ impl<L: Source + Sink> Buffered<L> {
         ensures same { SameBytes (buffered_talk (L.talk self.old.link) self.old.ahead self.old.behind)
             (buffered_talk (L.talk self.new.link) self.new.ahead self.new.behind) }
         ensures ahead { self.new.ahead ≡ self.old.ahead }
-        ensures only { OnlyWrote (L.talk self.old.link) (L.talk self.new.link) }
-        ensures passed { IsTrue (L.talk self.old.link).told → (L.talk self.new.link).written ++ self.new.behind
-            ≡ (L.talk self.old.link).written ++ self.old.behind }
-        ensures less { length self.new.behind ≤ length self.old.behind }
+        ensures passes { Passes (L.talk self.old.link) (L.talk self.new.link) self.old.behind self.new.behind }
         ensures cause { HasCause (L.talk self.old.link).count (L.talk self.new.link).count result }
-        ensures room { (L.talk self.old.link).room - length self.old.behind
-            ≤ (L.talk self.new.link).room - length self.new.behind }
         ensures steady { L.steady self.new.link ≡ L.steady self.old.link }
     {
         self.behind.flush(&mut self.link)
@@ -90,13 +85,7 @@ impl<L: Source + Sink> Buffered<L> {
         requires nothing_held { self.old.behind ≡ [] }
         requires nothing_ahead { self.old.ahead ≡ [] }
         ensures behind { self.new.behind ≡ [] }
-        ensures bytes { IsTrue (L.talk self.old.link).told → (L.talk self.old.link).left
-            ≡ self.new.ahead ++ (L.talk self.new.link).left }
-        ensures taken { IsTrue (L.talk self.old.link).told → (L.talk self.new.link).taken
-            ≡ (L.talk self.old.link).taken ++ self.new.ahead }
-        ensures end { IsTrue (L.talk self.old.link).told
-            → IfOk result (λ _. self.new.ahead ≡ [] → (L.talk self.old.link).left ≡ []) }
-        ensures none { OnErr result (self.new.ahead ≡ []) }
+        ensures ahead { ReadsAhead (L.talk self.old.link) (L.talk self.new.link) self.new.ahead result }
         ensures only { OnlyRead (L.talk self.old.link) (L.talk self.new.link) }
         ensures cause { HasCause (L.talk self.old.link).count (L.talk self.new.link).count result }
         ensures steady { L.steady self.new.link ≡ L.steady self.old.link }
@@ -143,17 +132,9 @@ impl<L: Source + Sink> Buffered<L> {
     fn read_through(&mut self, out: &mut [u8]) -> Result<usize, Failed>
         requires { self.old.ahead ≡ [] }
         ensures sent { IfOk result (λ _. self.new.behind ≡ []) }
-        ensures size { IfOk result (λ n. n ≤ length out.old) }
-        ensures bytes { IsTrue (L.talk self.old.link).told
-            → IfOk result (λ n. take n out.new ≡ take n (self.old.ahead ++ (L.talk self.old.link).left)) }
-        ensures took { IsTrue (L.talk self.old.link).told → MatchResult result
-            (λ n. Took (buffered_talk (L.talk self.old.link) self.old.ahead self.old.behind)
-            (buffered_talk (L.talk self.new.link) self.new.ahead self.new.behind) n)
-            (λ _. Took (buffered_talk (L.talk self.old.link) self.old.ahead self.old.behind)
-            (buffered_talk (L.talk self.new.link) self.new.ahead self.new.behind) 0) }
+        ensures read { HasRead (buffered_talk (L.talk self.old.link) self.old.ahead self.old.behind)
+            (buffered_talk (L.talk self.new.link) self.new.ahead self.new.behind) (length out.old) out.new result }
         ensures ahead { self.new.ahead ≡ [] }
-        ensures end { IsTrue (L.talk self.old.link).told → IfOk result (λ n. n ≡ 0 → 0 < length out.old
-            → self.old.ahead ++ (L.talk self.old.link).left ≡ []) }
         ensures only { OnlyRead (buffered_talk (L.talk self.old.link) self.old.ahead self.old.behind)
             (buffered_talk (L.talk self.new.link) self.new.ahead self.new.behind) }
         ensures cause { HasCause (L.talk self.old.link).count (L.talk self.new.link).count result }
@@ -184,16 +165,8 @@ impl<L: Source + Sink> Stream for Buffered<L> {
 impl<L: Source + Sink> Source for Buffered<L> {
     /// Reads what was read ahead, or from the link below, once nothing is held back. A refusal has read nothing ahead.
     fn read(&mut self, out: &mut [u8]) -> Result<usize, Failed>
-        ensures size { IfOk result (λ n. n ≤ length out.old) }
-        ensures bytes { IsTrue (L.talk self.old.link).told
-            → IfOk result (λ n. take n out.new ≡ take n (self.old.ahead ++ (L.talk self.old.link).left)) }
-        ensures took { IsTrue (L.talk self.old.link).told → MatchResult result
-            (λ n. Took (buffered_talk (L.talk self.old.link) self.old.ahead self.old.behind)
-            (buffered_talk (L.talk self.new.link) self.new.ahead self.new.behind) n)
-            (λ _. Took (buffered_talk (L.talk self.old.link) self.old.ahead self.old.behind)
-            (buffered_talk (L.talk self.new.link) self.new.ahead self.new.behind) 0) }
-        ensures end { IsTrue (L.talk self.old.link).told → IfOk result (λ n. n ≡ 0 → 0 < length out.old
-            → self.old.ahead ++ (L.talk self.old.link).left ≡ []) }
+        ensures read { HasRead (buffered_talk (L.talk self.old.link) self.old.ahead self.old.behind)
+            (buffered_talk (L.talk self.new.link) self.new.ahead self.new.behind) (length out.old) out.new result }
         ensures only { OnlyRead (buffered_talk (L.talk self.old.link) self.old.ahead self.old.behind)
             (buffered_talk (L.talk self.new.link) self.new.ahead self.new.behind) }
         ensures cause { HasCause (L.talk self.old.link).count (L.talk self.new.link).count result }
@@ -220,23 +193,15 @@ impl<L: Source + Sink> Sink for Buffered<L> {
 
     /// Writes a beginning of the piece. It is held back only while bytes that were read ahead are left.
     fn write(&mut self, bytes: &[u8]) -> Result<usize, Failed>
-        ensures size { IfOk result (λ n. n ≤ length bytes.now) }
-        ensures progress { IfOk result (λ n. 0 < length bytes.now → 0 < n) }
-        ensures wrote { IsTrue (L.talk self.old.link).told → MatchResult result
-            (λ n. (buffered_talk (L.talk self.new.link) self.new.ahead self.new.behind).written
-            ≡ (buffered_talk (L.talk self.old.link) self.old.ahead self.old.behind).written ++ take n bytes.now)
-            (λ _. (buffered_talk (L.talk self.new.link) self.new.ahead self.new.behind).written
-            ≡ (buffered_talk (L.talk self.old.link) self.old.ahead self.old.behind).written) }
+        ensures written { HasWritten (buffered_talk (L.talk self.old.link) self.old.ahead self.old.behind)
+            (buffered_talk (L.talk self.new.link) self.new.ahead self.new.behind) bytes.now result }
         ensures only { OnlyWrote (buffered_talk (L.talk self.old.link) self.old.ahead self.old.behind)
             (buffered_talk (L.talk self.new.link) self.new.ahead self.new.behind) }
         ensures cause { HasCause (L.talk self.old.link).count (L.talk self.new.link).count result }
         ensures succeeds { IsTrue false
             → length bytes.now ≤ (L.talk self.old.link).room - length self.old.behind → IsOk result }
-        ensures room { MatchResult result
-            (λ n. (L.talk self.old.link).room - length self.old.behind
-            ≤ (L.talk self.new.link).room - length self.new.behind + n)
-            (λ _. (L.talk self.old.link).room - length self.old.behind
-            ≤ (L.talk self.new.link).room - length self.new.behind) }
+        ensures room { TakesRoom ((L.talk self.old.link).room - length self.old.behind)
+            ((L.talk self.new.link).room - length self.new.behind) result }
         ensures steady { false ≡ false }
         ensures sent { self.old.ahead ≡ [] → 0 < length bytes.now → IfOk result (λ _. self.new.behind ≡ []) }
     {

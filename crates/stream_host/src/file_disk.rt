@@ -1,12 +1,12 @@
 //! A file of the system as a disk.
 
-ghost use Rattle.std.specs.Prelude.{◌≡◌, ◌≢◌, ◌↔◌, ◌+◌, ◌^◌, ◌<◌, ◌≤◌, ◌&&◌, ℕ, List, length, nat_lt, take, drop};
+ghost use Rattle.std.specs.Prelude.{◌≡◌, ◌↔◌, ◌+◌, ◌^◌, ◌<◌, ◌≤◌, ◌&&◌, ℕ, List, length, nat_lt, take, drop};
 ghost use Rattle.std.specs.Prelude.{IsTrue, IsFalse, IsOk, IfOk, OnOk, OnErr};
 ghost use Rattle.disk_trait.specs.Disks.{SameKind};
 ghost use Rattle.disk_trait.specs.Images.{written, Torn, Follows, Only};
 ghost use Rattle.stream_host.specs.FileLaws.{is_honest};
-ghost use Rattle.stream_host.specs.Files.{Untouched};
 ghost use Rattle.stream_host.specs.declared.next_sync.NextSync.{NextSync};
+ghost use Rattle.stream_io.specs.RawFiles.{Untouched};
 
 use crate::counted::counted;
 use crate::host_file::HostFile;
@@ -113,8 +113,9 @@ impl<F: RawFile + Drop> FileDisk<F> {
         ensures known { IfOk result (λ n. n ≤ self.new.known_length) }
         ensures succeeds { IsTrue (F.Faults.steady self.old.file) → IsOk result }
         ensures faults { self.new.faults ≡ self.old.faults }
-        ensures untouched { Untouched F.told F.honest F.Faults.steady F.room F.reads F.may_leave F.grown F.sync_failed
+        ensures untouched { Untouched F.told F.honest F.reads F.may_leave F.grown F.sync_failed
             self.old.file self.new.file }
+        ensures stays { SameKind F.told F.honest F.Faults.steady F.room self.old.file self.new.file }
     {
         let length = self.file.len()?;
         self.known_length = self.known_length.max(length);
@@ -128,8 +129,9 @@ impl<F: RawFile + Drop> FileDisk<F> {
         ensures succeeds { IsTrue (F.Faults.steady self.old.file) → IsTrue (F.told self.old.file)
             → place ≤ length (F.reads self.old.file) → IsOk result }
         ensures faults { self.new.faults ≡ self.old.faults }
-        ensures untouched { Untouched F.told F.honest F.Faults.steady F.room F.reads F.may_leave F.grown F.sync_failed
+        ensures untouched { Untouched F.told F.honest F.reads F.may_leave F.grown F.sync_failed
             self.old.file self.new.file }
+        ensures stays { SameKind F.told F.honest F.Faults.steady F.room self.old.file self.new.file }
     {
         if place > self.known_length && place > self.measure()? {
             return Err(DiskFault);
@@ -146,8 +148,9 @@ impl<F: RawFile + Drop> FileDisk<F> {
         ensures succeeds { IsTrue (F.Faults.steady self.old.file) → IsTrue (F.told self.old.file)
             → at + length out.old ≤ length (F.reads self.old.file) → at + length out.old < 2 ^ 64 → IsOk result }
         ensures faults { self.new.faults ≡ self.old.faults }
-        ensures untouched { Untouched F.told F.honest F.Faults.steady F.room F.reads F.may_leave F.grown F.sync_failed
+        ensures untouched { Untouched F.told F.honest F.reads F.may_leave F.grown F.sync_failed
             self.old.file self.new.file }
+        ensures stays { SameKind F.told F.honest F.Faults.steady F.room self.old.file self.new.file }
     {
         if out.is_empty() {
             return self.reach(at);

@@ -4,7 +4,7 @@ ghost use Rattle.std.specs.Prelude.{◌≡◌, ◌+◌, ◌^◌, ◌<◌, ◌≤
 ghost use Rattle.std.specs.Prelude.{IsTrue, IsOk, IfOk, OnOk, OnErr};
 ghost use Rattle.disk_trait.specs.Disks.{SameKind};
 ghost use Rattle.disk_trait.specs.Images.{written, Torn, Follows};
-ghost use Rattle.stream_host.specs.Files.{Untouched};
+ghost use Rattle.stream_io.specs.RawFiles.{SyncsAfterWrite, Untouched};
 
 use disk_trait::{DiskFault, Faults};
 use stream_io::RawFile;
@@ -21,8 +21,8 @@ pub(crate) fn read_pieces<F: RawFile>(
     ensures within { IsTrue (F.told file.old) → OnOk result (at + length out.old ≤ length (F.reads file.old)) }
     ensures succeeds { IsTrue (F.Faults.steady file.old) → IsTrue (F.told file.old)
         → at + length out.old ≤ length (F.reads file.old) → at + length out.old < 2 ^ 64 → IsOk result }
-    ensures untouched { Untouched F.told F.honest F.Faults.steady F.room F.reads F.may_leave F.grown F.sync_failed
-        file.old file.new }
+    ensures untouched { Untouched F.told F.honest F.reads F.may_leave F.grown F.sync_failed file.old file.new }
+    ensures stays { SameKind F.told F.honest F.Faults.steady F.room file.old file.new }
 {
     let mut done = 0;
     'pieces: while done < out.len() {
@@ -52,8 +52,8 @@ fn read_behind<F: RawFile>(
     ensures within { IsTrue (F.told file.old) → IfOk result (λ n. n ≤ length (drop place (F.reads file.old))) }
     ensures end { IsTrue (F.told file.old) → IfOk result (λ n. n ≡ 0 → length (F.reads file.old) ≤ place) }
     ensures succeeds { IsTrue (F.Faults.steady file.old) → IsOk result }
-    ensures untouched { Untouched F.told F.honest F.Faults.steady F.room F.reads F.may_leave F.grown F.sync_failed
-        file.old file.new }
+    ensures untouched { Untouched F.told F.honest F.reads F.may_leave F.grown F.sync_failed file.old file.new }
+    ensures stays { SameKind F.told F.honest F.Faults.steady F.room file.old file.new }
 {
     file.read_at(place, &mut out[done..])
 }
@@ -66,9 +66,7 @@ pub(crate) fn write_pieces<F: RawFile>(file: &mut F, at: u64, bytes: &[u8]) -> R
         → OnErr result (Torn at (length bytes.now) (F.reads file.old) (F.reads file.new)) }
     ensures images { IsTrue (F.honest file.old) → IsTrue (F.told file.old) → at ≤ length (F.reads file.old)
         → Follows (Torn at (length bytes.now)) (F.may_leave file.old) (F.may_leave file.new) }
-    ensures grown { IsTrue (F.told file.old) → at + length bytes.now ≤ length (F.reads file.old)
-        → F.grown file.new ≡ F.grown file.old }
-    ensures failed { IsTrue (F.told file.old) → F.sync_failed file.new ≡ F.sync_failed file.old }
+    ensures syncs { SyncsAfterWrite F.told F.reads F.grown F.sync_failed at (length bytes.now) file.old file.new }
     ensures succeeds { IsTrue (F.Faults.steady file.old) → IsTrue (F.told file.old)
         → at ≤ length (F.reads file.old) → at + length bytes.now ≤ F.room file.old
         → at + length bytes.now < 2 ^ 64 → IsOk result }

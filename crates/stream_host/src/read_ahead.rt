@@ -1,8 +1,9 @@
 //! Bytes that were read from a source before they are asked for.
 
-ghost use Rattle.std.specs.Prelude.{◌≡◌, ◌↔◌, [], length, take, drop, min, IsTrue, IfOk, OnErr};
+ghost use Rattle.std.specs.Prelude.{◌≡◌, ◌↔◌, [], length, take, drop, min, IsTrue};
 ghost use Rattle.disk_trait.specs.Faults.{HasCause};
-ghost use Rattle.stream_io.specs.Talk.{OnlyRead, Took};
+ghost use Rattle.stream_host.specs.Buffered.{ReadsAhead};
+ghost use Rattle.stream_io.specs.Talk.{OnlyRead};
 
 use std::marker::Model;
 use stream_io::{Failed, Source};
@@ -51,13 +52,7 @@ impl ReadAhead {
     /// Reads once from the source. A refusal has read nothing.
     pub(crate) fn fill<S: Source>(&mut self, source: &mut S) -> Result<(), Failed>
         requires { self.old ≡ [] }
-        ensures bytes { IsTrue (S.talk source.old).told
-            → IfOk result (λ _. self.new ≡ take (length self.new) (S.talk source.old).left) }
-        ensures took { IsTrue (S.talk source.old).told
-            → Took (S.talk source.old) (S.talk source.new) (length self.new) }
-        ensures end { IsTrue (S.talk source.old).told
-            → IfOk result (λ _. self.new ≡ [] → (S.talk source.old).left ≡ []) }
-        ensures none { OnErr result (self.new ≡ []) }
+        ensures ahead { ReadsAhead (S.talk source.old) (S.talk source.new) self.new result }
         ensures only { OnlyRead (S.talk source.old) (S.talk source.new) }
         ensures cause { HasCause (S.talk source.old).count (S.talk source.new).count result }
         ensures steady { S.steady source.new ≡ S.steady source.old }

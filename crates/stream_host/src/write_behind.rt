@@ -1,8 +1,8 @@
 //! Bytes that are written to a sink together.
 
-ghost use Rattle.std.specs.Prelude.{◌≡◌, ◌+◌, ◌<◌, ◌≤◌, ◌++◌, ◌↔◌, [], length, IsTrue, IfOk, MatchBool};
+ghost use Rattle.std.specs.Prelude.{◌≡◌, ◌<◌, ◌++◌, ◌↔◌, [], length, IsTrue, IfOk, MatchBool};
 ghost use Rattle.disk_trait.specs.Faults.{HasCause};
-ghost use Rattle.stream_io.specs.Talk.{OnlyWrote};
+ghost use Rattle.stream_host.specs.Buffered.{Passes};
 
 use std::marker::Model;
 use stream_io::{Failed, Sink};
@@ -65,12 +65,8 @@ impl WriteBehind {
     fn pass<S: Sink>(&mut self, sink: &mut S) -> Result<(), Failed>
         requires { 0 < length self.old }
         ensures progress { IfOk result (λ _. length self.new < length self.old) }
-        ensures less { length self.new ≤ length self.old }
-        ensures passed { IsTrue (S.talk sink.old).told
-            → (S.talk sink.new).written ++ self.new ≡ (S.talk sink.old).written ++ self.old }
-        ensures only { OnlyWrote (S.talk sink.old) (S.talk sink.new) }
+        ensures passes { Passes (S.talk sink.old) (S.talk sink.new) self.old self.new }
         ensures cause { HasCause (S.talk sink.old).count (S.talk sink.new).count result }
-        ensures room { (S.talk sink.old).room + length self.new ≤ (S.talk sink.new).room + length self.old }
         ensures steady { S.steady sink.new ≡ S.steady sink.old }
     {
         let count = sink.write(&self.bytes[self.place..self.end])?;
@@ -81,12 +77,8 @@ impl WriteBehind {
     /// Hands all that it holds to the sink. After a refusal it holds what the sink did not take.
     pub(crate) fn flush<S: Sink>(&mut self, sink: &mut S) -> Result<(), Failed>
         ensures none { IfOk result (λ _. self.new ≡ []) }
-        ensures less { length self.new ≤ length self.old }
-        ensures passed { IsTrue (S.talk sink.old).told
-            → (S.talk sink.new).written ++ self.new ≡ (S.talk sink.old).written ++ self.old }
-        ensures only { OnlyWrote (S.talk sink.old) (S.talk sink.new) }
+        ensures passes { Passes (S.talk sink.old) (S.talk sink.new) self.old self.new }
         ensures cause { HasCause (S.talk sink.old).count (S.talk sink.new).count result }
-        ensures room { (S.talk sink.old).room + length self.new ≤ (S.talk sink.new).room + length self.old }
         ensures steady { S.steady sink.new ≡ S.steady sink.old }
     {
         'pieces: while !self.is_empty() {

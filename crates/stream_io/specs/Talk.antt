@@ -1,5 +1,7 @@
 -- What has gone over a stream, and what a call on it changes.
-use Rattle.std.specs.Prelude.{◌≡◌, ◌<◌, ◌≤◌, ◌++◌, ℕ, Bool, List, Option, IsTrue, length, take, drop}
+use Rattle.std.specs.Prelude.{◌≡◌, ◌+◌, ◌<◌, ◌≤◌, ◌++◌, ℕ, Bool, List, [], Option, Result, IsTrue, IfOk, MatchResult}
+use Rattle.std.specs.Prelude.{length, take, drop}
+use Rattle.stream_io.specs.declared.failed.Failed.{Failed}
 
 -- A stream in one state: whether it tells its bytes, the place that was dialled or none, the bytes that were read of it
 -- and those that a peer has given and nobody has read, the bytes that were written to it, the oldest byte first each,
@@ -36,11 +38,30 @@ pub record Took (old new : Talk) (size : ℕ) : Type 0 where
   pub taken : new.taken ≡ old.taken ++ take size old.left
   pub left : new.left ≡ drop size old.left
 
+-- What a read answers for a room of that size, and what then stands in the room: as many bytes as were taken, and none
+-- for a room that is not empty exactly at the end.
+pub record HasRead (old new : Talk) (room : ℕ) (out : List ℕ) (result : Result ℕ Failed) : Type 0 where
+  pub size : IfOk result (λ n. n ≤ room)
+  pub bytes : IsTrue old.told → IfOk result (λ n. take n out ≡ take n old.left)
+  pub took : IsTrue old.told → MatchResult result (λ n. Took old new n) (λ _. Took old new 0)
+  pub end : IsTrue old.told → IfOk result (λ n. n ≡ 0 → 0 < room → old.left ≡ [])
+
 -- some bytes were read, fewer than were asked for
 pub record TookPart (old new : Talk) (asked : ℕ) : Type 0 where
   pub size : ℕ
   pub short : size < asked
   pub took : Took old new size
+
+-- What a write of these bytes answers: how many of them were written, at least one where there is one.
+pub record HasWritten (old new : Talk) (bytes : List ℕ) (result : Result ℕ Failed) : Type 0 where
+  pub size : IfOk result (λ n. n ≤ length bytes)
+  pub progress : IfOk result (λ n. 0 < length bytes → 0 < n)
+  pub wrote : IsTrue old.told → MatchResult result
+      (λ n. new.written ≡ old.written ++ take n bytes) (λ _. new.written ≡ old.written)
+
+-- a write takes no more of the room than what it wrote
+abbrev pub TakesRoom : ℕ → ℕ → Result ℕ Failed → Type 0
+TakesRoom old new result = MatchResult result (λ n. old ≤ new + n) (λ _. old ≤ new)
 
 -- a beginning of the bytes was written, and not all of them
 pub record WrotePart (old new : Talk) (bytes : List ℕ) : Type 0 where

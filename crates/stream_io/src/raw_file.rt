@@ -1,11 +1,11 @@
 //! Files as a system gives them, with calls that do a part of what they are asked, and syncs that promise little.
 
-ghost use Rattle.std.specs.Prelude.{◌≡◌, ◌↔◌, ◌+◌, ◌<◌, ◌≤◌, ℕ, Bool, List, length, take, drop};
-ghost use Rattle.std.specs.Prelude.{IsTrue, IsFalse, IsOk, IfOk, OnOk, OnErr, MatchResult};
+ghost use Rattle.std.specs.Prelude.{◌≡◌, ◌+◌, ◌<◌, ◌≤◌, ℕ, Bool, List, length, take, drop};
+ghost use Rattle.std.specs.Prelude.{IsTrue, IsFalse, IsOk, IfOk, OnOk, MatchResult};
 ghost use Rattle.disk_trait.specs.Disks.{SameKind};
 ghost use Rattle.disk_trait.specs.Faults.{HasCause};
-ghost use Rattle.disk_trait.specs.Images.{written, Torn, Follows, Only};
-ghost use Rattle.stream_io.specs.RawFiles.{SameSyncs};
+ghost use Rattle.disk_trait.specs.Images.{Torn, Follows, Only};
+ghost use Rattle.stream_io.specs.RawFiles.{HasWrittenAt, SyncsAfterWrite, Untouched};
 
 use disk_trait::{DiskFault, Faults};
 
@@ -41,10 +41,7 @@ pub trait RawFile: Faults {
         ensures succeeds { IsTrue (Self.steady self.old) → IsOk result }
         ensures cause { HasCause (Self.count self.old) (Self.count self.new) result }
 
-        ensures same { IsTrue (told self.old) → reads self.new ≡ reads self.old }
-        ensures images { IsTrue (honest self.old)
-            → (image : List ℕ) → may_leave self.new image ↔ may_leave self.old image }
-        ensures syncs { IsTrue (told self.old) → SameSyncs grown sync_failed self.old self.new }
+        ensures untouched { Untouched told honest reads may_leave grown sync_failed self.old self.new }
         ensures stays { SameKind told honest Self.steady room self.old self.new };
 
     /// Reads bytes from a place on to the front of the room, and answers how many: 0 for a room that is not empty
@@ -59,27 +56,17 @@ pub trait RawFile: Faults {
         ensures succeeds { IsTrue (Self.steady self.old) → IsOk result }
         ensures cause { HasCause (Self.count self.old) (Self.count self.new) result }
 
-        ensures same { IsTrue (told self.old) → reads self.new ≡ reads self.old }
-        ensures images { IsTrue (honest self.old)
-            → (image : List ℕ) → may_leave self.new image ↔ may_leave self.old image }
-        ensures syncs { IsTrue (told self.old) → SameSyncs grown sync_failed self.old self.new }
+        ensures untouched { Untouched told honest reads may_leave grown sync_failed self.old self.new }
         ensures stays { SameKind told honest Self.steady room self.old self.new };
 
     /// Writes a beginning of the bytes over what is there and past the end, and answers how many: at least one of a
     /// piece that is not empty. After a refusal a read may give any bytes in the range of all of them. What a write
     /// does that begins past the end is not said: it leaves a hole before it.
     fn write_at(&mut self, at: u64, bytes: &[u8]) -> Result<usize, DiskFault>
-        ensures size { IfOk result (λ n. n ≤ length bytes.now) }
-        ensures some { IfOk result (λ n. 0 < length bytes.now → 0 < n) }
-        ensures bytes { IsTrue (told self.old) → at ≤ length (reads self.old)
-            → IfOk result (λ n. reads self.new ≡ written (reads self.old) at (take n bytes.now)) }
-        ensures torn { IsTrue (told self.old) → at ≤ length (reads self.old)
-            → OnErr result (Torn at (length bytes.now) (reads self.old) (reads self.new)) }
+        ensures written { HasWrittenAt told reads at bytes.now result self.old self.new }
         ensures images { IsTrue (honest self.old) → IsTrue (told self.old) → at ≤ length (reads self.old)
             → Follows (Torn at (length bytes.now)) (may_leave self.old) (may_leave self.new) }
-        ensures grown { IsTrue (told self.old) → at + length bytes.now ≤ length (reads self.old)
-            → grown self.new ≡ grown self.old }
-        ensures failed { IsTrue (told self.old) → sync_failed self.new ≡ sync_failed self.old }
+        ensures syncs { SyncsAfterWrite told reads grown sync_failed at (length bytes.now) self.old self.new }
 
         ensures succeeds { IsTrue (Self.steady self.old) → IsTrue (told self.old)
             → at ≤ length (reads self.old) → at + length bytes.now ≤ room self.old → IsOk result }

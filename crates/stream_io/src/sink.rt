@@ -1,8 +1,8 @@
 //! Sinks, which bytes are written to.
 
-ghost use Rattle.std.specs.Prelude.{◌≡◌, ◌+◌, ◌<◌, ◌≤◌, ◌++◌, ℕ, length, take, drop, IsTrue, IsOk, IfOk, MatchResult};
+ghost use Rattle.std.specs.Prelude.{◌≡◌, ◌+◌, ◌≤◌, ◌++◌, ℕ, length, drop, IsTrue, IsOk, MatchResult};
 ghost use Rattle.disk_trait.specs.Faults.{HasCause};
-ghost use Rattle.stream_io.specs.Talk.{OnlyWrote, WrotePart};
+ghost use Rattle.stream_io.specs.Talk.{HasWritten, OnlyWrote, TakesRoom, WrotePart};
 
 use crate::failed::Failed;
 use crate::stream::Stream;
@@ -16,16 +16,11 @@ pub trait Sink: Stream {
     /// Writes a beginning of the piece, which is not empty unless the piece is, and answers its length.
     /// After a refusal nothing was written.
     fn write(&mut self, bytes: &[u8]) -> Result<usize, Failed>
-        ensures size { IfOk result (λ n. n ≤ length bytes.now) }
-        ensures progress { IfOk result (λ n. 0 < length bytes.now → 0 < n) }
-        ensures wrote { IsTrue (Self.talk self.old).told → MatchResult result
-            (λ n. (Self.talk self.new).written ≡ (Self.talk self.old).written ++ take n bytes.now)
-            (λ _. (Self.talk self.new).written ≡ (Self.talk self.old).written) }
+        ensures written { HasWritten (Self.talk self.old) (Self.talk self.new) bytes.now result }
         ensures only { OnlyWrote (Self.talk self.old) (Self.talk self.new) }
         ensures cause { HasCause (Self.talk self.old).count (Self.talk self.new).count result }
         ensures succeeds { IsTrue (Self.steady self.old) → length bytes.now ≤ room self.old → IsOk result }
-        ensures room { MatchResult result (λ n. room self.old ≤ room self.new + n) (λ _. room self.old
-            ≤ room self.new) }
+        ensures room { TakesRoom (room self.old) (room self.new) result }
         ensures steady { Self.steady self.new ≡ Self.steady self.old };
 
     /// The room of the talk is the sink's.

@@ -3,7 +3,7 @@
 ghost use Rattle.std.specs.Prelude.{◌≡◌, ◌+◌, ◌<◌, ◌≤◌, ◌++◌, [], length, take, min, IsTrue, IsOk, IfOk};
 ghost use Rattle.std.specs.Prelude.{MatchResult};
 ghost use Rattle.disk_trait.specs.Faults.{HasCause};
-ghost use Rattle.stream_io.specs.Talk.{OnlyRead, Took, TookPart};
+ghost use Rattle.stream_io.specs.Talk.{HasRead, OnlyRead, Took, TookPart};
 
 use crate::failed::Failed;
 use crate::stream::Stream;
@@ -14,14 +14,7 @@ pub trait Source: Stream {
     /// Reads bytes to the front of the room, and answers how many: 0 for a room that is not empty exactly at the end.
     /// After a refusal the room holds any bytes, and nothing was read.
     fn read(&mut self, out: &mut [u8]) -> Result<usize, Failed>
-        ensures size { IfOk result (λ n. n ≤ length out.old) }
-        ensures bytes { IsTrue (Self.talk self.old).told
-            → IfOk result (λ n. take n out.new ≡ take n (Self.talk self.old).left) }
-        ensures took { IsTrue (Self.talk self.old).told → MatchResult result
-            (λ n. Took (Self.talk self.old) (Self.talk self.new) n)
-            (λ _. Took (Self.talk self.old) (Self.talk self.new) 0) }
-        ensures end { IsTrue (Self.talk self.old).told
-            → IfOk result (λ n. n ≡ 0 → 0 < length out.old → (Self.talk self.old).left ≡ []) }
+        ensures read { HasRead (Self.talk self.old) (Self.talk self.new) (length out.old) out.new result }
         ensures only { OnlyRead (Self.talk self.old) (Self.talk self.new) }
         ensures cause { HasCause (Self.talk self.old).count (Self.talk self.new).count result }
         ensures succeeds { IsTrue (Self.steady self.old) → IsOk result }

@@ -1,5 +1,5 @@
 -- What links in memory stand for.
-use Rattle.std.specs.Prelude.{◌&&◌, ◌-◌, ℕ, Bool, true, take, drop, is_none, option_map, string_bytes}
+use Rattle.std.specs.Prelude.{◌&&◌, ◌-◌, ℕ, Bool, None, true, take, drop, is_none, option_map, string_bytes}
 use Rattle.std.specs.Prelude.{vec_capacity, vec_len}
 use Rattle.stream_memory.specs.Calls.{is_empty}
 use Rattle.stream_memory.specs.Chain.{own}
@@ -25,6 +25,18 @@ talk_of link = record {
   written = link.sink.written.items;
   room = room_left link;
   count = link.calls.faults;
+}
+
+-- what a new link tells that was made of a source and a sink: what has gone over these, and no fault
+abbrev pub joined_talk : Talk → Talk → Talk
+joined_talk source sink = record {
+  told = true;
+  place = None;
+  taken = source.taken;
+  left = source.left;
+  written = sink.written;
+  room = sink.room;
+  count = 0;
 }
 
 -- no call is listed to fail, of the link or of its two ends, and nothing is held

@@ -5,7 +5,7 @@ ghost use Rattle.std.specs.Prelude.{IsTrue, IsFalse, IsOk, IfOk, OnOk, OnErr};
 ghost use Rattle.disk_trait.specs.Images.{written, Torn, Follows, Only};
 ghost use Rattle.disk_trait.specs.MemDisk.{MayLeave, is_steady};
 ghost use Rattle.disk_trait.specs.MemDiskLaws.{leaves_bytes};
-ghost use Rattle.stream_memory.specs.MemFiles.{has_room, room_of};
+ghost use Rattle.stream_memory.specs.MemFiles.{SameLimits, has_room, room_of};
 
 use crate::stored_disk::count;
 use disk_trait::{Disk, DiskFault, Faults, MemDisk, Pages};
@@ -75,8 +75,7 @@ fn read_part(disk: &mut MemDisk, most: usize, at: u64, out: &mut [u8]) -> Result
     ensures succeeds { IsTrue (is_steady disk.old) → IsOk result }
     ensures same { disk.new.bytes ≡ disk.old.bytes }
     ensures images { (image : List ℕ) → MayLeave disk.new image ↔ MayLeave disk.old image }
-    ensures steady { is_steady disk.new ≡ is_steady disk.old }
-    ensures room { disk.new.capacity ≡ disk.old.capacity }
+    ensures limits { SameLimits disk.old disk.new }
 {
     let length = disk.bytes().len() as u64;
     let place = at.min(length);
@@ -122,8 +121,7 @@ fn sync_unless(disk: &mut MemDisk, idle: bool) -> Result<(), DiskFault>
     ensures images { (image : List ℕ) → MayLeave disk.new image → MayLeave disk.old image }
     ensures same { disk.new.bytes ≡ disk.old.bytes }
     ensures succeeds { IsTrue (is_steady disk.old) → IsOk result }
-    ensures steady { is_steady disk.new ≡ is_steady disk.old }
-    ensures room { disk.new.capacity ≡ disk.old.capacity }
+    ensures limits { SameLimits disk.old disk.new }
 {
     if idle {
         return Ok(());

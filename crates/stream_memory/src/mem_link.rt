@@ -1,8 +1,8 @@
 //! A link in memory.
 
-ghost use Rattle.std.specs.Prelude.{◌≡◌, ◌+◌, ◌-◌, ◌^◌, ◌++◌, ◌↔◌, [], None, IsTrue, IfOk, true, refl};
+ghost use Rattle.std.specs.Prelude.{◌≡◌, ◌+◌, ◌-◌, ◌^◌, ◌++◌, ◌↔◌, [], None, IsTrue, IfOk, refl};
 ghost use Rattle.std.specs.Prelude.{min, option_map, string_bytes};
-ghost use Rattle.stream_memory.specs.Links.{conversation_of, is_steady_link, room_left, talk_of};
+ghost use Rattle.stream_memory.specs.Links.{conversation_of, is_steady_link, joined_talk, room_left, talk_of};
 ghost use Rattle.stream_memory.specs.Ports.{room_of_waiting};
 
 use crate::calls::Calls;
@@ -31,15 +31,8 @@ impl MemLink {
         failing: Vec<u64>,
         gate: Option<Gate>,
     ) -> Result<MemLink, NoMemory>
-        ensures talk { IfOk result (λ link. ⟦<MemLink as Stream>⟧.talk link ≡ record {
-          told = true;
-          place = None;
-          taken = (⟦<MemSource as Stream>⟧.talk source).taken;
-          left = (⟦<MemSource as Stream>⟧.talk source).left;
-          written = (⟦<MemSink as Stream>⟧.talk sink).written;
-          room = (⟦<MemSink as Stream>⟧.talk sink).room;
-          count = 0;
-        }) }
+        ensures talk { IfOk result (λ link. ⟦<MemLink as Stream>⟧.talk link
+            ≡ joined_talk (⟦<MemSource as Stream>⟧.talk source) (⟦<MemSink as Stream>⟧.talk sink)) }
         ensures room { IfOk result (λ link. ⟦<MemLink as Sink>⟧.room link ≡ ⟦<MemSink as Sink>⟧.room sink) }
         ensures steady { IfOk result (λ link. IsTrue (⟦<MemLink as Faults>⟧.steady link)
             ↔ (failing.items ≡ []) × (gate ≡ None) × IsTrue (⟦<MemSource as Faults>⟧.steady source)

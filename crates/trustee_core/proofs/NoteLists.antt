@@ -13,7 +13,7 @@ use Rattle.opening_journal.specs.Entries.{JournalState}
 use Rattle.opening_journal.specs.declared.entry.Entry.{Entry}
 use Rattle.trustee_core.specs.Notes.{HasNote, doubted, entries_in, entry_in, first_notes, made}
 use Rattle.trustee_core.specs.declared.note.Note.{Note}
-use Rattle.trustee_core.specs.declared.note.Note.TheVariants.{Made, Doubted}
+use Rattle.trustee_core.specs.declared.note.Note.TheVariants.{Doubted}
 use Rattle.trustee_core.specs.contracts.note.Note as row
 
 pub entries-append : (xs ys : List Note) → entries_in (xs ++ ys) ≡ entries_in xs ++ entries_in ys

@@ -13,8 +13,7 @@ use Rattle.opening_journal.specs.declared.entry.Entry.TheVariants.{Bound, Opened
 use Rattle.opening_journal.specs.declared.faults.Entered.{Entered}
 use Rattle.opening_journal.specs.declared.faults.JournalFault.{JournalFault}
 use Rattle.opening_journal.specs.declared.faults.JournalFault.TheVariants as fault
-use Rattle.share_files.specs.declared.share.Share.{Share}
-use Rattle.trustee_core.specs.Decisions.{Answer, Decides, answer_of, first, second, tested}
+use Rattle.trustee_core.specs.Decisions.{answer_of}
 use Rattle.trustee_core.specs.Notes.{HasNote, MayNote, Notes, entries_in, entry_by, entry_of, own_doubted, own_made, turned_out}
 use Rattle.trustee_core.specs.Notes.{made as made_of}
 use Rattle.trustee_core.specs.declared.note.Note.{Note}
@@ -107,7 +106,7 @@ module _ (notes : List Note) (ask : Ask) (moment : ℕ) where
           doubt = λ entry some. (let this : own ≡ entry = cc in inr (refl, sym this ∙ is));
         }
 
-    pub binds-came : (result : Result Entered JournalFault) (after : JournalState) → ask.second ≡ None → Binds before ask.leaf ask.message result after → Came before result after
+    binds-came : (result : Result Entered JournalFault) (after : JournalState) → ask.second ≡ None → Binds before ask.leaf ask.message result after → Came before result after
     binds-came result after none (made entries settles free) = came-made result entries (Bound ask.leaf ask.message) settles (ap (λ (o : Option Second). entry_by o ask moment) (sym none))
     binds-came result after none (kept entries settles answers) = came-settled result entries settles
     binds-came result after none (spent entries other settles answers differs) = came-settled result entries settles
@@ -115,7 +114,7 @@ module _ (notes : List Note) (ask : Ask) (moment : ℕ) where
     binds-came result after none (unwritten entries settles free) = came-unwritten entries (Bound ask.leaf ask.message) settles (ap (λ (o : Option Second). entry_by o ask moment) (sym none))
     binds-came result after none (damaged entry a b is neither) = came-none result
 
-    pub opens-came : (pair : Second) (result : Result Entered JournalFault) (after : JournalState) → ask.second ≡ Some pair → Opens before ask.leaf ask.message pair.c pair.digest moment result after → Came before result after
+    opens-came : (pair : Second) (result : Result Entered JournalFault) (after : JournalState) → ask.second ≡ Some pair → Opens before ask.leaf ask.message pair.c pair.digest moment result after → Came before result after
     opens-came pair result after some (made entries settles is) = came-made result entries (Opened ask.leaf ask.message pair.c pair.digest moment) settles (ap (λ (o : Option Second). entry_by o ask moment) (sym some))
     opens-came pair result after some (kept entries then settles is) = came-settled result entries settles
     opens-came pair result after some (not_bound entries settles free) = came-settled result entries settles
@@ -138,14 +137,14 @@ module _ (notes : List Note) (ask : Ask) (moment : ℕ) where
       noted-is : noted notes after.entries ask moment result ≡ notes ++ (made_of came.more ++ left)
       noted-is = ap (λ (e : List Entry). notes ++ (made_of e ++ left)) behind
 
-      pub notes-came : Notes ask moment (answer_of result) notes (noted notes after.entries ask moment result)
+      notes-came : Notes ask moment (answer_of result) notes (noted notes after.entries ask moment result)
       notes-came = record {
         added = made_of came.more ++ left;
         are = noted-is;
         each = All-append (May result) (made_of came.more) left (All-map (May result) (λ (entry : Entry). Made entry) came.more came.each) (left-may result);
       }
 
-      pub made-came : entries_in (noted notes after.entries ask moment result) ≡ after.entries
+      made-came : entries_in (noted notes after.entries ask moment result) ≡ after.entries
       made-came =
           ap entries_in noted-is ∙ entries-append notes (made_of came.more ++ left)
           ∙ (λ i. same i ++ (entries-append (made_of came.more) left ∙ (λ j. entries-made came.more j ++ entries-left result (entry_of ask moment) j) ∙ append-nil came.more) i)
@@ -159,7 +158,7 @@ module _ (notes : List Note) (ask : Ask) (moment : ℕ) where
           (subst (λ (e : Entry). Contains (made_of came.more ++ Doubted (entry_of ask moment) ∷ []) (Doubted e)) (sym is)
           (Contains-push (made_of came.more) (Doubted (entry_of ask moment))))))
 
-      pub doubt-came : (entry : Entry) → after.doubt ≡ Some entry → HasNote (noted notes after.entries ask moment result) (Doubted entry)
+      doubt-came : (entry : Entry) → after.doubt ≡ Some entry → HasNote (noted notes after.entries ask moment result) (Doubted entry)
       doubt-came entry some =
           subst (λ (n : List Note). HasNote n (Doubted entry)) (sym noted-is)
           (elim (came.doubt entry some) [
@@ -168,10 +167,29 @@ module _ (notes : List Note) (ask : Ask) (moment : ℕ) where
           ])
 
 -- and so of both rounds
-pub came : (notes : List Note) (ask : Ask) (moment : ℕ) (before : JournalState) → ((entry : Entry) → before.doubt ≡ Some entry → HasNote notes (Doubted entry))
+came : (notes : List Note) (ask : Ask) (moment : ℕ) (before : JournalState) → ((entry : Entry) → before.doubt ≡ Some entry → HasNote notes (Doubted entry))
     → (result : Result Entered JournalFault) (after : JournalState) (pair : Option Second) → ask.second ≡ pair
     → (ask.second ≡ None → Binds before ask.leaf ask.message result after)
     → ((pair : Second) → ask.second ≡ Some pair → Opens before ask.leaf ask.message pair.c pair.digest moment result after)
     → Came notes ask moment before result after
 came notes ask moment before has result after None is binds opens = binds-came notes ask moment before has result after is (binds is)
 came notes ask moment before has result after (Some pair) is binds opens = opens-came notes ask moment before has pair result after is (opens pair is)
+
+-- the notes after a call of the journal: they have what it has, and each new one may be noted
+pub record AreNoted (old new : List Note) (ask : Ask) (moment : ℕ) (result : Result Entered JournalFault) (after : JournalState) : Type 0 where
+  pub made : entries_in new ≡ after.entries
+  pub doubt : (entry : Entry) → after.doubt ≡ Some entry → HasNote new (Doubted entry)
+  pub notes : Notes ask moment (answer_of result) old new
+
+pub are-noted : (old new : List Note) (ask : Ask) (moment : ℕ) (result : Result Entered JournalFault) (before after : JournalState)
+    → ((entry : Entry) → before.doubt ≡ Some entry → HasNote old (Doubted entry)) → entries_in old ≡ before.entries
+    → (ask.second ≡ None → Binds before ask.leaf ask.message result after)
+    → ((pair : Second) → ask.second ≡ Some pair → Opens before ask.leaf ask.message pair.c pair.digest moment result after)
+    → new ≡ noted old after.entries ask moment result → AreNoted old new ask moment result after
+are-noted old new ask moment result before after has same binds opens is =
+    let it = came old ask moment before has result after ask.second refl binds opens in
+    record {
+      made = ap entries_in is ∙ made-came old ask moment before has same result after it;
+      doubt = λ entry some. subst (λ (n : List Note). HasNote n (Doubted entry)) (sym is) (doubt-came old ask moment before has same result after it entry some);
+      notes = subst (Notes ask moment (answer_of result) old) (sym is) (notes-came old ask moment before has same result after it);
+    }

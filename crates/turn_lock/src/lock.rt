@@ -116,6 +116,7 @@ impl<T: Kept> TurnLock<T> {
         if pass.greatest >= WORN_FROM {
             return Err(Worn);
         }
+        steps::enter(rt, &self.table.shared, &mut pass.seat);
         let ticket = steps::draw(&self.table.shared, &mut pass.seat);
         pass.greatest = ticket;
         if ticket >= WORN_FROM {

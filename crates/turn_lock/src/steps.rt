@@ -26,17 +26,27 @@ const SERVING: usize = 1;
 const PARKING: usize = 2;
 
 /// How many these words are.
-const PARKED: usize = 64;
+const PARKED: usize = 63;
+
+/// The word on which those are parked who have no ticket yet.
+const GATE: usize = PARKING + PARKED;
 
 /// What each sleeper adds to its word, above the bits that a sleep compares. A word that starts there, or whose turns
 /// reach it, costs wakes of nobody.
 const SLEEPER: u64 = 1 << 32;
 
-/// How often the waiter of the next ticket looks before it sleeps: for about as long as a sleeper takes to wake.
+/// How often the waiter of one of the next tickets looks before it sleeps: for about as long as a sleeper takes to wake.
 const LOOKS: u32 = 2_000;
 
+/// How many tickets are out at once before whoever wants a further one sleeps at the gate. These few hand the turn on to
+/// each other without a sleep. If all had a ticket, each turn would wait until one more sleeper is awake.
+const ROOM: u64 = 3;
+
+/// Every so many turns one who sleeps at the gate is let in, however many tickets are out.
+const ROTATION: u64 = 8;
+
 /// All words of a lock.
-const WORDS: usize = PARKING + PARKED;
+const WORDS: usize = GATE + 1;
 
 /// The slot of the value.
 const VALUE: usize = 0;
@@ -92,6 +102,34 @@ pub fn open<T: Kept>(alloc: Global, value: T, start: &Start<T>) -> Result<(Home<
     }
 }
 
+/// Sleeps at the gate where as many tickets are out as can be handed on without a sleep. Whoever is woken there draws
+/// next, so each is let in after some turns.
+pub fn enter<T: Kept>(rt: &impl Wait, words: &Words<T>, seat: &mut Place<T>)
+    requires table { (seat.old.table_id ≡ words.now.table_id) × (words.now.table_id.words ≡ 66) }
+    ensures table { seat.new.table_id ≡ seat.old.table_id }
+    ensures seat { seat.new.me ≡ seat.old.me }
+{
+    if !is_crowded(words) {
+        return;
+    }
+    // The sleeper is counted before it looks again, and whoever lets it in raises the word after that. A turn that ends
+    // with no ticket out lets one in, so where it looks crowded there is a turn to come that does.
+    let parked = words.fetch_add::<Call>(seat, GATE, SLEEPER);
+    if is_crowded(words) {
+        words.park(rt, GATE, (parked % SLEEPER) as u32);
+    }
+    words.fetch_sub::<Call>(seat, GATE, SLEEPER);
+}
+
+/// Whether as many tickets are out as can be handed on without a sleep.
+fn is_crowded<T: Kept>(words: &Words<T>) -> bool
+    requires table { words.now.table_id.words ≡ 66 }
+{
+    // The ticket that is served is read first, so that the next one to draw is never below it.
+    let served = words.peek(SERVING);
+    words.peek(TICKET).wrapping_sub(served) >= ROOM
+}
+
 /// Draws a ticket.
 pub fn draw<T: Kept>(words: &Words<T>, seat: &mut Place<T>) -> u64
     requires table { (seat.old.table_id ≡ words.now.table_id) × (words.now.table_id.words ≡ 66) }
@@ -108,7 +146,7 @@ pub fn draw<T: Kept>(words: &Words<T>, seat: &mut Place<T>) -> u64
 
 /// The word on which the waiter of this ticket is parked.
 fn parking_of(ticket: u64) -> usize
-    ensures { result ≡ 2 + ticket % 64 }
+    ensures { result ≡ 2 + ticket % 63 }
 {
     PARKING + (ticket % PARKED as u64) as usize
 }
@@ -130,7 +168,7 @@ pub fn wait<T: Kept>(rt: &impl Wait, words: &Words<T>, seat: &mut Place<T>, tick
     value
 }
 
-/// Waits until the ticket is served: awake while it is the next one and for a short time, and else asleep.
+/// Waits until the ticket is served: awake while it is one of the next and for a short time, and else asleep.
 fn await_turn<T: Kept>(rt: &impl Wait, words: &Words<T>, seat: &mut Place<T>, ticket: u64)
     requires table { (seat.old.table_id ≡ words.now.table_id) × (words.now.table_id.words ≡ 66) }
     requires waits { (seat.old.me.0.stage ≡ Waiting ticket) × (seat.old.me.1 ≡ []) }
@@ -142,8 +180,8 @@ fn await_turn<T: Kept>(rt: &impl Wait, words: &Words<T>, seat: &mut Place<T>, ti
     }
 }
 
-/// Looks again and again, while the ticket is the next one, and tells which was served at the last look. Whoever has a
-/// later ticket looks once, since it would only keep a processor from those who come before.
+/// Looks again and again, while the ticket is one of the next, and tells which was served at the last look. Whoever has
+/// a later ticket looks once, since it would only keep a processor from those who come before.
 fn watch<T: Kept>(words: &Words<T>, seat: &mut Place<T>, ticket: u64) -> u64
     requires table { (seat.old.table_id ≡ words.now.table_id) × (words.now.table_id.words ≡ 66) }
     requires waits { (seat.old.me.0.stage ≡ Waiting ticket) × (seat.old.me.1 ≡ []) }
@@ -152,7 +190,7 @@ fn watch<T: Kept>(words: &Words<T>, seat: &mut Place<T>, ticket: u64) -> u64
 {
     'looks: for _ in 0..LOOKS {
         let served = look(words, seat, ticket);
-        if served == ticket || served.wrapping_add(1) != ticket {
+        if served == ticket || ticket.wrapping_sub(served) >= ROOM {
             return served;
         }
         spin_loop();
@@ -208,7 +246,23 @@ pub fn pass_on<T: Kept>(words: &Words<T>, seat: &mut Place<T>, value: T)
     let empty = words.exchange(seat, VALUE, Some(value));
     let None = empty else { unreachable!() };
     let served = words.fetch_add::<PassOn<T>>(seat, SERVING, 1);
-    call(words, seat, served.wrapping_add(1));
+    let next = served.wrapping_add(1);
+    call(words, seat, next);
+    if next % ROTATION == 0 || words.peek(TICKET) == next {
+        let_in(words, seat);
+    }
+}
+
+/// Wakes one who sleeps at the gate, where one does.
+fn let_in<T: Kept>(words: &Words<T>, seat: &mut Place<T>)
+    requires table { (seat.old.table_id ≡ words.now.table_id) × (words.now.table_id.words ≡ 66) }
+    ensures table { seat.new.table_id ≡ seat.old.table_id }
+    ensures seat { seat.new.me ≡ seat.old.me }
+{
+    if words.peek(GATE) >= SLEEPER {
+        words.fetch_add::<Call>(seat, GATE, 1);
+        words.wake_one(GATE);
+    }
 }
 
 /// Wakes the waiter of this ticket, and those whose tickets have the same word, where one of them sleeps.

@@ -1,5 +1,5 @@
-use Rattle.dealer.specs.Committed.{no_memory}
+use Rattle.dealer.proofs.Wanting.{deals-no_memory}
 use Rattle.dealer.proofs.committed.deal_committed.Goals as goal
 
-pub returns-in-Err-clause-cause : goal.returns-in-Err-clause-cause
-returns-in-Err-clause-cause c = no_memory c.in_ok-test_committed.ensures.dealable c.in_ok-test_committed.ensures.small
+pub returns-in-Err : goal.returns-in-Err
+returns-in-Err c = deals-no_memory _ _ _ c.in_ok-test_committed.ensures.dealable c.in_ok-test_committed.ensures.small

@@ -1,8 +1,8 @@
 use Rattle.std.proofs.Common.{List, refl, sym, ◌∙◌, ap, subst}
-use Rattle.leaf_table.specs.Entries.{IsLeased, OneLease, map_of, may_follow}
+use Rattle.leaf_table.specs.Entries.{Follows, IsLeased, OneLease, map_of, may_follow}
 use Rattle.leaf_table.specs.declared.lease.Lease.{Lease}
 use Rattle.leaf_table.specs.declared.lease.Lease.TheVariants.{Leased, Burnt}
-use Rattle.leaf_table.proofs.Legal.{legal-more}
+use Rattle.slot_file.proofs.Logs.{legal-more}
 use Rattle.leaf_table.proofs.Maps.{map_of-other, map_of-same}
 use Rattle.leaf_table.proofs.listing.add_slot.Goals as goal
 
@@ -17,7 +17,7 @@ returns-in-Half-clause-others c = λ other differs. rw c.add.ensures.items (map_
 pub returns-in-Half-clause-legal : goal.returns-in-Half-clause-legal
 returns-in-Half-clause-legal c =
     let entry = Leased c.args.leaf c.of_bytes-message.result in
-    subst OneLease (sym c.add.ensures.items) (legal-more c.args.entries.now.items entry c.requires.legal (ap (may_follow entry) c.requires.free))
+    subst OneLease (sym c.add.ensures.items) (legal-more Follows c.args.entries.now.items entry c.requires.legal (ap (may_follow entry) c.requires.free))
 
 pub returns-in-Full-clause-shown : goal.returns-in-Full-clause-shown
 returns-in-Full-clause-shown c =
@@ -35,6 +35,6 @@ returns-in-Full-clause-legal c =
     let leased = Leased c.args.leaf message.result in
     let burnt = Burnt c.args.leaf in
     let first = c.add-in-Full.ensures.items in
-    let one = subst OneLease (sym first) (legal-more items leased c.requires.legal (ap (may_follow leased) c.requires.free)) in
+    let one = subst OneLease (sym first) (legal-more Follows items leased c.requires.legal (ap (may_follow leased) c.requires.free)) in
     let follows = ap (λ (l : List Lease). may_follow burnt (map_of l c.args.leaf)) first ∙ ap (may_follow burnt) (map_of-same items leased c.args.leaf refl) in
-    subst OneLease (sym c.add-in-Full-2.ensures.items) (legal-more c.add-in-Full.new.entries.items burnt one follows)
+    subst OneLease (sym c.add-in-Full-2.ensures.items) (legal-more Follows c.add-in-Full.new.entries.items burnt one follows)

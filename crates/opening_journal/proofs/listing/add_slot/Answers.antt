@@ -1,8 +1,8 @@
 use Rattle.std.proofs.Common.{List, refl, sym, ◌∙◌, ap, subst}
-use Rattle.opening_journal.specs.Entries.{IsBound, IsLegalList, IsOpened, map_of}
+use Rattle.opening_journal.specs.Entries.{Follows, IsBound, IsLegalList, IsOpened, map_of}
 use Rattle.opening_journal.specs.declared.entry.Entry.{Entry}
 use Rattle.opening_journal.specs.declared.entry.Entry.TheVariants.{Bound, Opened}
-use Rattle.opening_journal.proofs.Legal.{legal-more}
+use Rattle.slot_file.proofs.Logs.{legal-more}
 use Rattle.opening_journal.proofs.Maps.{map_of-other, map_of-same}
 use Rattle.opening_journal.proofs.listing.add_slot.Goals as goal
 
@@ -17,7 +17,7 @@ returns-in-Half-clause-others c = λ other differs. rw c.add.ensures.items (map_
 pub returns-in-Half-clause-legal : goal.returns-in-Half-clause-legal
 returns-in-Half-clause-legal c =
     let entry = Bound c.args.leaf c.of_bytes-message.result in
-    subst IsLegalList (sym c.add.ensures.items) (legal-more c.args.entries.now.items entry c.requires.legal c.requires.free)
+    subst IsLegalList (sym c.add.ensures.items) (legal-more Follows c.args.entries.now.items entry c.requires.legal c.requires.free)
 
 pub returns-in-Full-clause-shown : goal.returns-in-Full-clause-shown
 returns-in-Full-clause-shown c =
@@ -38,6 +38,6 @@ returns-in-Full-clause-legal c =
     let bound = Bound c.args.leaf message.result in
     let entry = Opened c.args.leaf message.result c.value_at.result c.value_at-in-Full.result c.in-Full.moment in
     let first = c.add-in-Full.ensures.items in
-    let one = subst IsLegalList (sym first) (legal-more items bound c.requires.legal c.requires.free) in
+    let one = subst IsLegalList (sym first) (legal-more Follows items bound c.requires.legal c.requires.free) in
     let adds = ap (λ (l : List Entry). map_of l c.args.leaf) first ∙ map_of-same items bound c.args.leaf refl in
-    subst IsLegalList (sym c.add-in-Full-2.ensures.items) (legal-more c.add-in-Full.new.entries.items entry one adds)
+    subst IsLegalList (sym c.add-in-Full-2.ensures.items) (legal-more Follows c.add-in-Full.new.entries.items entry one adds)

@@ -1,7 +1,7 @@
-use Rattle.std.proofs.Common.{◌≡◌, [], ◌∙◌, length, ap, refl, arith}
+use Rattle.std.proofs.Common.{[], ◌∙◌, length, ap, refl, arith}
 use Rattle.coalition_map.proofs.MemberLaws.{below-none, below-all, below-more_in, below-more_out}
-use Rattle.reference_value.specs.Dealing.{Dealing, members_of}
-use Rattle.reference_value.proofs.Members.{building-none, building-more, built, tag-room}
+use Rattle.reference_value.specs.Dealing.{dealing_from}
+use Rattle.reference_value.proofs.Members.{building-none, building-more, built, members-are, tag-room}
 use Rattle.reference_value.proofs.leaf.build_leaf.Goals as goal
 use Rattle.reference_value.proofs.leaf.build_leaf.Goals.{then-has, else-has}
 
@@ -38,16 +38,9 @@ trustees-preserved c =
 
 pub returns : goal.returns
 returns c =
-    let d : Dealing = record {
-      params = c.args.params.now;
-      plan = c.args.plan.now;
-      id = c.args.id.now;
-      seed = c.args.seed.now;
-      random_key = c.args.random_key.now;
-      keys = c.args.keys.now;
-    } in
+    let d = dealing_from c.args.params.now c.args.plan.now c.args.id.now c.args.seed.now c.args.random_key.now c.args.keys.now in
     let all = below-all 1 _ c.trustees.t c.members-members.result c.members-members.ensures.subset.ascending (omega arith) in
-    let members : c.members-members.result ≡ members_of d c.args.q = c.members-members.ensures.members ∙ rw c.coalition_of.ensures.number refl in
+    let members = members-are c.args.plan.now c.args.q c.coalition_of.result c.members-members.result c.members-members.ensures.members c.coalition_of.ensures.number in
     let k = c.k.ensures.value in
     let subset = c.members-members.ensures.subset.size in
     let done = rw all at c.trustees.invariant in

@@ -1,8 +1,6 @@
-use Rattle.std.proofs.Common.{◌∙◌, [], sym, arith}
+use Rattle.std.proofs.Common.{◌∙◌, sym, arith}
 use Rattle.std.proofs.lemmas.List.{take_all}
-use Rattle.std.proofs.lemmas.Result.{err_from_is_err_and}
-use Rattle.share_files.specs.Reference.{plan_head_fault}
-use Rattle.share_files.proofs.FirstFault.{contradiction, first_fault-end, first_fault-passed, first_fault-failed}
+use Rattle.share_files.proofs.FirstFault.{contradiction}
 use Rattle.share_files.proofs.HeadParts.{head_passes}
 use Rattle.share_files.proofs.References.{plan_lies}
 use Rattle.share_files.proofs.Shares.{plan_passes, same_plan}
@@ -13,31 +11,10 @@ returns-in_err-found-clause-read c = λ header dealt parts.
     let l = plan_lies c.args.magic.now header c.args.head.now c.told-magic parts in
     contradiction _ _ (head_passes _ _ _ _ _ _ _ c.args.head.now l dealt) c.in_err-found.ensures.refused
 
-pub returns-in_err-found-clause-refused : goal.returns-in_err-found-clause-refused
-unfolding plan_head_fault
-returns-in_err-found-clause-refused c =
-    let p = err_from_is_err_and c.from_residual.result c.from_residual.ensures.1 in
-    rw (p.1, p.2) (first_fault-failed _ _ _ c.in_err-found.ensures.refused)
-
 pub returns-in_err-plan-clause-read : goal.returns-in_err-plan-clause-read
 returns-in_err-plan-clause-read c = λ header dealt parts.
     let l = plan_lies c.args.magic.now header c.args.head.now c.told-magic parts in
     contradiction _ _ (plan_passes _ _ header.plan _ _ _ c.args.head.now l header.plan_is header.height) c.in_err-plan.ensures.refused
-
-pub returns-in_err-plan-clause-refused : goal.returns-in_err-plan-clause-refused
-unfolding plan_head_fault
-returns-in_err-plan-clause-refused c =
-    let p = err_from_is_err_and c.from_residual-in_err-plan.result c.from_residual-in_err-plan.ensures.1 in
-    rw (p.1, p.2)
-    (first_fault-passed _ _ c.in_ok-found.ensures.faultless ∙ first_fault-failed _ _ _ c.in_err-plan.ensures.refused)
-
-pub returns-in_err-check_zero-clause-refused : goal.returns-in_err-check_zero-clause-refused
-unfolding plan_head_fault
-returns-in_err-check_zero-clause-refused c =
-    let p = err_from_is_err_and c.from_residual-in_err-check_zero.result c.from_residual-in_err-check_zero.ensures.1 in
-    rw (p.1, p.2)
-    (first_fault-passed _ _ c.in_ok-found.ensures.faultless
-    ∙ (first_fault-passed _ _ c.in_ok-plan.ensures.faultless ∙ first_fault-failed _ _ _ c.in_err-check_zero.ensures.refused))
 
 pub returns-clause-header : goal.returns-clause-header
 returns-clause-header c =
@@ -55,10 +32,3 @@ returns-clause-read c = λ header dealt parts.
       plan = c.in_ok-plan.ensures.plan ∙ same_plan header.plan header.params c.in_ok-found.found.params c.args.head.now l.own6_at l.own7_at header.height lms;
       id = c.in_ok-found.ensures.id ∙ l.id_at;
     }
-
-pub returns-clause-faultless : goal.returns-clause-faultless
-unfolding plan_head_fault
-returns-clause-faultless c =
-    first_fault-passed _ _ c.in_ok-found.ensures.faultless
-    ∙ (first_fault-passed _ _ c.in_ok-plan.ensures.faultless
-    ∙ (first_fault-passed _ _ c.in_ok-check_zero.ensures.faultless ∙ first_fault-end))

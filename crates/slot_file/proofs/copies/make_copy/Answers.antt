@@ -1,44 +1,25 @@
-use Rattle.std.proofs.Common.{ℕ, List, [], ◌∷◌, sym, ◌∙◌, ap, subst, inl, ⊎_elim}
+use Rattle.std.proofs.Common.{ℕ, List, [], ◌∷◌, sym, ◌∙◌, ap, subst}
 use Rattle.std.specs.List.{flat_map}
 use Rattle.disk_trait.specs.Images.{written}
 use Rattle.slot_file.specs.Copies.{IsCopy, slot_block}
 use Rattle.slot_file.specs.Copying.{slots_of}
 use Rattle.slot_file.specs.Slots.{header_of, file_of}
-use Rattle.slot_file.proofs.Blank.{opened}
-use Rattle.slot_file.proofs.Copied.{copy-torn, copy-shown}
+use Rattle.slot_file.proofs.Blank.{never-half, opened}
 use Rattle.slot_file.proofs.copies.make_copy.Goals as goal
 
 pub returns-in_err-open_gate-clause-half : goal.returns-in_err-open_gate-clause-half
 returns-in_err-open_gate-clause-half g c = λ told_from.
-    let header = c.args.header.now in
-    let call = c.in-Ok.ensures in
+    let made = c.in-Ok.ensures.copied in
     let disk = c.write_closed.ensures.calls.disk in
-    let made = call.copied in
-    record {
-      images = λ told honest image leaves.
-          ⊎_elim (λ before. inl (c.write_closed.ensures.unready.images told honest image before))
-          (copy-torn header c.args.count _ _ _ _ (made.closed told told_from) (made.copy told_from) image)
-          (c.open_gate.ensures.images (disk.told ∙ told) (disk.honest ∙ honest) image leaves);
-      shows = λ told honest.
-          copy-shown header c.args.count _ _ _ _ (made.closed told told_from) (made.copy told_from) _
-          (c.open_gate.ensures.shows (disk.told ∙ told) (disk.honest ∙ honest));
-    }
+    never-half g.D.Pages c.args.header.now _ _ _ _ _ disk.told disk.honest (λ told. made.closed told told_from) (made.copy told_from)
+    c.write_closed.ensures.unready.images c.open_gate.ensures.last
 
 pub returns-clause-half : goal.returns-clause-half
 returns-clause-half g c = λ told_from.
-    let header = c.args.header.now in
-    let call = c.in-Ok.ensures in
+    let made = c.in-Ok.ensures.copied in
     let disk = c.write_closed.ensures.calls.disk in
-    let made = call.copied in
-    record {
-      images = λ told honest image leaves.
-          ⊎_elim (λ before. inl (c.write_closed.ensures.unready.images told honest image before))
-          (copy-torn header c.args.count _ _ _ _ (made.closed told told_from) (made.copy told_from) image)
-          (c.open_gate.ensures.images (disk.told ∙ told) (disk.honest ∙ honest) image leaves);
-      shows = λ told honest.
-          copy-shown header c.args.count _ _ _ _ (made.closed told told_from) (made.copy told_from) _
-          (c.open_gate.ensures.shows (disk.told ∙ told) (disk.honest ∙ honest));
-    }
+    never-half g.D.Pages c.args.header.now _ _ _ _ _ disk.told disk.honest (λ told. made.closed told told_from) (made.copy told_from)
+    c.write_closed.ensures.unready.images c.open_gate.ensures.last
 
 pub returns-clause-copied : goal.returns-clause-copied
 returns-clause-copied g c =

@@ -1,8 +1,9 @@
-use Rattle.std.proofs.Common.{◌≡◌, ◌*◌, [], ◌∷◌, ◌++◌, ℕ, List, replicate, get_or, ◌∙◌, IsTrue, refl, ap, subst, inl, inr, ⊎_elim}
+use Rattle.std.proofs.Common.{◌≡◌, ◌*◌, [], ◌∷◌, ◌++◌, ℕ, List, replicate, get_or, ◌∙◌, IsTrue, refl, ap}
 use Rattle.std.proofs.lemmas.Result.{on_ok_weaker}
-use Rattle.disk_trait.specs.Images.{written, Torn}
+use Rattle.disk_trait.specs.Images.{written}
+use Rattle.slot_file.specs.Fresh.{IsNew}
 use Rattle.slot_file.specs.Layout.{blank_file, header_block, slot_size}
-use Rattle.slot_file.proofs.Blank.{any-gate, closed_unready, is_new, opened, rest-same}
+use Rattle.slot_file.proofs.Blank.{is_new, never-half, opened}
 use Rattle.slot_file.proofs.Shut.{header_block-shut, shut_unready}
 use Rattle.slot_file.proofs.prepared.make_blank.Goals as goal
 
@@ -31,15 +32,7 @@ returns-clause-half g c =
     let second = c.write_free.ensures.stays in
     let closed : IsTrue (g.D.Pages.told c.args.disk.now) → g.D.Pages.reads c.write_free.new.disk ≡ header_block 0 header ++ zeros = λ told.
     c.in_ok-write_free.ensures.bytes (first.told ∙ told) ∙ ap (λ (l : List ℕ). l ++ zeros) (c.in_ok-write_shut.ensures.bytes told ∙ c.block-block.ensures.bytes) in
-    let new = is_new header c.block-block.ensures.names count in
-    let file = g.D.Pages.reads c.open_gate.new.disk in
-    record {
-      images = λ told honest image leaves.
-          ⊎_elim (λ before. inl (shut_unready image (c.write_free.ensures.shut.images (first.honest ∙ honest) (c.in_ok-write_shut.ensures.shut told honest) image before)))
-          (λ torn. ⊎_elim inl (λ all. inr (new image all)) (any-gate header zeros image (subst (λ (l : List ℕ). Torn 0 1 l image) (closed told) torn)))
-          (c.open_gate.ensures.images (second.told ∙ (first.told ∙ told)) (second.honest ∙ (first.honest ∙ honest)) image leaves);
-      shows = λ told honest.
-          ⊎_elim (λ same. inl (closed_unready header zeros file (same ∙ closed told)))
-          (λ all. inr (blank_file header count, new (blank_file header count) refl, λ image leaves. rest-same header zeros image (subst (λ (l : List ℕ). Torn 0 1 l image) (closed told) (all image leaves))))
-          (c.open_gate.ensures.shows (second.told ∙ (first.told ∙ told)) (second.honest ∙ (first.honest ∙ honest)));
-    }
+    never-half g.D.Pages header zeros (IsNew header count) _ _ _ (second.told ∙ first.told) (second.honest ∙ first.honest) closed
+    (is_new header c.block-block.ensures.names count (blank_file header count) refl)
+    (λ told honest image before. shut_unready image (c.write_free.ensures.shut.images (first.honest ∙ honest) (c.in_ok-write_shut.ensures.shut told honest) image before))
+    c.open_gate.ensures.last

@@ -1,5 +1,5 @@
 use Rattle.std.proofs.Common.{◌≡◌, ◌+◌, length, drop, ap, ◌∙◌, arith, rules, length-drop}
-use Rattle.stream_host.proofs.FilePieces.{read-more, untouched-then}
+use Rattle.stream_host.proofs.FilePieces.{kind-then, read-more, untouched-then}
 use Rattle.stream_host.proofs.pieces.read_pieces.Goals as goal
 
 pub pieces-preserved : goal.pieces-preserved
@@ -12,9 +12,10 @@ pieces-preserved g c =
     record {
       within = (let e = c.read_behind.auto.out in let s = r.size in omega arith);
       size = c.read_behind.auto.out ∙ v.size;
-      untouched = untouched-then _ _ _ _ _ _ _ _ _ _ _ v.untouched r.untouched;
+      untouched = untouched-then _ _ _ _ _ _ _ _ _ v.stays.told v.stays.honest v.untouched r.untouched;
+      stays = kind-then _ _ _ _ _ _ _ v.stays r.stays;
       there = λ told.
-          let few = r.within (v.untouched.stays.told ∙ told) in
+          let few = r.within (v.stays.told ∙ told) in
           let same = ap length (ap (drop c.in-Some.place) (v.untouched.same told)) in
           let was = v.there told in
           let a = length-drop at before in
@@ -22,5 +23,5 @@ pieces-preserved g c =
           omega arith;
       bytes = λ told.
           read-more before _ _ _ at c.pieces.done c.in_ok-count.count c.in-Some.place (v.untouched.same told) place
-          (v.bytes told) (r.bytes (v.untouched.stays.told ∙ told));
+          (v.bytes told) (r.bytes (v.stays.told ∙ told));
     }

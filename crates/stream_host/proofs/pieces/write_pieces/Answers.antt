@@ -47,14 +47,14 @@ pieces-preserved g c =
     let now = file.reads c.pieces.file in
     let place : c.in-Some.place ≡ at + done = search rules in
     let size = left done bytes rest c.after.ensures in
-    let few : done + n ≤ length bytes = (let s = r.size in let w = v.within in omega arith) in
+    let few : done + n ≤ length bytes = (let s = r.written.size in let w = v.within in omega arith) in
     let there : IsTrue (file.told c.args.file.now) → at ≤ length before → c.in-Some.place ≤ length now =
     λ told within. begins before now bytes at done c.in-Some.place within v.within (v.wrote told within) place in
     record {
       within = few;
       stays = kind-then _ _ _ _ _ _ _ v.stays r.stays;
       wrote = λ told within.
-          r.bytes (v.stays.told ∙ told) (there told within)
+          r.written.bytes (v.stays.told ∙ told) (there told within)
           ∙ ap (λ f. written f c.in-Some.place (take n rest)) (v.wrote told within)
           ∙ ap (λ p. written (written before at (take done bytes)) p (take n rest)) place
           ∙ ap (λ b. written (written before at (take done bytes)) (at + done) (take n b)) c.after.ensures
@@ -63,12 +63,14 @@ pieces-preserved g c =
           follows-then at (length bytes) done _ _ _ v.within (v.images honest told within)
           (follows_piece _ _ at done c.in-Some.place (length rest) (length bytes) place size
           (r.images (v.stays.honest ∙ honest) (v.stays.told ∙ told) (there told within)));
-      grown = λ told fits.
-          let within : at ≤ length before = omega arith in
-          let e = ap length (v.wrote told within) in
-          let l = length-written before bytes at within done v.within in
-          r.grown (v.stays.told ∙ told) (let w = v.within in omega arith) ∙ v.grown told fits;
-      failed = λ told. r.failed (v.stays.told ∙ told) ∙ v.failed told;
+      syncs = record {
+        grown = λ told fits.
+            let within : at ≤ length before = omega arith in
+            let e = ap length (v.wrote told within) in
+            let l = length-written before bytes at within done v.within in
+            r.syncs.grown (v.stays.told ∙ told) (let w = v.within in omega arith) ∙ v.syncs.grown told fits;
+        failed = λ told. r.syncs.failed (v.stays.told ∙ told) ∙ v.syncs.failed told;
+      };
     }
 
 pub returns-in_err-count-clause-torn : goal.returns-in_err-count-clause-torn
@@ -84,7 +86,7 @@ returns-in_err-count-clause-torn g c told within =
     let place : c.in-Some.place ≡ at + done = search rules in
     let there = begins before now bytes at done c.in-Some.place within v.within (v.wrote told within) place in
     let piece = torn_piece _ _ at done c.in-Some.place (length rest) (length bytes) place
-    (left done bytes rest c.after.ensures) (r.torn (v.stays.told ∙ told) there) in
+    (left done bytes rest c.after.ensures) (r.written.torn (v.stays.told ∙ told) there) in
     let first = torn_part before now bytes at done within v.within (v.wrote told within) in
     on-err c.from_residual.result _ (torn-then at (length bytes) _ _ _ first (torn-wide at (length bytes) done _ _ v.within piece))
 

@@ -1,6 +1,7 @@
-use Rattle.std.proofs.Common.{◌≡◌, ◌≤◌, ◌+◌, ◌-◌, length, take, IsTrue}
+use Rattle.std.proofs.Common.{◌≡◌, ◌≤◌, ◌-◌, length, take, IsTrue}
 use Rattle.disk_trait.specs.Disks.{SameKind}
 use Rattle.disk_trait.specs.Images.{written, Torn, Follows}
+use Rattle.stream_io.specs.RawFiles.{SyncsAfterWrite}
 use Rattle.stream_host.proofs.pieces.write_pieces.Given as goal
 
 -- the bytes before `done` were written
@@ -14,8 +15,7 @@ invariant-pieces g l =
       wrote : IsTrue (file.told l.initial.file) → l.at ≤ length before → file.reads l.file ≡ written before l.at (take l.done l.bytes);
       images : IsTrue (file.honest l.initial.file) → IsTrue (file.told l.initial.file) → l.at ≤ length before
           → Follows (Torn l.at (length l.bytes)) (file.may_leave l.initial.file) (file.may_leave l.file);
-      grown : IsTrue (file.told l.initial.file) → l.at + length l.bytes ≤ length before → file.grown l.file ≡ file.grown l.initial.file;
-      failed : IsTrue (file.told l.initial.file) → file.sync_failed l.file ≡ file.sync_failed l.initial.file;
+      syncs : SyncsAfterWrite file.told file.reads file.grown file.sync_failed l.at (length l.bytes) l.initial.file l.file;
     }
 
 abbrev pub decreases-pieces : goal.decreases-pieces

@@ -1,11 +1,11 @@
-use Rattle.std.proofs.Common.{◌<◌, ◌^◌, length, sym, ◌∙◌, ap, arith}
-use Rattle.coalition_map.specs.Coalitions.{PlanNumbers}
+use Rattle.std.proofs.Common.{sym, ◌∙◌}
 use Rattle.lms_bytes.specs.MessageId.{message_id_bytes}
 use Rattle.leaf_table.specs.Entries.{map_of}
 use Rattle.leaf_table.specs.Leasing as leasing
 use Rattle.leaf_table.specs.Table.{state_of}
-use Rattle.leaf_table.proofs.Events.{burns-made, burns-unsettled, was-leased}
+use Rattle.leaf_table.proofs.Events.{burns-made, burns-unsettled}
 use Rattle.leaf_table.proofs.Found.{burnt-of, half-of}
+use Rattle.leaf_table.proofs.Putting.{settled-leased}
 use Rattle.slot_file.specs.Cache.{state_of as cache_state}
 use Rattle.slot_file.specs.State.{slot_in}
 use Rattle.leaf_table.proofs.table.Table.burn.Goals as goal
@@ -19,10 +19,8 @@ put_burnt-requires-clause-leased g c =
     let mid = c.settle.new.self in
     let id = message_id_bytes c.args.message.now in
     let leaf = c.args.leaf in
-    let before : leaf < length (cache_state old.slots).slots = omega (arith, c.requires.within, old.count) in
-    let within : leaf < length (cache_state mid.slots).slots = omega (arith, c.requires.within, mid.count, ap (λ (p : PlanNumbers). 2 ^ p.h) c.settle.ensures.enters.stays.plan) in
-    let was = was-leased (state_of old) (state_of mid) leaf id old.sound before c.in_default.ensures.event.1 c.requires.leased in
-    half-of (slot_in (cache_state mid.slots).slots leaf) c.in-Half.field-0 id (map_of mid.entries.items leaf) (sym c.slot.ensures ∙ c.in-Half.is) (mid.sound.slots leaf within) was
+    let there = settled-leased old mid leaf id c.settle.ensures.enters.stays.plan c.requires.within c.in_default.ensures.event.1 c.requires.leased in
+    half-of (slot_in (cache_state mid.slots).slots leaf) c.in-Half.field-0 id (map_of mid.entries.items leaf) (sym c.slot.ensures ∙ c.in-Half.is) (mid.sound.slots leaf there.within) there.was
 
 pub returns-clause-event : goal.returns-clause-event
 returns-clause-event g c =
@@ -30,10 +28,8 @@ returns-clause-event g c =
     let mid = c.settle.new.self in
     let id = message_id_bytes c.args.message.now in
     let leaf = c.args.leaf in
-    let before : leaf < length (cache_state old.slots).slots = omega (arith, c.requires.within, old.count) in
-    let within : leaf < length (cache_state mid.slots).slots = omega (arith, c.requires.within, mid.count, ap (λ (p : PlanNumbers). 2 ^ p.h) c.settle.ensures.enters.stays.plan) in
-    let was = was-leased (state_of old) (state_of mid) leaf id old.sound before c.in_default.ensures.event.1 c.requires.leased in
-    let leased = half-of (slot_in (cache_state mid.slots).slots leaf) c.in-Half.field-0 id (map_of mid.entries.items leaf) (sym c.slot.ensures ∙ c.in-Half.is) (mid.sound.slots leaf within) was in
+    let there = settled-leased old mid leaf id c.settle.ensures.enters.stays.plan c.requires.within c.in_default.ensures.event.1 c.requires.leased in
+    let leased = half-of (slot_in (cache_state mid.slots).slots leaf) c.in-Half.field-0 id (map_of mid.entries.items leaf) (sym c.slot.ensures ∙ c.in-Half.is) (mid.sound.slots leaf there.within) there.was in
     burns-made (state_of old) (state_of mid) (state_of c.put_burnt.new.self) c.args.leaf c.args.by id c.put_burnt.result c.in_default.ensures.event.1
     leased c.put_burnt.ensures.event
 
@@ -43,10 +39,8 @@ returns-in_default-slot g c =
     let mid = c.settle.new.self in
     let id = message_id_bytes c.args.message.now in
     let leaf = c.args.leaf in
-    let before : leaf < length (cache_state old.slots).slots = omega (arith, c.requires.within, old.count) in
-    let within : leaf < length (cache_state mid.slots).slots = omega (arith, c.requires.within, mid.count, ap (λ (p : PlanNumbers). 2 ^ p.h) c.settle.ensures.enters.stays.plan) in
-    let was = was-leased (state_of old) (state_of mid) leaf id old.sound before c.in_default.ensures.event.1 c.requires.leased in
-    let burnt = burnt-of (slot_in (cache_state mid.slots).slots leaf) id (map_of mid.entries.items leaf) (λ a half. c.in_default-slot.not-Half a (c.slot.ensures ∙ half)) (mid.sound.slots leaf within) was in
+    let there = settled-leased old mid leaf id c.settle.ensures.enters.stays.plan c.requires.within c.in_default.ensures.event.1 c.requires.leased in
+    let burnt = burnt-of (slot_in (cache_state mid.slots).slots leaf) id (map_of mid.entries.items leaf) (λ a half. c.in_default-slot.not-Half a (c.slot.ensures ∙ half)) (mid.sound.slots leaf there.within) there.was in
     record {
       event = leasing.kept (state_of mid) c.in_default.ensures.event.1 burnt;
       idle = λ none same differs. c.in_default.ensures.idle none;

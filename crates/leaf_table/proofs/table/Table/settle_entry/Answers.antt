@@ -1,9 +1,10 @@
-use Rattle.std.proofs.Common.{◌≡◌, ◌∷◌, ◌++◌, [], Option, Some, Ok, length, sym, ◌∙◌, ap, subst, arith, length-append}
-use Rattle.leaf_table.specs.Slots.{may_become, room_in}
+use Rattle.std.proofs.Common.{◌≡◌, ◌∷◌, ◌++◌, [], Option, Some, Ok, sym, ◌∙◌, ap, subst, arith}
+use Rattle.leaf_table.specs.Slots.{may_become}
 use Rattle.slot_file.specs.declared.slot.Slot.{Slot}
-use Rattle.leaf_table.specs.State.{IsSound, lease_of, state_with, with_lease}
+use Rattle.leaf_table.specs.State.{lease_of}
 use Rattle.leaf_table.specs.declared.lease.Lease.{Lease}
-use Rattle.leaf_table.proofs.Sound.{room-put, sound-with_made}
+use Rattle.leaf_table.proofs.Putting.{may-settle, put-made, room-taken}
+use Rattle.leaf_table.proofs.Sound.{leaf_of-lease}
 use Rattle.slot_file.specs.Cache.{header_of, state_of}
 use Rattle.slot_file.specs.Calls.{Settles}
 use Rattle.slot_file.specs.State.{CacheState, settled_with, with_made}
@@ -17,10 +18,8 @@ only-some e = cc
 pub add-requires : goal.add-requires
 add-requires g c =
     let self = c.args.self.now in
-    let cache = state_of self.slots in
     let d = c.args.doubted.now in
-    let is : cache.doubt ≡ Some d = c.requires in
-    omega (arith, self.room, room-put cache.slots d.slot d.after (self.sound.within d is) (self.sound.next d is))
+    omega (arith, self.room, room-taken self d.slot _ d.after (may-settle self d c.requires))
 
 pub invariant_of-self : goal.invariant_of-self
 invariant_of-self g c =
@@ -35,15 +34,13 @@ invariant_of-self g c =
     let event = subst (λ (s : Settled). Settles version cache (Ok s) new) c.in-Ok-Made.field-0-is c.in-Ok-Made.ensures.event in
     let same : event.0 ≡ d = only-some (sym event.1 ∙ is) in
     let made : new ≡ settled_with (with_made cache.slots d) = event.2 ∙ ap (λ (x : Doubted). settled_with (with_made cache.slots x)) same in
-    let lease = lease_of d in
     let listed = c.add.ensures.items ∙ ap (λ (l : Lease). items ++ l ∷ []) c.lease_of_slot.ensures in
-    let sound = sound-with_made (state_with cache items) d self.sound is in
-    let whole : state_with new c.add.new.entries.items ≡ with_lease (state_with cache items) lease d.slot d.after = λ i. state_with (made i) (listed i) in
+    let still = put-made self d.slot _ d.after (may-settle self d is) (lease_of d) new c.add.new.entries.items (leaf_of-lease d.slot d.after) (self.sound.makes d is) made listed in
     record {
       version = ap (λ h. h.version) call.stays.header ∙ self.version;
       count = call.stays.count ∙ self.count;
-      sound = subst IsSound (sym whole) sound;
-      room = omega (arith, self.room, c.add.ensures.room, ap length listed, length-append items (lease ∷ []), room-put cache.slots d.slot d.after (self.sound.within d is) (self.sound.next d is), ap (λ (s : CacheState). room_in s.slots) made);
+      sound = still.sound;
+      room = omega (arith, self.room, c.add.ensures.room, still.room);
       indexed = c.enter.ensures;
     }
 

@@ -1,8 +1,9 @@
 use Rattle.std.proofs.Common.{◌≡◌, ◌<◌, ◌^◌, ℕ, length, refl, sym, ◌∙◌, ap, subst}
-use Rattle.opening_journal.specs.Loading.{IsJournalFile, LoadRefused, entries_of, no_memory}
+use Rattle.opening_journal.specs.Loading.{IsJournalFile, LoadRefused, entries_of, entries_of_slot, no_memory}
 use Rattle.opening_journal.specs.Opening.{settled_with}
 use Rattle.slot_file.proofs.Logs.{has-whole}
-use Rattle.opening_journal.proofs.Listed.{entries-same, refused-load}
+use Rattle.opening_journal.proofs.Refused.{refused-load}
+use Rattle.slot_file.proofs.Logs.{entries-same}
 use Rattle.slot_file.specs.Cache.{state_of}
 use Rattle.slot_file.specs.State.{slot_in}
 use Rattle.slot_file.specs.Layout.{load_fault, slot_at}
@@ -29,7 +30,7 @@ returns-in-Ok-entries_of-clause-loaded g c =
       entries = λ told.
           let here : (leaf : ℕ) → leaf < length slots → slot_in slots leaf ≡ slot_at 2 leaf file =
           λ leaf below. sym ((loaded.file told).shows leaf below) ∙ ap (λ (v : ℕ). slot_at v leaf file) c.requires.version in
-          ap settled_with (c.in-Ok-entries_of.ensures.items ∙ entries-same n (length slots) (slot_in slots) (λ leaf. slot_at 2 leaf file) here
+          ap settled_with (c.in-Ok-entries_of.ensures.items ∙ entries-same (entries_of_slot n) (length slots) (slot_in slots) (λ leaf. slot_at 2 leaf file) here
           ∙ ap (λ (count : ℕ). entries_of n count (λ leaf. slot_at 2 leaf file)) size);
       named = loaded.named;
       sized = refl;

@@ -1,19 +1,16 @@
-use Rattle.std.proofs.Common.{◌≡◌, ◌<◌, ℕ, List, length, None, IsTrue, false, refl, sym, ◌∙◌, ap, subst, arith}
+use Rattle.std.proofs.Common.{◌≡◌, ℕ, List, length, None, refl, sym, ◌∙◌, ap, subst, arith}
 use Rattle.std.proofs.lemmas.List.{length-replicate, with_items_is}
 use Rattle.std.specs.Vec.{with_items}
 use Rattle.slot_file.specs.Reading.{IsReadRefused}
-use Rattle.slot_file.specs.State.{HasSlots, IsWhole, slot_in}
+use Rattle.slot_file.specs.State.{HasSlots}
 use Rattle.slot_file.specs.Loading.{no_memory}
-use Rattle.slot_file.specs.Copies.{is_damaged}
-use Rattle.slot_file.specs.Layout.{load_fault}
-use Rattle.slot_file.specs.Slots.{IsTold, disk_of, doubt_of, file_of, header_of, slot_now}
+use Rattle.slot_file.specs.Slots.{IsTold, disk_of, doubt_of, file_of, header_of}
 use Rattle.slot_file.specs.declared.header.Header.{Header}
-use Rattle.slot_file.specs.declared.slot.Slot.{Slot}
 use Rattle.slot_file.specs.declared.slot.Slot.TheVariants.{Free}
 use Rattle.slot_file.specs.declared.slots.Doubt.TheVariants.{Nowhere}
 use Rattle.slot_file.proofs.Unwritten.{unwritten-then}
 use Rattle.slot_file.proofs.Files.{doubt-none}
-use Rattle.slot_file.proofs.Read.{has-read, refused-file, refused-read}
+use Rattle.slot_file.proofs.Read.{all-read, refused-file, refused-read}
 use Rattle.slot_file.proofs.Sure.{images-sure, reads-sure}
 use Rattle.slot_file.proofs.cache.CachedSlots.load.Goals as goal
 
@@ -33,25 +30,18 @@ invariant_of-result g c =
     let cached = c.in-Ok-free_slots.cached in
     let list = (with_items cached read).items in
     let call = c.in-Ok-read_slots.ensures in
-    let free = ap length c.deref_mut.ensures.value ∙ ap length c.in-Ok-free_slots.ensures ∙ length-replicate c.args.count Free in
-    let is_list : list ≡ read = with_items_is cached read (call.size ∙ ap length c.deref_mut.ensures.value ∙ sym cached.ok.0) in
-    let size : length list ≡ c.args.count = ap length is_list ∙ call.size ∙ free in
-    let whole : IsWhole list = subst IsWhole (sym is_list) call.whole in
-    let shows : IsTold start → (k : ℕ) → k < c.args.count → slot_now start k ≡ slot_in list k = λ told k below.
-    call.shows told k (omega (arith, below, free)) ∙ ap (λ (l : List Slot). slot_in l k) (sym is_list) in
-    let sound : IsTold start → (k : ℕ) → k < c.args.count → is_damaged (slot_now start k) ≡ false = λ told k below. ap is_damaged (shows told k below) ∙ whole k (omega (arith, below, size)) in
+    let same_length = ap length c.deref_mut.ensures.value in
+    let free = same_length ∙ ap length c.in-Ok-free_slots.ensures ∙ length-replicate c.args.count Free in
+    let all = all-read header c.args.count c.args.disk start list read opened (with_items_is cached read (call.size ∙ same_length ∙ sym cached.ok.0)) (call.size ∙ free) call.whole
+    (λ told k below. call.shows told k (omega (arith, below, free))) in
     let names : header_of new ≡ header = call.looks.stays.header ∙ opened.named in
     let nowhere : doubt_of new ≡ Nowhere = call.looks.doubt opened.doubt in
     let has : IsTold new → HasSlots header list (file_of new) = λ told_new.
     let told_start = sym call.looks.unwritten.stays.told ∙ told_new in
-    let told = sym opened.unwritten.stays.told ∙ told_start in
-    let same = call.looks.unwritten.same told_start in
-    let is = same ∙ opened.unwritten.same told in
-    has-read header (header_of start) list (file_of new) (file_of start) c.args.count opened.named same size
-    (ap (load_fault header c.args.count) is ∙ opened.opens told) (shows told_start) (sound told_start) in
+    subst (HasSlots header list) (sym (call.looks.unwritten.same told_start)) (all.has told_start) in
     record {
-      count = call.looks.stays.count ∙ opened.size ∙ sym size;
-      whole = whole;
+      count = call.looks.stays.count ∙ opened.size ∙ sym all.size;
+      whole = all.whole;
       in_doubt = doubt-none _ (doubt_of new) nowhere;
       faulted = λ none. refl;
       reads = reads-sure new header names list None refl has;
@@ -68,23 +58,15 @@ returns-in-Ok-read_slots-clause-loaded g c =
     let cached = c.in-Ok-free_slots.cached in
     let list = (with_items cached read).items in
     let call = c.in-Ok-read_slots.ensures in
-    let free = ap length c.deref_mut.ensures.value ∙ ap length c.in-Ok-free_slots.ensures ∙ length-replicate c.args.count Free in
-    let is_list : list ≡ read = with_items_is cached read (call.size ∙ ap length c.deref_mut.ensures.value ∙ sym cached.ok.0) in
-    let size : length list ≡ c.args.count = ap length is_list ∙ call.size ∙ free in
-    let whole : IsWhole list = subst IsWhole (sym is_list) call.whole in
-    let shows : IsTold start → (k : ℕ) → k < c.args.count → slot_now start k ≡ slot_in list k = λ told k below.
-    call.shows told k (omega (arith, below, free)) ∙ ap (λ (l : List Slot). slot_in l k) (sym is_list) in
-    let sound : IsTold start → (k : ℕ) → k < c.args.count → is_damaged (slot_now start k) ≡ false = λ told k below. ap is_damaged (shows told k below) ∙ whole k (omega (arith, below, size)) in
-    let file = g.D.Pages.reads c.args.disk in
-    let has : IsTrue (g.D.Pages.told c.args.disk) → HasSlots header list file = λ told.
-    let told_start = opened.unwritten.stays.told ∙ told in
-    has-read header (header_of start) list file (file_of start) c.args.count opened.named (sym (opened.unwritten.same told)) size
-    (opened.opens told) (shows told_start) (sound told_start) in
+    let same_length = ap length c.deref_mut.ensures.value in
+    let free = same_length ∙ ap length c.in-Ok-free_slots.ensures ∙ length-replicate c.args.count Free in
+    let all = all-read header c.args.count c.args.disk start list read opened (with_items_is cached read (call.size ∙ same_length ∙ sym cached.ok.0)) (call.size ∙ free) call.whole
+    (λ told k below. call.shows told k (omega (arith, below, free))) in
     record {
-      file = has;
+      file = λ told. subst (HasSlots header list) (opened.unwritten.same told) (all.has (opened.unwritten.stays.told ∙ told));
       settled = refl;
       named = call.looks.stays.header ∙ opened.named;
-      size = size;
+      size = all.size;
       unwritten = unwritten-then g.D.Pages g.D.Faults c.args.disk (disk_of start) (disk_of new) opened.unwritten call.looks.unwritten;
       faults = call.cause.others (λ is. cc) ∙ opened.faults;
     }
