@@ -56,10 +56,10 @@ pub record IsSized (ask : Ask) : Type 0 where
   pub digest : IfSome ask.second (λ (second : Second). length second.digest ≡ 32)
 
 -- the drill is for the desk still, with as many sessions, and at most so many asks were put
-pub record StaysFor (desk : Desk) (old new : Drill) (bound : ℕ) (asks : Asks) : Type 0 where
+pub record StaysFor (desk : Desk) (old new : Drill) (most : ℕ) (asks : Asks) : Type 0 where
   pub is_for : IsFor desk new
   pub count : length new.seats.items ≡ length old.seats.items
-  pub bound : AtMost bound asks
+  pub bound : AtMost most asks
 
 -- session i may stand at this place after a step in which at most one ask was put, and no disk stopped
 pub record StepsTo (desk : Desk) (i : ℕ) (place : Place) (asks : Asks) : Type 0 where

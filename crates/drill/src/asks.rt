@@ -3,6 +3,7 @@
 ghost use Rattle.std.specs.Prelude.{◌≡◌, ◌≢◌, ◌<◌, ◌≤◌, ℕ, length, Contains, None, IfNone, IfSome, IsSome, IsTrue};
 ghost use Rattle.coalition_map.specs.Coalitions.{leaf_members};
 ghost use Rattle.drill.specs.Courses.{AllKept, IsNext};
+ghost use Rattle.drill.specs.Drills.{IsSized};
 ghost use Rattle.reference_value.specs.Places.{tag_in};
 ghost use Rattle.session_core.specs.Asks.{ask_with, kept_masks};
 ghost use Rattle.session_core.specs.State.{round_of};

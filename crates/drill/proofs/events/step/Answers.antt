@@ -1,7 +1,7 @@
 use Rattle.std.proofs.Common.{arith, length, set, sym, ◌∙◌, refl, subst}
 use Rattle.std.proofs.lemmas.List.{length-set}
 use Rattle.drill_trustees.specs.Trustees.{leaf_at}
-use Rattle.drill.specs.Courses.{HasSigned, IsGoing, uses_of}
+use Rattle.drill.specs.Courses.{HasSigned, IsGoing, MayStep, uses_of}
 use Rattle.drill.specs.Seats.{Fits}
 use Rattle.drill.specs.declared.seat.Seat.{Seat}
 use Rattle.drill.proofs.Seated.{get_or-any, stepped}
@@ -33,7 +33,7 @@ returns-clause-goes c = λ own good.
     let at = c.in_ok-trustees.ensures in
     let going = subst (λ (x : Seat). IsGoing c.args.desk.now own.dealing c.args.i (uses_of c.args.drill.table) (leaf_at c.args.drill.trustees) x) (sym was)
     (good.seats c.args.i c.index_mut.result.now c.requires.within) in
-    let may = record { shares = good.shares; settled = good.table; free = good.free; going = going } in
+    let may : MayStep c.args.desk.now own.dealing c.args.i c.args.drill.table c.args.drill.trustees c.replace-seat.result = record { shares = good.shares; settled = good.table; free = good.free; going = going } in
     let steps = at.goes own may in
     stepped c.args.desk.now own c.args.i c.args.drill _ c.replace-seat.result c.replace-seat.new.dest c.in_ok-trustees.seat _ good c.requires.within
     (was ∙ get_or-any c.args.drill.seats.items c.args.i c.index_mut.result.now c.replace-seat.result c.requires.within) steps.0 steps.1 refl

@@ -4,7 +4,7 @@ use Rattle.drill.specs.Courses.{IsGoing, IsSettled, Steps, uses_of, world}
 use Rattle.drill.specs.declared.seat.Seat.{Seat as Place}
 use Rattle.drill.specs.declared.seat.Seat.TheVariants.{Refused, Signed}
 use Rattle.drill.proofs.Counting.{ok-too}
-use Rattle.drill.proofs.Starting.{ended-stays, has-ended}
+use Rattle.drill.proofs.Starting.{has-ended}
 use Rattle.drill.proofs.events.step_seat.Goals as goal
 
 pub returns-in-Running-clause-goes : goal.returns-in-Running-clause-goes

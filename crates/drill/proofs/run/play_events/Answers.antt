@@ -10,7 +10,8 @@ pub returns-then-sessions-eq0-clause-counted : goal.returns-then-sessions-eq0-cl
 returns-then-sessions-eq0-clause-counted c = λ number is.
     let none : c.args.sessions ≡ 0 = omega arith in
     let all = events-few c.args.sessions c.args.events none in
-    subst (λ (k : ℕ). HasCounted number k _) (sym all) (counts-none number _ refl refl)
+    let tally : Tally = record { asks = 0; granted = 0; cuts = 0; restarts = 0 } in
+    subst (λ (k : ℕ). HasCounted number k tally) (sym all) (counts-none number tally refl refl)
 
 pub returns-clause-counted : goal.returns-clause-counted
 returns-clause-counted c = λ number is.
