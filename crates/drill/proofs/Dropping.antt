@@ -4,7 +4,6 @@ use Rattle.drill_trustees.specs.Members.{state_after, state_before}
 use Rattle.drill_trustees.specs.Trustees.{SameShares, SetsAt, leaf_at}
 use Rattle.drill_trustees.specs.declared.trustees.Trustees.{Trustees}
 use Rattle.opening_journal.specs.Entries.{LeafState}
-use Rattle.reference_value.specs.Dealing.{Dealing}
 use Rattle.drill.specs.Courses.{Drops, HasNoNext, IsGoing, IsGood, IsNextOf, asks_in, uses_of}
 use Rattle.drill.specs.Keys.{HasDealing}
 use Rattle.drill.specs.Openings.{Notes}

@@ -1,4 +1,4 @@
-use Rattle.std.proofs.Common.{inr, refl, sym, subst, ◌∙◌}
+use Rattle.std.proofs.Common.{inr, refl, ◌∙◌}
 use Rattle.drill.proofs.Dropping.{goes, puts-none, puts-one}
 use Rattle.drill.proofs.Seated.{may-of}
 use Rattle.drill.proofs.Seating.{fits-here}

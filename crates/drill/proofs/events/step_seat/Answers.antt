@@ -18,8 +18,7 @@ returns-in-Running-clause-goes c = λ own may.
 pub returns-in_ok-seat-in-Waiting-clause-goes : goal.returns-in_ok-seat-in-Waiting-clause-goes
 returns-in_ok-seat-in-Waiting-clause-goes c = λ own may.
     let d = own.dealing in
-    let bare = subst (λ (x : Place). IsGoing c.args.desk.now d c.args.i (uses_of c.args.table.now) (leaf_at c.args.trustees) x) c.in-Waiting.is may.going in
-    (
+    let bare = subst (λ (x : Place). IsGoing c.args.desk.now d c.args.i (uses_of c.args.table.now) (leaf_at c.args.trustees) x) c.in-Waiting.is may.going in (
       c.lease.ensures.settled may.settled bare,
       subst (λ (x : Place). Steps c.args.desk.now d c.args.i (world (uses_of c.args.table.now) c.args.trustees) (world (uses_of c.lease.new.table) c.args.trustees) x
           c.in_ok-seat-in-Waiting.seat (record { put = 0; granted = 0; cut = 0 })) (sym c.in-Waiting.is)

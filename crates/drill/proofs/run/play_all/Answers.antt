@@ -1,4 +1,4 @@
-use Rattle.std.proofs.Common.{◌≡◌, ◌≤◌, ◌+◌, ◌*◌, ℕ, refl, sym, subst, arith}
+use Rattle.std.proofs.Common.{◌≡◌, ◌+◌, ◌*◌, ℕ, refl, sym, subst, arith}
 use Rattle.drill_schedule.proofs.Drawing.{state-none}
 use Rattle.drill_schedule.specs.Draws.{event_at}
 use Rattle.drill_schedule.specs.Events.{is_restart}

@@ -1,4 +1,4 @@
-use Rattle.std.proofs.Common.{◌≡◌, ◌≤◌, ℕ, refl, sym, subst, arith}
+use Rattle.std.proofs.Common.{◌≡◌, ℕ, refl, sym, subst, arith}
 use Rattle.drill.proofs.Counting.{counts-none, events-few, events-some}
 use Rattle.drill.proofs.Playing.{none-played}
 use Rattle.drill.specs.Courses.{HasPlayed}

@@ -1,4 +1,4 @@
-use Rattle.std.proofs.Common.{◌≡◌, ◌≤◌, ◌+◌, ◌*◌, ◌∙◌, subst, arith}
+use Rattle.std.proofs.Common.{◌+◌, ◌*◌, ◌∙◌, subst, arith}
 use Rattle.drill_schedule.specs.declared.draws.Schedule.{Schedule}
 use Rattle.drill.specs.Tallies.{CountsOne}
 use Rattle.drill.proofs.Playing.{plays-on}
