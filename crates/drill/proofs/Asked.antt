@@ -6,13 +6,14 @@ use Rattle.session_core.specs.Asks.{ask_with}
 use Rattle.session_core.specs.State.{State}
 use Rattle.trustee_core.specs.Grants.{ask_of}
 use Rattle.trustee_core.specs.declared.grant.Grant.{Grant}
+use Rattle.drill.specs.Drills.{IsSized}
 
 pub granted-digest : (grant : Option Grant) (ask : Ask) → IfSome grant (λ g. ask_of g ≡ ask) → IfSome ask.second (λ (second : Second). length second.digest ≡ 32)
     → IfSome grant (λ g. IfSome (ask_of g).second (λ (second : Second). length second.digest ≡ 32))
 granted-digest None ask is sized = tt
 granted-digest (Some grant) ask is sized = rw is sized
 
-pub asked-c : (s : State) (c : Option (List ℕ)) → s.c ≡ c → IfSome c (λ x. length x ≡ 32) → (tag digest : List ℕ)
-    → IfSome (ask_with s tag digest).second (λ (second : Second). length second.c ≡ 32)
-asked-c s None is sized tag digest = rw is tt
-asked-c s (Some c) is sized tag digest = rw is sized
+-- an ask under a randomizer of 32 bytes with a digest of 32 bytes
+pub asked-sizes : (s : State) (c : Option (List ℕ)) → s.c ≡ c → IfSome c (λ x. length x ≡ 32) → (tag digest : List ℕ) → length digest ≡ 32 → IsSized (ask_with s tag digest)
+asked-sizes s None is sized tag digest size = record { c = rw is tt; digest = rw is tt }
+asked-sizes s (Some c) is sized tag digest size = record { c = rw is sized; digest = rw is size }

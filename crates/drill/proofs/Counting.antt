@@ -1,9 +1,12 @@
 -- One more event.
-use Rattle.std.proofs.Common.{◌≡◌, ◌≤◌, ℕ, ◌+◌, ◌*◌, ◌==◌, Bool, true, false, refl, ◌∙◌, ap, arith, add-one, if◌then◌else◌}
+use Rattle.std.proofs.Common.{◌≡◌, ◌≤◌, ℕ, ◌+◌, ◌*◌, ◌==◌, Bool, true, false, Result, Ok, Err, IfOk, refl, sym, ◌∙◌, ap, arith, add-one, if◌then◌else◌}
 use Rattle.std.proofs.lemmas.Bool.Decides.{nat_tests}
 use Rattle.drill.specs.Summaries.{events_in}
 use Rattle.drill_schedule.specs.Draws.{event_at, events_of, state_at}
 use Rattle.drill_schedule.specs.declared.event.Event.{Event}
+use Rattle.drill_schedule.specs.Events.{is_cut, is_restart}
+use Rattle.drill.specs.Tallies.{CountsOne, HasCounted}
+use Rattle.drill.specs.declared.tally.Tally.{Tally}
 
 pub events-none : (kind : Event → Bool) (number : ℕ) → events_of kind number 0 ≡ 0
 unfolding events_of
@@ -29,3 +32,23 @@ events-some sessions events some =
 
 pub events-few : (sessions events : ℕ) → sessions ≡ 0 → events_in sessions events ≡ 0
 events-few sessions events none = rw none refl
+
+-- no event was counted yet
+pub counts-none : (number : ℕ) (tally : Tally) → tally.cuts ≡ 0 → tally.restarts ≡ 0 → HasCounted number 0 tally
+counts-none number tally cuts restarts = record { cuts = omega arith; restarts = restarts ∙ sym (events-none is_restart number) }
+
+-- one more event is counted
+pub counts-more : (number i : ℕ) (old new : Tally) → HasCounted number i old → CountsOne (event_at number (176 + 3 * i)).event old new → HasCounted number (i + 1) new
+counts-more number i old new was one =
+    let cuts = events-more is_cut number i in
+    let restarts = events-more is_restart number i in
+    let few = was.cuts in
+    let more = one.cuts in
+    let before = was.restarts in
+    let now = one.restarts in
+    record { cuts = omega arith; restarts = omega arith }
+
+-- what holds besides, holds of an answer too
+pub ok-too : {A E : Type 0} (P : A → Type 0) (Q : Type 0) (r : Result A E) → Q → IfOk r P → IfOk r (λ a. Q × P a)
+ok-too P Q (Ok a) q p = (q, p)
+ok-too P Q (Err e) q p = tt

@@ -108,7 +108,7 @@ module _ (desk : Desk) (own : HasDealing desk.plan desk.dealt) (number : ℕ) (d
     dealing = d;
     dealing_is = dealing_is;
     count = journals.count;
-    table = subst (λ (h : Header). IsTableFile h 32 drilled.table.bytes) (is_for.header ∙ the-table) table.file;
+    table = subst (λ (h : Header). IsTableFile h 32 drilled.table.bytes) (is_for.table.header ∙ the-table) table.file;
     journals_are = λ t low high.
         let is = trustee t low high in
         subst (λ (h : Header). IsJournalFile h 32 (get_or drilled.journals.items (t - 1) none).bytes) (the-journal t is) (journals.each t none is).file;

@@ -15,6 +15,7 @@ pub mod Counted
 pub mod Starting
 pub mod Following
 pub mod Seated
+pub mod Dropping
 pub mod Playing
 pub mod Finishing
 pub mod Beginning

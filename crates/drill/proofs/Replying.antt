@@ -21,7 +21,7 @@ use Rattle.session_core.specs.Verdicts.{digest_of}
 use Rattle.share_files.specs.declared.share.Share.{Share}
 use Rattle.trustee_core.specs.Grants.{ask_of}
 use Rattle.trustee_core.specs.declared.grant.Grant.{Grant}
-use Rattle.drill.specs.Courses.{Awaits, IsGranted, IsOnCourse, IsShareOf, head_with, masks_joined, own_masks}
+use Rattle.drill.specs.Courses.{Awaits, IsGranted, IsOnCourse, IsShareOf, World, head_with, masks_joined, own_masks}
 use Rattle.drill.specs.Keys.{HasDealing}
 use Rattle.drill.specs.Seats.{IsOf}
 use Rattle.drill.specs.declared.asks.NextAsk.{NextAsk}
@@ -68,8 +68,8 @@ has-seat desk d i map leaves s t p c awaits = elim (which s p t awaits.0) [
   })
 ]
 
-module _ (desk : Desk) (own : HasDealing desk.plan desk.dealt) (i : ℕ) (map : ℕ → LeafUse) (old new : Trustees) (s s' : State) (next : NextAsk) (grant : Grant)
-    (g : IsGranted desk own.dealing i map old new s next (Some grant)) where
+module _ (desk : Desk) (own : HasDealing desk.plan desk.dealt) (i : ℕ) (old : World) (new : Trustees) (s s' : State) (next : NextAsk) (grant : Grant)
+    (g : IsGranted desk own.dealing i old new s next (Some grant)) where
   abbrev d : Dealing
   d = own.dealing
 
@@ -81,10 +81,10 @@ module _ (desk : Desk) (own : HasDealing desk.plan desk.dealt) (i : ℕ) (map : 
 
   -- the session that has taken the grant's masks
   pub reply-taken : SameAsk s s' → IsSession s' → IsOf desk.dealt.public desk.plan i s'
-      → s' ≡ with_delivery s (head_with desk.dealt.public.params t next.ask) (masks_joined (share_at new t) (ask_of grant)) → Took desk d i map (leaf_at new) s s'
+      → s' ≡ with_delivery s (head_with desk.dealt.public.params t next.ask) (masks_joined (share_at new t) (ask_of grant)) → Took desk d i old.uses (leaf_at new) s s'
   reply-taken same session of is =
       let p = pair-of s g.course.session (g.course.of.plan_is ∙ desk.plan_is) in
-      let seat = has-seat desk d i map (leaf_at old) s t p g.course g.next_is.awaits in
+      let seat = has-seat desk d i old.uses (leaf_at old.trustees) s t p g.course g.next_is.awaits in
       let share = g.shares t g.next_is.trustee in
       let masks = own_masks d s (digest_of s m) t in
       let params : s.key.params ≡ desk.dealt.public.params = ap (λ (k : PublicKey). k.params) g.course.of.key_is in
@@ -92,4 +92,4 @@ module _ (desk : Desk) (own : HasDealing desk.plan desk.dealt) (i : ℕ) (map : 
       let head : head_with desk.dealt.public.params t next.ask ≡ grant_head s t = (λ j. head_with (sym params j) t (g.next_is.ask j)) ∙ head-is t _ (digest_of s m) s in
       let goes : s' ≡ with_delivery s (grant_head s t) masks = is ∙ (λ j. with_delivery s (head j) (given j)) in
       let seats : seats_of s' ≡ with_reply (seats_of s) t 0 masks = ap seats_of goes ∙ grant-kept s t masks seat.there seat.empty (masks-size d (digest_of s m) t s (params ∙ own.dealt_is.params)) in
-      took desk d i map old new s s' t masks g.course p g.next_is.awaits g.sets same session of seats refl
+      took desk d i old.uses old.trustees new s s' t masks g.course p g.next_is.awaits g.sets same session of seats refl

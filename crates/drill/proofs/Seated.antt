@@ -21,7 +21,7 @@ use Rattle.lms_bytes.specs.declared.public_key.PublicKey.{PublicKey}
 use Rattle.opening_journal.specs.Entries.{LeafState}
 use Rattle.reference_value.specs.Dealing.{Dealing}
 use Rattle.session_core.specs.State.{State}
-use Rattle.drill.specs.Courses.{AreFree, AreTaken, Grows, HaveShares, IsGoing, HasSigned, IsBare, IsGood, IsNextOf, IsOut, Opens, IsOnCourse, IsSettled, Moves, StaysGood, Stepped, asked, next_step, steps_of, uses_of, Steps, replies_of}
+use Rattle.drill.specs.Courses.{AreFree, AreTaken, Grows, HaveShares, IsGoing, HasSigned, IsBare, IsGood, IsNextOf, IsOut, Opens, IsOnCourse, IsSettled, Moves, StaysGood, Stepped, asked, next_step, steps_of, uses_of, Steps, replies_of, world}
 use Rattle.drill.specs.Ids.{DifferentIds, id_of}
 use Rattle.drill.specs.Keys.{HasDealing}
 use Rattle.drill.specs.Openings.{AreOwn}
@@ -164,7 +164,7 @@ signed-some seats put place i n m more signed inside all j none within has =
 -- the drill once session i has moved to this place
 pub stepped : (desk : Desk) (own : HasDealing desk.plan desk.dealt) (i : ℕ) (drill after : Drill) (seat put place : Place) (asks : Asks) → IsGood desk own.dealing drill
     → i < length drill.seats.items → seat ≡ get_or drill.seats.items i seat → IsSettled after.table
-    → Steps desk own.dealing i (uses_of drill.table) (uses_of after.table) drill.trustees after.trustees seat place asks
+    → Steps desk own.dealing i (world (uses_of drill.table) drill.trustees) (world (uses_of after.table) after.trustees) seat place asks
     → after.seats.items ≡ set (set drill.seats.items i put) i place → Opens desk own.dealing (length drill.seats.items) (uses_of drill.table) drill.openings.list.items after.openings.list.items place
     → Stepped desk own.dealing i drill after asks
 stepped desk own i drill after seat put place asks good within was settled steps seats opens =
@@ -230,7 +230,7 @@ may-of desk own i uses old Refused next going shares is = absurd is
 -- a session whose next ask was put, and that did not take the answer
 pub drops : (desk : Desk) (own : HasDealing desk.plan desk.dealt) (i : ℕ) (uses : ℕ → LeafUse) (old new : Trustees) (place : Place) (next : NextAsk) (state : LeafState) (asks : Asks)
     → IsGoing desk own.dealing i uses (leaf_at old) place → HaveShares own.dealing old → SameShares old new → IsNextOf desk i next place → SetsAt old new next.member next.ask.leaf state
-    → ((state ≡ state_before next.ask) ⊎ (state ≡ state_after next.ask)) → asks.granted + asks.cut ≡ asks.put → Moves desk own.dealing i uses uses old new place asks
+    → ((state ≡ state_before next.ask) ⊎ (state ≡ state_after next.ask)) → asks.granted + asks.cut ≡ asks.put → Moves desk own.dealing i (world uses old) (world uses new) place asks
 drops desk own i uses old new Waiting next state asks going shares same is sets known parts = absurd is
 drops desk own i uses old new (Running s) next state asks going shares same is sets known parts =
     let m = message_bytes i in
@@ -254,7 +254,7 @@ drops desk own i uses old new Refused next state asks going shares same is sets 
 
 pub dropped : (desk : Desk) (own : HasDealing desk.plan desk.dealt) (i : ℕ) (drill : Drill) (new : Trustees) (openings : Openings) (seat : Place) (asks : Asks) → IsGood desk own.dealing drill
     → i < length drill.seats.items → seat ≡ get_or drill.seats.items i seat
-    → Moves desk own.dealing i (uses_of drill.table) (uses_of drill.table) drill.trustees new seat asks
+    → Moves desk own.dealing i (world (uses_of drill.table) drill.trustees) (world (uses_of drill.table) new) seat asks
     → AreOwn desk own.dealing (length drill.seats.items) (uses_of drill.table) openings.list.items → length drill.openings.list.items ≤ length openings.list.items
     → StaysGood desk own.dealing (record { trustees = new; table = drill.table; seats = drill.seats; openings = openings }) asks
 dropped desk own i drill new openings seat asks good within was moves noted more = record {

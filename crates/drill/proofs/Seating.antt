@@ -1,11 +1,18 @@
 -- A seat that is taken out, and put back.
-use Rattle.std.proofs.Common.{◌<◌, ℕ, List, length, get_or, set, sym, ◌∙◌, subst, inl, inr, arith}
+use Rattle.std.proofs.Common.{◌<◌, ℕ, List, length, ◌≡◌, get_or, set, sym, ◌∙◌, subst, inl, inr, arith}
 use Rattle.std.proofs.lemmas.Bool.{cases_eq}
 use Rattle.std.proofs.lemmas.List.{get_or-set_other, get_or-set_same, length-set}
 use Rattle.coalition_map.specs.Coalitions.{PlanNumbers}
 use Rattle.lms_bytes.specs.declared.public_key.PublicKey.{PublicKey}
 use Rattle.drill.specs.Seats.{AllFit, Fits}
+use Rattle.drill.specs.Drills.{IsFor}
+use Rattle.drill.specs.declared.desk.Desk.{Desk}
 use Rattle.drill.specs.declared.seat.Seat.{Seat}
+use Rattle.drill.specs.declared.state.Drill.{Drill}
+
+-- a seat of a drill for a desk is of the session of its number
+pub fits-here : (desk : Desk) (drill : Drill) (i : ℕ) (seat : Seat) → IsFor desk drill → i < length drill.seats.items → seat ≡ get_or drill.seats.items i seat → Fits desk.dealt.public desk.plan i seat
+fits-here desk drill i seat is_for within was = subst (λ (s : Seat). Fits desk.dealt.public desk.plan i s) (sym was) (is_for.seats i seat within)
 
 pub set-fits : (key : PublicKey) (plan : PlanNumbers) (xs : List Seat) (i : ℕ) (d s : Seat) → AllFit key plan xs → i < length xs → Fits key plan i s
     → AllFit key plan (set (set xs i d) i s)

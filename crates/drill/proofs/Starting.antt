@@ -1,11 +1,11 @@
 -- A session that starts, and one that puts its next ask.
-use Rattle.std.proofs.Common.{◌≡◌, ◌≢◌, ◌⊎◌, ◌<◌, ◌%◌, ◌+◌, ℕ, suc, List, [], ◌∷◌, All, Contains, None, map, inl, inr, refl, sym, ◌∙◌, ap, subst, arith}
+use Rattle.std.proofs.Common.{◌≡◌, ◌≢◌, ◌⊎◌, ◌<◌, ◌%◌, ◌+◌, ℕ, suc, List, [], ◌∷◌, All, Contains, Option, IfSome, IsSome, None, map, inl, inr, refl, sym, ◌∙◌, ap, subst, arith}
 use Rattle.std.proofs.lemmas.Bool.{cases_eq}
 use Rattle.std.proofs.lemmas.List.Elements.{All-cons, All-head, All-nil, All-tail}
 use Rattle.coalition_map.specs.Coalitions.{PlanNumbers, leaf_members}
 use Rattle.drill_schedule.specs.Draws.{message_bytes}
-use Rattle.drill_trustees.specs.Members.{state_after, state_before}
-use Rattle.drill_trustees.specs.Trustees.{IsTrustee, SameShares, SetsAt, leaf_at}
+use Rattle.drill_trustees.specs.Members.{MayAsk, state_after, state_before}
+use Rattle.drill_trustees.specs.Trustees.{IsTrustee, SameShares, SetsAt, leaf_at, share_at}
 use Rattle.drill_trustees.specs.declared.trustees.Trustees.{Trustees}
 use Rattle.leaf_table.specs.Entries.{IsLeased, LeafUse}
 use Rattle.lms_bytes.specs.MessageId.{message_id}
@@ -18,14 +18,17 @@ use Rattle.session_core.specs.Seats.{Seat, empty_seat}
 use Rattle.session_core.specs.State.{IsSession, State, seats_of, started}
 use Rattle.session_core.specs.Verdicts.{digest_of}
 use Rattle.share_files.specs.declared.share.Share.{Share}
-use Rattle.drill.specs.Courses.{AllKept, AreFree, Awaits, GoesTo, Grows, HaveShares, IsGoing, IsNext, IsOnCourse, IsOnly, IsOut, IsShareOf, asked, count_filled, steps_in, HasEnded, Steps}
+use Rattle.trustee_core.specs.Grants.{ask_of}
+use Rattle.trustee_core.specs.declared.grant.Grant.{Grant}
+use Rattle.drill.specs.Courses.{AllKept, AreFree, Awaits, GoesTo, Grows, HaveShares, IsGoing, IsGranted, IsNext, IsOnCourse, IsOnly, IsOut, IsShareOf, asked, count_filled, steps_in, HasEnded, Steps, world}
 use Rattle.drill.specs.Ids.{id_of}
+use Rattle.drill.specs.Keys.{HasDealing}
 use Rattle.drill.specs.declared.asks.NextAsk.{NextAsk}
 use Rattle.drill.specs.declared.desk.Desk.{Desk}
 use Rattle.drill.specs.declared.seat.Seat.{Seat as Place}
 use Rattle.drill.specs.declared.state.Asks.{Asks}
 use Rattle.drill.specs.declared.seat.Seat.TheVariants.{Refused, Running, Signed, Waiting}
-use Rattle.drill.proofs.Going.{StandsAt, after-any, course, trustee-of}
+use Rattle.drill.proofs.Going.{StandsAt, after-any, course, may-ask, trustee-of}
 use Rattle.drill.proofs.Desks.{three}
 use Rattle.drill.proofs.Leasing.{IsNew}
 use Rattle.drill.proofs.Rounds.{by-round, first-member, kept-one, pair-of, second-member}
@@ -95,7 +98,7 @@ others-stay old new member leaf i state uses sets leased theirs t q own within o
 
 pub lease-moves : (desk : Desk) (d : Dealing) (i : ℕ) (uses after : ℕ → LeafUse) (old : Trustees) (leaf : ℕ) (s : State) → HaveShares d old → AreFree uses (leaf_at old)
     → Grows i uses after → IsNew i uses after leaf → s ≡ started desk.dealt.public desk.plan leaf (message_id (message_bytes i)) → IsSession s
-    → Steps desk d i uses after old old Waiting (Running s) (record { put = 0; granted = 0; cut = 0 })
+    → Steps desk d i (world uses old) (world after old) Waiting (Running s) (record { put = 0; granted = 0; cut = 0 })
 lease-moves desk d i uses after old leaf s shares free grows new same session =
     let st = starts desk d i after (leaf_at old) leaf (subst (λ (z : State). IsSession z) same session) new.own new.leased new.only (λ t own. free t leaf own new.within (inl new.was)) in
     let steps : steps_in s ≡ 1 = ap steps_in same ∙ st.steps in
@@ -116,11 +119,29 @@ not-all s session plan awaited all =
     let t = trustee-of s (pair-of s session plan) awaited.0 awaited.1.0 in
     all awaited.0 t.low t.high awaited.1.0 awaited.1.1
 
+-- a session's next ask was put by a call that grants what may be granted, so it was granted
+pub put-granted : (desk : Desk) (own : HasDealing desk.plan desk.dealt) (i : ℕ) (map : ℕ → LeafUse) (old new : Trustees) (s : State) (m : List ℕ) (next : NextAsk) (grant : Option Grant)
+    → IsOnCourse desk own.dealing i map (leaf_at old) s → HaveShares own.dealing old → m ≡ message_bytes i → IsNext desk s m next → SameShares old new
+    → IfSome grant (λ g. ask_of g ≡ next.ask) → (MayAsk (share_at old next.member) (leaf_at old next.member) next.ask → IsSome grant)
+    → (MayAsk (share_at old next.member) (leaf_at old next.member) next.ask → SetsAt old new next.member next.ask.leaf (state_after next.ask))
+    → IsGranted desk own.dealing i (world map old) new s next grant
+put-granted desk own i map old new s m next grant course shares message next_is same ask granted sets =
+    let is = subst (λ (l : List ℕ). IsNext desk s l next) message next_is in
+    let may = may-ask desk own i map (leaf_at old) s next (share_at old next.member) course is (shares next.member is.trustee) in
+    record {
+      course = course;
+      next_is = is;
+      shares = same-shares own.dealing old new shares same;
+      sets = sets-for desk s (message_bytes i) next old new is (sets may);
+      granted = granted may;
+      ask = ask;
+    }
+
 -- a session's next ask, granted and taken
 pub ask-moves : (desk : Desk) (d : Dealing) (i : ℕ) (uses : ℕ → LeafUse) (old new : Trustees) (s : State) (next : NextAsk) (place : Place) (asks : Asks)
     → IsOnCourse desk d i uses (leaf_at old) s → IsNext desk s (message_bytes i) next → HaveShares d new → SetsAt old new next.member s.leaf (state_after (asked s (message_bytes i)))
     → GoesTo desk d i uses (leaf_at new) (suc (steps_in s)) place → asks.granted + asks.cut ≡ asks.put → asks.put ≡ 1
-    → Steps desk d i uses uses old new (Running s) place asks
+    → Steps desk d i (world uses old) (world uses new) (Running s) place asks
 ask-moves desk d i uses old new s next place asks course is shares sets goes parts one =
     let steps = goes.steps_are in
     record {
@@ -137,7 +158,7 @@ ask-moves desk d i uses old new s next place asks course is shares sets goes par
 
 -- a session that has ended stays where it is
 pub ended-stays : (desk : Desk) (d : Dealing) (i : ℕ) (uses : ℕ → LeafUse) (old : Trustees) (place : Place) → HasEnded place → IsGoing desk d i uses (leaf_at old) place → HaveShares d old
-    → Steps desk d i uses uses old old place place (record { put = 0; granted = 0; cut = 0 })
+    → Steps desk d i (world uses old) (world uses old) place place (record { put = 0; granted = 0; cut = 0 })
 ended-stays desk d i uses old Waiting ended going shares = absurd ended
 ended-stays desk d i uses old (Running s) ended going shares = absurd ended
 ended-stays desk d i uses old (Signed leaf) ended going shares = record {
@@ -148,3 +169,10 @@ ended-stays desk d i uses old Refused ended going shares = record {
   moves = record { grows = inl (λ q within. refl); going = going; shares = shares; stays = λ t q own within other. refl; parts = refl };
   advances = record { least = omega arith; exact = λ has. refl; put = refl };
 }
+
+-- the same, where the session's seat is known to be at this place
+pub has-ended : (desk : Desk) (d : Dealing) (i : ℕ) (uses : ℕ → LeafUse) (old : Trustees) (seat place : Place) → seat ≡ place → HasEnded place → IsGoing desk d i uses (leaf_at old) seat
+    → HaveShares d old → Steps desk d i (world uses old) (world uses old) seat place (record { put = 0; granted = 0; cut = 0 })
+has-ended desk d i uses old seat place is ended going shares =
+    let on = subst (λ (x : Place). IsGoing desk d i uses (leaf_at old) x) is going in
+    subst (λ (x : Place). Steps desk d i (world uses old) (world uses old) x place (record { put = 0; granted = 0; cut = 0 })) (sym is) (ended-stays desk d i uses old place ended on shares)

@@ -1,10 +1,10 @@
 -- internal: How a session of a drill goes on, where no two messages have one id.
-use Rattle.std.specs.Prelude.{◌≡◌, ◌≢◌, ◌⊎◌, ◌<◌, ◌≤◌, ◌%◌, ◌+◌, ◌-◌, ℕ, suc, List, [], ◌∷◌, All, Contains, IfSome}
+use Rattle.std.specs.Prelude.{◌≡◌, ◌≢◌, ◌⊎◌, ◌<◌, ◌≤◌, ◌%◌, ◌+◌, ◌-◌, ◌*◌, ℕ, suc, List, [], ◌∷◌, All, Contains, IfSome}
 use Rattle.std.specs.Prelude.{IsSome, None, Some, Option, length, replicate, slice_index_or, if◌then◌else◌}
 use Rattle.coalition_map.specs.Coalitions.{leaf_members}
 use Rattle.disk_trait.specs.declared.disk.Pages as pages
 use Rattle.disk_trait.specs.declared.faults.Faults as faults
-use Rattle.drill_schedule.specs.Draws.{message_bytes}
+use Rattle.drill_schedule.specs.Draws.{message_bytes, state_at}
 use Rattle.drill_schedule.specs.declared.event.Event.{Event}
 use Rattle.drill_trustees.specs.Members.{state_after, state_before}
 use Rattle.drill_trustees.specs.Trustees.{IsTrustee, SetsAt, leaf_at, share_at}
@@ -31,6 +31,7 @@ use Rattle.trustee_core.specs.declared.grant.Grant.{Grant}
 use Rattle.drill.specs.Disks.{opened_for}
 use Rattle.drill.specs.Counts.{free_of, held_by, holds, sum_below}
 use Rattle.drill.specs.Ids.{DifferentIds, id_of}
+use Rattle.drill.specs.Keys.{HasDealing}
 use Rattle.drill.specs.Openings.{AreOwn}
 use Rattle.drill.specs.Schedules.{Progress, after_event, after_step, cut_asks, cut_in, extra_asks, extra_in, leaves_of}
 use Rattle.drill.specs.Schedules.{progress_of}
@@ -141,13 +142,21 @@ masks_joined share ask = joined (mask_of share ask) (mask_count share.params ask
 abbrev pub HaveShares : Dealing → Trustees → Type 0
 HaveShares d trustees = (t : ℕ) → IsTrustee t → IsShareOf d t (share_at trustees t)
 
+-- what the table says of each leaf, and the trustees
+pub record World : Type 0 where
+  pub uses : ℕ → LeafUse
+  pub trustees : Trustees
+
+abbrev pub world : (ℕ → LeafUse) → Trustees → World
+world uses trustees = record { uses = uses; trustees = trustees }
+
 -- the next ask of a session was granted: its trustee has the leaf as it is after the ask
-pub record IsGranted (desk : Desk) (d : Dealing) (i : ℕ) (map : ℕ → LeafUse) (old new : Trustees) (s : State)
+pub record IsGranted (desk : Desk) (d : Dealing) (i : ℕ) (old : World) (new : Trustees) (s : State)
     (next : NextAsk) (grant : Option Grant) : Type 0 where
-  pub course : IsOnCourse desk d i map (leaf_at old) s
+  pub course : IsOnCourse desk d i old.uses (leaf_at old.trustees) s
   pub next_is : IsNext desk s (message_bytes i) next
   pub shares : HaveShares d new
-  pub sets : SetsAt old new next.member s.leaf (state_after (asked s (message_bytes i)))
+  pub sets : SetsAt old.trustees new next.member s.leaf (state_after (asked s (message_bytes i)))
   pub granted : IsSome grant
   pub ask : IfSome grant (λ grant. ask_of grant ≡ next.ask)
 
@@ -209,13 +218,12 @@ AreFree map leaves = (t q : ℕ) → IsTrustee t → q < 32 → (map q ≡ IsFre
 
 -- What session i does to the table and the trustees: at most a free leaf is leased for it, other leaves stay as they
 -- are, and so does each leaf with a trustee that is no member, and every ask is granted or stops a disk.
-pub record Moves (desk : Desk) (d : Dealing) (i : ℕ) (map after : ℕ → LeafUse) (old new : Trustees) (place : Place)
-    (asks : Asks) : Type 0 where
-  pub grows : Grows i map after
-  pub going : IsGoing desk d i after (leaf_at new) place
-  pub shares : HaveShares d new
-  pub stays : (t q : ℕ) → IsTrustee t → q < 32 → (after q ≢ IsLeased (id_of i)) ⊎ IsOut t q
-      → leaf_at new t q ≡ leaf_at old t q
+pub record Moves (desk : Desk) (d : Dealing) (i : ℕ) (old new : World) (place : Place) (asks : Asks) : Type 0 where
+  pub grows : Grows i old.uses new.uses
+  pub going : IsGoing desk d i new.uses (leaf_at new.trustees) place
+  pub shares : HaveShares d new.trustees
+  pub stays : (t q : ℕ) → IsTrustee t → q < 32 → (new.uses q ≢ IsLeased (id_of i)) ⊎ IsOut t q
+      → leaf_at new.trustees t q ≡ leaf_at old.trustees t q
   pub parts : asks.granted + asks.cut ≡ asks.put
 
 -- how many steps a session has at least taken after one more
@@ -256,14 +264,23 @@ pub record Advances (seat place : Place) (asks : Asks) : Type 0 where
   pub put : asks.put ≡ asks_in seat
 
 -- a step of session i, from one place to another
-pub record Steps (desk : Desk) (d : Dealing) (i : ℕ) (map after : ℕ → LeafUse) (old new : Trustees)
-    (seat place : Place) (asks : Asks) : Type 0 where
-  pub moves : Moves desk d i map after old new place asks
+pub record Steps (desk : Desk) (d : Dealing) (i : ℕ) (old new : World) (seat place : Place) (asks : Asks)
+    : Type 0 where
+  pub moves : Moves desk d i old new place asks
   pub advances : Advances seat place asks
 
 -- the leaves of a table
 abbrev pub uses_of : {D : Type 0} {p : pages.Ghosts D} {f : faults.Ghosts D} → Table D p f → ℕ → LeafUse
 uses_of table = map_of (state_of table).entries
+
+-- A session at this place may take a step: trustees have their shares, nothing is in doubt in the table, what it has
+-- free they have free, and the session goes on.
+pub record MayStep {D : Type 0} {p : pages.Ghosts D} {f : faults.Ghosts D} (desk : Desk) (d : Dealing) (i : ℕ)
+    (table : Table D p f) (trustees : Trustees) (place : Place) : Type 0 where
+  pub shares : HaveShares d trustees
+  pub settled : IsSettled table
+  pub free : AreFree (uses_of table) (leaf_at trustees)
+  pub going : IsGoing desk d i (uses_of table) (leaf_at trustees) place
 
 -- a session has signed
 abbrev pub HasSigned : Place → Type 0
@@ -365,6 +382,14 @@ pub record HasPlayed (desk : Desk) (d : Dealing) (number sessions events : ℕ) 
   pub well : IsWell desk d (extra_asks number sessions events) drill tally
   pub follows : Follows (progress_of number sessions events) drill.seats.items
   pub cuts : tally.cuts ≤ cut_asks number sessions events
+
+-- Where so many events of a schedule were played and all is well, one more has been played, and all is well. The first
+-- is drawn from this state.
+abbrev pub PlaysOn : Desk → ℕ → ℕ → Drill → Tally → Drill → Tally → Type 0
+PlaysOn desk sessions state drill tally after now =
+    (own : HasDealing desk.plan desk.dealt) (number k : ℕ) → state ≡ state_at number (176 + 3 * k)
+    → HasPlayed desk own.dealing number sessions k drill tally
+    → HasPlayed desk own.dealing number sessions (k + 1) after now
 
 -- session i has ended, and the others stand where they stood
 pub record IsFinished (desk : Desk) (d : Dealing) (extra i : ℕ) (old new : Drill) (tally : Tally) : Type 0 where

@@ -1,5 +1,5 @@
 -- internal: The state of a drill.
-use Rattle.std.specs.Prelude.{◌≡◌, ◌+◌, ◌<◌, ◌≤◌, ℕ}
+use Rattle.std.specs.Prelude.{◌≡◌, ◌+◌, ◌<◌, ◌≤◌, ℕ, IfSome, length}
 use Rattle.dealer.specs.declared.dealing.Dealt.{Dealt}
 use Rattle.disk_trait.specs.MemDisk.{MemState}
 use Rattle.disk_trait.specs.declared.disk.Pages as pages
@@ -8,11 +8,14 @@ use Rattle.leaf_table.specs.Loading.{IsTableFile}
 use Rattle.leaf_table.specs.Slots.{use_of_slot}
 use Rattle.leaf_table.specs.Table.{header_of, plan_of}
 use Rattle.leaf_table.specs.declared.table.Table.{Table}
+use Rattle.lms_bytes.specs.declared.ask.Ask.{Ask}
+use Rattle.lms_bytes.specs.declared.ask.Second.{Second}
 use Rattle.slot_file.specs.Layout.{slot_at}
 use Rattle.slot_file.specs.declared.header.Header.{Header}
 use Rattle.drill.specs.Courses.{uses_of}
-use Rattle.drill.specs.Seats.{AllFit}
+use Rattle.drill.specs.Seats.{AllFit, Fits}
 use Rattle.drill.specs.declared.desk.Desk.{Desk}
+use Rattle.drill.specs.declared.seat.Seat.{Seat as Place}
 use Rattle.drill.specs.declared.state.Asks.{Asks}
 use Rattle.drill.specs.declared.state.Drill.{Drill}
 
@@ -26,16 +29,43 @@ table_header dealt = record {
   id = dealt.public.id;
 }
 
--- the table is of the desk's plan and key, and each seat of the session of its number
+-- the table is of the desk's plan and key
+pub record IsTableFor {D : Type 0} {p : pages.Ghosts D} {f : faults.Ghosts D} (desk : Desk) (table : Table D p f)
+    : Type 0 where
+  pub plan : plan_of table ≡ desk.plan
+  pub header : header_of table ≡ table_header desk.dealt
+
+-- the table is the desk's, and each seat is of the session of its number
 pub record IsFor (desk : Desk) (drill : Drill) : Type 0 where
-  pub plan : plan_of drill.table ≡ desk.plan
-  pub header : header_of drill.table ≡ table_header desk.dealt
+  pub table : IsTableFor desk drill.table
   pub seats : AllFit desk.dealt.public desk.plan drill.seats.items
+
+-- the drill is for the desk, and has so many sessions
+pub record Seats (desk : Desk) (sessions : ℕ) (drill : Drill) : Type 0 where
+  pub is_for : IsFor desk drill
+  pub count : length drill.seats.items ≡ sessions
 
 -- at most so many asks were put; each was granted, stopped a disk, or was refused
 pub record AtMost (bound : ℕ) (asks : Asks) : Type 0 where
   pub put : asks.put ≤ bound
   pub parts : asks.granted + asks.cut ≤ asks.put
+
+-- the randomizer and the digest of a round-two ask have 32 bytes
+pub record IsSized (ask : Ask) : Type 0 where
+  pub c : IfSome ask.second (λ (second : Second). length second.c ≡ 32)
+  pub digest : IfSome ask.second (λ (second : Second). length second.digest ≡ 32)
+
+-- the drill is for the desk still, with as many sessions, and at most so many asks were put
+pub record StaysFor (desk : Desk) (old new : Drill) (most : ℕ) (asks : Asks) : Type 0 where
+  pub is_for : IsFor desk new
+  pub count : length new.seats.items ≡ length old.seats.items
+  pub bound : AtMost most asks
+
+-- session i may stand at this place after a step in which at most one ask was put, and no disk stopped
+pub record StepsTo (desk : Desk) (i : ℕ) (place : Place) (asks : Asks) : Type 0 where
+  pub fits : Fits desk.dealt.public desk.plan i place
+  pub bound : AtMost 1 asks
+  pub cut : asks.cut ≡ 0
 
 -- the disk holds the table's file, which says of each leaf what the table does
 pub record HasTable {D : Type 0} {p : pages.Ghosts D} {f : faults.Ghosts D} (table : Table D p f) (disk : MemState)

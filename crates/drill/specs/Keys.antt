@@ -5,6 +5,7 @@ use Rattle.dealer.specs.Dealt.{IsDealt, IsKeyOf}
 use Rattle.dealer.specs.declared.dealing.Dealt.{Dealt}
 use Rattle.lms_verify.specs.UndividedKey.{UndividedKey}
 use Rattle.reference_value.specs.Dealing.{Dealing}
+use Rattle.drill.specs.declared.desk.Desk.{Desk}
 
 -- a dealing for this plan gave this, and its undivided key
 pub record HasDealing (plan : PlanNumbers) (dealt : Dealt) : Type 0 where
@@ -13,3 +14,7 @@ pub record HasDealing (plan : PlanNumbers) (dealt : Dealt) : Type 0 where
   pub plan_is : dealing.plan ≡ plan
   pub dealt_is : IsDealt dealing dealt
   pub key_is : IsKeyOf dealing key
+
+-- the dealing that a desk's key is from
+abbrev pub DealtTo : Desk → Type 0
+DealtTo desk = HasDealing desk.plan desk.dealt

@@ -3,6 +3,7 @@
 ghost use Rattle.std.specs.Prelude.{◌≡◌, ◌≢◌, ◌<◌, ◌≤◌, ℕ, length, Contains, None, IfNone, IfSome, IsSome, IsTrue};
 ghost use Rattle.coalition_map.specs.Coalitions.{leaf_members};
 ghost use Rattle.drill.specs.Courses.{AllKept, IsNext};
+ghost use Rattle.drill.specs.Drills.{IsSized};
 ghost use Rattle.reference_value.specs.Places.{tag_in};
 ghost use Rattle.session_core.specs.Asks.{ask_with, kept_masks};
 ghost use Rattle.session_core.specs.State.{round_of};
@@ -72,8 +73,7 @@ fn ask_of(desk: &Desk, session: &Session, member: u8, message: &[u8]) -> Ask
     requires key { session.now.key ≡ desk.now.dealt.public }
     requires plan { session.now.plan ≡ desk.now.plan }
     requires member { Contains (leaf_members session.now.plan session.now.leaf) member }
-    ensures c { IfSome result.second (λ second. length second.c ≡ 32) }
-    ensures digest { IfSome result.second (λ second. length second.digest ≡ 32) }
+    ensures sizes { IsSized result }
     ensures ask { result ≡ ask_with session.now
         (tag_in session.now.key.params session.now.plan desk.now.dealt.reference.items session.now.leaf member)
         (digest_of session.now message.now) }
@@ -93,8 +93,7 @@ pub(crate) fn next_ask(desk: &Desk, session: &Session, message: &[u8]) -> Option
     requires key { session.now.key ≡ desk.now.dealt.public }
     requires plan { session.now.plan ≡ desk.now.plan }
     ensures within { IfSome result (λ next. (1 ≤ next.member) × (next.member ≤ 3)) }
-    ensures c { IfSome result (λ next. IfSome next.ask.second (λ second. length second.c ≡ 32)) }
-    ensures digest { IfSome result (λ next. IfSome next.ask.second (λ second. length second.digest ≡ 32)) }
+    ensures sizes { IfSome result (λ next. IsSized next.ask) }
     ensures next { IfSome result (IsNext desk.now session.now message.now) }
     ensures none { IfNone result (AllKept session.now) }
 {

@@ -1,19 +1,16 @@
 //! The events of a drill.
 
 ghost use Rattle.std.specs.Prelude.{◌≡◌, ◌≢◌, ◌<◌, ◌≤◌, ◌+◌, ℕ, length, IfNone, IfOk, IfSome, IsTrue, if◌then◌else◌};
-ghost use Rattle.drill.specs.Courses.{AreFree, Awaits, Drops, HasNoNext, HaveShares, IsGoing, IsGood, IsOnCourse};
-ghost use Rattle.drill.specs.Courses.{IsNextOf, IsSettled, Opens, Plays, Stepped, Steps, uses_of};
-ghost use Rattle.drill.specs.Drills.{AtMost, IsFor};
+ghost use Rattle.drill.specs.Courses.{Awaits, Drops, HasNoNext, HaveShares, IsGood, IsNextOf, IsOnCourse, IsSettled};
+ghost use Rattle.drill.specs.Courses.{MayStep, Opens, Plays, Stepped, Steps, uses_of, world};
+ghost use Rattle.drill.specs.Drills.{AtMost, IsFor, IsSized, IsTableFor, StaysFor, StepsTo};
 ghost use Rattle.drill.specs.Ids.{DifferentIds};
-ghost use Rattle.drill.specs.Keys.{HasDealing};
+ghost use Rattle.drill.specs.Keys.{DealtTo};
 ghost use Rattle.drill.specs.Openings.{AreOwn};
 ghost use Rattle.drill.specs.Seats.{Fits, IsOf};
 ghost use Rattle.drill_schedule.specs.Events.{is_cut};
 ghost use Rattle.drill_trustees.specs.Trustees.{SameShares, leaf_at};
 ghost use Rattle.leaf_table.specs.Entries.{LeafUse};
-ghost use Rattle.leaf_table.specs.Table.{header_of, plan_of};
-ghost use Rattle.lms_bytes.specs.declared.ask.Second.{Second};
-ghost use Rattle.reference_value.specs.Dealing.{Dealing};
 
 use crate::asks::{NextAsk, next_ask};
 use crate::desk::Desk;
@@ -82,8 +79,7 @@ fn sum(first: &Asks, second: &Asks) -> Asks
 fn next_of(desk: &Desk, seat: &Seat, i: u32) -> Option<NextAsk>
     requires fits { Fits desk.now.dealt.public desk.now.plan i seat.now }
     ensures within { IfSome result (λ next. (1 ≤ next.member) × (next.member ≤ 3)) }
-    ensures c { IfSome result (λ next. IfSome next.ask.second (λ (second : Second). length second.c ≡ 32)) }
-    ensures digest { IfSome result (λ next. IfSome next.ask.second (λ (second : Second). length second.digest ≡ 32)) }
+    ensures sizes { IfSome result (λ next. IsSized next.ask) }
     ensures next { IfSome result (λ next. IsNextOf desk.now i next seat.now) }
     ensures none { IfNone result (HasNoNext seat.now) }
 {
@@ -103,15 +99,13 @@ fn step_running(
     i: u32,
 ) -> Result<(Trustees, Seat, Asks), NoMemory>
     requires of { IsOf desk.now.dealt.public desk.now.plan i session }
-    ensures fits { IfOk result (λ all. Fits desk.now.dealt.public desk.now.plan i all.1) }
-    ensures bound { IfOk result (λ all. AtMost 1 all.2) }
-    ensures cut { IfOk result (λ all. all.2.cut ≡ 0) }
+    ensures to { IfOk result (λ all. StepsTo desk.now i all.1 all.2) }
     ensures shares { IfOk result (λ all. SameShares trustees all.0) }
-    ensures goes { (own : HasDealing desk.now.plan desk.now.dealt) (map : ℕ → LeafUse)
-        → HaveShares own.dealing trustees → IsOnCourse desk.now own.dealing i map (leaf_at trustees) session
-        → ((t : ℕ) × Awaits session t) → IfOk result (λ all.
-        Steps desk.now own.dealing i map map trustees all.0 (Seat.Running session) all.1 all.2) }
-    ensures openings { (own : HasDealing desk.now.plan desk.now.dealt) (map : ℕ → LeafUse) (count : ℕ)
+    ensures goes { (own : DealtTo desk.now) (map : ℕ → LeafUse) → HaveShares own.dealing trustees
+        → IsOnCourse desk.now own.dealing i map (leaf_at trustees) session → ((t : ℕ) × Awaits session t)
+        → IfOk result (λ all. Steps desk.now own.dealing i (world map trustees) (world map all.0)
+        (Seat.Running session) all.1 all.2) }
+    ensures openings { (own : DealtTo desk.now) (map : ℕ → LeafUse) (count : ℕ)
         → i < count → DifferentIds count → HaveShares own.dealing trustees
         → IsOnCourse desk.now own.dealing i map (leaf_at trustees) session → ((t : ℕ) × Awaits session t)
         → AreOwn desk.now own.dealing count map openings.old.list.items → IfOk result (λ all.
@@ -138,21 +132,14 @@ fn step_seat(
     i: u32,
 ) -> Result<(Trustees, Seat, Asks), NoMemory>
     requires fits { Fits desk.now.dealt.public desk.now.plan i seat }
-    requires plan { plan_of table.old ≡ desk.now.plan }
-    ensures plan { plan_of table.new ≡ desk.now.plan }
-    ensures header { header_of table.new ≡ header_of table.old }
-    ensures fits { IfOk result (λ all. Fits desk.now.dealt.public desk.now.plan i all.1) }
-    ensures bound { IfOk result (λ all. AtMost 1 all.2) }
-    ensures cut { IfOk result (λ all. all.2.cut ≡ 0) }
-    ensures goes { (own : HasDealing desk.now.plan desk.now.dealt) → HaveShares own.dealing trustees
-        → IsSettled table.old → AreFree (uses_of table.old) (leaf_at trustees)
-        → IsGoing desk.now own.dealing i (uses_of table.old) (leaf_at trustees) seat → IfOk result (λ all.
-        Steps desk.now own.dealing i (uses_of table.old) (uses_of table.new) trustees all.0 seat all.1 all.2) }
-    ensures settled { (d : Dealing) → IsSettled table.old
-        → IsGoing desk.now d i (uses_of table.old) (leaf_at trustees) seat → IsSettled table.new }
-    ensures openings { (own : HasDealing desk.now.plan desk.now.dealt) (count : ℕ) → i < count → DifferentIds count
-        → HaveShares own.dealing trustees
-        → IsGoing desk.now own.dealing i (uses_of table.old) (leaf_at trustees) seat
+    requires table { IsTableFor desk.now table.old }
+    ensures table { IsTableFor desk.now table.new }
+    ensures to { IfOk result (λ all. StepsTo desk.now i all.1 all.2) }
+    ensures goes { (own : DealtTo desk.now) → MayStep desk.now own.dealing i table.old trustees seat
+        → IfOk result (λ all. IsSettled table.new × Steps desk.now own.dealing i (world (uses_of table.old) trustees)
+        (world (uses_of table.new) all.0) seat all.1 all.2) }
+    ensures openings { (own : DealtTo desk.now) (count : ℕ) → i < count → DifferentIds count
+        → MayStep desk.now own.dealing i table.old trustees seat
         → Opens desk.now own.dealing count (uses_of table.old) openings.old.list.items openings.old.list.items seat
         → IfOk result (λ all. Opens desk.now own.dealing count (uses_of table.old) openings.old.list.items
         openings.new.list.items all.1) }
@@ -177,11 +164,9 @@ pub(crate) fn step(
 ) -> Result<(Drill, Asks), NoMemory>
     requires is_for { IsFor desk.now drill }
     requires within { i < length drill.seats.items }
-    ensures is_for { IfOk result (λ pair. IsFor desk.now pair.0) }
-    ensures count { IfOk result (λ pair. length pair.0.seats.items ≡ length drill.seats.items) }
-    ensures bound { IfOk result (λ pair. AtMost 1 pair.1) }
+    ensures stays { IfOk result (λ pair. StaysFor desk.now drill pair.0 1 pair.1) }
     ensures cut { IfOk result (λ pair. pair.1.cut ≡ 0) }
-    ensures goes { (own : HasDealing desk.now.plan desk.now.dealt) → IsGood desk.now own.dealing drill
+    ensures goes { (own : DealtTo desk.now) → IsGood desk.now own.dealing drill
         → IfOk result (λ pair. Stepped desk.now own.dealing i drill pair.0 pair.1) }
 {
     let Drill {
@@ -215,11 +200,9 @@ pub(crate) fn step(
 fn ask_and_drop(desk: &Desk, drill: Drill, i: u32) -> Result<(Drill, Asks), NoMemory>
     requires is_for { IsFor desk.now drill }
     requires within { i < length drill.seats.items }
-    ensures is_for { IfOk result (λ pair. IsFor desk.now pair.0) }
-    ensures count { IfOk result (λ pair. length pair.0.seats.items ≡ length drill.seats.items) }
-    ensures bound { IfOk result (λ pair. AtMost 1 pair.1) }
+    ensures stays { IfOk result (λ pair. StaysFor desk.now drill pair.0 1 pair.1) }
     ensures cut { IfOk result (λ pair. pair.1.cut ≡ 0) }
-    ensures goes { (own : HasDealing desk.now.plan desk.now.dealt) → IsGood desk.now own.dealing drill
+    ensures goes { (own : DealtTo desk.now) → IsGood desk.now own.dealing drill
         → IfOk result (λ pair. Drops desk.now own.dealing i drill pair.0 pair.1) }
 {
     let Some(next) = next_of(desk, &drill.seats[i as usize], i) else {
@@ -245,11 +228,9 @@ fn ask_and_drop(desk: &Desk, drill: Drill, i: u32) -> Result<(Drill, Asks), NoMe
 fn ask_twice(alloc: Global, desk: &Desk, drill: Drill, i: u32) -> Result<(Drill, Asks), NoMemory>
     requires is_for { IsFor desk.now drill }
     requires within { i < length drill.seats.items }
-    ensures is_for { IfOk result (λ pair. IsFor desk.now pair.0) }
-    ensures count { IfOk result (λ pair. length pair.0.seats.items ≡ length drill.seats.items) }
-    ensures bound { IfOk result (λ pair. AtMost 2 pair.1) }
+    ensures stays { IfOk result (λ pair. StaysFor desk.now drill pair.0 2 pair.1) }
     ensures cut { IfOk result (λ pair. pair.1.cut ≡ 0) }
-    ensures goes { (own : HasDealing desk.now.plan desk.now.dealt) → IsGood desk.now own.dealing drill
+    ensures goes { (own : DealtTo desk.now) → IsGood desk.now own.dealing drill
         → IfOk result (λ pair. Plays desk.now own.dealing Event.Twice i drill pair.0 pair.1) }
 {
     if next_of(desk, &drill.seats[i as usize], i).is_none() {
@@ -270,10 +251,8 @@ fn cut(
 ) -> Result<(Drill, Asks), NoMemory>
     requires is_for { IsFor desk.now drill }
     requires within { i < length drill.seats.items }
-    ensures is_for { IfOk result (λ pair. IsFor desk.now pair.0) }
-    ensures count { IfOk result (λ pair. length pair.0.seats.items ≡ length drill.seats.items) }
-    ensures bound { IfOk result (λ pair. AtMost 1 pair.1) }
-    ensures goes { (own : HasDealing desk.now.plan desk.now.dealt) → IsGood desk.now own.dealing drill
+    ensures stays { IfOk result (λ pair. StaysFor desk.now drill pair.0 1 pair.1) }
+    ensures goes { (own : DealtTo desk.now) → IsGood desk.now own.dealing drill
         → IfOk result (λ pair. Drops desk.now own.dealing i drill pair.0 pair.1) }
 {
     let Some(next) = next_of(desk, &drill.seats[i as usize], i) else {
@@ -302,7 +281,7 @@ fn restarted(alloc: Global, desk: &Desk, drill: Drill, pick: u32) -> Result<Dril
     requires is_for { IsFor desk.now drill }
     ensures is_for { IfOk result (IsFor desk.now) }
     ensures seats { IfOk result (λ after. after.seats.items ≡ drill.seats.items) }
-    ensures good { (own : HasDealing desk.now.plan desk.now.dealt) → IsGood desk.now own.dealing drill
+    ensures good { (own : DealtTo desk.now) → IsGood desk.now own.dealing drill
         → IfOk result (IsGood desk.now own.dealing) }
 {
     let Drill {
@@ -331,11 +310,9 @@ pub(crate) fn play(
 ) -> Result<(Drill, Asks), NoMemory>
     requires is_for { IsFor desk.now drill }
     requires within { i < length drill.seats.items }
-    ensures is_for { IfOk result (λ pair. IsFor desk.now pair.0) }
-    ensures count { IfOk result (λ pair. length pair.0.seats.items ≡ length drill.seats.items) }
-    ensures bound { IfOk result (λ pair. AtMost 2 pair.1) }
+    ensures stays { IfOk result (λ pair. StaysFor desk.now drill pair.0 2 pair.1) }
     ensures cut { IfOk result (λ pair. pair.1.cut ≤ (if is_cut event then 1 else 0)) }
-    ensures goes { (own : HasDealing desk.now.plan desk.now.dealt) → IsGood desk.now own.dealing drill
+    ensures goes { (own : DealtTo desk.now) → IsGood desk.now own.dealing drill
         → IfOk result (λ pair. Plays desk.now own.dealing event i drill pair.0 pair.1) }
 {
     match event {

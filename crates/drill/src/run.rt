@@ -1,19 +1,18 @@
 //! The run of a drill.
 
-ghost use Rattle.std.specs.Prelude.{◌≡◌, ◌≤◌, ◌<◌, ◌+◌, ◌*◌, ℕ, length, slice_index_or, All, IfOk, if◌then◌else◌};
+ghost use Rattle.std.specs.Prelude.{◌≡◌, ◌≤◌, ◌<◌, ◌+◌, ℕ, length, slice_index_or, All, IfOk};
 ghost use Rattle.drill.specs.Courses.{AreFinished, HasEnded, HasPlayed, HasSigned, IsFinished, IsGood, IsSettled};
-ghost use Rattle.drill.specs.Courses.{IsWell};
+ghost use Rattle.drill.specs.Courses.{IsWell, PlaysOn};
 ghost use Rattle.drill.specs.Disks.{AreDisks};
-ghost use Rattle.drill.specs.Drills.{HasTable, IsFor};
+ghost use Rattle.drill.specs.Drills.{HasTable, IsFor, Seats};
 ghost use Rattle.drill.specs.Ids.{DifferentIds};
 ghost use Rattle.drill.specs.Counts.{signed_in};
-ghost use Rattle.drill.specs.Keys.{HasDealing};
+ghost use Rattle.drill.specs.Keys.{DealtTo};
 ghost use Rattle.drill.specs.Seats.{AreWaiting};
 ghost use Rattle.drill.specs.Summaries.{IsSummary, events_in};
-ghost use Rattle.drill.specs.Tallies.{IsWithin};
+ghost use Rattle.drill.specs.Tallies.{CountsOne, HasCounted, IsWithin};
 ghost use Rattle.drill.specs.declared.seat.Seat.{Seat as Place};
-ghost use Rattle.drill_schedule.specs.Draws.{event_at, events_of, state_at};
-ghost use Rattle.drill_schedule.specs.Events.{is_cut, is_restart};
+ghost use Rattle.drill_schedule.specs.Draws.{event_at, state_at};
 ghost use Rattle.drill_trustees.specs.Trustees.{AreJournals};
 ghost use Rattle.leaf_table.specs.Table.{plan_of};
 
@@ -49,26 +48,17 @@ fn play_next(
     tally: &mut Tally,
     sessions: u32,
 ) -> Result<Drill, NoMemory>
-    requires is_for { IsFor desk.now drill }
-    requires count { length drill.seats.items ≡ sessions }
+    requires seated { Seats desk.now sessions drill }
     requires some { 0 < sessions }
     requires room { IsWithin 900000 tally.old }
     requires few { tally.old.restarts ≤ 900000 }
-    ensures is_for { IfOk result (IsFor desk.now) }
-    ensures count { IfOk result (λ after. length after.seats.items ≡ sessions) }
+    ensures seated { IfOk result (Seats desk.now sessions) }
     ensures state { (number i : ℕ) → generator.old.state ≡ state_at number i
         → generator.new.state ≡ state_at number (i + 3) }
-    ensures within { IfOk result (λ _. IsWithin (tally.old.asks + 2) tally.new) }
-    ensures cuts { (number i : ℕ) → generator.old.state ≡ state_at number i
-        → IfOk result (λ _. tally.new.cuts
-        ≤ tally.old.cuts + (if is_cut (event_at number i).event then 1 else 0)) }
-    ensures restarts { (number i : ℕ) → generator.old.state ≡ state_at number i
-        → IfOk result (λ _. tally.new.restarts
-        ≡ tally.old.restarts + (if is_restart (event_at number i).event then 1 else 0)) }
-    ensures well { (own : HasDealing desk.now.plan desk.now.dealt) (number k : ℕ)
-        → generator.old.state ≡ state_at number (176 + 3 * k)
-        → HasPlayed desk.now own.dealing number sessions k drill tally.old
-        → IfOk result (λ after. HasPlayed desk.now own.dealing number sessions (k + 1) after tally.new) }
+    ensures counted { (number i : ℕ) → generator.old.state ≡ state_at number i
+        → IfOk result (λ _. CountsOne (event_at number i).event tally.old tally.new) }
+    ensures well { IfOk result (λ after.
+        PlaysOn desk.now sessions generator.old.state drill tally.old after tally.new) }
 {
     let schedule = Schedule::draw(generator);
     tally.add_restart(schedule.event);
@@ -87,19 +77,15 @@ fn play_all(
     sessions: u32,
     events: u32,
 ) -> Result<(Drill, Tally), NoMemory>
-    requires is_for { IsFor desk.now drill }
-    requires count { length drill.seats.items ≡ sessions }
+    requires seated { Seats desk.now sessions drill }
     requires some { 0 < sessions }
     requires few { events ≤ 100000 }
-    ensures is_for { IfOk result (λ pair. IsFor desk.now pair.0) }
-    ensures count { IfOk result (λ pair. length pair.0.seats.items ≡ sessions) }
+    ensures seated { IfOk result (λ pair. Seats desk.now sessions pair.0) }
     ensures within { IfOk result (λ pair. IsWithin 200000 pair.1) }
-    ensures cuts { (number : ℕ) → generator.old.state ≡ state_at number 176
-        → IfOk result (λ pair. pair.1.cuts ≤ events_of is_cut number events) }
-    ensures restarts { (number : ℕ) → generator.old.state ≡ state_at number 176
-        → IfOk result (λ pair. pair.1.restarts ≡ events_of is_restart number events) }
-    ensures well { (own : HasDealing desk.now.plan desk.now.dealt) (number : ℕ)
-        → generator.old.state ≡ state_at number 176 → IsGood desk.now own.dealing drill → AreWaiting drill.seats.items
+    ensures counted { (number : ℕ) → generator.old.state ≡ state_at number 176
+        → IfOk result (λ pair. HasCounted number events pair.1) }
+    ensures well { (own : DealtTo desk.now) (number : ℕ) → generator.old.state ≡ state_at number 176
+        → IsGood desk.now own.dealing drill → AreWaiting drill.seats.items
         → IfOk result (λ pair. HasPlayed desk.now own.dealing number sessions events pair.0 pair.1) }
 {
     let mut drill = drill;
@@ -119,18 +105,14 @@ fn play_events(
     sessions: u32,
     events: u32,
 ) -> Result<(Drill, Tally), NoMemory>
-    requires is_for { IsFor desk.now drill }
-    requires count { length drill.seats.items ≡ sessions }
+    requires seated { Seats desk.now sessions drill }
     requires few { events ≤ 100000 }
-    ensures is_for { IfOk result (λ pair. IsFor desk.now pair.0) }
-    ensures count { IfOk result (λ pair. length pair.0.seats.items ≡ sessions) }
+    ensures seated { IfOk result (λ pair. Seats desk.now sessions pair.0) }
     ensures within { IfOk result (λ pair. IsWithin 200000 pair.1) }
-    ensures cuts { (number : ℕ) → generator.old.state ≡ state_at number 176
-        → IfOk result (λ pair. pair.1.cuts ≤ events_of is_cut number (events_in sessions events)) }
-    ensures restarts { (number : ℕ) → generator.old.state ≡ state_at number 176
-        → IfOk result (λ pair. pair.1.restarts ≡ events_of is_restart number (events_in sessions events)) }
-    ensures well { (own : HasDealing desk.now.plan desk.now.dealt) (number : ℕ)
-        → generator.old.state ≡ state_at number 176 → IsGood desk.now own.dealing drill → AreWaiting drill.seats.items
+    ensures counted { (number : ℕ) → generator.old.state ≡ state_at number 176
+        → IfOk result (λ pair. HasCounted number (events_in sessions events) pair.1) }
+    ensures well { (own : DealtTo desk.now) (number : ℕ) → generator.old.state ≡ state_at number 176
+        → IsGood desk.now own.dealing drill → AreWaiting drill.seats.items
         → IfOk result (λ pair.
         HasPlayed desk.now own.dealing number sessions (events_in sessions events) pair.0 pair.1) }
 {
@@ -152,13 +134,12 @@ fn finish_session(
     requires is_for { IsFor desk.now drill }
     requires within { i < length drill.seats.items }
     requires room { IsWithin 900000 tally.old }
-    ensures is_for { IfOk result (IsFor desk.now) }
-    ensures count { IfOk result (λ after. length after.seats.items ≡ length drill.seats.items) }
+    ensures seated { IfOk result (Seats desk.now (length drill.seats.items)) }
     ensures asks { tally.new.asks ≤ tally.old.asks + 5 }
     ensures within { IsWithin (tally.old.asks + 5) tally.new }
     ensures cuts { tally.new.cuts ≡ tally.old.cuts }
     ensures restarts { tally.new.restarts ≡ tally.old.restarts }
-    ensures well { (own : HasDealing desk.now.plan desk.now.dealt) (extra : ℕ)
+    ensures well { (own : DealtTo desk.now) (extra : ℕ)
         → IsWell desk.now own.dealing extra drill tally.old
         → IfOk result (λ after. IsFinished desk.now own.dealing extra i drill after tally.new) }
 {
@@ -179,16 +160,14 @@ fn finish_all(
     tally: &mut Tally,
     sessions: u32,
 ) -> Result<Drill, NoMemory>
-    requires is_for { IsFor desk.now drill }
-    requires count { length drill.seats.items ≡ sessions }
+    requires seated { Seats desk.now sessions drill }
     requires few { sessions ≤ 10000 }
     requires room { IsWithin 200000 tally.old }
-    ensures is_for { IfOk result (IsFor desk.now) }
-    ensures count { IfOk result (λ after. length after.seats.items ≡ sessions) }
+    ensures seated { IfOk result (Seats desk.now sessions) }
     ensures parts { tally.new.granted + tally.new.cuts ≤ tally.new.asks }
     ensures cuts { tally.new.cuts ≡ tally.old.cuts }
     ensures restarts { tally.new.restarts ≡ tally.old.restarts }
-    ensures well { (own : HasDealing desk.now.plan desk.now.dealt) (extra : ℕ)
+    ensures well { (own : DealtTo desk.now) (extra : ℕ)
         → IsWell desk.now own.dealing extra drill tally.old
         → IfOk result (λ after. AreFinished desk.now own.dealing extra sessions after tally.new) }
 {

@@ -3,11 +3,10 @@
 ghost use Rattle.std.specs.Prelude.{◌≡◌, ◌<◌, ℕ, length, IfOk};
 ghost use Rattle.drill.specs.Courses.{IsGood, IsSettled, uses_of};
 ghost use Rattle.drill.specs.Ids.{DifferentIds};
-ghost use Rattle.drill.specs.Drills.{IsFor, table_header};
+ghost use Rattle.drill.specs.Drills.{IsFor, IsTableFor};
 ghost use Rattle.drill.specs.Keys.{HasDealing};
 ghost use Rattle.drill.specs.Seats.{AreWaiting};
 ghost use Rattle.leaf_table.specs.Entries.{IsFree};
-ghost use Rattle.leaf_table.specs.Table.{header_of, plan_of};
 
 use crate::desk::Desk;
 use crate::openings::Openings;
@@ -28,8 +27,7 @@ const LEAVES: u32 = 32;
 
 /// A table that has leased nothing.
 fn new_table(alloc: Global, desk: &Desk) -> Result<Table<MemDisk>, NoMemory>
-    ensures plan { IfOk result (λ table. plan_of table ≡ desk.now.plan) }
-    ensures header { IfOk result (λ table. header_of table ≡ table_header desk.now.dealt) }
+    ensures table { IfOk result (IsTableFor desk.now) }
     ensures settled { IfOk result (λ table. IsSettled table) }
     ensures free { IfOk result (λ table. (q : ℕ) → q < 32 → uses_of table q ≡ IsFree) }
 {

@@ -3,8 +3,9 @@
 ghost use Rattle.std.specs.Prelude.{◌≡◌, ◌⊎◌, ◌<◌, ◌≤◌, ℕ, suc, length, IfOk, IfSome, IfErr, IsErr, IsSome, None};
 ghost use Rattle.std.specs.Prelude.{Ok, OnOk};
 ghost use Rattle.drill.specs.Courses.{AllKept, AreFree, GoesTo, HasSigned, HaveShares, IsBare, IsGranted};
-ghost use Rattle.drill.specs.Courses.{IsOnCourse, IsSettled, Steps, steps_in, uses_of};
-ghost use Rattle.drill.specs.Keys.{HasDealing};
+ghost use Rattle.drill.specs.Courses.{IsOnCourse, IsSettled, Steps, World, steps_in, uses_of, world};
+ghost use Rattle.drill.specs.Drills.{IsSized, IsTableFor};
+ghost use Rattle.drill.specs.Keys.{DealtTo};
 ghost use Rattle.drill.specs.Openings.{Notes};
 ghost use Rattle.drill.specs.Seats.{Fits, IsOf};
 ghost use Rattle.drill_schedule.specs.Draws.{message_bytes};
@@ -12,7 +13,6 @@ ghost use Rattle.drill_trustees.specs.Members.{MayAsk, state_after};
 ghost use Rattle.drill_trustees.specs.Trustees.{SameShares, SetsAt, leaf_at, share_at};
 ghost use Rattle.drill_trustees.specs.declared.trustees.Trustees.{Trustees};
 ghost use Rattle.leaf_table.specs.Entries.{LeafUse};
-ghost use Rattle.leaf_table.specs.Table.{header_of, plan_of};
 ghost use Rattle.opening_journal.specs.Entries.{LeafState};
 ghost use Rattle.trustee_core.specs.Grants.{ask_of};
 
@@ -40,14 +40,13 @@ pub(crate) fn lease(
     i: u32,
     message: &[u8],
 ) -> Result<Seat, NoMemory>
-    requires plan { plan_of table.old ≡ desk.now.plan }
+    requires table { IsTableFor desk.now table.old }
     requires message { message.now ≡ message_bytes i }
-    ensures plan { plan_of table.new ≡ desk.now.plan }
-    ensures header { header_of table.new ≡ header_of table.old }
+    ensures table { IsTableFor desk.now table.new }
     ensures fits { IfOk result (Fits desk.now.dealt.public desk.now.plan i) }
-    ensures goes { (own : HasDealing desk.now.plan desk.now.dealt) (old : Trustees) → HaveShares own.dealing old
-        → IsSettled table.old → AreFree (uses_of table.old) (leaf_at old) → IsBare i (uses_of table.old)
-        → IfOk result (λ seat. Steps desk.now own.dealing i (uses_of table.old) (uses_of table.new) old old
+    ensures goes { (own : DealtTo desk.now) (old : Trustees) → HaveShares own.dealing old → IsSettled table.old
+        → AreFree (uses_of table.old) (leaf_at old) → IsBare i (uses_of table.old) → IfOk result (λ seat.
+        Steps desk.now own.dealing i (world (uses_of table.old) old) (world (uses_of table.new) old)
         Seat.Waiting seat (record { put = 0; granted = 0; cut = 0 })) }
     ensures settled { IsSettled table.old → IsBare i (uses_of table.old) → IsSettled table.new }
     ensures unsigned { IfOk result (λ seat. HasSigned seat → ⊥) }
@@ -77,7 +76,7 @@ pub(crate) fn advance(
     requires message { message.now ≡ message_bytes i }
     requires of { IsOf desk.now.dealt.public desk.now.plan i session }
     ensures fits { IfOk result (Fits desk.now.dealt.public desk.now.plan i) }
-    ensures goes { (own : HasDealing desk.now.plan desk.now.dealt) (map : ℕ → LeafUse) (leaves : ℕ → ℕ → LeafState)
+    ensures goes { (own : DealtTo desk.now) (map : ℕ → LeafUse) (leaves : ℕ → ℕ → LeafState)
         → IsOnCourse desk.now own.dealing i map leaves session
         → IfOk result (GoesTo desk.now own.dealing i map leaves (steps_in session)) }
 {
@@ -95,7 +94,7 @@ fn turn(desk: &Desk, mut session: Session, i: u32) -> Seat
     requires round { session.c ≡ None }
     requires of { IsOf desk.now.dealt.public desk.now.plan i session }
     ensures fits { Fits desk.now.dealt.public desk.now.plan i result }
-    ensures goes { (own : HasDealing desk.now.plan desk.now.dealt) (map : ℕ → LeafUse) (leaves : ℕ → ℕ → LeafState)
+    ensures goes { (own : DealtTo desk.now) (map : ℕ → LeafUse) (leaves : ℕ → ℕ → LeafState)
         → IsOnCourse desk.now own.dealing i map leaves session → AllKept session
         → GoesTo desk.now own.dealing i map leaves (steps_in session) result }
 {
@@ -118,7 +117,7 @@ fn finish(
     requires message { message.now ≡ message_bytes i }
     requires of { IsOf desk.now.dealt.public desk.now.plan i session.now }
     ensures fits { IfOk result (Fits desk.now.dealt.public desk.now.plan i) }
-    ensures goes { (own : HasDealing desk.now.plan desk.now.dealt) (map : ℕ → LeafUse) (leaves : ℕ → ℕ → LeafState)
+    ensures goes { (own : DealtTo desk.now) (map : ℕ → LeafUse) (leaves : ℕ → ℕ → LeafState)
         → IsOnCourse desk.now own.dealing i map leaves session.now → AllKept session.now
         → IfOk result (GoesTo desk.now own.dealing i map leaves (steps_in session.now)) }
 {
@@ -156,9 +155,9 @@ pub(crate) fn answered(
     requires message { message.now ≡ message_bytes i }
     requires of { IsOf desk.now.dealt.public desk.now.plan i session }
     ensures fits { IfOk result (Fits desk.now.dealt.public desk.now.plan i) }
-    ensures goes { (own : HasDealing desk.now.plan desk.now.dealt) (map : ℕ → LeafUse) (old : Trustees)
-        → IsGranted desk.now own.dealing i map old trustees.now session next.now grant
-        → IfOk result (GoesTo desk.now own.dealing i map (leaf_at trustees.now) (suc (steps_in session))) }
+    ensures goes { (own : DealtTo desk.now) (old : World)
+        → IsGranted desk.now own.dealing i old trustees.now session next.now grant
+        → IfOk result (GoesTo desk.now own.dealing i old.uses (leaf_at trustees.now) (suc (steps_in session))) }
 {
     let Some(grant) = grant else {
         return Ok(Seat::Refused);
@@ -181,8 +180,7 @@ pub(crate) fn put_ask(
     next: &NextAsk,
 ) -> Result<(Trustees, Option<Grant>), NoMemory>
     requires member { (1 ≤ next.now.member) × (next.now.member ≤ 3) }
-    requires c { IfSome next.now.ask.second (λ second. length second.c ≡ 32) }
-    requires digest { IfSome next.now.ask.second (λ second. length second.digest ≡ 32) }
+    requires sizes { IsSized next.now.ask }
     ensures shares { IfOk result (λ pair. SameShares trustees pair.0) }
     ensures ask { IfOk result (λ pair. IfSome pair.1 (λ grant. ask_of grant ≡ next.now.ask)) }
     ensures granted { MayAsk (share_at trustees next.now.member) (leaf_at trustees next.now.member) next.now.ask

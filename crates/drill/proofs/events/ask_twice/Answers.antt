@@ -2,7 +2,6 @@ use Rattle.std.proofs.Common.{◌≡◌, ◌<◌, ◌∙◌, ℕ, Bool, Option, 
 use Rattle.drill_trustees.specs.Trustees.{leaf_at}
 use Rattle.reference_value.specs.Dealing.{Dealing}
 use Rattle.drill.specs.Courses.{HasNoNext, IsGoing, IsGood, IsNextOf, asks_in, uses_of}
-use Rattle.drill.specs.Seats.{Fits}
 use Rattle.drill.specs.declared.asks.NextAsk.{NextAsk}
 use Rattle.drill.specs.declared.desk.Desk.{Desk}
 use Rattle.drill.specs.declared.seat.Seat.{Seat}
@@ -11,12 +10,11 @@ use Rattle.drill.specs.declared.state.Drill.{Drill}
 use Rattle.drill.proofs.Following.{next-known}
 use Rattle.drill.proofs.Playing.{none-twice, some-twice}
 use Rattle.drill.proofs.Seated.{get_or-any}
+use Rattle.drill.proofs.Seating.{fits-here}
 use Rattle.drill.proofs.events.ask_twice.Goals as goal
 
 pub next_of-requires : goal.next_of-requires
-next_of-requires c =
-    let here = c.requires.is_for.seats c.args.i c.index.result.now c.requires.within in
-    record { fits = subst (λ (s : Seat). Fits c.args.desk.now.dealt.public c.args.desk.now.plan c.args.i s) (sym c.index.ensures) here }
+next_of-requires c = record { fits = fits-here c.args.desk.now c.args.drill c.args.i _ c.requires.is_for c.requires.within c.index.ensures }
 
 -- how many asks a step of the session puts, by whether it has a next ask
 asks-are : (desk : Desk) (d : Dealing) (i : ℕ) (drill : Drill) (seat : Seat) (o : Option NextAsk) (b : Bool) → IsGood desk d drill → i < length drill.seats.items → seat ≡ get_or drill.seats.items i seat → is_some o ≡ not b

@@ -13,8 +13,7 @@ sessions-preserved c =
     let now = t.within.asks in
     let after = c.in_ok-drill.drill in
     record {
-      is_for = e.is_for;
-      count = e.count ∙ before.count;
+      seated = record { is_for = e.seated.is_for; count = e.seated.count ∙ before.seated.count };
       well = λ own extra well.
           let f = before.well own extra well in
           let g = e.well own extra f.well in

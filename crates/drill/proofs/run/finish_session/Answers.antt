@@ -7,8 +7,8 @@ steps-preserved c =
     let before = c.steps.invariant in
     let e = c.in_ok-after.ensures in
     let a = c.add.ensures in
-    let put = e.bound.put in
-    let parts = e.bound.parts in
+    let put = e.stays.bound.put in
+    let parts = e.stays.bound.parts in
     let low = before.within.asks in
     let was = before.within.parts in
     let none = e.cut in
@@ -17,8 +17,7 @@ steps-preserved c =
     let two = a.granted in
     let three = a.cuts in
     record {
-      is_for = e.is_for;
-      count = e.count ∙ before.count;
+      seated = record { is_for = e.stays.is_for; count = e.stays.count ∙ before.seated.count };
       steps = λ own extra well.
           let at = before.steps own extra well in
           one-more c.args.desk.now own.dealing extra c.args.i c.args.drill c.steps.drill c.in_ok-after.after c.steps.tally c.add.new.self c.in_ok-after.asks c.steps.taken at

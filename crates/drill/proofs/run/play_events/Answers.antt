@@ -1,26 +1,22 @@
-use Rattle.std.proofs.Common.{◌≡◌, ◌≤◌, ℕ, refl, sym, subst, arith}
-use Rattle.drill_schedule.specs.Draws.{events_of}
-use Rattle.drill_schedule.specs.Events.{is_cut, is_restart}
-use Rattle.drill.proofs.Counting.{events-few, events-none, events-some}
+use Rattle.std.proofs.Common.{◌≡◌, ℕ, refl, sym, subst, arith}
+use Rattle.drill.proofs.Counting.{counts-none, events-few, events-some}
 use Rattle.drill.proofs.Playing.{none-played}
 use Rattle.drill.specs.Courses.{HasPlayed}
+use Rattle.drill.specs.Tallies.{HasCounted}
 use Rattle.drill.specs.declared.tally.Tally.{Tally}
 use Rattle.drill.proofs.run.play_events.Goals as goal
 
-pub returns-then-sessions-eq0-clause-restarts : goal.returns-then-sessions-eq0-clause-restarts
-returns-then-sessions-eq0-clause-restarts c = λ number is.
+pub returns-then-sessions-eq0-clause-counted : goal.returns-then-sessions-eq0-clause-counted
+returns-then-sessions-eq0-clause-counted c = λ number is.
     let none : c.args.sessions ≡ 0 = omega arith in
-    rw none (sym (events-none is_restart number))
+    let all = events-few c.args.sessions c.args.events none in
+    let tally : Tally = record { asks = 0; granted = 0; cuts = 0; restarts = 0 } in
+    subst (λ (k : ℕ). HasCounted number k tally) (sym all) (counts-none number tally refl refl)
 
-pub returns-clause-cuts : goal.returns-clause-cuts
-returns-clause-cuts c = λ number is.
+pub returns-clause-counted : goal.returns-clause-counted
+returns-clause-counted c = λ number is.
     let all = events-some c.args.sessions c.args.events (λ none. omega arith) in
-    subst (λ (k : ℕ). c.in_ok-drill.tally.cuts ≤ events_of is_cut number k) (sym all) (c.in_ok-drill.ensures.cuts number is)
-
-pub returns-clause-restarts : goal.returns-clause-restarts
-returns-clause-restarts c = λ number is.
-    let all = events-some c.args.sessions c.args.events (λ none. omega arith) in
-    subst (λ (k : ℕ). c.in_ok-drill.tally.restarts ≡ events_of is_restart number k) (sym all) (c.in_ok-drill.ensures.restarts number is)
+    subst (λ (k : ℕ). HasCounted number k c.in_ok-drill.tally) (sym all) (c.in_ok-drill.ensures.counted number is)
 
 pub returns-then-sessions-eq0-clause-well : goal.returns-then-sessions-eq0-clause-well
 returns-then-sessions-eq0-clause-well c = λ own number is good waiting.

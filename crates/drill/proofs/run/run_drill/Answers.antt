@@ -22,13 +22,13 @@ pub returns-clause-summary : goal.returns-clause-summary
 returns-clause-summary c =
     let state = c.draw_entropy-entropy.ensures.after in
     let ends = c.count_ends-signed.ensures in
-    let size : length c.deref.result.now ≡ c.args.sessions = ap (λ (l : List Seat). length l) c.deref.ensures.value ∙ c.in_ok-drill-3.ensures.count in
+    let size : length c.deref.result.now ≡ c.args.sessions = ap (λ (l : List Seat). length l) c.deref.ensures.value ∙ c.in_ok-drill-3.ensures.seated.count in
     rw c.in_ok-drilled.ensures.summary (record {
       sessions_are = refl;
       ends = (let within = ends.within in omega arith);
       parts = c.finish_all.ensures.parts;
       cuts_in = subst (λ (k : ℕ). k ≤ events_of is_cut c.args.number (events_in c.args.sessions c.args.events)) (sym c.finish_all.ensures.cuts)
-          (c.in_ok-drill-2.ensures.cuts c.args.number state);
+          (c.in_ok-drill-2.ensures.counted c.args.number state).cuts;
       complete = λ different.
           let own = own-dealing c.in_ok-desk.desk.dealt.public.params c.in_ok-desk.desk.plan c.draw_entropy-entropy.result c.args.number c.in_ok-desk.desk.dealt
           c.in_ok-desk.desk.hash_length c.draw_entropy-entropy.ensures.entropy c.in_ok-desk.ensures in
@@ -37,7 +37,7 @@ returns-clause-summary c =
           let extra = extra_asks c.args.number c.args.sessions (events_in c.args.sessions c.args.events) in
           let done = c.in_ok-drill-3.ensures.well own extra well.well in
           let all = all-ended c.in_ok-desk.desk own.dealing extra c.in_ok-drill-3.drill c.finish_all.new.tally
-          (subst (λ (n : ℕ). AreFinished c.in_ok-desk.desk own.dealing extra n c.in_ok-drill-3.drill c.finish_all.new.tally) (sym c.in_ok-drill-3.ensures.count) done) in
+          (subst (λ (n : ℕ). AreFinished c.in_ok-desk.desk own.dealing extra n c.in_ok-drill-3.drill c.finish_all.new.tally) (sym c.in_ok-drill-3.ensures.seated.count) done) in
           let good = done.well.good in
           let most = c.most.ensures in
           let is = c.deref.ensures.value in
@@ -49,8 +49,8 @@ returns-clause-summary c =
             ends = ends.all (subst (λ (l : List Seat). All HasEnded l) (sym is) all) ∙ size;
             signed = ends.signed ∙ ap signed_in is
                 ∙ signed-are drill.seats.items all (λ k few. held-all c.in_ok-desk.desk own.dealing (uses_of drill.table) (leaf_at drill.trustees) drill.seats.items k few good.seats all (good.leaves k few))
-                ∙ ap signed_of c.in_ok-drill-3.ensures.count;
-            some = λ some. from (first-signs c.in_ok-desk.desk own.dealing drill good all (subst (λ (n : ℕ). 0 < n) (sym c.in_ok-drill-3.ensures.count) some));
+                ∙ ap signed_of c.in_ok-drill-3.ensures.seated.count;
+            some = λ some. from (first-signs c.in_ok-desk.desk own.dealing drill good all (subst (λ (n : ℕ). 0 < n) (sym c.in_ok-drill-3.ensures.seated.count) some));
             asks = (
                 let taken = done.well.taken in
                 let replies = ended-replies drill.seats.items all in
@@ -62,7 +62,7 @@ returns-clause-summary c =
                 (λ empty. ends.none (subst (λ (l : List Seat). All (λ (seat : Seat). HasSigned seat → ⊥) l) (sym is) (λ k none inside has. let low = good.some k none inside has in omega arith)))
                 (λ some. from (signer c.in_ok-desk.desk own.dealing drill good all some));
           };
-      restarts_are = c.finish_all.ensures.restarts ∙ c.in_ok-drill-2.ensures.restarts c.args.number state;
+      restarts_are = c.finish_all.ensures.restarts ∙ (c.in_ok-drill-2.ensures.counted c.args.number state).restarts;
     })
 
 pub returns-clause-disks : goal.returns-clause-disks
@@ -77,11 +77,11 @@ returns-clause-disks c = λ different.
     let well = c.in_ok-drill-2.ensures.well own c.args.number c.draw_entropy-entropy.ensures.after (c.in_ok-drill.ensures.good own different) c.in_ok-drill.ensures.waiting in
     let extra = extra_asks c.args.number c.args.sessions (events_in c.args.sessions c.args.events) in
     let done = c.in_ok-drill-3.ensures.well own extra well.well in
-    let is_for = c.in_ok-drill-3.ensures.is_for in
-    let count = c.in_ok-drill-3.ensures.count in
+    let is_for = c.in_ok-drill-3.ensures.seated.is_for in
+    let count = c.in_ok-drill-3.ensures.seated.count in
     let dealing = own-drawn desk.dealt.public.params desk.plan entropy c.args.number desk.dealt desk.hash_length drawn c.in_ok-desk.ensures desk.lms desk.ots desk.plan_is in
     let ended = all-ended desk own.dealing extra drill tally (subst (λ (n : ℕ). AreFinished desk own.dealing extra n drill tally) (sym count) done) in
     let held = are-disks desk own c.args.number drill drilled dealing is_for done.well.good ended
-    c.in_ok-drilled.ensures.journals (c.in_ok-drilled.ensures.table done.well.good.table (ap (λ (p : PlanNumbers). p.h) (is_for.plan ∙ desk.plan_is)))
+    c.in_ok-drilled.ensures.journals (c.in_ok-drilled.ensures.table done.well.good.table (ap (λ (p : PlanNumbers). p.h) (is_for.table.plan ∙ desk.plan_is)))
     (ap (λ (s : Summary). s.signed) c.in_ok-drilled.ensures.summary ∙ c.count_ends-signed.ensures.signed ∙ ap signed_in c.deref.ensures.value) in
     subst (λ (n : ℕ). AreDisks c.args.number n drilled) count held

@@ -10,7 +10,7 @@ use Rattle.drill.proofs.Stepping.{took-steps}
 use Rattle.drill.proofs.steps.answered.Goals as goal
 
 pub returns-clause-goes : goal.returns-clause-goes
-returns-clause-goes c = λ own map old granted.
+returns-clause-goes c = λ own old granted.
     let desk = c.args.desk.now in
     let i = c.args.i in
     let s = c.args.session in
@@ -20,10 +20,10 @@ returns-clause-goes c = λ own map old granted.
     let grant = c.in-Some.grant in
     let same = c.take_masks.ensures.same in
     let of = c.requires.of in
-    let g = subst (λ (o : Option Grant). IsGranted desk own.dealing i map old new s next o) c.in-Some.is granted in
+    let g = subst (λ (o : Option Grant). IsGranted desk own.dealing i old new s next o) c.in-Some.is granted in
     let taken = c.in_ok-take_masks.ensures.taken
     ∙ ap (λ (share : Share). with_delivery s (head_with desk.dealt.public.params next.member next.ask) (masks_joined share (ask_of grant))) c.share.ensures.share in
-    let took = reply-taken desk own i map old new s after next grant g same c.in_ok-take_masks.ensures.session
+    let took = reply-taken desk own i old new s after next grant g same c.in_ok-take_masks.ensures.session
     (record { key_is = same.key ∙ of.key_is; plan_is = same.plan ∙ of.plan_is; message_is = same.message ∙ of.message_is }) taken in
-    subst (λ (steps : ℕ). IfOk c.advance.result (GoesTo desk own.dealing i map (leaf_at new) steps)) (took-steps s after same.c took.filled)
-    (c.advance.ensures.goes own map (leaf_at new) took.course)
+    subst (λ (steps : ℕ). IfOk c.advance.result (GoesTo desk own.dealing i old.uses (leaf_at new) steps)) (took-steps s after same.c took.filled)
+    (c.advance.ensures.goes own old.uses (leaf_at new) took.course)

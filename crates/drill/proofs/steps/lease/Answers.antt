@@ -17,7 +17,7 @@ pub returns-in_ok-session-in-Ok-clause-goes : goal.returns-in_ok-session-in-Ok-c
 returns-in_ok-session-in-Ok-clause-goes c = λ own old shares settled free bare.
     let desk = c.args.desk.now in
     let of = c.of-id.ensures in
-    let it = lease-done c.args.i c.args.table.now c.lease.new.self c.members-members.result c.of-id.result _ settled bare (c.requires.plan ∙ desk.plan_is)
+    let it = lease-done c.args.i c.args.table.now c.lease.new.self c.members-members.result c.of-id.result _ settled bare (c.requires.table.plan ∙ desk.plan_is)
     (theirs _ _ c.args.i _ desk.plan_is c.members-members.ensures.members) (of ∙ ap message_id c.requires.message) refl c.in-Ok.ensures.event c.in-Ok.ensures.enters in
     let same = c.in_ok-session-in-Ok.ensures ∙ (λ j. started (c.key.ensures j) desk.plan c.in-Ok.leaf ((of ∙ ap message_id c.requires.message) j)) in
     lease-moves desk own.dealing c.args.i _ _ old c.in-Ok.leaf c.in_ok-session-in-Ok.session shares free it.done.grows it.done.ends same c.round-round.ensures.session
@@ -25,25 +25,25 @@ returns-in_ok-session-in-Ok-clause-goes c = λ own old shares settled free bare.
 pub returns-in_ok-session-in-Ok-clause-settled : goal.returns-in_ok-session-in-Ok-clause-settled
 returns-in_ok-session-in-Ok-clause-settled c = λ settled bare.
     let desk = c.args.desk.now in
-    (lease-done c.args.i c.args.table.now c.lease.new.self c.members-members.result c.of-id.result _ settled bare (c.requires.plan ∙ desk.plan_is)
+    (lease-done c.args.i c.args.table.now c.lease.new.self c.members-members.result c.of-id.result _ settled bare (c.requires.table.plan ∙ desk.plan_is)
     (theirs _ _ c.args.i _ desk.plan_is c.members-members.ensures.members) (c.of-id.ensures ∙ ap message_id c.requires.message) refl c.in-Ok.ensures.event c.in-Ok.ensures.enters).settled
 
 pub returns-in_err-session-in-Ok-clause-settled : goal.returns-in_err-session-in-Ok-clause-settled
 returns-in_err-session-in-Ok-clause-settled c = λ settled bare.
     let desk = c.args.desk.now in
-    (lease-done c.args.i c.args.table.now c.lease.new.self c.members-members.result c.of-id.result _ settled bare (c.requires.plan ∙ desk.plan_is)
+    (lease-done c.args.i c.args.table.now c.lease.new.self c.members-members.result c.of-id.result _ settled bare (c.requires.table.plan ∙ desk.plan_is)
     (theirs _ _ c.args.i _ desk.plan_is c.members-members.ensures.members) (c.of-id.ensures ∙ ap message_id c.requires.message) refl c.in-Ok.ensures.event c.in-Ok.ensures.enters).settled
 
 pub returns-in-Err-clause-settled : goal.returns-in-Err-clause-settled
 returns-in-Err-clause-settled c = λ settled bare.
     let desk = c.args.desk.now in
-    (lease-done c.args.i c.args.table.now c.lease.new.self c.members-members.result c.of-id.result _ settled bare (c.requires.plan ∙ desk.plan_is)
+    (lease-done c.args.i c.args.table.now c.lease.new.self c.members-members.result c.of-id.result _ settled bare (c.requires.table.plan ∙ desk.plan_is)
     (theirs _ _ c.args.i _ desk.plan_is c.members-members.ensures.members) (c.of-id.ensures ∙ ap message_id c.requires.message) refl c.in-Err.ensures.event c.in-Err.ensures.enters).settled
 
 pub returns-in-Err-clause-goes : goal.returns-in-Err-clause-goes
 returns-in-Err-clause-goes c = λ own old shares settled free bare.
     let desk = c.args.desk.now in
-    let it = lease-done c.args.i c.args.table.now c.lease.new.self c.members-members.result c.of-id.result _ settled bare (c.requires.plan ∙ desk.plan_is)
+    let it = lease-done c.args.i c.args.table.now c.lease.new.self c.members-members.result c.of-id.result _ settled bare (c.requires.table.plan ∙ desk.plan_is)
     (theirs _ _ c.args.i _ desk.plan_is c.members-members.ensures.members) (c.of-id.ensures ∙ ap message_id c.requires.message) refl c.in-Err.ensures.event c.in-Err.ensures.enters in
     record {
       moves = record { grows = it.done.grows; going = it.done.ends; shares = shares; stays = λ t q own within other. refl; parts = refl };
