@@ -16,9 +16,6 @@ use std::alloc::Global;
 use std::hint::spin_loop;
 use std::sync::Wait;
 
-/// The first ticket that is worn: it is drawn, and never served.
-pub const WORN_FROM: u64 = 1 << 62;
-
 /// The word of the next ticket.
 const TICKET: usize = 0;
 
@@ -124,15 +121,13 @@ pub fn enter<T: Kept>(rt: &impl Wait, words: &Words<T>, seat: &mut Place<T>)
     words.fetch_sub::<Call>(seat, GATE, SLEEPER);
 }
 
-/// Whether as many tickets are out as can be handed on without a sleep. Worn ones are never served, so nobody waits for
-/// those.
+/// Whether as many tickets are out as can be handed on without a sleep.
 fn is_crowded<T: Kept>(words: &Words<T>) -> bool
     requires table { words.now.table_id.words ≡ 66 }
 {
     // The ticket that is served is read first, so that the next one to draw is never below it.
     let served = words.peek(SERVING);
-    let next = words.peek(TICKET);
-    next < WORN_FROM && next.wrapping_sub(served) >= ROOM
+    words.peek(TICKET).wrapping_sub(served) >= ROOM
 }
 
 /// Draws a ticket.
@@ -259,7 +254,7 @@ pub fn pass_on<T: Kept>(words: &Words<T>, seat: &mut Place<T>, value: T)
 }
 
 /// Wakes one who sleeps at the gate, where one does.
-pub fn let_in<T: Kept>(words: &Words<T>, seat: &mut Place<T>)
+fn let_in<T: Kept>(words: &Words<T>, seat: &mut Place<T>)
     requires table { (seat.old.table_id ≡ words.now.table_id) × (words.now.table_id.words ≡ 66) }
     ensures table { seat.new.table_id ≡ seat.old.table_id }
     ensures seat { seat.new.me ≡ seat.old.me }
