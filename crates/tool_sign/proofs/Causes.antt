@@ -61,6 +61,7 @@ tells-outside end = false
 
 -- no fault of a session is told so
 never-outside : (f : SignFault) → tells-outside (end_of_fault f) ≡ false
+unfolding tells-outside
 never-outside (fault.TooLong got) = refl
 never-outside fault.Worn = refl
 never-outside (fault.Table table.NotACoalition) = refl
@@ -79,9 +80,11 @@ never-outside (fault.Session session.NoMemory) = refl
 never-outside fault.NoMemory = refl
 
 never-store : (f : SignFault) → end_of_fault f ≡ ending.StoreFailed → ⊥
+unfolding tells-outside
 never-store f is = false≢true (sym (never-outside f) ∙ ap tells-outside is)
 
 never-net : (f : SignFault) → end_of_fault f ≡ ending.NetFailed → ⊥
+unfolding tells-outside
 never-net f is = false≢true (sym (never-outside f) ∙ ap tells-outside is)
 
 -- a session run with a leaf has no fault of the table
