@@ -9,7 +9,7 @@ ghost use Rattle.turn_lock.specs.Pass.{IsWhole};
 
 use crate::kept::Kept;
 use crate::steps;
-use crate::steps::{Home, Place, Words};
+use crate::steps::{Home, Place, WORN_FROM, Words};
 use crate::view::Start;
 use memory::NoMemory;
 use std::alloc::Global;
@@ -17,9 +17,6 @@ use std::marker::Model;
 use std::snapshot::Snapshot;
 use std::sync::Wait;
 use thiserror::Error;
-
-/// The first ticket that is worn.
-const WORN_FROM: u64 = 1 << 62;
 
 /// The pass has drawn a ticket of 2^62 or more, and has no more turns.
 #[derive(Clone, Copy, Debug, PartialEq, Eq, Error)]
@@ -120,6 +117,8 @@ impl<T: Kept> TurnLock<T> {
         let ticket = steps::draw(&self.table.shared, &mut pass.seat);
         pass.greatest = ticket;
         if ticket >= WORN_FROM {
+            // No turn of this pass will end any more and let in who sleeps at the gate.
+            steps::let_in(&self.table.shared, &mut pass.seat);
             return Err(Worn);
         }
         Ok(steps::wait(rt, &self.table.shared, &mut pass.seat, ticket))

@@ -16,6 +16,9 @@ use std::alloc::Global;
 use std::hint::spin_loop;
 use std::sync::Wait;
 
+/// The first ticket that is worn: it is drawn, and never served.
+pub const WORN_FROM: u64 = 1 << 62;
+
 /// The word of the next ticket.
 const TICKET: usize = 0;
 
@@ -35,11 +38,12 @@ const GATE: usize = PARKING + PARKED;
 /// reach it, costs wakes of nobody.
 const SLEEPER: u64 = 1 << 32;
 
-/// How often the waiter of one of the next tickets looks before it sleeps: for about as long as a sleeper takes to wake.
+/// How often the waiter of one of the next tickets looks before it sleeps: for about as long as a sleeper takes to
+/// wake.
 const LOOKS: u32 = 2_000;
 
-/// How many tickets are out at once before whoever wants a further one sleeps at the gate. These few hand the turn on to
-/// each other without a sleep. If all had a ticket, each turn would wait until one more sleeper is awake.
+/// How many tickets are out at once before whoever wants a further one sleeps at the gate. These few hand the turn on
+/// to each other without a sleep. If all had a ticket, each turn would wait until one more sleeper is awake.
 const ROOM: u64 = 3;
 
 /// Every so many turns one who sleeps at the gate is let in, however many tickets are out.
@@ -121,13 +125,15 @@ pub fn enter<T: Kept>(rt: &impl Wait, words: &Words<T>, seat: &mut Place<T>)
     words.fetch_sub::<Call>(seat, GATE, SLEEPER);
 }
 
-/// Whether as many tickets are out as can be handed on without a sleep.
+/// Whether as many tickets are out as can be handed on without a sleep. Worn ones are never served, so nobody waits for
+/// those.
 fn is_crowded<T: Kept>(words: &Words<T>) -> bool
     requires table { words.now.table_id.words ≡ 66 }
 {
     // The ticket that is served is read first, so that the next one to draw is never below it.
     let served = words.peek(SERVING);
-    words.peek(TICKET).wrapping_sub(served) >= ROOM
+    let next = words.peek(TICKET);
+    next < WORN_FROM && next.wrapping_sub(served) >= ROOM
 }
 
 /// Draws a ticket.
@@ -254,7 +260,7 @@ pub fn pass_on<T: Kept>(words: &Words<T>, seat: &mut Place<T>, value: T)
 }
 
 /// Wakes one who sleeps at the gate, where one does.
-fn let_in<T: Kept>(words: &Words<T>, seat: &mut Place<T>)
+pub fn let_in<T: Kept>(words: &Words<T>, seat: &mut Place<T>)
     requires table { (seat.old.table_id ≡ words.now.table_id) × (words.now.table_id.words ≡ 66) }
     ensures table { seat.new.table_id ≡ seat.old.table_id }
     ensures seat { seat.new.me ≡ seat.old.me }
