@@ -1,6 +1,6 @@
 //! The list of a table's entries.
 
-ghost use Rattle.std.specs.Prelude.{◌≡◌, ◌≢◌, ◌+◌, ◌<◌, ◌≤◌, ◌++◌, ◌∷◌, [], ℕ, length, false, vec_capacity, IfOk};
+ghost use Rattle.std.specs.Prelude.{◌≡◌, ◌≢◌, ◌+◌, ◌<◌, ◌≤◌, ◌++◌, ℕ, length, false, vec_capacity, IfOk};
 ghost use Rattle.leaf_table.specs.Entries.{IsFree, OneLease, map_of};
 ghost use Rattle.leaf_table.specs.Loading.{entries_of};
 ghost use Rattle.leaf_table.specs.Slots.{entries_of_slot, use_of_slot};
@@ -15,15 +15,6 @@ use lms_bytes::MessageId;
 use memory::NoMemory;
 use slot_file::{CachedSlots, Slot};
 use std::alloc::Global;
-
-/// Adds an entry, for which there is room.
-pub(crate) fn add(entries: &mut Vec<Lease>, entry: &Lease)
-    requires { length entries.old.items < vec_capacity entries.old }
-    ensures items { entries.new.items ≡ entries.old.items ++ entry.now ∷ [] }
-    ensures room { vec_capacity entries.old ≤ vec_capacity entries.new }
-{
-    entries.push(*entry).unwrap();
-}
 
 /// Adds the entries that the slot of a leaf has. The leaf is free, and the slot is not damaged.
 fn add_slot(entries: &mut Vec<Lease>, leaf: u32, slot: &Slot)
@@ -41,12 +32,12 @@ fn add_slot(entries: &mut Vec<Lease>, leaf: u32, slot: &Slot)
         Slot::Free | Slot::Damaged { .. } => {}
         Slot::Half(a) => {
             let message = MessageId::of_bytes(a);
-            add(entries, &Lease::Leased { leaf, message });
+            entries.push_reserved(Lease::Leased { leaf, message });
         }
         Slot::Full(a, ..) => {
             let message = MessageId::of_bytes(a);
-            add(entries, &Lease::Leased { leaf, message });
-            add(entries, &Lease::Burnt { leaf });
+            entries.push_reserved(Lease::Leased { leaf, message });
+            entries.push_reserved(Lease::Burnt { leaf });
         }
     }
 }

@@ -18,7 +18,7 @@ use crate::bodies::report_bytes;
 use crate::faults::TableFault;
 use crate::index::LeaseIndex;
 use crate::lease::{Lease, lease_of_slot};
-use crate::listing::{add, entries_of};
+use crate::listing::entries_of;
 use coalition_map::{Members, Plan};
 use disk_trait::{Disk, DiskFault};
 use lms_bytes::MessageId;
@@ -160,7 +160,7 @@ impl<D: Disk> Table<D> {
         match self.slots.put_a(leaf, &id) {
             Ok(()) => {
                 let message = *message;
-                add(&mut self.entries, &Lease::Leased { leaf, message });
+                self.entries.push_reserved(Lease::Leased { leaf, message });
                 self.index.list(&self.plan, &self.slots, leaf, &id);
                 Ok(leaf)
             }
@@ -200,7 +200,7 @@ impl<D: Disk> Table<D> {
     {
         match self.slots.put_b(leaf, &report_bytes(message, by), 0) {
             Ok(()) => {
-                add(&mut self.entries, &Lease::Burnt { leaf });
+                self.entries.push_reserved(Lease::Burnt { leaf });
                 self.index.unlist(&self.plan, leaf, &message.to_bytes());
                 Ok(())
             }
@@ -230,7 +230,7 @@ impl<D: Disk> Table<D> {
         let before = *self.slots.slot(leaf);
         match self.slots.settle() {
             Ok(Settled::Made) => {
-                add(&mut self.entries, &lease_of_slot(leaf, after));
+                self.entries.push_reserved(lease_of_slot(leaf, after));
                 self.index
                     .enter(&self.plan, &self.slots, leaf, &before, after);
                 Ok(())

@@ -13,7 +13,7 @@ ghost use Rattle.slot_file.specs.Disks.{RisesAt, Unwritten};
 use crate::answers::{binding, opening};
 use crate::entry::Entry;
 use crate::faults::{Entered, JournalFault, JournalLoad, journal_fault, journal_load};
-use crate::listing::{add, entries_of};
+use crate::listing::entries_of;
 use crate::steps::put_entry;
 use disk_trait::{Disk, DiskFault};
 use lms_bytes::{MessageId, Params, Val};
@@ -156,7 +156,7 @@ impl<D: Disk> Journal<D> {
     {
         match self.slots.settle() {
             Ok(Settled::Made) => {
-                add(&mut self.entries, entry);
+                self.entries.push_reserved(*entry);
                 self.doubt = None;
                 Ok(())
             }
@@ -181,7 +181,7 @@ impl<D: Disk> Journal<D> {
     {
         match put_entry(&mut self.slots, entry) {
             Ok(()) => {
-                add(&mut self.entries, entry);
+                self.entries.push_reserved(*entry);
                 Ok(Entered::New)
             }
             Err(DiskFault) => {

@@ -1,6 +1,6 @@
 //! The list of a journal's entries.
 
-ghost use Rattle.std.specs.Prelude.{◌≡◌, ◌≢◌, ◌*◌, ◌+◌, ◌<◌, ◌≤◌, ◌++◌, ◌∷◌, [], ℕ, length, false, vec_capacity, IfOk};
+ghost use Rattle.std.specs.Prelude.{◌≡◌, ◌≢◌, ◌*◌, ◌+◌, ◌<◌, ◌≤◌, ◌++◌, ℕ, length, false, vec_capacity, IfOk};
 ghost use Rattle.lms_bytes.specs.HashLength.{IsHashLength};
 ghost use Rattle.opening_journal.specs.Entries.{IsFree, IsLegalList, map_of, state_of_slot};
 ghost use Rattle.slot_file.specs.Logs.{room_in};
@@ -17,15 +17,6 @@ use lms_bytes::MessageId;
 use memory::NoMemory;
 use slot_file::{CachedSlots, Slot};
 use std::alloc::Global;
-
-/// Adds an entry, for which there is room.
-pub(crate) fn add(entries: &mut Vec<Entry>, entry: &Entry)
-    requires { length entries.old.items < vec_capacity entries.old }
-    ensures items { entries.new.items ≡ entries.old.items ++ entry.now ∷ [] }
-    ensures room { vec_capacity entries.old ≤ vec_capacity entries.new }
-{
-    entries.push(*entry).unwrap();
-}
 
 // Adds the entries that the slot of a leaf has. The leaf is free, and the slot is not damaged.
 fn add_slot(entries: &mut Vec<Entry>, leaf: u32, slot: &Slot, n: u8)
@@ -44,19 +35,18 @@ fn add_slot(entries: &mut Vec<Entry>, leaf: u32, slot: &Slot, n: u8)
         Slot::Free | Slot::Damaged { .. } => {}
         Slot::Half(a) => {
             let message = MessageId::of_bytes(a);
-            add(entries, &Entry::Bound { leaf, message });
+            entries.push_reserved(Entry::Bound { leaf, message });
         }
         Slot::Full(a, b, moment) => {
             let message = MessageId::of_bytes(a);
-            add(entries, &Entry::Bound { leaf, message });
-            let opened = Entry::Opened {
+            entries.push_reserved(Entry::Bound { leaf, message });
+            entries.push_reserved(Entry::Opened {
                 leaf,
                 message,
                 c: value_at(b, 0, n),
                 digest: value_at(b, 32, n),
                 moment: *moment,
-            };
-            add(entries, &opened);
+            });
         }
     }
 }

@@ -9,24 +9,24 @@ use Rattle.leaf_table.proofs.listing.add_slot.Goals as goal
 pub returns-in-Half-clause-shown : goal.returns-in-Half-clause-shown
 returns-in-Half-clause-shown c =
     let entry = Leased c.args.leaf c.of_bytes-message.result in
-    rw (c.add.ensures.items, c.in-Half.is) (map_of-same c.args.entries.now.items entry c.args.leaf refl ∙ ap IsLeased c.of_bytes-message.ensures.bytes)
+    rw (c.push_reserved.ensures.items, c.in-Half.is) (map_of-same c.args.entries.now.items entry c.args.leaf refl ∙ ap IsLeased c.of_bytes-message.ensures.bytes)
 
 pub returns-in-Half-clause-others : goal.returns-in-Half-clause-others
-returns-in-Half-clause-others c = λ other differs. rw c.add.ensures.items (map_of-other c.args.entries.now.items _ other differs)
+returns-in-Half-clause-others c = λ other differs. rw c.push_reserved.ensures.items (map_of-other c.args.entries.now.items _ other differs)
 
 pub returns-in-Half-clause-legal : goal.returns-in-Half-clause-legal
 returns-in-Half-clause-legal c =
     let entry = Leased c.args.leaf c.of_bytes-message.result in
-    subst OneLease (sym c.add.ensures.items) (legal-more Follows c.args.entries.now.items entry c.requires.legal (ap (may_follow entry) c.requires.free))
+    subst OneLease (sym c.push_reserved.ensures.items) (legal-more Follows c.args.entries.now.items entry c.requires.legal (ap (may_follow entry) c.requires.free))
 
 pub returns-in-Full-clause-shown : goal.returns-in-Full-clause-shown
 returns-in-Full-clause-shown c =
-    rw (c.add-in-Full-2.ensures.items, c.in-Full.is) (map_of-same c.add-in-Full.new.entries.items (Burnt c.args.leaf) c.args.leaf refl)
+    rw (c.push_reserved-in-Full-2.ensures.items, c.in-Full.is) (map_of-same c.push_reserved-in-Full.new.self.items (Burnt c.args.leaf) c.args.leaf refl)
 
 pub returns-in-Full-clause-others : goal.returns-in-Full-clause-others
 returns-in-Full-clause-others c = λ other differs.
     let first = map_of-other c.args.entries.now.items (Leased c.args.leaf c.of_bytes-message-in-Full.result) other differs in
-    rw (c.add-in-Full-2.ensures.items, c.add-in-Full.ensures.items) (map_of-other _ _ other differs ∙ first)
+    rw (c.push_reserved-in-Full-2.ensures.items, c.push_reserved-in-Full.ensures.items) (map_of-other _ _ other differs ∙ first)
 
 pub returns-in-Full-clause-legal : goal.returns-in-Full-clause-legal
 returns-in-Full-clause-legal c =
@@ -34,7 +34,7 @@ returns-in-Full-clause-legal c =
     let items = c.args.entries.now.items in
     let leased = Leased c.args.leaf message.result in
     let burnt = Burnt c.args.leaf in
-    let first = c.add-in-Full.ensures.items in
+    let first = c.push_reserved-in-Full.ensures.items in
     let one = subst OneLease (sym first) (legal-more Follows items leased c.requires.legal (ap (may_follow leased) c.requires.free)) in
     let follows = ap (λ (l : List Lease). may_follow burnt (map_of l c.args.leaf)) first ∙ ap (may_follow burnt) (map_of-same items leased c.args.leaf refl) in
-    subst OneLease (sym c.add-in-Full-2.ensures.items) (legal-more Follows c.add-in-Full.new.entries.items burnt one follows)
+    subst OneLease (sym c.push_reserved-in-Full-2.ensures.items) (legal-more Follows c.push_reserved-in-Full.new.self.items burnt one follows)

@@ -1,4 +1,4 @@
-use Rattle.std.proofs.Common.{◌≡◌, ◌∷◌, [], None, Some, length, refl, sym, ◌∙◌, ap, subst, arith, length-append}
+use Rattle.std.proofs.Common.{◌≡◌, ◌∷◌, [], None, Some, length, refl, sym, ◌∙◌, ap, subst, arith, length-append, rules, vec_len}
 use Rattle.std.specs.Prelude.{slice_set}
 use Rattle.lms_bytes.specs.MessageId.{message_id_bytes}
 use Rattle.leaf_table.specs.Slots.{report_body}
@@ -12,12 +12,13 @@ use Rattle.slot_file.specs.declared.slot.Slot.{Slot}
 use Rattle.slot_file.specs.declared.slot.Slot.TheVariants.{Full, Half}
 use Rattle.leaf_table.proofs.table.Table.put_burnt.Goals as goal
 
-pub add-requires : goal.add-requires
-add-requires g c =
+pub push_reserved-requires : goal.push_reserved-requires
+push_reserved-requires g c =
     let self = c.args.self.now in
     let id = message_id_bytes c.args.message.now in
     let may = may-burn self c.args.leaf id [] c.requires.within c.requires.leased in
-    omega (arith, self.room, room-taken self c.args.leaf (Half id) (Full id [] 0) may)
+    let size : vec_len self.entries ≡ length self.entries.items = search rules in
+    omega (arith, self.room, size, room-taken self c.args.leaf (Half id) (Full id [] 0) may)
 
 pub invariant_of-self : goal.invariant_of-self
 invariant_of-self g c =
@@ -31,12 +32,12 @@ invariant_of-self g c =
     let may = may-burn self leaf id body c.requires.within c.requires.leased in
     let written : with_b (slot_in slots leaf) c.report_bytes.result 0 ≡ slot = λ i. with_b (may.was i) (c.report_bytes.ensures i) 0 in
     let event = c.in-Ok.ensures.event ∙ ap (λ (s : Slot). record { slots = slice_set slots leaf s; doubt = None }) written in
-    let still = put-made self leaf (Half id) slot may (Burnt leaf) new c.add.new.entries.items refl refl event c.add.ensures.items in
+    let still = put-made self leaf (Half id) slot may (Burnt leaf) new c.push_reserved.new.self.items refl refl event c.push_reserved.ensures.items in
     record {
       version = ap (λ h. h.version) c.put_b.ensures.stays.header ∙ self.version;
       count = c.put_b.ensures.stays.count ∙ self.count;
       sound = still.sound;
-      room = omega (arith, self.room, c.add.ensures.room, still.room);
+      room = omega (arith, self.room, c.push_reserved.ensures.capacity, still.room);
       indexed = c.unlist.ensures id body 0 new.slots
           (record {
             earlier = slots;
@@ -69,4 +70,4 @@ invariant_of-self-in-Err g c =
 pub returns-in-Ok-clause-new : goal.returns-in-Ok-clause-new
 returns-in-Ok-clause-new g c = λ same.
     let items = c.args.self.now.entries.items in
-    omega (arith, ap length (sym c.add.ensures.items ∙ same), length-append items (Burnt c.args.leaf ∷ []))
+    omega (arith, ap length (sym c.push_reserved.ensures.items ∙ same), length-append items (Burnt c.args.leaf ∷ []))

@@ -1,4 +1,4 @@
-use Rattle.std.proofs.Common.{◌≡◌, ◌∷◌, [], ℕ, List, None, Some, length, refl, sym, ◌∙◌, ap, subst, arith, rules, length-append}
+use Rattle.std.proofs.Common.{◌≡◌, ◌∷◌, [], ℕ, List, None, Some, length, refl, sym, ◌∙◌, ap, subst, arith, rules, length-append, vec_len}
 use Rattle.std.specs.Prelude.{slice_set}
 use Rattle.lms_bytes.specs.MessageId.{message_id_bytes}
 use Rattle.leaf_table.specs.Entries.{IsLeased, map_of}
@@ -16,11 +16,12 @@ use Rattle.leaf_table.proofs.table.Table.put_lease.Goals as goal
 pub put_a-requires-clause-free : goal.put_a-requires-clause-free
 put_a-requires-clause-free g c = (may-lease c.args.self.now c.args.leaf [] c.requires.within c.requires.free).was
 
-pub add-requires : goal.add-requires
-add-requires g c =
+pub push_reserved-requires : goal.push_reserved-requires
+push_reserved-requires g c =
     let self = c.args.self.now in
     let may = may-lease self c.args.leaf [] c.requires.within c.requires.free in
-    omega (arith, self.room, room-taken self c.args.leaf Free (Half []) may)
+    let size : vec_len self.entries ≡ length self.entries.items = search rules in
+    omega (arith, self.room, size, room-taken self c.args.leaf Free (Half []) may)
 
 pub list-requires-clause-count : goal.list-requires-clause-count
 list-requires-clause-count g c = c.put_a.ensures.stays.count ∙ c.args.self.now.count
@@ -44,12 +45,12 @@ invariant_of-self g c =
     let id = message_id_bytes c.args.message.now in
     let may = may-lease self leaf id c.requires.within c.requires.free in
     let event = c.in-Ok.ensures.event ∙ ap (λ (b : List ℕ). record { slots = slice_set (state_of self.slots).slots leaf (Half b); doubt = None }) c.to_bytes-id.ensures in
-    let still = put-made self leaf Free (Half id) may (Leased leaf c.args.message.now) (state_of c.put_a.new.self) c.add.new.entries.items refl refl event c.add.ensures.items in
+    let still = put-made self leaf Free (Half id) may (Leased leaf c.args.message.now) (state_of c.put_a.new.self) c.push_reserved.new.self.items refl refl event c.push_reserved.ensures.items in
     record {
       version = ap (λ h. h.version) c.put_a.ensures.stays.header ∙ self.version;
       count = c.put_a.ensures.stays.count ∙ self.count;
       sound = still.sound;
-      room = omega (arith, self.room, c.add.ensures.room, still.room);
+      room = omega (arith, self.room, c.push_reserved.ensures.capacity, still.room);
       indexed = c.list.ensures;
     }
 
@@ -74,10 +75,10 @@ invariant_of-self-in-Err g c =
 pub returns-in-Ok-clause-new : goal.returns-in-Ok-clause-new
 returns-in-Ok-clause-new g c = λ same.
     let items = c.args.self.now.entries.items in
-    omega (arith, ap length (sym c.add.ensures.items ∙ same), length-append items (Leased c.args.leaf c.args.message.now ∷ []))
+    omega (arith, ap length (sym c.push_reserved.ensures.items ∙ same), length-append items (Leased c.args.leaf c.args.message.now ∷ []))
 
 pub returns-in-Ok-clause-leased : goal.returns-in-Ok-clause-leased
 returns-in-Ok-clause-leased g c =
     let items = c.args.self.now.entries.items in
     let lease = Leased c.args.leaf c.args.message.now in
-    ap (λ (l : List Lease). map_of l c.args.leaf) c.add.ensures.items ∙ map_of-same items lease c.args.leaf refl
+    ap (λ (l : List Lease). map_of l c.args.leaf) c.push_reserved.ensures.items ∙ map_of-same items lease c.args.leaf refl

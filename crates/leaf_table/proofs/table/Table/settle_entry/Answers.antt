@@ -1,4 +1,4 @@
-use Rattle.std.proofs.Common.{◌≡◌, ◌∷◌, ◌++◌, [], Option, Some, Ok, sym, ◌∙◌, ap, subst, arith}
+use Rattle.std.proofs.Common.{◌≡◌, ◌∷◌, ◌++◌, [], Option, Some, Ok, sym, ◌∙◌, ap, subst, arith, length, rules, vec_len}
 use Rattle.leaf_table.specs.Slots.{may_become}
 use Rattle.slot_file.specs.declared.slot.Slot.{Slot}
 use Rattle.leaf_table.specs.State.{lease_of}
@@ -15,11 +15,12 @@ use Rattle.leaf_table.proofs.table.Table.settle_entry.Goals as goal
 only-some : {A : Type 0} {x y : A} → ◌≡◌ {A = Option A} (Some x) (Some y) → x ≡ y
 only-some e = cc
 
-pub add-requires : goal.add-requires
-add-requires g c =
+pub push_reserved-requires : goal.push_reserved-requires
+push_reserved-requires g c =
     let self = c.args.self.now in
     let d = c.args.doubted.now in
-    omega (arith, self.room, room-taken self d.slot _ d.after (may-settle self d c.requires))
+    let size : vec_len self.entries ≡ length self.entries.items = search rules in
+    omega (arith, self.room, size, room-taken self d.slot _ d.after (may-settle self d c.requires))
 
 pub invariant_of-self : goal.invariant_of-self
 invariant_of-self g c =
@@ -34,13 +35,13 @@ invariant_of-self g c =
     let event = subst (λ (s : Settled). Settles version cache (Ok s) new) c.in-Ok-Made.field-0-is c.in-Ok-Made.ensures.event in
     let same : event.0 ≡ d = only-some (sym event.1 ∙ is) in
     let made : new ≡ settled_with (with_made cache.slots d) = event.2 ∙ ap (λ (x : Doubted). settled_with (with_made cache.slots x)) same in
-    let listed = c.add.ensures.items ∙ ap (λ (l : Lease). items ++ l ∷ []) c.lease_of_slot.ensures in
-    let still = put-made self d.slot _ d.after (may-settle self d is) (lease_of d) new c.add.new.entries.items (leaf_of-lease d.slot d.after) (self.sound.makes d is) made listed in
+    let listed = c.push_reserved.ensures.items ∙ ap (λ (l : Lease). items ++ l ∷ []) c.lease_of_slot.ensures in
+    let still = put-made self d.slot _ d.after (may-settle self d is) (lease_of d) new c.push_reserved.new.self.items (leaf_of-lease d.slot d.after) (self.sound.makes d is) made listed in
     record {
       version = ap (λ h. h.version) call.stays.header ∙ self.version;
       count = call.stays.count ∙ self.count;
       sound = still.sound;
-      room = omega (arith, self.room, c.add.ensures.room, still.room);
+      room = omega (arith, self.room, c.push_reserved.ensures.capacity, still.room);
       indexed = c.enter.ensures;
     }
 
