@@ -1,12 +1,14 @@
 -- Leaves that several threads build, each a run of them.
-use Rattle.std.proofs.Common.{◌≡◌, ℕ, zero, suc, ◌+◌, ◌^◌, ◌<◌, List, [], ◌++◌, length, map, get_or, refl, sym, ap, ◌∙◌, arith, append-nil, append_assoc}
+use Rattle.std.proofs.Common.{◌≡◌, ℕ, zero, suc, ◌+◌, ◌^◌, ◌<◌, List, [], ◌++◌, length, map, get_or, refl, sym, ap, ◌∙◌, arith, append-nil, append_assoc, take, drop, ap₂}
 use Rattle.std.specs.List.{range_with_len}
-use Rattle.std.proofs.lemmas.List.{ext_get_or}
+use Rattle.std.proofs.lemmas.List.{ext_get_or, take_at}
 use Rattle.std.proofs.lemmas.List.FromFn.{get_or-map-range_with_len, length-map-range_with_len}
 use Rattle.lms_bytes.specs.Bytes.{joined}
 use Rattle.lms_bytes.proofs.Joined.{joined-none, joined-same, joined-suc}
 use Rattle.reference_value.specs.Commitments.{commitments, leaf_commitments}
 use Rattle.reference_value.specs.Dealing.{Dealing, leaf_part, reference}
+use Rattle.share_files.specs.Commits.{commits_head_of}
+use Rattle.dealer.specs.Committed.{commits_file}
 use Rattle.dealer.specs.Runs.{run_commitments, run_leaves}
 use Rattle.dealer.specs.declared.runs.Run.{Run}
 
@@ -40,6 +42,17 @@ pub whole-commitments : (d : Dealing) (run : Run) → run.first ≡ 0 → run.co
 unfolding commitments
 whole-commitments d run first count =
     rw (first, count) (joined-same (λ i. leaf_commitments d (0 + i)) (leaf_commitments d) (2 ^ d.params.h) (λ i _. ap (leaf_commitments d) (omega arith)))
+
+-- all leaves in a Vec whose slice was written, and the commitments to their masks behind the head in another
+pub leaves-written : (d : Dealing) (run : Run) (count : ℕ) (out old : List ℕ) → run.first ≡ 0 → run.count ≡ 2 ^ d.params.h → length out ≡ count
+    → out ≡ run_leaves d run → take count (out ++ drop (length out) old) ≡ reference d
+leaves-written d run count out old first all size is = take_at out (drop (length out) old) count size ∙ (is ∙ whole-leaves d run first all)
+
+pub file-written : (d : Dealing) (run : Run) (count : ℕ) (head commits old : List ℕ) → run.first ≡ 0 → run.count ≡ 2 ^ d.params.h
+    → length (head ++ commits) ≡ count → head ≡ commits_head_of d.params d.plan d.id → commits ≡ run_commitments d run
+    → take count ((head ++ commits) ++ drop (length (head ++ commits)) old) ≡ commits_file d
+file-written d run count head commits old first all size begins is =
+    take_at (head ++ commits) (drop (length (head ++ commits)) old) count size ∙ ap₂ ◌++◌ begins (is ∙ whole-commitments d run first all)
 
 -- what two threads wrote, each a run, is the run that was cut
 pub runs-written : (f : ℕ → List ℕ) (a b : List ℕ) (first front back m n count : ℕ) → front ≡ first → back ≡ first + m → m + n ≡ count

@@ -1,14 +1,13 @@
 //! The dealing with its leaves built by several threads.
 
-ghost use Rattle.std.specs.Prelude.{◌≡◌, ◌+◌, ◌*◌, ◌^◌, ◌<◌, ◌≤◌, All, IfOk, length, map, vec_capacity};
-ghost use Rattle.std.specs.List.{range_with_len};
+ghost use Rattle.std.specs.Prelude.{◌≡◌, ◌+◌, ◌*◌, ◌^◌, ◌<◌, ◌≤◌, All, IfOk, length};
 ghost use Rattle.std.specs.Thread.{IsSync};
-ghost use Rattle.merkle_path.specs.Tree.{tree_of};
 ghost use Rattle.ots_chain.specs.LeafKey.{seed_leaf_key};
 ghost use Rattle.reference_value.specs.Dealing.{reference};
 ghost use Rattle.share_files.specs.Reference.{leaf_length, leaves_length};
-ghost use Rattle.dealer.specs.Dealt.{IsDealt};
-ghost use Rattle.dealer.specs.Entropy.{dealing_of, entropy_length};
+ghost use Rattle.dealer.specs.Dealt.{IsDealt, leaf_keys_of};
+ghost use Rattle.dealer.specs.Entropy.{dealing_of};
+ghost use Rattle.dealer.specs.Faults.{IsDealable};
 ghost use Rattle.dealer.specs.Runs.{run_leaves};
 ghost use Rattle.dealer.specs.Secrets.{dealing_with};
 
@@ -20,7 +19,6 @@ use crate::runs::{Run, thread_count};
 use coalition_map::Plan;
 use lms_bytes::{KeyId, Params, Val};
 use memory::NoMemory;
-use merkle_path::Tree;
 use ots_chain::leaf_key_of;
 use reference_value::leaf_bytes;
 use std::alloc::Global;
@@ -37,34 +35,15 @@ pub(crate) fn build_beside<R: Threads + Sync>(
     entropy: &[u8],
 ) -> Result<Dealt, NoMemory>
     requires height { plan.now.h ≡ params.now.h }
-    requires low { params.now.h ≤ 10 }
-    requires size { length entropy.now ≡ entropy_length plan.now.n }
+    requires dealable { IsDealable params.now plan.now entropy.now }
     ensures dealt { IfOk result (IsDealt (dealing_of params.now plan.now entropy.now)) }
     ensures shares { IfOk result (λ dealt. 0 < length dealt.shares.items) }
 {
     let secrets = read_entropy(alloc, params, plan, entropy)?;
-    let leaves = reference_beside(rt, alloc, params, plan, &secrets)?;
-    let tree = tree_beside(rt, alloc, params, &secrets.id, &secrets.seed)?;
-    finish(alloc, params, plan, &secrets, tree, leaves)
-}
-
-/// The leaves of the masked reference value, with room for the head of their file.
-fn reference_beside<R: Threads + Sync>(
-    rt: &R,
-    alloc: Global,
-    params: &Params,
-    plan: &Plan,
-    secrets: &Secrets,
-) -> Result<Vec<u8>, NoMemory>
-    requires height { plan.now.h ≡ params.now.h }
-    requires seed { length secrets.now.seed ≡ params.now.n }
-    requires keys { length secrets.now.keys.items ≡ plan.now.n }
-    ensures leaves { IfOk result (λ leaves. leaves.items ≡ reference (dealing_with params.now plan.now secrets.now)) }
-    ensures room { IfOk result (λ leaves. length leaves.items + 32 ≤ vec_capacity leaves) }
-{
     let mut leaves = room_for_leaves(alloc, params, plan)?;
-    write_leaves_beside(rt, params, plan, secrets, &mut leaves);
-    Ok(leaves)
+    write_leaves_beside(rt, params, plan, &secrets, &mut leaves);
+    let keys = keys_beside(rt, alloc, params, &secrets.id, &secrets.seed)?;
+    finish(alloc, params, plan, &secrets, &keys, leaves)
 }
 
 /// Writes the leaves of the masked reference value.
@@ -129,24 +108,8 @@ fn write_beside<R: Threads + Sync>(
     );
 }
 
-/// The tree over the public values of the leaves.
-pub(crate) fn tree_beside<R: Threads + Sync>(
-    rt: &R,
-    alloc: Global,
-    params: &Params,
-    id: &KeyId,
-    seed: &Val,
-) -> Result<Tree, NoMemory>
-    requires height { params.now.h ≤ 10 }
-    requires seed { length seed.now ≡ params.now.n }
-    ensures { IfOk result (λ tree. tree ≡ tree_of params.now id.now (λ q. seed_leaf_key params.now id.now q seed.now)) }
-{
-    let keys = keys_beside(rt, alloc, params, id, seed)?;
-    Tree::build(alloc, params, id, &keys)
-}
-
 /// The public values of the leaves.
-fn keys_beside<R: Threads + Sync>(
+pub(crate) fn keys_beside<R: Threads + Sync>(
     rt: &R,
     alloc: Global,
     params: &Params,
@@ -154,8 +117,7 @@ fn keys_beside<R: Threads + Sync>(
     seed: &Val,
 ) -> Result<Vec<Val>, NoMemory>
     requires { length seed.now ≡ params.now.n }
-    ensures keys { IfOk result (λ keys. keys.items
-        ≡ map (λ q. seed_leaf_key params.now id.now q seed.now) (range_with_len 0 (2 ^ params.now.h))) }
+    ensures keys { IfOk result (λ keys. keys.items ≡ leaf_keys_of params.now id.now seed.now) }
     ensures length { IfOk result (λ keys. All (λ key. length key ≡ params.now.n) keys.items) }
 {
     let count = params.leaves() as usize;
@@ -169,8 +131,7 @@ fn keys_beside<R: Threads + Sync>(
 fn write_keys<R: Threads + Sync>(rt: &R, params: &Params, id: &KeyId, seed: &Val, out: &mut [Val])
     requires seed { length seed.now ≡ params.now.n }
     requires room { length out.old ≡ 2 ^ params.now.h }
-    ensures keys { out.new
-        ≡ map (λ q. seed_leaf_key params.now id.now q seed.now) (range_with_len 0 (2 ^ params.now.h)) }
+    ensures keys { out.new ≡ leaf_keys_of params.now id.now seed.now }
     ensures length { All (λ key. length key ≡ params.now.n) out.new }
 {
     let threads = thread_count(rt);

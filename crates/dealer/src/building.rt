@@ -1,21 +1,19 @@
 //! What a dealing is made of.
 
 ghost use Rattle.std.specs.Prelude.{◌≡◌, ◌<◌, ◌≤◌, All, IfOk, length};
-ghost use Rattle.merkle_path.specs.Tree.{tree_of};
-ghost use Rattle.ots_chain.specs.LeafKey.{seed_leaf_key};
 ghost use Rattle.reference_value.specs.Dealing as spec;
-ghost use Rattle.dealer.specs.Dealt.{IsDealt, dealt_tree};
-ghost use Rattle.dealer.specs.Entropy.{dealing_of, entropy_length};
+ghost use Rattle.dealer.specs.Dealt.{IsDealt, leaf_keys_of};
+ghost use Rattle.dealer.specs.Entropy.{dealing_of};
+ghost use Rattle.dealer.specs.Faults.{IsDealable};
 ghost use Rattle.dealer.specs.Secrets.{dealing_with};
 
 use crate::dealing::Dealt;
 use crate::entropy::{Secrets, read_entropy};
-use crate::leaves::{build_reference, build_tree};
+use crate::leaves::{build_tree, leaf_keys, room_for_leaves, write_leaves};
 use crate::shares::build_shares;
 use coalition_map::Plan;
-use lms_bytes::{Params, PublicKey};
+use lms_bytes::{Params, PublicKey, Val};
 use memory::NoMemory;
-use merkle_path::Tree;
 use std::alloc::Global;
 
 /// Deals the key that the entropy stands for, which has been tested.
@@ -26,34 +24,37 @@ pub(crate) fn build(
     entropy: &[u8],
 ) -> Result<Dealt, NoMemory>
     requires height { plan.now.h ≡ params.now.h }
-    requires low { params.now.h ≤ 10 }
-    requires size { length entropy.now ≡ entropy_length plan.now.n }
+    requires dealable { IsDealable params.now plan.now entropy.now }
     ensures dealt { IfOk result (IsDealt (dealing_of params.now plan.now entropy.now)) }
     ensures shares { IfOk result (λ dealt. 0 < length dealt.shares.items) }
 {
     let secrets = read_entropy(alloc, params, plan, entropy)?;
-    let leaves = build_reference(alloc, params, plan, &secrets)?;
-    let tree = build_tree(alloc, params, &secrets.id, &secrets.seed)?;
-    finish(alloc, params, plan, &secrets, tree, leaves)
+    let mut leaves = room_for_leaves(alloc, params, plan)?;
+    write_leaves(params, plan, &secrets, &mut leaves);
+    let keys = leaf_keys(alloc, params, &secrets.id, &secrets.seed)?;
+    finish(alloc, params, plan, &secrets, &keys, leaves)
 }
 
-/// The dealing with this tree and these leaves of the masked reference value.
+/// The dealing with these public values of the leaves, and these leaves of the masked reference value.
 pub(crate) fn finish(
     alloc: Global,
     params: &Params,
     plan: &Plan,
     secrets: &Secrets,
-    tree: Tree,
+    leaf_keys: &[Val],
     leaves: Vec<u8>,
 ) -> Result<Dealt, NoMemory>
     requires height { plan.now.h ≡ params.now.h }
+    requires low { params.now.h ≤ 10 }
     requires keys { length secrets.now.keys.items ≡ plan.now.n }
     requires lengths { All (λ key. length key ≡ 32) secrets.now.keys.items }
-    requires tree { tree ≡ dealt_tree (dealing_with params.now plan.now secrets.now) }
+    requires leaf_keys { leaf_keys.now ≡ leaf_keys_of params.now secrets.now.id secrets.now.seed }
+    requires whole { All (λ key. length key ≡ params.now.n) leaf_keys.now }
     requires leaves { leaves.items ≡ spec.reference (dealing_with params.now plan.now secrets.now) }
     ensures dealt { IfOk result (IsDealt (dealing_with params.now plan.now secrets.now)) }
     ensures shares { IfOk result (λ dealt. 0 < length dealt.shares.items) }
 {
+    let tree = build_tree(alloc, params, secrets, leaf_keys)?;
     let public = PublicKey {
         params: *params,
         id: secrets.id,

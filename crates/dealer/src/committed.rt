@@ -1,13 +1,13 @@
 //! A dealing whose masks are committed to as they are made.
 
-ghost use Rattle.std.specs.Prelude.{◌≡◌, ◌+◌, ◌*◌, ◌^◌, ◌<◌, ◌≤◌, Err, IfErr, IfOk, OnOk, length};
+ghost use Rattle.std.specs.Prelude.{◌≡◌, ◌+◌, ◌*◌, ◌^◌, ◌<◌, ◌≤◌, Err, IfErr, IfOk, OnOk, length, take};
 ghost use Rattle.coalition_map.specs.Coalitions.{IsPlan};
 ghost use Rattle.reference_value.specs.Dealing.{reference};
 ghost use Rattle.share_files.specs.Commits.{commits_head_of, commits_length, leaf_commits_length};
-ghost use Rattle.share_files.specs.Reference.{leaf_length, leaves_length};
+ghost use Rattle.share_files.specs.Reference.{leaf_length};
 ghost use Rattle.dealer.specs.Committed.{DealsCommitted, FailsCommitted, commits_file};
 ghost use Rattle.dealer.specs.Dealt.{IsDealt};
-ghost use Rattle.dealer.specs.Entropy.{dealing_of, entropy_length};
+ghost use Rattle.dealer.specs.Entropy.{dealing_of};
 ghost use Rattle.dealer.specs.Faults.{HasFault, IsDealable};
 ghost use Rattle.dealer.specs.Runs.{run_commitments, run_leaves};
 ghost use Rattle.dealer.specs.Secrets.{dealing_with};
@@ -20,7 +20,7 @@ use crate::committed_beside::build_committed_beside;
 use crate::dealing::Dealt;
 use crate::entropy::{Secrets, read_entropy};
 use crate::faults::DealFault;
-use crate::leaves::{build_tree, room_for_leaves};
+use crate::leaves::{leaf_keys, room_for_leaves};
 use crate::runs::Run;
 use coalition_map::Plan;
 use lms_bytes::{KeyId, Params};
@@ -111,17 +111,15 @@ fn build_committed(
     entropy: &[u8],
 ) -> Result<(Dealt, Vec<u8>), NoMemory>
     requires height { plan.now.h ≡ params.now.h }
-    requires low { params.now.h ≤ 10 }
-    requires size { length entropy.now ≡ entropy_length plan.now.n }
+    requires dealable { IsDealable params.now plan.now entropy.now }
     ensures dealt { IfOk result (λ both. IsDealt (dealing_of params.now plan.now entropy.now) both.0) }
-    ensures commitments { IfOk result (λ both. both.1.items
-        ≡ commits_file (dealing_of params.now plan.now entropy.now)) }
+    ensures commits { IfOk result (λ both. both.1.items ≡ commits_file (dealing_of params.now plan.now entropy.now)) }
     ensures shares { IfOk result (λ both. 0 < length both.0.shares.items) }
 {
     let secrets = read_entropy(alloc, params, plan, entropy)?;
     let (leaves, commits) = build_leaves(alloc, params, plan, &secrets)?;
-    let tree = build_tree(alloc, params, &secrets.id, &secrets.seed)?;
-    let dealt = finish(alloc, params, plan, &secrets, tree, leaves)?;
+    let keys = leaf_keys(alloc, params, &secrets.id, &secrets.seed)?;
+    let dealt = finish(alloc, params, plan, &secrets, &keys, leaves)?;
     Ok((dealt, commits))
 }
 
@@ -136,50 +134,36 @@ fn build_leaves(
     requires seed { length secrets.now.seed ≡ params.now.n }
     requires keys { length secrets.now.keys.items ≡ plan.now.n }
     ensures leaves { IfOk result (λ both. both.0.items ≡ reference (dealing_with params.now plan.now secrets.now)) }
-    ensures commitments { IfOk result (λ both. both.1.items
-        ≡ commits_file (dealing_with params.now plan.now secrets.now)) }
+    ensures commits { IfOk result (λ both. both.1.items ≡ commits_file (dealing_with params.now plan.now secrets.now)) }
 {
     let keys = mac_keys(alloc, &secrets.keys)?;
     let mut leaves = room_for_leaves(alloc, params, plan)?;
-    let mut file = vec![in alloc; 0; length_of_commits(params, plan.k()) as usize]?;
-    write_committed(params, plan, secrets, &keys, &mut leaves, &mut file);
+    let mut file = room_for_commits(alloc, params, plan, &secrets.id)?;
+    let (_, commits) = file.split_at_mut(HEAD);
+    let run = Run::whole(params);
+    write_committed_run(params, plan, secrets, &keys, run, &mut leaves, commits);
     Ok((leaves, file))
 }
 
-/// Writes the leaves of the masked reference value, and the commitment file.
-fn write_committed(
+/// Room for the commitment file of a set, a plan and an identifier, with its head.
+pub(crate) fn room_for_commits(
+    alloc: Global,
     params: &Params,
     plan: &Plan,
-    secrets: &Secrets,
-    keys: &[MacKey],
-    out: &mut [u8],
-    file: &mut [u8],
-)
-    requires height { plan.now.h ≡ params.now.h }
-    requires plan { IsPlan plan.now }
-    requires seed { length secrets.now.seed ≡ params.now.n }
-    requires trustees { length secrets.now.keys.items ≡ plan.now.n }
-    requires keys { keys.now ≡ secrets.now.keys.items }
-    requires leaves { length out.old ≡ leaves_length params.now plan.now }
-    requires file { length file.old ≡ commits_length params.now plan.now }
-    ensures leaves { out.new ≡ reference (dealing_with params.now plan.now secrets.now) }
-    ensures file { file.new ≡ commits_file (dealing_with params.now plan.now secrets.now) }
+    id: &KeyId,
+) -> Result<Vec<u8>, NoMemory>
+    requires { plan.now.h ≡ params.now.h }
+    ensures head { IfOk result (λ file. take 32 file.items ≡ commits_head_of params.now plan.now id.now) }
+    ensures length { IfOk result (λ file. length file.items ≡ commits_length params.now plan.now) }
 {
-    let (head, commits) = file.split_at_mut(HEAD);
-    head.copy_from_slice(&head_of_commits(params, plan, &secrets.id));
-    write_committed_run(
-        params,
-        plan,
-        secrets,
-        keys,
-        Run::whole(params),
-        out,
-        commits,
-    );
+    let mut file = vec![in alloc; 0; length_of_commits(params, plan.k()) as usize]?;
+    let (head, _) = file.split_at_mut(HEAD);
+    head.copy_from_slice(&head_of_commits(params, plan, id));
+    Ok(file)
 }
 
 /// The head of the commitment file of a set, a plan and an identifier.
-pub(crate) fn head_of_commits(params: &Params, plan: &Plan, id: &KeyId) -> [u8; HEAD]
+fn head_of_commits(params: &Params, plan: &Plan, id: &KeyId) -> [u8; HEAD]
     requires height { plan.now.h ≡ params.now.h }
     requires plan { IsPlan plan.now }
     ensures { result ≡ commits_head_of params.now plan.now id.now }

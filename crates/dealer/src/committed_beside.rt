@@ -2,19 +2,19 @@
 
 ghost use Rattle.std.specs.Prelude.{◌≡◌, ◌+◌, ◌*◌, ◌^◌, ◌<◌, ◌≤◌, IfOk, length};
 ghost use Rattle.std.specs.Thread.{IsSync};
-ghost use Rattle.coalition_map.specs.Coalitions.{IsPlan};
 ghost use Rattle.reference_value.specs.Dealing.{reference};
-ghost use Rattle.share_files.specs.Commits.{commits_length, leaf_commits_length};
-ghost use Rattle.share_files.specs.Reference.{leaf_length, leaves_length};
+ghost use Rattle.share_files.specs.Commits.{leaf_commits_length};
+ghost use Rattle.share_files.specs.Reference.{leaf_length};
 ghost use Rattle.dealer.specs.Committed.{commits_file};
 ghost use Rattle.dealer.specs.Dealt.{IsDealt};
-ghost use Rattle.dealer.specs.Entropy.{dealing_of, entropy_length};
+ghost use Rattle.dealer.specs.Entropy.{dealing_of};
+ghost use Rattle.dealer.specs.Faults.{IsDealable};
 ghost use Rattle.dealer.specs.Runs.{run_commitments, run_leaves};
 ghost use Rattle.dealer.specs.Secrets.{dealing_with};
 
-use crate::beside::tree_beside;
+use crate::beside::keys_beside;
 use crate::building::finish;
-use crate::committed::{head_of_commits, mac_keys, write_committed_run};
+use crate::committed::{mac_keys, room_for_commits, write_committed_run};
 use crate::dealing::Dealt;
 use crate::entropy::{Secrets, read_entropy};
 use crate::leaves::room_for_leaves;
@@ -24,7 +24,7 @@ use lms_bytes::Params;
 use mask_prf::MacKey;
 use memory::NoMemory;
 use reference_value::leaf_bytes;
-use share_files::{HEAD, leaf_commits_bytes, length_of_commits};
+use share_files::{HEAD, leaf_commits_bytes};
 use std::alloc::Global;
 use std::thread::{Threads, join_mut};
 
@@ -38,17 +38,15 @@ pub(crate) fn build_committed_beside<R: Threads + Sync>(
     entropy: &[u8],
 ) -> Result<(Dealt, Vec<u8>), NoMemory>
     requires height { plan.now.h ≡ params.now.h }
-    requires low { params.now.h ≤ 10 }
-    requires size { length entropy.now ≡ entropy_length plan.now.n }
+    requires dealable { IsDealable params.now plan.now entropy.now }
     ensures dealt { IfOk result (λ both. IsDealt (dealing_of params.now plan.now entropy.now) both.0) }
-    ensures commitments { IfOk result (λ both. both.1.items
-        ≡ commits_file (dealing_of params.now plan.now entropy.now)) }
+    ensures commits { IfOk result (λ both. both.1.items ≡ commits_file (dealing_of params.now plan.now entropy.now)) }
     ensures shares { IfOk result (λ both. 0 < length both.0.shares.items) }
 {
     let secrets = read_entropy(alloc, params, plan, entropy)?;
     let (leaves, commits) = leaves_beside(rt, alloc, params, plan, &secrets)?;
-    let tree = tree_beside(rt, alloc, params, &secrets.id, &secrets.seed)?;
-    let dealt = finish(alloc, params, plan, &secrets, tree, leaves)?;
+    let keys = keys_beside(rt, alloc, params, &secrets.id, &secrets.seed)?;
+    let dealt = finish(alloc, params, plan, &secrets, &keys, leaves)?;
     Ok((dealt, commits))
 }
 
@@ -64,40 +62,25 @@ fn leaves_beside<R: Threads + Sync>(
     requires seed { length secrets.now.seed ≡ params.now.n }
     requires keys { length secrets.now.keys.items ≡ plan.now.n }
     ensures leaves { IfOk result (λ both. both.0.items ≡ reference (dealing_with params.now plan.now secrets.now)) }
-    ensures commitments { IfOk result (λ both. both.1.items
-        ≡ commits_file (dealing_with params.now plan.now secrets.now)) }
+    ensures commits { IfOk result (λ both. both.1.items ≡ commits_file (dealing_with params.now plan.now secrets.now)) }
 {
     let keys = mac_keys(alloc, &secrets.keys)?;
     let mut leaves = room_for_leaves(alloc, params, plan)?;
-    let mut file = vec![in alloc; 0; length_of_commits(params, plan.k()) as usize]?;
-    write_file_beside(rt, params, plan, secrets, &keys, &mut leaves, &mut file);
-    Ok((leaves, file))
-}
-
-/// Writes the leaves of the masked reference value, and the commitment file.
-fn write_file_beside<R: Threads + Sync>(
-    rt: &R,
-    params: &Params,
-    plan: &Plan,
-    secrets: &Secrets,
-    keys: &[MacKey],
-    out: &mut [u8],
-    file: &mut [u8],
-)
-    requires height { plan.now.h ≡ params.now.h }
-    requires plan { IsPlan plan.now }
-    requires seed { length secrets.now.seed ≡ params.now.n }
-    requires trustees { length secrets.now.keys.items ≡ plan.now.n }
-    requires keys { keys.now ≡ secrets.now.keys.items }
-    requires leaves { length out.old ≡ leaves_length params.now plan.now }
-    requires file { length file.old ≡ commits_length params.now plan.now }
-    ensures leaves { out.new ≡ reference (dealing_with params.now plan.now secrets.now) }
-    ensures file { file.new ≡ commits_file (dealing_with params.now plan.now secrets.now) }
-{
-    let (head, commits) = file.split_at_mut(HEAD);
-    head.copy_from_slice(&head_of_commits(params, plan, &secrets.id));
+    let mut file = room_for_commits(alloc, params, plan, &secrets.id)?;
     let (run, threads) = (Run::whole(params), thread_count(rt));
-    write_committed_beside(rt, params, plan, secrets, keys, run, threads, out, commits);
+    let (_, commits) = file.split_at_mut(HEAD);
+    write_committed_beside(
+        rt,
+        params,
+        plan,
+        secrets,
+        &keys,
+        run,
+        threads,
+        &mut leaves,
+        commits,
+    );
+    Ok((leaves, file))
 }
 
 /// Writes the leaves of a run, one behind the other, and the commitments to their masks, by at most so many threads.

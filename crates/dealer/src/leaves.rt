@@ -1,11 +1,11 @@
 //! What is made of all leaves: the tree and the masked reference value.
 
-ghost use Rattle.std.specs.Prelude.{◌≡◌, ◌+◌, ◌*◌, ◌^◌, ◌≤◌, All, IfOk, length, map, vec_capacity};
-ghost use Rattle.std.specs.List.{range_with_len};
+ghost use Rattle.std.specs.Prelude.{◌≡◌, ◌+◌, ◌*◌, ◌^◌, ◌≤◌, All, IfOk, length, vec_capacity};
 ghost use Rattle.merkle_path.specs.Tree.{tree_of};
 ghost use Rattle.ots_chain.specs.LeafKey.{seed_leaf_key};
 ghost use Rattle.reference_value.specs.Dealing.{reference};
 ghost use Rattle.share_files.specs.Reference.{leaf_length, leaves_length};
+ghost use Rattle.dealer.specs.Dealt.{leaf_keys_of};
 ghost use Rattle.dealer.specs.Runs.{run_leaves};
 ghost use Rattle.dealer.specs.Secrets.{dealing_with};
 
@@ -20,26 +20,31 @@ use reference_value::{build_leaf, leaf_bytes};
 use share_files::HEAD;
 use std::alloc::Global;
 
-/// The tree over the public values of the leaves.
+/// The tree over the public values of the leaves, which are these.
 pub(crate) fn build_tree(
+    alloc: Global,
+    params: &Params,
+    secrets: &Secrets,
+    keys: &[Val],
+) -> Result<Tree, NoMemory>
+    requires height { params.now.h ≤ 10 }
+    requires keys { keys.now ≡ leaf_keys_of params.now secrets.now.id secrets.now.seed }
+    requires lengths { All (λ key. length key ≡ params.now.n) keys.now }
+    ensures { IfOk result (λ tree. tree
+        ≡ tree_of params.now secrets.now.id (λ q. seed_leaf_key params.now secrets.now.id q secrets.now.seed)) }
+{
+    Tree::build(alloc, params, &secrets.id, keys)
+}
+
+/// The public values of the leaves.
+pub(crate) fn leaf_keys(
     alloc: Global,
     params: &Params,
     id: &KeyId,
     seed: &Val,
-) -> Result<Tree, NoMemory>
-    requires height { params.now.h ≤ 10 }
-    requires seed { length seed.now ≡ params.now.n }
-    ensures { IfOk result (λ tree. tree ≡ tree_of params.now id.now (λ q. seed_leaf_key params.now id.now q seed.now)) }
-{
-    let keys = leaf_keys(alloc, params, id, seed)?;
-    Tree::build(alloc, params, id, &keys)
-}
-
-/// The public values of the leaves.
-fn leaf_keys(alloc: Global, params: &Params, id: &KeyId, seed: &Val) -> Result<Vec<Val>, NoMemory>
+) -> Result<Vec<Val>, NoMemory>
     requires { length seed.now ≡ params.now.n }
-    ensures keys { IfOk result (λ keys. keys.items
-        ≡ map (λ q. seed_leaf_key params.now id.now q seed.now) (range_with_len 0 (2 ^ params.now.h))) }
+    ensures keys { IfOk result (λ keys. keys.items ≡ leaf_keys_of params.now id.now seed.now) }
     ensures length { IfOk result (λ keys. All (λ key. length key ≡ params.now.n) keys.items) }
 {
     let mut keys = Vec::with_capacity(alloc, params.leaves() as usize)?;
@@ -47,24 +52,6 @@ fn leaf_keys(alloc: Global, params: &Params, id: &KeyId, seed: &Val) -> Result<V
         keys.push(leaf_key_of(params, id, q, seed))?;
     }
     Ok(keys)
-}
-
-/// The leaves of the masked reference value, with room for the head of their file.
-pub(crate) fn build_reference(
-    alloc: Global,
-    params: &Params,
-    plan: &Plan,
-    secrets: &Secrets,
-) -> Result<Vec<u8>, NoMemory>
-    requires height { plan.now.h ≡ params.now.h }
-    requires seed { length secrets.now.seed ≡ params.now.n }
-    requires keys { length secrets.now.keys.items ≡ plan.now.n }
-    ensures leaves { IfOk result (λ leaves. leaves.items ≡ reference (dealing_with params.now plan.now secrets.now)) }
-    ensures room { IfOk result (λ leaves. length leaves.items + 32 ≤ vec_capacity leaves) }
-{
-    let mut leaves = room_for_leaves(alloc, params, plan)?;
-    write_leaves(params, plan, secrets, &mut leaves);
-    Ok(leaves)
 }
 
 /// Room for the leaves of the masked reference value, with more for the head of their file.
@@ -84,7 +71,7 @@ pub(crate) fn room_for_leaves(
 }
 
 /// Writes the leaves of the masked reference value.
-fn write_leaves(params: &Params, plan: &Plan, secrets: &Secrets, out: &mut [u8])
+pub(crate) fn write_leaves(params: &Params, plan: &Plan, secrets: &Secrets, out: &mut [u8])
     requires height { plan.now.h ≡ params.now.h }
     requires seed { length secrets.now.seed ≡ params.now.n }
     requires keys { length secrets.now.keys.items ≡ plan.now.n }

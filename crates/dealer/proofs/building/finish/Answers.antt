@@ -7,12 +7,13 @@ use Rattle.dealer.proofs.building.finish.Goals as goal
 pub returns-clause-dealt : goal.returns-clause-dealt
 returns-clause-dealt c =
     let d = dealing_with c.args.params.now c.args.plan.now c.args.secrets.now in
-    let node = rw c.requires.tree at c.root.ensures.node in
+    let tree = c.in_ok-tree.ensures in
+    let node = rw tree at c.root.ensures.node in
     record {
       params = refl;
       id = refl;
       root_is = node ∙ first_node d.params d.id (λ q. seed_leaf_key d.params d.id q d.seed);
-      tree = c.requires.tree;
+      tree = tree;
       reference_is = c.requires.leaves;
       shares = c.in_ok-build_shares.ensures.shares;
     }
