@@ -1,3 +1,6 @@
 pub mod Answering
 pub mod HssStreams
 pub mod Streams
+mod Beginning
+mod Placed
+mod Updating

@@ -1,87 +1,12 @@
--- A walk: the state is read out of its memory, goes through `updated`, and is written back.
-use Rattle.std.proofs.Common.{ℕ, List, [], ◌∷◌, ◌++◌, refl}
-use Rattle.std.proofs.raw_atomic.Walks.{proved}
-use base.Fraction.{full_share}
-use base.Logic.{id⊢, ex_e, snd∗}
-use base.Fml.{ftrue, fat, flft, fsep, fex}
-use mir.Syntax.{named}
-use mir.Val.{Val, vunit}
-use prog.Wp.{WpFn}
-use contract.Monad.{fact}
-use contract.Running.{tables}
-use types.Logic.{sem}
-use types.Kit.{‵, raw, ◌⊛◌, some, later, prop, ◌$◌, ◌∵◌, !, qed, done, move, drop, use1, use2, split, join, fsplit, fjoin, fpick, fpack, feq_i, pick, await, regoal, suffices, group}
-use types.Run.{enter, of_opd, unit_lit, load, look, store, stop, no_more, and_then, assigns, returns}
-use types.ByLocal.{alloc_all, pass_all, free_all, look_at, get, through, sets, lands_as}
-use denote.Exit.{yes}
-use denote.Builtin.{u8, SliceRefOf}
-use denote.Laws.{Is, shows}
-use denote.Memory.{lone}
-use denote.RawPtr.{Ptr, RawPtr, block_ptr, lies_at, in_a_block, rawptr_vals, rawptr_Tells}
-use denote.Signature.{plain}
-use denote.Slice.{ShrSlice, shr_slice_vals, shr_slice_Tells}
-use denote.Steps.{nothing, heard, peeks}
-use denote.Triple.Call.{calls_at}
-use denote.Triple.Clauses.{ensured, lasts}
-use denote.Triple.Spec.{triple_of}
-use denote.Triple.Walked.{Stays, walk_of, stay_dropped, Goes-dropped, ends_at}
-use denote.Triple.Table.{framed}
-use borrow.Table.OneValue.{part_out, part_in}
-use Rattle.rikselbe_c.specs.LmsStream.{HasTakenPart}
-use Rattle.rikselbe_c.specs.declared.lms_stream.LmsStream.{LmsStream}
-use Rattle.rikselbe_c.specs.contracts.lms_stream.LmsStream.{the_row as R}
-use Rattle.rikselbe_c.proofs.lms_stream.LmsStream.TheLaws.{the_row_laws}
-use Rattle.rikselbe_c.specs.contracts.streaming.rikselbe_lms_update as f
+-- The state is read, goes on by a piece, and is written back.
+use Rattle.rikselbe_c.proofs.Updating.{updates}
+use Rattle.rikselbe_c.proofs.Placed.{lms}
+use Rattle.rikselbe_c.specs.contracts.streaming.rikselbe_lms_update.Key.{name}
+use Rattle.rikselbe_c.specs.contracts.lms_stream.updated.Key.{name as callee}
 use Rattle.rikselbe_c.proofs.streaming.rikselbe_lms_update.Statement.{statement}
 use Rattle.rikselbe_c.proofs.streaming.rikselbe_lms_update.Code as code
-use Rattle.rikselbe_c.specs.contracts.lms_stream.updated as g
 use Rattle.rikselbe_c.proofs.lms_stream.updated.Met.{met}
-
-abbrev stayed : Stays f.ended.signature.params f.ended.kept
-stayed = (stay_dropped _ yes, (stay_dropped _ yes, tt))
 
 pub rikselbe_lms_update_spec : {M : Type 1} → statement M
 rikselbe_lms_update_spec 𝓤 𝓛 𝓜 𝓡 wired =
-    let c = f.clauses 𝓛 𝓜.mem 𝓡.returns in let W = walk_of 𝓛 f.ended stayed c in let 𝓣 = tables 𝓤 𝓛.H 𝓜 𝓡 𝓡.env in
-    proved 𝓛 f.ended stayed c 𝓜 𝓡
-    (Goes-dropped 𝓛 1 (plain (λ _. RawPtr)) yes (λ κs x w. refl), (Goes-dropped 𝓛 1 (SliceRefOf (0 ∷ []) tt (plain (λ _. u8)) (λ κs. tt)) yes (λ κs x w. refl), tt))
-    f.Key.name code.function (code.unfolded 𝓤 𝓛.H 𝓜 𝓡 wired)
-    (λ κs. (rawptr_vals, (shr_slice_vals, tt))) (λ κs. (rawptr_Tells, (shr_slice_Tells (named 0) κs.0 u8, tt))) (λ κs qs bounds a had are.
-    let κ = κs.0 in let q = qs.0 in let piece = a.1.0 in let vs = shr_slice_vals piece in let Piece = (ShrSlice (named 0) κ u8).own_val piece vs in
-    let y : Ptr → W.Ghost = λ p. ((κs, qs, bounds, (p, (piece, tt)), (rawptr_vals p, (vs, tt))), had) in
-    let G = triple_of 𝓛 g.signature (g.spec 𝓛 𝓜.mem 𝓡.returns) in
-    let z : LmsStream → Val → G.Ghost = λ s v. ((κs, qs, tt, (s, (piece, tt)), (v ∷ [], (vs, tt))), tt) in
-    let Has : LmsStream → Type 0 = λ s. HasTakenPart s had.key had.signature had.message in
-    let Goes : LmsStream → LmsStream → Type 0 = λ s r. (key signature message : List ℕ) → HasTakenPart s key signature message → HasTakenPart r key signature (message ++ piece.now) in
-    let After : LmsStream → Type 0 = λ r. HasTakenPart r had.key had.signature (had.message ++ piece.now) in
-    qed 𝓛 (((‵ (flft κ q) ⊛ ‵ ftrue) ⊛ ‵ (RawPtr.own_val a.0 (rawptr_vals a.0)) ⊛ ‵ Piece ⊛ ‵ ftrue)
-    ∷ ‵ (fex LmsStream (λ s. fsep (lies_at R full_share a.0 s) (fex (Has s) (λ _. ftrue)))) ∷ []) ∵
-    split ! $ move ! (1 ∷ []) $ split ! $ drop ! $ split ! $ move ! (3 ∷ []) $
-    fpick ! (λ s. fsplit ! $ move ! (1 ∷ []) $ fpick ! (λ taken. drop ! $
-    in_a_block ! a.0 (λ p. lies_at R full_share p s) (id⊢ 𝓤 _) (λ b o e.
-    regoal ! (λ p. prop (WpFn 𝓤 𝓛.H 𝓣.C 𝓣.Λ code.function (rawptr_vals p ++ vs) (W.post (y p)))) e refl $
-    use1 𝓛 (some (λ (v : Val). ‵ (fat full_share (lone R.mir) b o v) ⊛ ‵ (R.own_val s (v ∷ [])))) (part_out 𝓛 R refl full_share s b o) $ pick ! (λ v. split ! $ move ! (1 ∷ []) $
-    peeks ! R (Is R) (shows 𝓛 R) s (v ∷ []) (λ is.
-    let t = (((the_row_laws).lawful 𝓛).typed s (v ∷ []) is).0 in
-    enter ! _ _ _ _ _ $ alloc_all ! (λ l. pass_all ! refl ((tt, tt), ((tt, (tt, (record { fits = are.1.0.0.1.0 }, tt))), tt)) $
-    -- [what the state owns; its cell; the piece; nothing; the token of its lifetime]
-    sets ! (of_opd ! (load ! (through ! refl (stop !)) (look ! 1 refl))) refl t $
-    move ! (2 ∷ 3 ∷ []) $ join ! $ move ! (1 ∷ 0 ∷ []) $ join ! $ move ! (2 ∷ 0 ∷ []) $ join ! $ nothing ! $ move ! (1 ∷ 0 ∷ []) $
-    use2 𝓛 (raw (G.pre (z s v))) (id⊢ 𝓤 _) $
-    calls_at ! (framed 𝓤 𝓛.H 𝓜 (tables 𝓤 𝓛.H 𝓜 𝓡 𝓡.env)) G (met 𝓤 𝓛 𝓜 𝓡 (code.calls-rikselbe_c::lms_stream::updated 𝓡.env wired)) (z s v)
-    (and_then ! (get ! refl) (and_then ! (get ! refl) (no_more !))) (λ u.
-    use1 𝓛 (later (some (λ (r : LmsStream). ((‵ (flft κ q) ⊛ ‵ ftrue) ⊛ ‵ (R.own_val r (u ∷ []))) ⊛ raw (ensured 𝓛 g.ended (g.clauses 𝓛 𝓜.mem 𝓡.returns) (κ, tt) (s, (piece, tt)) tt r)))) (id⊢ 𝓤 _) $
-    await ! tt $ pick ! (λ r. split ! $ move ! (1 ∷ []) $
-    use1 𝓛 (raw (fact 𝓤 (Goes s r))) (ex_e 𝓤 _ (λ ws. snd∗ 𝓤 (sem 𝓛 (lasts g.ended (κ, tt) (s, (piece, tt)) ws)) (fact 𝓤 (Goes s r)))) $
-    heard ! (Goes s r) (λ goes. split ! $ move ! (1 ∷ []) $
-    peeks ! R (Is R) (shows 𝓛 R) r (u ∷ []) (λ after. let t' = (((the_row_laws).lawful 𝓛).typed r (u ∷ []) after).0 in
-    lands_as ! refl refl t' $
-    -- [what the new state owns; the token; the cell]
-    assigns ! (of_opd ! (get ! refl)) (through ! refl (stop !)) (store ! 2 refl t') $
-    sets ! (of_opd ! (unit_lit !)) refl (tt, tt) $
-    returns ! (look_at ! 0 refl) $ free_all ! refl $
-    suffices ! _ (ends_at 𝓛 f.ended stayed c (y (block_ptr b o)) vunit tt (tt, (tt, tt)) (tt, (tt, tt))) $
-    move ! (2 ∷ 0 ∷ []) $ use2 𝓛 (‵ (lies_at R full_share (block_ptr b o) r)) (part_in 𝓛 R refl full_share r b o u) $
-    nothing ! $ fpack ! (After r) (λ _. ftrue) (goes had.key had.signature had.message taken) $ move ! (1 ∷ 0 ∷ []) $ fjoin ! $
-    fpack ! LmsStream (λ x. fsep (lies_at R full_share (block_ptr b o) x) (fex (After x) (λ _. ftrue))) r $
-    feq_i ! _ (vunit ∷ []) _ refl $ nothing ! $ nothing ! $ join ! $ nothing ! $ join ! $ move ! (3 ∷ []) $ group ! 3 $ done !)))))))))))
+    updates lms 𝓛 𝓜 𝓡 name callee (code.unfolded 𝓤 𝓛.H 𝓜 𝓡 wired) (met 𝓤 𝓛 𝓜 𝓡 (code.calls-rikselbe_c::lms_stream::updated 𝓡.env wired))
