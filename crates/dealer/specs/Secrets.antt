@@ -1,4 +1,5 @@
 -- The dealing from what was read out of the entropy.
+use Rattle.std.specs.Prelude.{◌≡◌, length}
 use Rattle.coalition_map.specs.Coalitions.{PlanNumbers}
 use Rattle.lms_bytes.specs.declared.params.Params.{Params}
 use Rattle.reference_value.specs.Dealing.{Dealing}
@@ -13,3 +14,10 @@ dealing_with params plan secrets = record {
   random_key = secrets.random_key;
   keys = secrets.keys.items;
 }
+
+-- internal: they are of this set and this plan, which have one height: SEED has the set's hash length, and there is a
+-- key for each trustee
+pub record Suit (params : Params) (plan : PlanNumbers) (secrets : Secrets) : Type 0 where
+  pub height : plan.h ≡ params.h
+  pub seed : length secrets.seed ≡ params.n
+  pub keys : length secrets.keys.items ≡ plan.n

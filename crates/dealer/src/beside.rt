@@ -9,7 +9,7 @@ ghost use Rattle.dealer.specs.Dealt.{IsDealt, leaf_keys_of};
 ghost use Rattle.dealer.specs.Entropy.{dealing_of};
 ghost use Rattle.dealer.specs.Faults.{IsDealable};
 ghost use Rattle.dealer.specs.Runs.{run_leaves};
-ghost use Rattle.dealer.specs.Secrets.{dealing_with};
+ghost use Rattle.dealer.specs.Secrets.{Suit, dealing_with};
 
 use crate::building::finish;
 use crate::dealing::Dealt;
@@ -54,9 +54,7 @@ fn write_leaves_beside<R: Threads + Sync>(
     secrets: &Secrets,
     out: &mut [u8],
 )
-    requires height { plan.now.h ≡ params.now.h }
-    requires seed { length secrets.now.seed ≡ params.now.n }
-    requires keys { length secrets.now.keys.items ≡ plan.now.n }
+    requires suit { Suit params.now plan.now secrets.now }
     requires room { length out.old ≡ leaves_length params.now plan.now }
     ensures { out.new ≡ reference (dealing_with params.now plan.now secrets.now) }
 {
@@ -74,9 +72,7 @@ fn write_beside<R: Threads + Sync>(
     threads: usize,
     out: &mut [u8],
 )
-    requires height { plan.now.h ≡ params.now.h }
-    requires seed { length secrets.now.seed ≡ params.now.n }
-    requires keys { length secrets.now.keys.items ≡ plan.now.n }
+    requires suit { Suit params.now plan.now secrets.now }
     requires within { run.first + run.count ≤ 2 ^ params.now.h }
     requires room { length out.old ≡ leaf_length params.now plan.now.k * run.count }
     ensures { out.new ≡ run_leaves (dealing_with params.now plan.now secrets.now) run }
@@ -92,15 +88,13 @@ fn write_beside<R: Threads + Sync>(
     join_mut(
         rt,
         &mut ||
-            requires { IsSync R.row × (plan.now.h ≡ params.now.h) × (length secrets.now.seed ≡ params.now.n)
-                × (length secrets.now.keys.items ≡ plan.now.n) × (first.first + first.count ≤ 2 ^ params.now.h)
+            requires { IsSync R.row × Suit params.now plan.now secrets.now × (first.first + first.count ≤ 2 ^ params.now.h)
                 × (length front.now ≡ leaf_length params.now plan.now.k * first.count) }
             ensures { front.exit.now
                 ≡ run_leaves (dealing_with params.entry.now plan.entry.now secrets.entry.now) first }
         { write_beside(rt, params, plan, secrets, first, some, front) },
         &mut ||
-            requires { IsSync R.row × (plan.now.h ≡ params.now.h) × (length secrets.now.seed ≡ params.now.n)
-                × (length secrets.now.keys.items ≡ plan.now.n) × (next.first + next.count ≤ 2 ^ params.now.h)
+            requires { IsSync R.row × Suit params.now plan.now secrets.now × (next.first + next.count ≤ 2 ^ params.now.h)
                 × (length back.now ≡ leaf_length params.now plan.now.k * next.count) }
             ensures { back.exit.now
                 ≡ run_leaves (dealing_with params.entry.now plan.entry.now secrets.entry.now) next }

@@ -5,7 +5,7 @@ ghost use Rattle.reference_value.specs.Dealing as spec;
 ghost use Rattle.dealer.specs.Dealt.{IsDealt, leaf_keys_of};
 ghost use Rattle.dealer.specs.Entropy.{dealing_of};
 ghost use Rattle.dealer.specs.Faults.{IsDealable};
-ghost use Rattle.dealer.specs.Secrets.{dealing_with};
+ghost use Rattle.dealer.specs.Secrets.{Suit, dealing_with};
 
 use crate::dealing::Dealt;
 use crate::entropy::{Secrets, read_entropy};
@@ -44,9 +44,8 @@ pub(crate) fn finish(
     leaf_keys: &[Val],
     leaves: Vec<u8>,
 ) -> Result<Dealt, NoMemory>
-    requires height { plan.now.h ≡ params.now.h }
+    requires suit { Suit params.now plan.now secrets.now }
     requires low { params.now.h ≤ 10 }
-    requires keys { length secrets.now.keys.items ≡ plan.now.n }
     requires lengths { All (λ key. length key ≡ 32) secrets.now.keys.items }
     requires leaf_keys { leaf_keys.now ≡ leaf_keys_of params.now secrets.now.id secrets.now.seed }
     requires whole { All (λ key. length key ≡ params.now.n) leaf_keys.now }

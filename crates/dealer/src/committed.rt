@@ -10,7 +10,7 @@ ghost use Rattle.dealer.specs.Dealt.{IsDealt};
 ghost use Rattle.dealer.specs.Entropy.{dealing_of};
 ghost use Rattle.dealer.specs.Faults.{HasFault, IsDealable};
 ghost use Rattle.dealer.specs.Runs.{run_commitments, run_leaves};
-ghost use Rattle.dealer.specs.Secrets.{dealing_with};
+ghost use Rattle.dealer.specs.Secrets.{Suit, dealing_with};
 ghost use Rattle.dealer.specs.declared.committed.CommittedFault.TheVariants.{Deal, TooLarge};
 ghost use Rattle.dealer.specs.declared.faults.DealFault.{DealFault};
 
@@ -130,9 +130,7 @@ fn build_leaves(
     plan: &Plan,
     secrets: &Secrets,
 ) -> Result<(Vec<u8>, Vec<u8>), NoMemory>
-    requires height { plan.now.h ≡ params.now.h }
-    requires seed { length secrets.now.seed ≡ params.now.n }
-    requires keys { length secrets.now.keys.items ≡ plan.now.n }
+    requires suit { Suit params.now plan.now secrets.now }
     ensures leaves { IfOk result (λ both. both.0.items ≡ reference (dealing_with params.now plan.now secrets.now)) }
     ensures commits { IfOk result (λ both. both.1.items ≡ commits_file (dealing_with params.now plan.now secrets.now)) }
 {
@@ -188,9 +186,7 @@ pub(crate) fn write_committed_run(
     out: &mut [u8],
     commits: &mut [u8],
 )
-    requires height { plan.now.h ≡ params.now.h }
-    requires seed { length secrets.now.seed ≡ params.now.n }
-    requires trustees { length secrets.now.keys.items ≡ plan.now.n }
+    requires suit { Suit params.now plan.now secrets.now }
     requires keys { keys.now ≡ secrets.now.keys.items }
     requires within { run.first + run.count ≤ 2 ^ params.now.h }
     requires leaves { length out.old ≡ leaf_length params.now plan.now.k * run.count }

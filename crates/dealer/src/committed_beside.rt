@@ -10,7 +10,7 @@ ghost use Rattle.dealer.specs.Dealt.{IsDealt};
 ghost use Rattle.dealer.specs.Entropy.{dealing_of};
 ghost use Rattle.dealer.specs.Faults.{IsDealable};
 ghost use Rattle.dealer.specs.Runs.{run_commitments, run_leaves};
-ghost use Rattle.dealer.specs.Secrets.{dealing_with};
+ghost use Rattle.dealer.specs.Secrets.{Suit, dealing_with};
 
 use crate::beside::keys_beside;
 use crate::building::finish;
@@ -58,9 +58,7 @@ fn leaves_beside<R: Threads + Sync>(
     plan: &Plan,
     secrets: &Secrets,
 ) -> Result<(Vec<u8>, Vec<u8>), NoMemory>
-    requires height { plan.now.h ≡ params.now.h }
-    requires seed { length secrets.now.seed ≡ params.now.n }
-    requires keys { length secrets.now.keys.items ≡ plan.now.n }
+    requires suit { Suit params.now plan.now secrets.now }
     ensures leaves { IfOk result (λ both. both.0.items ≡ reference (dealing_with params.now plan.now secrets.now)) }
     ensures commits { IfOk result (λ both. both.1.items ≡ commits_file (dealing_with params.now plan.now secrets.now)) }
 {
@@ -95,9 +93,7 @@ fn write_committed_beside<R: Threads + Sync>(
     out: &mut [u8],
     commits: &mut [u8],
 )
-    requires height { plan.now.h ≡ params.now.h }
-    requires seed { length secrets.now.seed ≡ params.now.n }
-    requires trustees { length secrets.now.keys.items ≡ plan.now.n }
+    requires suit { Suit params.now plan.now secrets.now }
     requires keys { keys.now ≡ secrets.now.keys.items }
     requires within { run.first + run.count ≤ 2 ^ params.now.h }
     requires leaves { length out.old ≡ leaf_length params.now plan.now.k * run.count }
@@ -118,8 +114,7 @@ fn write_committed_beside<R: Threads + Sync>(
     join_mut(
         rt,
         &mut ||
-            requires { IsSync R.row × (plan.now.h ≡ params.now.h) × (length secrets.now.seed ≡ params.now.n)
-                × (length secrets.now.keys.items ≡ plan.now.n) × (keys.now ≡ secrets.now.keys.items)
+            requires { IsSync R.row × Suit params.now plan.now secrets.now × (keys.now ≡ secrets.now.keys.items)
                 × (first.first + first.count ≤ 2 ^ params.now.h)
                 × (length front.now ≡ leaf_length params.now plan.now.k * first.count)
                 × (length ahead.now ≡ leaf_commits_length params.now plan.now.k * first.count) }
@@ -129,8 +124,7 @@ fn write_committed_beside<R: Threads + Sync>(
                 ≡ run_commitments (dealing_with params.entry.now plan.entry.now secrets.entry.now) first) }
         { write_committed_beside(rt, params, plan, secrets, keys, first, some, front, ahead) },
         &mut ||
-            requires { IsSync R.row × (plan.now.h ≡ params.now.h) × (length secrets.now.seed ≡ params.now.n)
-                × (length secrets.now.keys.items ≡ plan.now.n) × (keys.now ≡ secrets.now.keys.items)
+            requires { IsSync R.row × Suit params.now plan.now secrets.now × (keys.now ≡ secrets.now.keys.items)
                 × (next.first + next.count ≤ 2 ^ params.now.h)
                 × (length back.now ≡ leaf_length params.now plan.now.k * next.count)
                 × (length behind.now ≡ leaf_commits_length params.now plan.now.k * next.count) }

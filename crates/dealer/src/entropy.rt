@@ -3,7 +3,7 @@
 ghost use Rattle.std.specs.Prelude.{◌≡◌, ◌+◌, ◌≤◌, All, IfOk, length, map};
 ghost use Rattle.std.specs.List.{range_with_len};
 ghost use Rattle.dealer.specs.Entropy.{dealing_of, entropy_length, trustee_key};
-ghost use Rattle.dealer.specs.Secrets.{dealing_with};
+ghost use Rattle.dealer.specs.Secrets.{Suit, dealing_with};
 
 use crate::checks::key_at;
 use coalition_map::Plan;
@@ -32,11 +32,11 @@ pub(crate) fn read_entropy(
     plan: &Plan,
     entropy: &[u8],
 ) -> Result<Secrets, NoMemory>
-    requires { length entropy.now ≡ entropy_length plan.now.n }
+    requires height { plan.now.h ≡ params.now.h }
+    requires size { length entropy.now ≡ entropy_length plan.now.n }
     ensures dealing { IfOk result (λ secrets. dealing_with params.now plan.now secrets
         ≡ dealing_of params.now plan.now entropy.now) }
-    ensures seed { IfOk result (λ secrets. length secrets.seed ≡ params.now.n) }
-    ensures keys { IfOk result (λ secrets. length secrets.keys.items ≡ plan.now.n) }
+    ensures suit { IfOk result (Suit params.now plan.now) }
     ensures lengths { IfOk result (λ secrets. All (λ key. length key ≡ 32) secrets.keys.items) }
 {
     let keys = read_keys(alloc, plan.n(), entropy)?;

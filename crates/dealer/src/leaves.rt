@@ -7,7 +7,7 @@ ghost use Rattle.reference_value.specs.Dealing.{reference};
 ghost use Rattle.share_files.specs.Reference.{leaf_length, leaves_length};
 ghost use Rattle.dealer.specs.Dealt.{leaf_keys_of};
 ghost use Rattle.dealer.specs.Runs.{run_leaves};
-ghost use Rattle.dealer.specs.Secrets.{dealing_with};
+ghost use Rattle.dealer.specs.Secrets.{Suit, dealing_with};
 
 use crate::entropy::Secrets;
 use crate::runs::Run;
@@ -72,9 +72,7 @@ pub(crate) fn room_for_leaves(
 
 /// Writes the leaves of the masked reference value.
 pub(crate) fn write_leaves(params: &Params, plan: &Plan, secrets: &Secrets, out: &mut [u8])
-    requires height { plan.now.h ≡ params.now.h }
-    requires seed { length secrets.now.seed ≡ params.now.n }
-    requires keys { length secrets.now.keys.items ≡ plan.now.n }
+    requires suit { Suit params.now plan.now secrets.now }
     requires room { length out.old ≡ leaves_length params.now plan.now }
     ensures { out.new ≡ reference (dealing_with params.now plan.now secrets.now) }
 {
@@ -83,9 +81,7 @@ pub(crate) fn write_leaves(params: &Params, plan: &Plan, secrets: &Secrets, out:
 
 /// Writes the leaves of a run, one behind the other.
 pub(crate) fn write_run(params: &Params, plan: &Plan, secrets: &Secrets, run: Run, out: &mut [u8])
-    requires height { plan.now.h ≡ params.now.h }
-    requires seed { length secrets.now.seed ≡ params.now.n }
-    requires keys { length secrets.now.keys.items ≡ plan.now.n }
+    requires suit { Suit params.now plan.now secrets.now }
     requires within { run.first + run.count ≤ 2 ^ params.now.h }
     requires room { length out.old ≡ leaf_length params.now plan.now.k * run.count }
     ensures { out.new ≡ run_leaves (dealing_with params.now plan.now secrets.now) run }
