@@ -2,7 +2,6 @@
 use Rattle.std.proofs.Common.{◌≡◌, ℕ, List, [], ◌∷◌, Some, None, IsTrue, refl}
 use Rattle.std.proofs.lemmas.List.Elements.{All-cons, All-nil}
 use Rattle.disk_trait.specs.Faults.{Rose}
-use Rattle.share_files.specs.declared.share.Share.{Share}
 use Rattle.stream_io.specs.Net.{NetState}
 use Rattle.stream_io.specs.Store.{StoreState}
 use Rattle.stream_io.specs.declared.call_fault.CallFault.{CallFault}
@@ -16,17 +15,16 @@ use Rattle.tool_base.specs.Loads.{FailsToLoad, ReadsAs}
 use Rattle.tool_base.proofs.Outs.{IsBackAs, ends_unchanged, keeps_unchanged}
 use Rattle.tool_base.specs.Headers.{book_header}
 use Rattle.tool_trustee.specs.Journals.{IsBook, book, no_book}
-use Rattle.tool_trustee.specs.Nets.{NetEnds}
+use Rattle.tool_trustee.specs.Nets.{NetServiceEnds, Service}
 use Rattle.tool_trustee.specs.Services.{BookEnds, StaysThere, absent, end_of_call, no_memory, not_loaded, with_book}
 use Rattle.tool_words.specs.Words.{TrusteeWords}
-use Rattle.trustee_node.specs.Trustees.{TrusteeState}
 use Rattle.stream_io.specs.Store.{PagesState}
 
-module _ (words : TrusteeWords) (share : Share) (same : Type 0) (old new : TrusteeState) where
+module _ (words : TrusteeWords) (service : Service) (same : Type 0) where
   -- no book: the store is as it was
   pub run_without : (store : StoreState) (net_old net_new : NetState) (time later : TimeState) (end : Ending) → words.book ≡ None
-      → NetEnds words share None same old new net_old net_new time end
-      → EndsTouching (BookEnds words share same old new (record { store = store; net = net_old; time = time }) (record { store = store; net = net_new; time = later })) (from_to store store) end
+      → NetServiceEnds words service None same net_old net_new time end
+      → EndsTouching (BookEnds words service same (record { store = store; net = net_old; time = time }) (record { store = store; net = net_new; time = later })) (from_to store store) end
   run_without store net_old net_new time later end is net = record {
     touched = [];
     cause = with_book None end [] (rw is no_book) (All-nil (StaysThere (from_to store store))) net;
@@ -35,7 +33,7 @@ module _ (words : TrusteeWords) (share : Share) (same : Type 0) (old new : Trust
 
   module _ (a c : StoreState) (net_old net_new : NetState) (time later : TimeState) (name : List ℕ) (is : words.book ≡ Some name) where
     abbrev ends : Ending → List (List ℕ) → Type 0
-    ends = BookEnds words share same old new (record { store = a; net = net_old; time = time }) (record { store = c; net = net_new; time = later })
+    ends = BookEnds words service same (record { store = a; net = net_old; time = time }) (record { store = c; net = net_new; time = later })
 
     -- its disk was not handed out
     pub run_absent : HeardNobody words.place net_old net_new → (fault : CallFault) (end : Ending) → end ≡ end_of_call fault → same → IsUnchanged a c
@@ -45,12 +43,12 @@ module _ (words : TrusteeWords) (share : Share) (same : Type 0) (old new : Trust
     run_absent heard call.NoMemory end ended kept unchanged rose gone = rw ended (ends_unchanged a c unchanged ends _ (no_memory kept heard))
 
     pub run_refused : HeardNobody words.place net_old net_new → (now : PagesState) (end : Ending) → same → IsBackAs a name now c → StaysThere (from_to a c) name
-        → FailsToLoad (book_header share) 1024 (from_to a c) name end → EndsTouching ends (from_to a c) end
+        → FailsToLoad (book_header service.share) 1024 (from_to a c) name end → EndsTouching ends (from_to a c) end
     run_refused heard now end kept back stays fails =
         record { touched = name ∷ []; cause = not_loaded name end is kept heard fails stays; keeps = back.keeps }
 
     pub run_with : (now : PagesState) (ids : List (List ℕ)) (end : Ending) → IsBackAs a name now c → StaysThere (from_to a c) name
-        → ReadsAs (from_to a c) name (IsBook share ids) → NetEnds words share (Some ids) same old new net_old net_new time end
+        → ReadsAs (from_to a c) name (IsBook service.share ids) → NetServiceEnds words service (Some ids) same net_old net_new time end
         → EndsTouching ends (from_to a c) end
     run_with now ids end back stays reads net = record {
       touched = name ∷ [];

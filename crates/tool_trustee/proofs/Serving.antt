@@ -12,12 +12,11 @@ use Rattle.tool_base.proofs.Heard.{heard_new}
 use Rattle.tool_base.specs.Ending.{Ending}
 use Rattle.tool_base.specs.World.{TimeState}
 use Rattle.tool_words.specs.Words.{TrusteeWords}
-use Rattle.trustee_node.specs.Workers.{ClockState, clock_state}
+use Rattle.trustee_node.specs.Connections.{ClockState, clock_state}
 use Rattle.opening_journal.specs.declared.entry.Entry.{Entry}
-use Rattle.trustee_node.specs.Ports.{IsPortRun, PortEnds, PortRun, ServedPorts, failed, full, none_waits}
-use Rattle.trustee_node.specs.Trustees.{TrusteeState}
+use Rattle.trustee_node.specs.Ports.{IsPortRun, PortEnds, PortRun, ServedPorts, failed, full, none_waits, ports_run}
 use Rattle.trustee_node.specs.declared.totals.Totals.{Totals}
-use Rattle.tool_trustee.specs.Nets.{HasAccepted, IsNewClock, NetEnds, ServiceEnds, no_memory, served}
+use Rattle.tool_trustee.specs.Nets.{HasAccepted, IsNewClock, NetServiceEnds, Service, ServiceEnds, no_memory, served}
 
 or_false : (a b : Bool) → (a || b) ≡ false → (a ≡ false) × (b ≡ false)
 or_false true b is = absurd (false≢true (sym is))
@@ -83,16 +82,16 @@ module _ (share : Share) (ids : Option (List (List ℕ))) (asked : ℕ) (log las
       (accepted-by asked (length run.served) run.before run.after one.ends made.accept_count (rw one.onward.steady (made.steady is_steady)))
       (all-accepted runs (All-tail (IsPortRun share ids asked log last) run runs are) (All-tail (IsNewPort net place) run.before (map (λ (run : PortRun). run.before) runs) new))
 
-module _ (words : TrusteeWords) (share : Share) (ids : Option (List (List ℕ))) (same : Type 0) (old new : TrusteeState)
+module _ (words : TrusteeWords) (service : Service) (ids : Option (List (List ℕ))) (same : Type 0)
     (net_old net_new : NetState) (time : TimeState) where
   pub net_ends : (ports_old ports_new : List PortState) (clocks : List ClockState) (totals : Result Totals NoMemory) (end : Ending)
       → length ports_old ≡ words.workers → (IsTrue net_old.told → IsTrue (net_old.offers words.place))
       → All (IsNewPort net_old (Some words.place)) ports_old → All (IsNewClock time) clocks
-      → IfOk totals (λ totals. ServedPorts share ids words.connections old new ports_old ports_new clocks totals)
+      → IfOk totals (λ totals. ServedPorts service.share ids words.connections service.old service.new (ports_run ports_old ports_new clocks) totals)
       → (IsTrue net_old.told → net_new.kept ≡ net_old.kept ++ ports_new)
       → (SomeUnaccepted ports_new → Rose net_old.port_count net_new.port_count)
       → (rest : Type 0) → OnErr totals (same × rest) → (rest → ports_new ≡ ports_old) → ServiceEnds ports_new totals end
-      → NetEnds words share ids same old new net_old net_new time end
+      → NetServiceEnds words service ids same net_old net_new time end
   net_ends ports_old ports_new clocks (Ok totals) end many offered made dated serves kept deaf rest refused back ends = served end (record {
     ports_old = ports_old;
     ports_new = ports_new;
@@ -106,14 +105,14 @@ module _ (words : TrusteeWords) (share : Share) (ids : Option (List (List ℕ)))
     kept = kept;
     ends = ends;
     deaf = deaf;
-    hears = λ is. subst (All HasAccepted) serves.after (all-accepted share ids words.connections old.entries new.entries net_old (Some words.place) is serves.runs serves.are
+    hears = λ is. subst (All HasAccepted) serves.after (all-accepted service.share ids words.connections service.old.entries service.new.entries net_old (Some words.place) is serves.runs serves.are
         (subst (All (IsNewPort net_old (Some words.place))) (sym serves.before) made));
   })
   net_ends ports_old ports_new clocks (Err none) end many offered made dated serves kept deaf rest refused back ends =
       rw ends (no_memory refused.0 (heard_new net_old net_new words.place ports_old made (λ told. kept told ∙ ap (λ l. net_old.kept ++ l) (back refused.1))))
 
   pub ports_many : {P : Type 0} (state : P → PortState) (ports_old ports_new : List P) (clocks : List ClockState) (totals : Result Totals NoMemory)
-      → IfOk totals (λ totals. ServedPorts share ids words.connections old new (map state ports_old) (map state ports_new) clocks totals)
+      → IfOk totals (λ totals. ServedPorts service.share ids words.connections service.old service.new (ports_run (map state ports_old) (map state ports_new) clocks) totals)
       → OnErr totals (same × (ports_new ≡ ports_old)) → length (map state ports_new) ≡ length (map state ports_old)
   ports_many state ports_old ports_new clocks (Ok totals) serves refused =
       ap length (sym serves.after) ∙ length-map serves.runs (λ (run : PortRun). run.after) ∙ sym (length-map serves.runs (λ (run : PortRun). run.before)) ∙ ap length serves.before

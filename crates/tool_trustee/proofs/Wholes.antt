@@ -17,7 +17,7 @@ use Rattle.tool_base.proofs.Takes.{other_gone, other_not_loaded, other_reads_as,
 use Rattle.tool_base.specs.Headers.{book_header}
 use Rattle.tool_trustee.proofs.Asked.{only_asked}
 use Rattle.tool_trustee.specs.Journals.{HasBook, IsBook, LeavesJournal, book, no_book}
-use Rattle.tool_trustee.specs.Nets.{NetEnds}
+use Rattle.tool_trustee.specs.Nets.{NetServiceEnds, service_of}
 use Rattle.tool_trustee.specs.Nets as nets
 use Rattle.tool_trustee.specs.Services.{BookEnds, StaysThere}
 use Rattle.tool_trustee.specs.Services as services
@@ -83,7 +83,7 @@ module _ (words : TrusteeWords) (a b c e : StoreState) (net_old net_new : NetSta
     with_stays names is there = All-cons (Stays (from_to a e)) words.journal names (stays_journal is) (all_stay names there)
 
     net_whole : (ids : Option (List (List ℕ))) (end : Ending) (names : List (List ℕ)) → HasBook (from_to b c) share words.book ids → All (StaysThere (from_to b c)) names
-        → NetEnds words share ids same old new net_old net_new time end → TrusteeEnds words before after end (words.journal ∷ names)
+        → NetServiceEnds words (service_of share old new) ids same net_old net_new time end → TrusteeEnds words before after end (words.journal ∷ names)
     net_whole ids _ names has there (nets.no_memory is heard) = trustee.no_memory (words.journal ∷ names) heard (with_stays names is there)
     net_whole ids _ names has there (nets.no_ports is heard rose offers) =
         trustee.no_ports share old.entries ids (words.journal ∷ names) trustee_is (has_book share words.book ids has) heard rose offers (with_stays names is there)
@@ -108,7 +108,7 @@ module _ (words : TrusteeWords) (a b c e : StoreState) (net_old net_new : NetSta
     }) (all_stay names there)
 
     pub ends_whole : (end : Ending) (names : List (List ℕ))
-        → BookEnds words share same old new (record { store = b; net = net_old; time = time }) (record { store = c; net = net_new; time = mid }) end names
+        → BookEnds words (service_of share old new) same (record { store = b; net = net_old; time = time }) (record { store = c; net = net_new; time = mid }) end names
         → TrusteeEnds words before after end (words.journal ∷ names)
     ends_whole _ _ (services.absent name named is heard read) =
         trustee.no_book share old.entries name trustee_is (no_book_there name named read) heard (stays_journal is)

@@ -1,6 +1,5 @@
 -- A service with a book or with none.
 use Rattle.std.specs.Prelude.{◌≡◌, ℕ, List, [], ◌∷◌, All, Option, Some, IsTrue}
-use Rattle.share_files.specs.declared.share.Share.{Share}
 use Rattle.stream_io.specs.declared.call_fault.CallFault.{CallFault}
 use Rattle.stream_io.specs.declared.call_fault.CallFault.TheVariants as call
 use Rattle.tool_base.specs.Ending as ending
@@ -11,9 +10,8 @@ use Rattle.tool_base.specs.Disks.{Stays}
 use Rattle.tool_base.specs.Loads.{FailsToLoad}
 use Rattle.tool_base.specs.Headers.{book_header}
 use Rattle.tool_trustee.specs.Journals.{HasBook}
-use Rattle.tool_trustee.specs.Nets.{NetEnds}
+use Rattle.tool_trustee.specs.Nets.{NetServiceEnds, Service}
 use Rattle.tool_words.specs.Words.{TrusteeWords}
-use Rattle.trustee_node.specs.Trustees.{TrusteeState}
 
 -- the end where a disk was not taken
 abbrev pub end_of_call : CallFault → Ending
@@ -27,20 +25,20 @@ pub record StaysThere (store : StoreRun) (name : List ℕ) : Type 0 where
   pub stays : Stays store name
 
 -- internal: how a service ends once the journal is loaded, with the names that it touched beside the journal's
-pub data BookEnds (words : TrusteeWords) (share : Share) (same : Type 0) (old new : TrusteeState)
-    (before after : Outside) : Ending → List (List ℕ) → Type 0 where
+pub data BookEnds (words : TrusteeWords) (service : Service) (same : Type 0) (before after : Outside)
+    : Ending → List (List ℕ) → Type 0 where
   absent : (name : List ℕ) → words.book ≡ Some name → same → HeardNobody words.place before.net after.net
       → IsRead (from_to before.store after.store) name Failed
-      → BookEnds words share same old new before after ending.StoreFailed []
+      → BookEnds words service same before after ending.StoreFailed []
   no_memory : same → HeardNobody words.place before.net after.net
-      → BookEnds words share same old new before after ending.NoMemory []
+      → BookEnds words service same before after ending.NoMemory []
   not_loaded : (name : List ℕ) (end : Ending) → words.book ≡ Some name → same
       → HeardNobody words.place before.net after.net
-      → FailsToLoad (book_header share) 1024 (from_to before.store after.store) name end
+      → FailsToLoad (book_header service.share) 1024 (from_to before.store after.store) name end
       → StaysThere (from_to before.store after.store) name
-      → BookEnds words share same old new before after end (name ∷ [])
+      → BookEnds words service same before after end (name ∷ [])
   with_book : (ids : Option (List (List ℕ))) (end : Ending) (touched : List (List ℕ))
-      → HasBook (from_to before.store after.store) share words.book ids
+      → HasBook (from_to before.store after.store) service.share words.book ids
       → All (StaysThere (from_to before.store after.store)) touched
-      → NetEnds words share ids same old new before.net after.net before.time end
-      → BookEnds words share same old new before after end touched
+      → NetServiceEnds words service ids same before.net after.net before.time end
+      → BookEnds words service same before after end touched

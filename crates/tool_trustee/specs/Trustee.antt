@@ -18,7 +18,7 @@ use Rattle.tool_base.specs.Disks.{Stays}
 use Rattle.tool_base.specs.Loads.{FailsToLoad, ReadsAs}
 use Rattle.tool_base.specs.Headers.{book_header}
 use Rattle.tool_trustee.specs.Journals.{HasBook, IsJournal, LeavesJournal}
-use Rattle.tool_trustee.specs.Nets.{ServedNet}
+use Rattle.tool_trustee.specs.Nets.{ServedNet, service_of}
 use Rattle.tool_words.specs.Words.{TrusteeWords}
 use Rattle.trustee_core.specs.Trustee.{journal_header}
 use Rattle.trustee_core.specs.declared.kept.TrusteeName.{TrusteeName}
@@ -73,7 +73,7 @@ pub record ServedTrustee (words : TrusteeWords) (before after : Outside) (end : 
   pub rise : min (before.store.disk_count + new.faults) (2 ^ 64 - 1) ≤ after.store.disk_count
   pub ids : Option (List (List ℕ))
   pub book : HasBook (store_of before after) share words.book ids
-  pub net : ServedNet words share ids old new before.net after.net before.time end
+  pub net : ServedNet words (service_of share old new) ids before.net after.net before.time end
   pub asked_for : OnlyAsked old.entries (record { entries = new.entries; doubt = doubt }) (turns_in net.served.runs)
 
 -- how the command ends, with the names that it touched

@@ -6,7 +6,7 @@ ghost use Rattle.std.specs.Option.{option_map};
 ghost use Rattle.approval_book.specs.Approved.{ids_of};
 ghost use Rattle.tool_base.specs.Endings.{ending};
 ghost use Rattle.tool_base.specs.World.{IsNetBack};
-ghost use Rattle.tool_trustee.specs.Nets.{NetEnds, ServiceEnds};
+ghost use Rattle.tool_trustee.specs.Nets.{NetServiceEnds, ServiceEnds, service_of};
 ghost use Rattle.tool_words.specs.Rows.{trustee_words};
 ghost use Rattle.trustee_core.specs.Trustee.{share_of};
 ghost use Rattle.trustee_node.specs.Trustees.{trustee_state};
@@ -36,9 +36,10 @@ pub(crate) fn serve_net<R: Threads + Wait + Sync, D: Disk + Send, N: Net, T: Clo
     time: &mut T,
 ) -> (Trustee<D>, Ending)
     requires { share_of trustee ≡ share.now }
-    ensures ends { NetEnds (trustee_words words.now) share.now (option_map (λ b. ids_of b.now) book.entry)
-        (result.0 ≡ trustee) (trustee_state trustee) (trustee_state result.0) (N.state net.old) (N.state net.new)
-        (T.state time.old) (ending result.1) }
+    ensures ends { NetServiceEnds (trustee_words words.now)
+        (service_of share.now (trustee_state trustee) (trustee_state result.0))
+        (option_map (λ b. ids_of b.now) book.entry) (result.0 ≡ trustee)
+        (N.state net.old) (N.state net.new) (T.state time.old) (ending result.1) }
     ensures name { (trustee_state result.0).name ≡ (trustee_state trustee).name }
     ensures faults { (trustee_state trustee).faults ≤ (trustee_state result.0).faults }
     ensures net { IsNetBack (N.state net.old) (N.state net.new) }

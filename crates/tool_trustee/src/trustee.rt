@@ -4,6 +4,7 @@ ghost use Rattle.std.specs.Prelude.{◌≡◌, ◌≤◌};
 ghost use Rattle.tool_base.specs.Endings.{ending};
 ghost use Rattle.tool_base.specs.Touched.{EndsTouching};
 ghost use Rattle.tool_base.specs.World.{IsNetBack, from_to};
+ghost use Rattle.tool_trustee.specs.Nets.{service_of};
 ghost use Rattle.tool_trustee.specs.Services.{BookEnds, end_of_call};
 ghost use Rattle.tool_trustee.specs.Trustee.{TrusteeRun};
 ghost use Rattle.tool_words.specs.Rows.{trustee_words};
@@ -70,8 +71,8 @@ fn serve_with_book<R: Threads + Wait + Sync, S: Store, N: Net, T: Clocks>(
     time: &mut T,
 ) -> (Trustee<S::Disk>, Ending)
     requires { share_of trustee ≡ share.now }
-    ensures ended { EndsTouching (BookEnds (trustee_words words.now) share.now (result.0 ≡ trustee)
-        (trustee_state trustee) (trustee_state result.0)
+    ensures ended { EndsTouching (BookEnds (trustee_words words.now)
+        (service_of share.now (trustee_state trustee) (trustee_state result.0)) (result.0 ≡ trustee)
         (record { store = S.state store.old; net = N.state net.old; time = T.state time.old })
         (record { store = S.state store.new; net = N.state net.new; time = T.state time.new }))
         (from_to (S.state store.old) (S.state store.new)) (ending result.1) }

@@ -7,7 +7,6 @@ use mathlib.Core.Logic.{dite}
 use native.Mathlib.Decide.{dec_le}
 use Rattle.opening_journal.specs.declared.entry.Entry.{Entry}
 use Rattle.share_files.specs.declared.share.Share.{Share}
-use Rattle.stream_io.specs.Net.{PortState}
 use Rattle.trustee_core.specs.declared.kept.TrusteeName.{TrusteeName}
 use Rattle.trustee_core.specs.declared.note.Note.{Note}
 use Rattle.trustee_core.specs.declared.note.Note.TheVariants.{Made, Doubted}
@@ -15,9 +14,8 @@ use Rattle.trustee_core.specs.Notes.{entries_in}
 use Rattle.trustee_core.proofs.NoteLists.{counted-in-one}
 use Rattle.trustee_node.proofs.Noting.{contains-made, entries-counted, made-contained}
 use Rattle.trustee_node.specs.Turns.{HasSteadyDisk, IsAsked, IsNoteOf, NotedBy, TellsDisk, Turn, asked_doubted, asked_made, turned_out}
-use Rattle.trustee_node.specs.Workers.{ClockState}
 use Rattle.trustee_node.specs.Gathered.{Gathered}
-use Rattle.trustee_node.specs.Ports.{AllComeFrom, ComesFrom, IsPortRun, PortRun, ServedPorts, is_asked, turns_in, was_in_doubt, was_there}
+use Rattle.trustee_node.specs.Ports.{AllComeFrom, ComesFrom, IsPortRun, PortRun, PortsRun, ServedPorts, is_asked, turns_in, was_in_doubt, was_there}
 use Rattle.trustee_node.specs.Trustees.{TrusteeState}
 use Rattle.trustee_node.specs.declared.totals.Totals.{Totals}
 use Rattle.turn_lock.specs.Lock.{Lock}
@@ -86,15 +84,15 @@ module _ (lock : Lock Note TrusteeName) (old new : TrusteeState) (pass : Seen No
   }
 
 module _ (share : Share) (ids : Option (List (List ℕ))) (asked : ℕ) (lock : Lock Note TrusteeName) (old new : TrusteeState) (pass : Seen Note TrusteeName)
-    (olds news : List PortState) (clocks : List ClockState) (totals : Totals) (opened : OpenedBy lock old) (closed : ClosedBy lock pass new) where
-  small : Gathered share ids asked lock pass olds news clocks totals → length olds ≤ 64 → pass.greatest < 2 ^ 62
+    (ports : PortsRun) (totals : Totals) (opened : OpenedBy lock old) (closed : ClosedBy lock pass new) where
+  small : Gathered share ids asked lock pass ports totals → length ports.before ≤ 64 → pass.greatest < 2 ^ 62
   small all few =
       let most = all.most in
       let drawn = all.draws.most in
-      let count : length all.runs ≡ length olds = sym (length-map all.runs (λ (run : PortRun). run.before)) ∙ ap length all.before in
+      let count : length all.runs ≡ length ports.before = sym (length-map all.runs (λ (run : PortRun). run.before)) ∙ ap length all.before in
       small-ticket lock pass (length (turns_in all.runs)) closed.whole opened.first (omega (arith, drawn)) (omega (arith, most, count, few))
 
-  pub ends-served : Gathered share ids asked lock pass olds news clocks totals → length olds ≤ 64 → ServedPorts share ids asked old new olds news clocks totals
+  pub ends-served : Gathered share ids asked lock pass ports totals → length ports.before ≤ 64 → ServedPorts share ids asked old new ports totals
   ends-served all few =
       let fresh = small all few in
       let number = closed.number in

@@ -12,13 +12,14 @@ use Rattle.trustee_core.specs.Notes.{entries_in}
 use Rattle.trustee_core.specs.declared.kept.TrusteeName.{TrusteeName}
 use Rattle.trustee_core.specs.declared.note.Note.{Note}
 use Rattle.trustee_node.specs.Turns.{Draws, Faults, HasSteadyDisk, NotedBy, ServedTurns, TellsDisk, Turn, added_by, ended}
-use Rattle.trustee_node.specs.Workers.{ClockState, Connection, IsConnection, WorkEnds, WorkerState, Worked, accept_failed, frames_of, no_further, pass_worn, served_all, turns_of}
+use Rattle.trustee_node.specs.Connections.{ClockState}
+use Rattle.trustee_node.specs.Workers.{Connection, IsConnection, WorkEnds, WorkerState, Worked, accept_failed, frames_of, no_further, pass_worn, served_all, turns_of}
 use Rattle.trustee_core.proofs.NoteLists.{entries-append}
 use Rattle.trustee_node.proofs.Noting.{entries-prefix, noted-join}
 use Rattle.trustee_node.proofs.Standing.{begins-length}
 use Rattle.trustee_node.proofs.Serving.{served-then, with_code-append}
 use Rattle.trustee_node.specs.Gathered.{Gathered, IsDone}
-use Rattle.trustee_node.specs.Ports.{IsPortRun, PortEnds, PortRun, failed, full, none_waits, turns_in}
+use Rattle.trustee_node.specs.Ports.{IsPortRun, PortEnds, PortRun, failed, full, none_waits, ports_run, turns_in}
 use Rattle.trustee_node.specs.declared.totals.Totals.{Totals}
 use Rattle.turn_lock.specs.Lock.{Lock}
 use Rattle.turn_lock.specs.Pass.{Joins, Seen, first_pass, longer_of}
@@ -161,7 +162,7 @@ module _ (share : Share) (ids : Option (List (List ℕ))) where
     -- the first worker
     pub gathered-one : (lock : Lock Note TrusteeName) (port : PortState) (clock : ClockState) (worker : WorkerState) (totals : Totals)
         → IsDone share ids asked (first_pass lock) port clock worker → totals.connections ≡ worker.connections → totals.frames ≡ worker.frames
-        → Gathered share ids asked lock worker.pass (port ∷ []) (worker.port ∷ []) (clock ∷ []) totals
+        → Gathered share ids asked lock worker.pass (ports_run (port ∷ []) (worker.port ∷ []) (clock ∷ [])) totals
     gathered-one lock port clock worker totals done connections frames =
         let w = worked lock port clock worker done in
         let one = run lock port clock worker done in
@@ -189,9 +190,9 @@ module _ (share : Share) (ids : Option (List (List ℕ))) where
     -- one more worker
     pub gathered-more : (lock : Lock Note TrusteeName) (old new : Seen Note TrusteeName) (olds news : List PortState) (clocks : List ClockState) (totals sums : Totals)
         (port : PortState) (clock : ClockState) (worker : WorkerState)
-        → Gathered share ids asked lock old olds news clocks totals → IsDone share ids asked (first_pass lock) port clock worker → Joins old worker.pass new
+        → Gathered share ids asked lock old (ports_run olds news clocks) totals → IsDone share ids asked (first_pass lock) port clock worker → Joins old worker.pass new
         → sums.connections ≡ min (totals.connections + worker.connections) (2 ^ 32 - 1) → sums.frames ≡ min (totals.frames + worker.frames) (2 ^ 32 - 1)
-        → Gathered share ids asked lock new (olds ++ port ∷ []) (news ++ worker.port ∷ []) (clocks ++ clock ∷ []) sums
+        → Gathered share ids asked lock new (ports_run (olds ++ port ∷ []) (news ++ worker.port ∷ []) (clocks ++ clock ∷ [])) sums
     gathered-more lock old new olds news clocks totals sums port clock worker a done met connections frames =
         let w = worked lock port clock worker done in
         let one = run lock port clock worker done in

@@ -4,8 +4,10 @@ use Rattle.share_files.specs.declared.share.Share.{Share}
 use Rattle.stream_io.specs.Net.{PortState}
 use Rattle.trustee_core.specs.declared.kept.TrusteeName.{TrusteeName}
 use Rattle.trustee_core.specs.declared.note.Note.{Note}
-use Rattle.trustee_node.specs.Workers.{ClockState, WorkerState}
+use Rattle.trustee_node.specs.Connections.{ClockState}
+use Rattle.trustee_node.specs.Workers.{WorkerState}
 use Rattle.trustee_node.specs.Gathered.{AreDone, Gathered, IsDone}
+use Rattle.trustee_node.specs.Ports.{ports_run}
 use Rattle.trustee_node.specs.declared.totals.Totals.{Totals}
 use Rattle.trustee_node.proofs.Gathering.{gathered-one}
 use Rattle.trustee_node.proofs.PortStanding.{no-clocks, no-ports, split}
@@ -25,7 +27,7 @@ module _ {W : Type 0} (state : W → WorkerState) (share : Share) (ids : Option 
     pub ports_are : olds ≡ taken ++ other_ports
     pub clocks_are : clocks ≡ dated ++ other_clocks
     pub left : AreDone state share ids asked (first_pass lock) other_ports other_clocks workers
-    pub gathered : Gathered share ids asked lock pass taken news dated totals
+    pub gathered : Gathered share ids asked lock pass (ports_run taken news dated) totals
 
   -- the first of them
   pub hand-one : (olds : List PortState) (clocks : List ClockState) (all workers : List W) (worker : W) (pass : Seen Note TrusteeName) (news : List PortState) (totals : Totals)
@@ -43,15 +45,15 @@ module _ {W : Type 0} (state : W → WorkerState) (share : Share) (ids : Option 
         ports_are = s.ports_are;
         clocks_are = s.clocks_are;
         left = s.others;
-        gathered = subst (λ (p : Seen Note TrusteeName). Gathered share ids asked lock p (s.port ∷ []) news (s.clock ∷ []) totals) (sym pass_is)
-            (subst (λ (l : List PortState). Gathered share ids asked lock (state worker).pass (s.port ∷ []) l (s.clock ∷ []) totals) (sym news_are) one);
+        gathered = subst (λ (p : Seen Note TrusteeName). Gathered share ids asked lock p (ports_run (s.port ∷ []) news (s.clock ∷ [])) totals) (sym pass_is)
+            (subst (λ (l : List PortState). Gathered share ids asked lock (state worker).pass (ports_run (s.port ∷ []) l (s.clock ∷ [])) totals) (sym news_are) one);
       }
 
   -- one more
   pub hand-more : (olds : List PortState) (clocks : List ClockState) (all workers : List W) (worker : W) (old new : Seen Note TrusteeName) (news nows : List PortState) (totals sums : Totals)
       → InHand olds clocks all old news totals → all ≡ workers ++ worker ∷ []
-      → ((taken : List PortState) (dated : List ClockState) (port : PortState) (clock : ClockState) → Gathered share ids asked lock old taken news dated totals → IsSo port clock worker
-      → Gathered share ids asked lock new (taken ++ port ∷ []) nows (dated ++ clock ∷ []) sums)
+      → ((taken : List PortState) (dated : List ClockState) (port : PortState) (clock : ClockState) → Gathered share ids asked lock old (ports_run taken news dated) totals → IsSo port clock worker
+      → Gathered share ids asked lock new (ports_run (taken ++ port ∷ []) nows (dated ++ clock ∷ [])) sums)
       → InHand olds clocks workers new nows sums
   hand-more olds clocks all workers worker old new news nows totals sums hand is more =
       let s = split IsSo hand.other_ports hand.other_clocks all workers worker hand.left is in
@@ -68,8 +70,8 @@ module _ {W : Type 0} (state : W → WorkerState) (share : Share) (ids : Option 
 
   -- all of them
   pub hand-all : (olds : List PortState) (clocks : List ClockState) (workers : List W) (pass : Seen Note TrusteeName) (news : List PortState) (totals : Totals)
-      → InHand olds clocks workers pass news totals → workers ≡ [] → Gathered share ids asked lock pass olds news clocks totals
+      → InHand olds clocks workers pass news totals → workers ≡ [] → Gathered share ids asked lock pass (ports_run olds news clocks) totals
   hand-all olds clocks workers pass news totals hand none =
       let ports : hand.taken ≡ olds = sym (append-nil hand.taken) ∙ ap (λ (l : List PortState). hand.taken ++ l) (sym (no-ports IsSo hand.other_ports hand.other_clocks workers hand.left none)) ∙ sym hand.ports_are in
       let dates : hand.dated ≡ clocks = sym (append-nil hand.dated) ∙ ap (λ (l : List ClockState). hand.dated ++ l) (sym (no-clocks IsSo hand.other_ports hand.other_clocks workers hand.left none)) ∙ sym hand.clocks_are in
-      subst (λ (l : List PortState). Gathered share ids asked lock pass l news clocks totals) ports (subst (λ (l : List ClockState). Gathered share ids asked lock pass hand.taken news l totals) dates hand.gathered)
+      subst (λ (l : List PortState). Gathered share ids asked lock pass (ports_run l news clocks) totals) ports (subst (λ (l : List ClockState). Gathered share ids asked lock pass (ports_run hand.taken news l) totals) dates hand.gathered)

@@ -1,3 +1,4 @@
+mod Asking
 mod Conversing
 mod Deciding
 mod Frames

@@ -7,16 +7,15 @@ use Rattle.opening_journal.specs.Entries.{IsLegalList}
 use Rattle.opening_journal.specs.declared.entry.Entry.{Entry}
 use Rattle.approval_book.specs.Decisions.{Decided, Denied}
 use Rattle.share_files.specs.declared.share.Share.{Share}
-use Rattle.stream_io.specs.Net.{PortState}
 use Rattle.trustee_core.specs.Decisions.{Granted, Refused}
 use Rattle.trustee_core.specs.Lives.{OneOpening}
 use Rattle.trustee_node.specs.Places.{StandUnder, granted_by, granted_in, if_granted}
 use Rattle.trustee_node.specs.Turns.{InTurn, NoTurn, Outcome, Turn}
-use Rattle.trustee_node.specs.Workers.{ClockState, turns_of}
+use Rattle.trustee_node.specs.Workers.{turns_of}
 use Rattle.trustee_node.proofs.Opening.{one-opening}
 use Rattle.trustee_node.proofs.Prefixes.{prefix-same}
 use Rattle.trustee_node.proofs.Standing.{served-begins}
-use Rattle.trustee_node.specs.Ports.{IsPortRun, PortRun, ServedPorts, turns_in}
+use Rattle.trustee_node.specs.Ports.{IsPortRun, PortRun, PortsRun, ServedPorts, turns_in}
 use Rattle.trustee_node.specs.Trustees.{TrusteeState}
 use Rattle.trustee_node.specs.declared.totals.Totals.{Totals}
 
@@ -47,9 +46,9 @@ runs-stand share ids asked log last (run ∷ runs) are =
     (record { ids = ids; log = log; end = last; served = one.turns; begins = prefix-same last })
     (runs-stand share ids asked log last runs (All-tail Is run runs are))
 
-pub ports-opening : (share : Share) (ids : Option (List (List ℕ))) (asked : ℕ) (old new : TrusteeState) (before after : List PortState) (clocks : List ClockState) (totals : Totals)
-    → (all : ServedPorts share ids asked old new before after clocks totals) → IsLegalList new.entries → OneOpening share (granted_in (turns_in all.runs))
-ports-opening share ids asked old new before after clocks totals all legal =
+pub ports-opening : (share : Share) (ids : Option (List (List ℕ))) (asked : ℕ) (old new : TrusteeState) (ports : PortsRun) (totals : Totals)
+    → (all : ServedPorts share ids asked old new ports totals) → IsLegalList new.entries → OneOpening share (granted_in (turns_in all.runs))
+ports-opening share ids asked old new ports totals all legal =
     subst (OneOpening share) (granted-runs all.runs)
     (one-opening share new.entries (map (λ (run : PortRun). turns_of run.served) all.runs) legal (runs-stand share ids asked old.entries new.entries all.runs all.are))
 

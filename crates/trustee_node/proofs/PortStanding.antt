@@ -4,7 +4,7 @@ use Rattle.std.proofs.lemmas.List.{append_cancel_left, get_or_append_left, get_o
 use Rattle.std.proofs.Math.Seq.{get_or-append_seam, take-append_seam, take-length}
 use Rattle.std.proofs.lemmas.List.Elements.{All-nil, All-push}
 use Rattle.stream_io.specs.Net.{PortState}
-use Rattle.trustee_node.specs.Workers.{ClockState}
+use Rattle.trustee_node.specs.Connections.{ClockState}
 use Rattle.trustee_node.specs.Gathered.{StandTo, none, one}
 
 pub none-of : {A : Type 0} (xs : List A) → length xs ≡ 0 → xs ≡ []

@@ -6,10 +6,10 @@ use Rattle.opening_journal.specs.declared.entry.Entry.{Entry}
 use Rattle.share_files.specs.declared.share.Share.{Share}
 use Rattle.stream_io.specs.Net.{IsNewPort, NetState, PortState}
 use Rattle.trustee_node.specs.Connections.{IsLinkFault}
-use Rattle.trustee_node.specs.Ports.{HasRoomyLinks, IsPortRun, NoLinkFails, PortRun, ServedPorts, TakesAll}
+use Rattle.trustee_node.specs.Ports.{HasRoomyLinks, IsPortRun, NoLinkFails, PortRun, PortsRun, ServedPorts, TakesAll}
 use Rattle.trustee_node.specs.Replies.{longest_reply}
 use Rattle.trustee_node.specs.Trustees.{TrusteeState}
-use Rattle.trustee_node.specs.Workers.{ClockState, Connection, IsConnection}
+use Rattle.trustee_node.specs.Workers.{Connection, IsConnection}
 use Rattle.trustee_node.specs.declared.totals.Totals.{Totals}
 
 module _ (share : Share) where
@@ -41,9 +41,9 @@ module _ (share : Share) where
         (sound-all run.before run.served (All-head (HasRoomyLinks share.params) run.before ports roomy) (All-head (IsPortRun share ids asked log last) run runs are).are)
         (sound-runs runs (All-tail (HasRoomyLinks share.params) run.before ports roomy) (All-tail (IsPortRun share ids asked log last) run runs are))
 
-pub no-link-fails : (share : Share) (ids : Option (List (List ℕ))) (asked : ℕ) (old new : TrusteeState) (before after : List PortState) (clocks : List ClockState) (totals : Totals)
-    → (all : ServedPorts share ids asked old new before after clocks totals) → All (HasRoomyLinks share.params) before → NoLinkFails all.runs
-no-link-fails share ids asked old new before after clocks totals all roomy =
+pub no-link-fails : (share : Share) (ids : Option (List (List ℕ))) (asked : ℕ) (old new : TrusteeState) (ports : PortsRun) (totals : Totals)
+    → (all : ServedPorts share ids asked old new ports totals) → All (HasRoomyLinks share.params) ports.before → NoLinkFails all.runs
+no-link-fails share ids asked old new ports totals all roomy =
     sound-runs share ids asked old.entries new.entries all.runs (subst (All (HasRoomyLinks share.params)) (sym all.before) roomy) all.are
 
 -- new ports of a steady net with room have roomy links

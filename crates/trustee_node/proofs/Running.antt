@@ -1,15 +1,19 @@
 -- Workers that were run.
-use Rattle.std.proofs.Common.{◌≡◌, ◌^◌, ◌≤◌, ◌<◌, false, ℕ, List, ◌++◌, Option, Some, IfSome, All, length, take, drop, get_or, refl, sym, ap, ◌∙◌, subst, arith}
+use Rattle.std.proofs.Common.{◌≡◌, ◌^◌, ◌≤◌, ◌<◌, false, ℕ, Bool, List, ◌++◌, Option, Some, IfSome, All, length, map, take, drop, get_or, refl, sym, ap, ◌∙◌, subst, arith}
 use Rattle.std.proofs.lemmas.List.{length-map}
 use Rattle.share_files.specs.declared.share.Share.{Share}
 use Rattle.stream_io.specs.Net.{PortState}
 use Rattle.trustee_core.specs.declared.kept.TrusteeName.{TrusteeName}
 use Rattle.trustee_core.specs.declared.note.Note.{Note}
 use Rattle.trustee_node.specs.Turns.{IsIdle}
-use Rattle.trustee_node.specs.Workers.{ClockState, WorkEnds, WorkerState, Worked}
+use Rattle.trustee_node.specs.Connections.{ClockState, clock_state}
+use Rattle.trustee_node.specs.Workers.{WorkEnds, WorkerState, Worked, worker_state}
 use Rattle.trustee_node.specs.Gathered.{AreBegun, AreDone, Gathered, IsBegun, IsDone}
-use Rattle.trustee_node.specs.Ports.{PortRun}
+use Rattle.trustee_node.specs.Ports.{PortRun, ports_run}
+use Rattle.trustee_node.specs.Starting.{fresh_workers}
 use Rattle.trustee_node.specs.declared.totals.Totals.{Totals}
+use Rattle.trustee_node.specs.declared.worker.Worker.{Worker}
+use Rattle.trustee_node.proofs.Starting.{begun-of}
 use Rattle.trustee_node.proofs.PortStanding.{stand-all, stand-then, written-whole}
 use Rattle.turn_lock.specs.Lock.{Lock}
 use Rattle.turn_lock.specs.Pass.{Seen, first_pass}
@@ -56,7 +60,18 @@ module _ {W : Type 0} (state : W → WorkerState) (share : Share) (lock : Lock N
           ends = ends i d (omega (arith, lt, size));
         }))
 
+-- the workers that were made for these ports and clocks, once they were run
+pub done-of : {P T C L : Type 0} (state : P → PortState) (told : C → Bool) (answers : C → ℕ → ℕ) (share : Share) (ids : Option (List (List ℕ))) (asked : ℕ) (lock : Lock Note TrusteeName)
+    (ports : List P) (clocks : List C) (items slice news : List (Worker P T C L Note TrusteeName)) (len : ℕ)
+    → items ≡ fresh_workers (first_pass lock) ports clocks → length ports ≡ length clocks → slice ≡ items → length news ≡ length slice → len ≡ length items → asked < 2 ^ 32
+    → ((i : ℕ) (d : Worker P T C L Note TrusteeName) → i < length slice → Worked share ids (worker_state state told answers (get_or slice i d)) (worker_state state told answers (get_or news i d)))
+    → All (λ worker. worker.connections ≤ asked) news → All (λ worker. WorkEnds asked (worker_state state told answers worker)) news
+    → AreDone (worker_state state told answers) share ids asked (first_pass lock) (map state ports) (map (clock_state told answers) clocks) (take len (news ++ drop (length news) items))
+done-of state told answers share ids asked lock ports clocks items slice news len are same value size count small worked most ends =
+    done-after (worker_state state told answers) share lock items slice value news len size count ids asked (map state ports) (map (clock_state told answers) clocks) small
+    (begun-of state told answers (first_pass lock) ports clocks items are same) worked most ends
+
 pub joined-all : (share : Share) (ids : Option (List (List ℕ))) (asked : ℕ) (lock : Lock Note TrusteeName) (pass : Seen Note TrusteeName) (olds news : List PortState) (clocks : List ClockState) (totals : Totals)
-    → Gathered share ids asked lock pass olds news clocks totals → pass.joined ≡ length olds
+    → Gathered share ids asked lock pass (ports_run olds news clocks) totals → pass.joined ≡ length olds
 joined-all share ids asked lock pass olds news clocks totals all =
     all.joined ∙ sym (length-map all.runs (λ (run : PortRun). run.before)) ∙ ap length all.before

@@ -6,7 +6,8 @@ use Rattle.trustee_core.specs.declared.kept.TrusteeName.{TrusteeName}
 use Rattle.trustee_core.specs.declared.note.Note.{Note}
 use Rattle.trustee_node.specs.Gathered.{AreBegun, none, one}
 use Rattle.trustee_node.specs.Starting.{fresh_worker, fresh_workers}
-use Rattle.trustee_node.specs.Workers.{clock_state, worker_state}
+use Rattle.trustee_node.specs.Connections.{clock_state}
+use Rattle.trustee_node.specs.Workers.{worker_state}
 use Rattle.trustee_node.specs.declared.worker.Worker.{Worker}
 use Rattle.turn_lock.specs.Pass.{Seen}
 

@@ -11,9 +11,9 @@ use Rattle.stream_io.specs.Talk.{Talk}
 use Rattle.trustee_core.specs.declared.kept.TrusteeName.{TrusteeName}
 use Rattle.trustee_core.specs.declared.note.Note.{Note}
 use Rattle.turn_lock.specs.Pass.{Seen}
-use Rattle.trustee_node.specs.Connections.{EndsBy, HaveMoments, IsDated}
+use Rattle.trustee_node.specs.Connections.{ClockState, EndsBy, HaveMoments, IsDated}
 use Rattle.trustee_node.specs.Turns.{Serves, Turn, with_code}
-use Rattle.trustee_node.specs.Workers.{ClockState, Connection, IsConnection, ServesLink, WorkerState, Worked, turns_of}
+use Rattle.trustee_node.specs.Workers.{Connection, IsConnection, ServesLink, WorkerState, Worked, turns_of}
 use Rattle.trustee_node.specs.declared.served.Served.{Served}
 use Rattle.trustee_node.specs.declared.served.ServedEnd.{ServedEnd}
 use Rattle.trustee_node.specs.declared.served.ServedEnd.TheVariants.{Worn}
@@ -96,7 +96,7 @@ module _ (share : Share) (ids : Option (List (List ℕ))) where
   pub worked-more : (old mid : WorkerState) (port_in port : PortState) (pass : Seen Note TrusteeName) (clock : ClockState) (link : Talk) (steady : Bool) (room : ℕ) (served : Served) (frames : ℕ) (worn : Bool)
       → Worked share ids old mid → mid.failed ≡ false
       → link.room ≡ room → Accepts mid.port link steady room port_in → PortOnward mid.port port_in → port_in.accept_count ≡ mid.port.accept_count
-      → ServesLink share ids mid.pass pass steady link port_in port mid.clock clock served → PortOnward port_in port → clock.told ≡ mid.clock.told
+      → ServesLink share ids (record { pass = mid.pass; clock = mid.clock }) (record { pass = pass; clock = clock }) (record { steady = steady; talk = link }) port_in port served → PortOnward port_in port → clock.told ≡ mid.clock.told
       → frames ≡ min (mid.frames + served.frames) (2 ^ 32 - 1) → (worn ≡ true → served.ended ≡ Worn)
       → Worked share ids old (record { port = port; pass = pass; clock = clock; connections = mid.connections + 1; frames = frames; worn = worn; failed = mid.failed })
   worked-more old mid port_in port pass clock link steady room served frames worn a sound takes accepts onward_in quiet b onward told sum ended =

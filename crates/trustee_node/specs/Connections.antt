@@ -98,23 +98,41 @@ pub record IsDated (before now : ℕ → ℕ) (turns : List Turn) : Type 0 where
   pub moments : HaveMoments before 0 turns
   pub later : (j : ℕ) → now j ≡ before (j + length turns)
 
--- All of a connection, by the turns that its asks had: the pass, the link, which is steady or not, and the clock before
--- and after, and its end.
-pub record Conversation (share : Share) (ids : Option (List (List ℕ))) (pass_old pass_new : Seen Note TrusteeName)
-    (steady : Bool) (old new : Talk) (clock_told : Bool) (answers_old answers_new : ℕ → ℕ) (served : Served)
-    : Type 0 where
+-- a clock in one state: whether it tells its answers, and what it answers from now on, the next answer at 0
+pub record ClockState : Type 0 where
+  pub told : Bool
+  pub answers : ℕ → ℕ
+
+-- the state of a clock that has these members
+abbrev pub clock_state : {C : Type 0} → (C → Bool) → (C → ℕ → ℕ) → C → ClockState
+clock_state told answers clock = record { told = told clock; answers = answers clock }
+
+-- the server of a connection in one state: what its pass has seen, and its clock
+pub record ServerState : Type 0 where
+  pub pass : Seen Note TrusteeName
+  pub clock : ClockState
+
+-- a link in one state: whether it is steady, and its talk
+pub record LinkState : Type 0 where
+  pub steady : Bool
+  pub talk : Talk
+
+-- All of a connection, by the turns that its asks had: its server before and after, its link as it was, the talk that
+-- came of it, and its end.
+pub record Conversation (share : Share) (ids : Option (List (List ℕ))) (old new : ServerState) (link : LinkState)
+    (talk : Talk) (served : Served) : Type 0 where
   pub turns : List Turn
-  pub serves : Serves share ids pass_old pass_new turns
-  pub dated : IsTrue clock_told → IsDated answers_old answers_new turns
-  pub read : IsTrue old.told → HasRead share.params old new served.ended turns
-  pub written : IsTrue old.told → HasWritten share old new served.ended turns
+  pub serves : Serves share ids old.pass new.pass turns
+  pub dated : IsTrue old.clock.told → IsDated old.clock.answers new.clock.answers turns
+  pub read : IsTrue link.talk.told → HasRead share.params link.talk talk served.ended turns
+  pub written : IsTrue link.talk.told → HasWritten share link.talk talk served.ended turns
   pub ends : EndsBy served.ended served.frames turns
   pub most : length turns ≤ 65536
   pub small : length (replies share turns) ≤ length turns * longest_reply share.params
-  pub cause : RisesWhere (IsLinkFault served.ended) old.count new.count
-  pub fails : FailsForRoom share steady old.room served.ended turns
-  pub told : new.told ≡ old.told
-  pub place : new.place ≡ old.place
+  pub cause : RisesWhere (IsLinkFault served.ended) link.talk.count talk.count
+  pub fails : FailsForRoom share link.steady link.talk.room served.ended turns
+  pub told : talk.told ≡ link.talk.told
+  pub place : talk.place ≡ link.talk.place
 
 -- the end of a connection whose next frame has this fault
 abbrev pub end_by : FrameFault → ServedEnd

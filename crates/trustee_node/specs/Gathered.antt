@@ -6,8 +6,9 @@ use Rattle.trustee_core.specs.Notes.{entries_in}
 use Rattle.trustee_core.specs.declared.kept.TrusteeName.{TrusteeName}
 use Rattle.trustee_core.specs.declared.note.Note.{Note}
 use Rattle.trustee_node.specs.Turns.{Draws, Faults, NotedBy, added_by}
-use Rattle.trustee_node.specs.Workers.{ClockState, WorkEnds, WorkerState, Worked}
-use Rattle.trustee_node.specs.Ports.{HasTotals, IsPortRun, PortRun, turns_in}
+use Rattle.trustee_node.specs.Connections.{ClockState}
+use Rattle.trustee_node.specs.Workers.{WorkEnds, WorkerState, Worked}
+use Rattle.trustee_node.specs.Ports.{HasTotals, IsPortRun, PortRun, PortsRun, turns_in}
 use Rattle.trustee_node.specs.declared.totals.Totals.{Totals}
 use Rattle.turn_lock.specs.Lock.{Lock}
 use Rattle.turn_lock.specs.Pass.{SamePass, Seen, first_pass}
@@ -45,12 +46,11 @@ pub record IsDone (share : Share) (ids : Option (List (List ℕ))) (asked : ℕ)
 
 -- internal: the pass in which the passes of these ports' workers are joined
 pub record Gathered (share : Share) (ids : Option (List (List ℕ))) (asked : ℕ) (lock : Lock Note TrusteeName)
-    (pass : Seen Note TrusteeName) (ports_old ports_new : List PortState) (clocks : List ClockState)
-    (totals : Totals) : Type 0 where
+    (pass : Seen Note TrusteeName) (ports : PortsRun) (totals : Totals) : Type 0 where
   pub runs : List PortRun
-  pub before : map (λ (run : PortRun). run.before) runs ≡ ports_old
-  pub after : map (λ (run : PortRun). run.after) runs ≡ ports_new
-  pub by_clocks : map (λ (run : PortRun). run.clock) runs ≡ clocks
+  pub before : map (λ (run : PortRun). run.before) runs ≡ ports.before
+  pub after : map (λ (run : PortRun). run.after) runs ≡ ports.after
+  pub by_clocks : map (λ (run : PortRun). run.clock) runs ≡ ports.clocks
   pub are : pass.greatest < 2 ^ 62
       → All (IsPortRun share ids asked (entries_in lock.opening_log) (entries_in pass.log)) runs
   pub same : SamePass (first_pass lock) pass

@@ -30,13 +30,14 @@ pub record StandUnder (share : Share) (last : List Entry) (turns : List Turn) : 
   pub served : ServedTurns share ids log turns end
   pub begins : IsPrefix end last
 
--- the asks of these turns that were granted
+-- these asks, behind this one if it was granted
 abbrev pub if_granted : Outcome → Ask → List Ask → List Ask
 if_granted (InTurn (Decided Granted)) ask asks = ask ∷ asks
 if_granted (InTurn (Decided (Refused why))) ask asks = asks
 if_granted (InTurn (Denied message)) ask asks = asks
 if_granted NoTurn ask asks = asks
 
+-- the asks of these turns that were granted
 abbrev pub granted_in : List Turn → List Ask
 granted_in [] = []
 granted_in (turn ∷ turns) = if_granted turn.outcome turn.ask (granted_in turns)

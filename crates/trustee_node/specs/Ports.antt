@@ -8,10 +8,10 @@ use Rattle.opening_journal.specs.declared.entry.Entry.{Entry}
 use Rattle.share_files.specs.declared.share.Share.{Share}
 use Rattle.stream_io.specs.Net.{PortOnward, PortState}
 use Rattle.trustee_core.specs.declared.note.Note.TheVariants.{Doubted}
-use Rattle.trustee_node.specs.Connections.{HaveMoments, IsLinkFault}
+use Rattle.trustee_node.specs.Connections.{ClockState, HaveMoments, IsLinkFault}
 use Rattle.trustee_node.specs.Replies.{longest_reply}
 use Rattle.trustee_node.specs.Turns.{IsAsked, ServedTurns, Turn, added_by, with_code}
-use Rattle.trustee_node.specs.Workers.{ClockState, Connection, IsConnection, frames_of, turns_of}
+use Rattle.trustee_node.specs.Workers.{Connection, IsConnection, frames_of, turns_of}
 use Rattle.trustee_node.specs.Trustees.{TrusteeState}
 use Rattle.trustee_node.specs.declared.totals.Totals.{Totals}
 
@@ -88,14 +88,24 @@ pub record AllComeFrom (old new : TrusteeState) (turns : List Turn) : Type 0 whe
   pub doubt : (entry : Entry) → new.doubt ≡ Some entry → ComesFrom old turns entry
   pub notes : (entry : Entry) → Contains new.notes (Doubted entry) → ComesFrom old turns entry
 
+-- ports before and after, in one order, and the clock of each, by which its asks were dated
+pub record PortsRun : Type 0 where
+  pub before : List PortState
+  pub after : List PortState
+  pub clocks : List ClockState
+
+-- the same of these lists
+abbrev pub ports_run : List PortState → List PortState → List ClockState → PortsRun
+ports_run before after clocks = record { before = before; after = after; clocks = clocks }
+
 -- What serving these ports made of a trustee and of them, in their order. Where there was no fault, each entry stands
 -- in the last log as often as in the first one and in what the turns added together.
 pub record ServedPorts (share : Share) (ids : Option (List (List ℕ))) (asked : ℕ) (old new : TrusteeState)
-    (ports_old ports_new : List PortState) (clocks : List ClockState) (totals : Totals) : Type 0 where
+    (ports : PortsRun) (totals : Totals) : Type 0 where
   pub runs : List PortRun
-  pub before : map (λ (run : PortRun). run.before) runs ≡ ports_old
-  pub after : map (λ (run : PortRun). run.after) runs ≡ ports_new
-  pub by_clocks : map (λ (run : PortRun). run.clock) runs ≡ clocks
+  pub before : map (λ (run : PortRun). run.before) runs ≡ ports.before
+  pub after : map (λ (run : PortRun). run.after) runs ≡ ports.after
+  pub by_clocks : map (λ (run : PortRun). run.clock) runs ≡ ports.clocks
   pub are : All (IsPortRun share ids asked old.entries new.entries) runs
   pub codes : HasCodes old new (turns_in runs)
   pub adds : new.faults ≡ 0 → (test : Entry → Bool)

@@ -26,11 +26,12 @@ use Rattle.trustee_node.specs.Turns.{InTurn, NoTurn, Outcome, Serves, Turn, code
 use Rattle.trustee_node.specs.declared.turn.Answer.{Answer}
 use Rattle.trustee_node.specs.declared.turn.Answer.TheVariants as answer
 
--- the round of an ask, and its randomizer, which is n zero bytes in round one
+-- the round of an ask
 abbrev pub round_of : Option Second → ℕ
 round_of None = 1
 round_of (Some second) = 2
 
+-- its randomizer, which is n zero bytes in round one
 abbrev pub c_of : Params → Option Second → List ℕ
 c_of params None = replicate params.n 0
 c_of params (Some second) = second.c

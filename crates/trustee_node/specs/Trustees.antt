@@ -19,6 +19,7 @@ pub record TrusteeState : Type 0 where
   pub name : TrusteeName
 
 module _ {D : Type 0} {p : pages.Ghosts D} {f : faults.Ghosts D} where
+  -- its share and what its disk is for good
   abbrev pub name_of : Trustee D p f → TrusteeName
   name_of trustee = record {
     share = share_of trustee;
@@ -27,6 +28,7 @@ module _ {D : Type 0} {p : pages.Ghosts D} {f : faults.Ghosts D} where
     steady = f.steady (disk_of (journal_of trustee));
   }
 
+  -- its state
   abbrev pub trustee_state : Trustee D p f → TrusteeState
   trustee_state trustee = record {
     entries = (state_of (journal_of trustee)).entries;

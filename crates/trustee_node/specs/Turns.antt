@@ -67,14 +67,16 @@ code_of (InTurn (Decided (Refused why))) = refusal_code why
 code_of (InTurn (Denied message)) = 12
 code_of NoTurn = 11
 
+-- no turn was had, since the pass is worn
 abbrev pub is_worn : Outcome → Bool
 is_worn (InTurn answer) = false
 is_worn NoTurn = true
 
--- how many of these turns have a reply of this code
+-- 1 where the reply has this code, and else 0
 abbrev pub is_code : ℕ → Outcome → ℕ
 is_code code outcome = if code_of outcome == code then 1 else 0
 
+-- how many of these turns have a reply of this code
 abbrev pub with_code : ℕ → List Turn → ℕ
 with_code code turns = sum_by (λ (turn : Turn). is_code code turn.outcome) turns
 
@@ -82,10 +84,11 @@ with_code code turns = sum_by (λ (turn : Turn). is_code code turn.outcome) turn
 abbrev pub added_by : List Turn → List Entry
 added_by turns = flat_map (λ (turn : Turn). turn.added) turns
 
--- the disk of the lock's trustee tells its content; and it is steady too
+-- the disk of the lock's trustee tells its content
 abbrev pub TellsDisk : Option TrusteeName → Type 0
 TellsDisk name = IsSomeAnd name (λ name. IsTrue name.told)
 
+-- the same, and the disk is steady too
 abbrev pub HasSteadyDisk : Option TrusteeName → Type 0
 HasSteadyDisk name = IsSomeAnd name (λ name. IsTrue name.steady × IsTrue name.told)
 

@@ -9,21 +9,12 @@ use Rattle.stream_io.specs.Talk.{Ended, Talk}
 use Rattle.trustee_core.specs.declared.kept.TrusteeName.{TrusteeName}
 use Rattle.trustee_core.specs.declared.note.Note.{Note}
 use Rattle.turn_lock.specs.Pass.{Seen}
-use Rattle.trustee_node.specs.Connections.{Conversation, EndsBy, FailsForRoom, HasRead, HasWritten, IsDated}
-use Rattle.trustee_node.specs.Connections.{IsLinkFault}
+use Rattle.trustee_node.specs.Connections.{ClockState, Conversation, EndsBy, FailsForRoom, HasRead, HasWritten}
+use Rattle.trustee_node.specs.Connections.{IsDated, IsLinkFault, LinkState, ServerState, clock_state}
 use Rattle.trustee_node.specs.Replies.{longest_reply, replies}
 use Rattle.trustee_node.specs.Turns.{Serves, Turn, with_code}
 use Rattle.trustee_node.specs.declared.served.Served.{Served}
 use Rattle.trustee_node.specs.declared.worker.Worker.{Worker}
-
--- a clock in one state: whether it tells its answers, and what it answers from now on, the next answer at 0
-pub record ClockState : Type 0 where
-  pub told : Bool
-  pub answers : ℕ → ℕ
-
--- the state of a clock that has these members
-abbrev pub clock_state : {C : Type 0} → (C → Bool) → (C → ℕ → ℕ) → C → ClockState
-clock_state told answers clock = record { told = told clock; answers = answers clock }
 
 -- a worker in one state: its port, its pass and its clock, and what it did
 pub record WorkerState : Type 0 where
@@ -48,13 +39,11 @@ worker_state state told answers worker = record {
   failed = worker.failed;
 }
 
--- a link was served, and then hung up
-pub record ServesLink (share : Share) (ids : Option (List (List ℕ))) (pass_old pass_new : Seen Note TrusteeName)
-    (steady : Bool) (link : Talk) (port_old port_new : PortState) (clock_old clock_new : ClockState) (served : Served)
-    : Type 0 where
+-- a link was served, and then hung up at its port
+pub record ServesLink (share : Share) (ids : Option (List (List ℕ))) (old new : ServerState) (link : LinkState)
+    (port_old port_new : PortState) (served : Served) : Type 0 where
   pub talk : Talk
-  pub conversation : Conversation share ids pass_old pass_new steady link talk clock_old.told clock_old.answers
-      clock_new.answers served
+  pub conversation : Conversation share ids old new link talk served
   pub hung : HangsUp port_old talk port_new
 
 -- a connection that was served: its link as it was accepted, as it was hung up and as it then ended, its turns and how
@@ -83,9 +72,11 @@ pub record IsConnection (share : Share) (port : PortState) (one : Connection) : 
   pub place : one.talk.place ≡ one.link.place
   pub ended : Ended one.talk one.last
 
+-- all turns of these connections
 abbrev pub turns_of : List Connection → List Turn
 turns_of served = flat_map (λ (one : Connection). one.turns) served
 
+-- how many replies were written whole in them
 abbrev pub frames_of : List Connection → ℕ
 frames_of served = sum_by (λ (one : Connection). one.served.frames) served
 

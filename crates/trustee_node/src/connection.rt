@@ -3,7 +3,7 @@
 ghost use Rattle.std.specs.Prelude.{◌≡◌, ◌≢◌, IsTrue};
 ghost use Rattle.std.specs.Option.{option_map};
 ghost use Rattle.approval_book.specs.Approved.{ids_of};
-ghost use Rattle.trustee_node.specs.Connections.{Conversation};
+ghost use Rattle.trustee_node.specs.Connections.{Conversation, clock_state};
 ghost use Rattle.trustee_node.specs.Turns.{IsIdle};
 
 use crate::reply::write_reply;
@@ -35,9 +35,10 @@ pub fn serve_connection<D: Disk, C: Clock, L: Source + Sink>(
     link: &mut L,
 ) -> Served
     requires { IsIdle lock.now share.now pass.old }
-    ensures conversation { Conversation share.now (option_map (λ b. ids_of b.now) book.entry) pass.old pass.new
-        (L.steady link.old) (L.talk link.old) (L.talk link.new)
-        (C.told clock.old) (C.answers clock.old) (C.answers clock.new) result }
+    ensures conversation { Conversation share.now (option_map (λ b. ids_of b.now) book.entry)
+        (record { pass = pass.old; clock = clock_state C.told C.answers clock.old })
+        (record { pass = pass.new; clock = clock_state C.told C.answers clock.new })
+        (record { steady = L.steady link.old; talk = L.talk link.old }) (L.talk link.new) result }
     ensures pass { IsIdle lock.now share.now pass.new }
     ensures clock { C.told clock.new ≡ C.told clock.old }
     ensures answers { IsTrue (L.steady link.old) → result.ended ≢ ServedEnd.Frame FrameFault.ReadFault }

@@ -4,8 +4,10 @@ ghost use Rattle.std.specs.Prelude.{◌≡◌, ◌≤◌, ◌<◌, ◌+◌, ◌+
 ghost use Rattle.std.specs.Prelude.{vec_capacity};
 ghost use Rattle.share_files.specs.declared.share.Share.{Share};
 ghost use Rattle.stream_io.specs.Net.{PortState};
-ghost use Rattle.trustee_node.specs.Workers.{ClockState, worker_state};
+ghost use Rattle.trustee_node.specs.Connections.{ClockState};
+ghost use Rattle.trustee_node.specs.Workers.{worker_state};
 ghost use Rattle.trustee_node.specs.Gathered.{AreDone, Gathered, IsDone};
+ghost use Rattle.trustee_node.specs.Ports.{ports_run};
 ghost use Rattle.trustee_node.specs.Turns.{IsFree};
 ghost use Rattle.turn_lock.specs.Pass.{first_pass};
 
@@ -30,7 +32,7 @@ pub(crate) fn gather<D: Disk, C: Clock + Drop, P: Port>(
         (clocks : List ClockState)
         → AreDone (worker_state P.state C.told C.answers) share ids asked (first_pass lock.now) olds clocks
         workers.items
-        → Gathered share ids asked lock.now result.0 olds (map P.state ports.new.items) clocks result.1 }
+        → Gathered share ids asked lock.now result.0 (ports_run olds (map P.state ports.new.items) clocks) result.1 }
     ensures pass { IsFree lock.now result.0 }
     ensures count { vec_len ports.new ≡ vec_len workers }
 {
@@ -86,10 +88,10 @@ fn take_in<D: Disk, C: Clock + Drop, P: Port>(
     requires room { vec_len ports.old < vec_capacity ports.old }
     ensures gathered { (share : Share) (ids : Option (List (List ℕ))) (asked : ℕ) (olds : List PortState)
         (clocks : List ClockState) (port : PortState) (clock : ClockState)
-        → Gathered share ids asked lock.now pass.old olds (map P.state ports.old.items) clocks totals.old
+        → Gathered share ids asked lock.now pass.old (ports_run olds (map P.state ports.old.items) clocks) totals.old
         → IsDone share ids asked (first_pass lock.now) port clock (worker_state P.state C.told C.answers worker)
-        → Gathered share ids asked lock.now pass.new (olds ++ port ∷ []) (map P.state ports.new.items)
-        (clocks ++ clock ∷ []) totals.new }
+        → Gathered share ids asked lock.now pass.new
+        (ports_run (olds ++ port ∷ []) (map P.state ports.new.items) (clocks ++ clock ∷ [])) totals.new }
     ensures pass { IsFree lock.now pass.new }
     ensures room { (vec_len ports.new ≡ vec_len ports.old + 1) × (vec_capacity ports.new ≡ vec_capacity ports.old) }
 {

@@ -3,11 +3,9 @@
 ghost use Rattle.std.specs.Prelude.{ℕ, All, List, Option};
 ghost use Rattle.opening_journal.specs.Entries.{IsLegalList};
 ghost use Rattle.share_files.specs.declared.share.Share.{Share};
-ghost use Rattle.stream_io.specs.Net.{PortState};
 ghost use Rattle.trustee_core.specs.Lives.{OneOpening};
 ghost use Rattle.trustee_node.specs.Places.{granted_in};
-ghost use Rattle.trustee_node.specs.Workers.{ClockState};
-ghost use Rattle.trustee_node.specs.Ports.{HasRoomyLinks, NoLinkFails, ServedPorts, turns_in};
+ghost use Rattle.trustee_node.specs.Ports.{HasRoomyLinks, NoLinkFails, PortsRun, ServedPorts, turns_in};
 ghost use Rattle.trustee_node.specs.Trustees.{TrusteeState};
 ghost use Rattle.trustee_node.specs.declared.totals.Totals.{Totals};
 
@@ -15,16 +13,14 @@ ghost use Rattle.trustee_node.specs.declared.totals.Totals.{Totals};
 /// `Trustee::end` says.
 pub fn one_opening()
     ensures { (share : Share) (ids : Option (List (List ℕ))) (asked : ℕ) (old new : TrusteeState)
-        (before after : List PortState) (clocks : List ClockState) (totals : Totals)
-        → (all : ServedPorts share ids asked old new before after clocks totals) → IsLegalList new.entries
-        → OneOpening share (granted_in (turns_in all.runs)) }
+        (ports : PortsRun) (totals : Totals) → (all : ServedPorts share ids asked old new ports totals)
+        → IsLegalList new.entries → OneOpening share (granted_in (turns_in all.runs)) }
 {}
 
 /// Over steady ports whose links have room for 65,536 of the longest replies of the share's parameter set, no
 /// connection ended by a link that failed.
 pub fn no_link_fails()
     ensures { (share : Share) (ids : Option (List (List ℕ))) (asked : ℕ) (old new : TrusteeState)
-        (before after : List PortState) (clocks : List ClockState) (totals : Totals)
-        → (all : ServedPorts share ids asked old new before after clocks totals)
-        → All (HasRoomyLinks share.params) before → NoLinkFails all.runs }
+        (ports : PortsRun) (totals : Totals) → (all : ServedPorts share ids asked old new ports totals)
+        → All (HasRoomyLinks share.params) ports.before → NoLinkFails all.runs }
 {}

@@ -4,8 +4,8 @@ ghost use Rattle.std.specs.Prelude.{◌≡◌, ◌≤◌, map, vec_len, IfOk, On
 ghost use Rattle.std.specs.Option.{option_map};
 ghost use Rattle.approval_book.specs.Approved.{ids_of};
 ghost use Rattle.trustee_core.specs.Trustee.{share_of};
-ghost use Rattle.trustee_node.specs.Workers.{clock_state};
-ghost use Rattle.trustee_node.specs.Ports.{ServedPorts};
+ghost use Rattle.trustee_node.specs.Connections.{clock_state};
+ghost use Rattle.trustee_node.specs.Ports.{ServedPorts, ports_run};
 ghost use Rattle.trustee_node.specs.Trustees.{trustee_state};
 
 use crate::gather::gather;
@@ -47,8 +47,8 @@ pub fn serve_ports<
     requires clocks { vec_len clocks ≡ vec_len ports.old }
     ensures served { IfOk result.1 (λ totals. ServedPorts share.now (option_map (λ b. ids_of b.now) book.entry)
         connections (trustee_state trustee) (trustee_state result.0)
-        (map P.state ports.old.items) (map P.state ports.new.items)
-        (map (clock_state C.told C.answers) clocks.items) totals) }
+        (ports_run (map P.state ports.old.items) (map P.state ports.new.items)
+        (map (clock_state C.told C.answers) clocks.items)) totals) }
     ensures refused { OnErr result.1 ((result.0 ≡ trustee) × (ports.new.items ≡ ports.old.items)) }
     ensures count { vec_len ports.new ≡ vec_len ports.old }
     ensures name { (trustee_state result.0).name ≡ (trustee_state trustee).name }

@@ -4,8 +4,9 @@ ghost use Rattle.std.specs.Prelude.{◌≡◌, ◌≤◌, ◌<◌, ℕ, All, len
 ghost use Rattle.std.specs.Option.{option_map};
 ghost use Rattle.approval_book.specs.Approved.{ids_of};
 ghost use Rattle.stream_io.specs.Net.{PortOnward};
+ghost use Rattle.trustee_node.specs.Connections.{clock_state};
 ghost use Rattle.trustee_node.specs.Turns.{IsIdle};
-ghost use Rattle.trustee_node.specs.Workers.{ServesLink, WorkEnds, Worked, clock_state, worker_state};
+ghost use Rattle.trustee_node.specs.Workers.{ServesLink, WorkEnds, Worked, worker_state};
 
 use crate::connection::serve_connection;
 use crate::served::{Served, ServedEnd};
@@ -132,9 +133,10 @@ fn serve_link<D: Disk, C: Clock, P: Port>(
     mut link: P::Link,
 ) -> Served
     requires { IsIdle lock.now share.now pass.old }
-    ensures served { ServesLink share.now (option_map (λ b. ids_of b.now) book.entry) pass.old pass.new
-        (P.Link.steady link) (P.Link.talk link) (P.state port.old) (P.state port.new)
-        (clock_state C.told C.answers clock.old) (clock_state C.told C.answers clock.new) result }
+    ensures served { ServesLink share.now (option_map (λ b. ids_of b.now) book.entry)
+        (record { pass = pass.old; clock = clock_state C.told C.answers clock.old })
+        (record { pass = pass.new; clock = clock_state C.told C.answers clock.new })
+        (record { steady = P.Link.steady link; talk = P.Link.talk link }) (P.state port.old) (P.state port.new) result }
     ensures takes { (P.Link.talk link).room ≡ P.Link.room link }
     ensures pass { IsIdle lock.now share.now pass.new }
     ensures clock { C.told clock.new ≡ C.told clock.old }

@@ -1,5 +1,6 @@
 use Rattle.std.proofs.Common.{◌∙◌, IsTrue, Some, inl, inr, ap}
 use Rattle.tool_trustee.proofs.Steady.{ports-granted}
+use Rattle.trustee_node.specs.Ports.{ports_run}
 use Rattle.trustee_node.proofs.RoomyLinks.{no-link-fails, roomy-ports}
 use Rattle.trustee_core.specs.declared.kept.TrusteeName.{TrusteeName}
 use Rattle.tool_trustee.proofs.laws.steady_trustee.Goals as goal
@@ -22,5 +23,5 @@ returns-clause-ends g c = λ words net_old net_new time later end run steady. el
 pub returns-clause-links : goal.returns-clause-links
 returns-clause-links g c = λ words net_old net_new time later end run steady room.
     let net = run.net in
-    no-link-fails run.share run.ids words.connections run.old run.new net.ports_old net.ports_new net.clocks net.totals net.served
+    no-link-fails run.share run.ids words.connections run.old run.new (ports_run net.ports_old net.ports_new net.clocks) net.totals net.served
     (roomy-ports run.share net_old (Some words.place) net.ports_old steady room net.made)

@@ -1,11 +1,11 @@
 use Rattle.std.proofs.Common.{◌≡◌, ◌++◌, ◌∙◌, map, refl, ap, arith}
 use Rattle.std.specs.Option.{option_map}
 use Rattle.approval_book.specs.Approved.{ids_of}
-use Rattle.trustee_node.specs.Workers.{clock_state}
+use Rattle.trustee_node.specs.Connections.{clock_state}
 use Rattle.trustee_node.specs.Trustees.{trustee_state}
 use Rattle.tool_words.specs.Rows.{trustee_words}
 use Rattle.tool_base.specs.Endings.{ending}
-use Rattle.tool_trustee.specs.Nets.{no_memory, no_ports}
+use Rattle.tool_trustee.specs.Nets.{no_memory, no_ports, service_of}
 use Rattle.tool_base.proofs.Nets.{net_back}
 use Rattle.tool_base.proofs.Heard.{heard_new, heard_none}
 use Rattle.tool_trustee.proofs.Serving.{dated_by, net_ends, not_true, ports_many}
@@ -35,8 +35,8 @@ returns-clause-ends g c =
     let gathers = c.gather-2.ensures.kept in
     let onward = c.in-Ok.ensures.onward in
     let clock = g.T.Clock.Clock in
-    net_ends (trustee_words c.args.words.now) c.args.share.now (option_map (λ b. ids_of b.now) c.args.book)
-    (c.serve_ports-trustee.result.0 ≡ c.args.trustee) (trustee_state c.args.trustee) (trustee_state c.serve_ports-trustee.result.0)
+    net_ends (trustee_words c.args.words.now) (service_of c.args.share.now (trustee_state c.args.trustee) (trustee_state c.serve_ports-trustee.result.0))
+    (option_map (λ b. ids_of b.now) c.args.book) (c.serve_ports-trustee.result.0 ≡ c.args.trustee)
     (g.N.Net.state c.args.net.now) (g.N.Net.state c.gather-2.new.self) (g.T.Clocks.state c.args.time.now)
     (map state c.in-Ok.ports.items) (map state c.serve_ports-trustee.new.ports.items) (map (clock_state clock.told clock.answers) c.in-Ok-clocks.clocks.items)
     c.serve_ports-trustee.result.1 (ending c.end_of_service-end.result)
@@ -51,8 +51,8 @@ returns-clause-net g c =
     let state = g.N.Port.Port.state in
     let made = c.in-Ok.ensures.made in
     let serves = c.serve_ports-trustee.ensures in
-    let many = ports_many (trustee_words c.args.words.now) c.args.share.now (option_map (λ b. ids_of b.now) c.args.book)
-    (c.serve_ports-trustee.result.0 ≡ c.args.trustee) (trustee_state c.args.trustee) (trustee_state c.serve_ports-trustee.result.0)
+    let many = ports_many (trustee_words c.args.words.now) (service_of c.args.share.now (trustee_state c.args.trustee) (trustee_state c.serve_ports-trustee.result.0))
+    (option_map (λ b. ids_of b.now) c.args.book) (c.serve_ports-trustee.result.0 ≡ c.args.trustee)
     (g.N.Net.state c.args.net.now) (g.N.Net.state c.gather-2.new.self) (g.T.Clocks.state c.args.time.now)
     state c.in-Ok.ports.items c.serve_ports-trustee.new.ports.items _ c.serve_ports-trustee.result.1 serves.served serves.refused in
     net_back _ _ _ _ _ _ _ made c.in-Ok.ensures.onward many c.gather-2.ensures.kept c.gather-2.ensures.onward

@@ -12,6 +12,7 @@ use Rattle.tool_base.specs.Loads.{FailsToLoad}
 use Rattle.tool_base.proofs.Takes.{back, reads_as, slots_not_loaded, stays}
 use Rattle.tool_base.specs.Headers.{book_header}
 use Rattle.tool_trustee.specs.Journals.{IsBook}
+use Rattle.tool_trustee.specs.Nets.{service_of}
 use Rattle.tool_base.proofs.Heard.{heard_none}
 use Rattle.tool_trustee.proofs.Booking.{run_absent, run_refused, run_with, run_without}
 use Rattle.tool_words.specs.Rows.{trustee_words}
@@ -20,7 +21,7 @@ use Rattle.tool_trustee.proofs.trustee.serve_with_book.Goals as goal
 
 pub returns-in_default-clause-ended : goal.returns-in_default-clause-ended
 returns-in_default-clause-ended g c =
-    run_without (trustee_words c.args.words.now) c.args.share.now (c.serve_net.result.0 ≡ c.args.trustee) (trustee_state c.args.trustee) (trustee_state c.serve_net.result.0)
+    run_without (trustee_words c.args.words.now) (service_of c.args.share.now (trustee_state c.args.trustee) (trustee_state c.serve_net.result.0)) (c.serve_net.result.0 ≡ c.args.trustee)
     _ _ _ _ _ _ (ap (option_map (λ b. b.now)) c.in_default.is) c.serve_net.ensures.ends
 
 pub returns-in-Err-clause-ended : goal.returns-in-Err-clause-ended
@@ -28,7 +29,7 @@ returns-in-Err-clause-ended g c =
     let take = c.in-Err.ensures in
     let is = c.in-Err.is in
     let unchanged : IsUnchanged (g.S.Store.state c.args.store.now) (g.S.Store.state c.take_disk.new.self) = record { same = take.refused; onward = take.onward } in
-    run_absent (trustee_words c.args.words.now) c.args.share.now (c.args.trustee ≡ c.args.trustee) (trustee_state c.args.trustee) (trustee_state c.args.trustee)
+    run_absent (trustee_words c.args.words.now) (service_of c.args.share.now (trustee_state c.args.trustee) (trustee_state c.args.trustee)) (c.args.trustee ≡ c.args.trustee)
     _ _ _ _ _ _ c.in-Some.name.now (ap (option_map (λ b. b.now)) c.in-Some.is) (heard_none _ _ _ refl) c.in-Err.fault _ c.end_of_call.ensures refl unchanged
     (λ failed. take.cause.rose (cc)) (λ failed told steady. take.absent told steady (cc))
 
@@ -53,7 +54,7 @@ returns-in-Err-load-clause-ended g c =
     let fails : FailsToLoad (book_header c.args.share.now) 1024 (from_to first last) name (ending c.end_of_slots.result) =
     subst (FailsToLoad (book_header c.args.share.now) 1024 (from_to first last) name) (sym c.end_of_slots.ensures)
     (slots_not_loaded first _ last name disk now taken goes step comes kind.told kind.honest kind.steady (book_header c.args.share.now) 1024 c.in-Err-load.fault refused load.succeeds load.cause) in
-    run_refused (trustee_words c.args.words.now) c.args.share.now (c.args.trustee ≡ c.args.trustee) (trustee_state c.args.trustee) (trustee_state c.args.trustee)
+    run_refused (trustee_words c.args.words.now) (service_of c.args.share.now (trustee_state c.args.trustee) (trustee_state c.args.trustee)) (c.args.trustee ≡ c.args.trustee)
     _ _ _ _ _ _ name (ap (option_map (λ b. b.now)) c.in-Some.is) (heard_none _ _ _ refl) now _ refl
     (back first _ last name disk now taken goes step comes kind.told kind.honest kind.steady)
     (record { file = disk.reads; was = taken.reads; stays = stays first _ last name disk now taken goes step comes kind.told kind.honest kind.steady load.unwritten.same load.unwritten.images })
@@ -86,7 +87,7 @@ returns-clause-ended g c =
       many = load.size;
       lists = c.approved.ensures;
     } in
-    run_with (trustee_words c.args.words.now) share (c.serve_net-trustee.result.0 ≡ c.args.trustee) (trustee_state c.args.trustee) (trustee_state c.serve_net-trustee.result.0)
+    run_with (trustee_words c.args.words.now) (service_of share (trustee_state c.args.trustee) (trustee_state c.serve_net-trustee.result.0)) (c.serve_net-trustee.result.0 ≡ c.args.trustee)
     first last _ _ _ _ name (ap (option_map (λ b. b.now)) c.in-Some.is) now ids _
     (back first _ last name disk now taken goes step comes kind.told kind.honest kind.steady)
     (record { file = disk.reads; was = taken.reads; stays = stays first _ last name disk now taken goes step comes kind.told kind.honest kind.steady unwritten.same unwritten.images })

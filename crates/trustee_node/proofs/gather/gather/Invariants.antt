@@ -1,7 +1,8 @@
 use Rattle.std.proofs.Common.{◌≡◌, ◌+◌, ◌≤◌, false, ℕ, List, Option, All, map, vec_len, vec_capacity}
 use Rattle.share_files.specs.declared.share.Share.{Share}
 use Rattle.stream_io.specs.Net.{PortState}
-use Rattle.trustee_node.specs.Workers.{ClockState, worker_state}
+use Rattle.trustee_node.specs.Connections.{ClockState}
+use Rattle.trustee_node.specs.Workers.{worker_state}
 use Rattle.trustee_node.specs.Gathered.{AreDone}
 use Rattle.trustee_node.proofs.Joining.{InHand}
 use Rattle.turn_lock.specs.Pass.{first_pass}

@@ -3,6 +3,7 @@ use Rattle.std.proofs.lemmas.List.{map-append}
 use Rattle.stream_io.specs.Net.{PortState}
 use Rattle.trustee_node.specs.Workers.{worker_state}
 use Rattle.trustee_node.specs.Gathered.{Gathered}
+use Rattle.trustee_node.specs.Ports.{ports_run}
 use Rattle.trustee_node.proofs.Gathering.{gathered-more}
 use Rattle.turn_lock.specs.Pass.{Joins, Seen}
 use Rattle.trustee_node.proofs.gather.take_in.Goals as goal
@@ -21,4 +22,4 @@ returns-clause-gathered g c =
     let joins = subst (λ (p : Seen _ _). Joins c.args.pass.now p c.meet.new.pass) same c.meet.ensures.joins in
     let all = gathered-more share ids asked lock c.args.pass.now c.meet.new.pass olds (map port c.args.ports.now.items) clocks c.args.totals.now c.add.new.self old clock (state worker) before done joins
     (let a = c.add.ensures.connections in let n = b.totals.0 in omega (arith, a, n)) (let a = c.add.ensures.frames in let n = b.totals.1 in omega (arith, a, n)) in
-    subst (λ (l : List PortState). Gathered share ids asked lock c.meet.new.pass (olds ++ old ∷ []) l (clocks ++ clock ∷ []) c.add.new.self) (sym news) all
+    subst (λ (l : List PortState). Gathered share ids asked lock c.meet.new.pass (ports_run (olds ++ old ∷ []) l (clocks ++ clock ∷ [])) c.add.new.self) (sym news) all

@@ -1,12 +1,14 @@
-use Rattle.std.proofs.Common.{◌≡◌, length, map, arith}
+use Rattle.std.proofs.Common.{◌≡◌, ◌∙◌, length, map, sym, arith}
 use Rattle.std.proofs.lemmas.List.{length-map}
 use Rattle.std.specs.Option.{option_map}
 use Rattle.approval_book.specs.Approved.{ids_of}
 use Rattle.trustee_core.proofs.NotesHeld.{doubt-held, entries-held}
-use Rattle.trustee_node.specs.Workers.{clock_state, worker_state}
+use Rattle.trustee_node.specs.Connections.{clock_state}
+use Rattle.trustee_node.specs.Workers.{worker_state}
+use Rattle.trustee_node.specs.Ports.{ports_run}
 use Rattle.trustee_node.specs.Trustees.{name_of, trustee_state}
 use Rattle.trustee_node.proofs.Finishing.{ends-served}
-use Rattle.trustee_node.proofs.Running.{done-after, idle-after, idle-begun, joined-all}
+use Rattle.trustee_node.proofs.Running.{done-of, idle-after, idle-begun, joined-all}
 use Rattle.trustee_node.proofs.Starting.{begun-of}
 use Rattle.turn_lock.specs.Pass.{first_pass}
 use Rattle.trustee_node.proofs.service.serve_ports.Goals as goal
@@ -15,8 +17,7 @@ pub serve-requires-after_bounds : goal.serve-requires-after_bounds
 serve-requires-after_bounds g c κs within =
     let clock = g.C.Clock in
     let port = g.P.Port.state in
-    let same : length c.args.ports.now.items ≡ length c.args.clocks.items =
-    (let n = c.args.ports.now.ok.0 in let m = c.args.clocks.ok.0 in let e = c.requires.clocks in omega (arith, n, m, e)) in
+    let same : length c.args.ports.now.items ≡ length c.args.clocks.items = sym c.args.ports.now.ok.0 ∙ sym c.requires.clocks ∙ c.args.clocks.ok.0 in
     let begun = begun-of g.P.Port.state g.C.Clock.told g.C.Clock.answers (first_pass c.in-Ok-new.made.0) c.args.ports.now.items c.args.clocks.items c.make_workers-workers.result.items
     c.make_workers-workers.ensures.workers same in
     idle-begun (worker_state port clock.told clock.answers) c.args.share.now c.in-Ok-new.made.0 c.make_workers-workers.result.items c.as_mut_slice.result.now c.as_mut_slice.ensures.value
@@ -34,23 +35,14 @@ pub close-requires-clause-all : goal.close-requires-clause-all
 close-requires-clause-all g c =
     let clock = g.C.Clock in
     let port = g.P.Port.state in
-    let own = clock_state clock.told clock.answers in
     let workers = c.make_workers-workers.result in
     let share = c.args.share.now in
     let ids = option_map (λ b. ids_of b.now) c.args.book in
-    let lock = c.in-Ok-new.made.0 in
-    let asked = c.args.connections in
-    let olds = map port c.args.ports.now.items in
-    let clocks = map own c.args.clocks.items in
     let e = c.serve.ensures in
-    let same : length c.args.ports.now.items ≡ length c.args.clocks.items =
-    (let n = c.args.ports.now.ok.0 in let m = c.args.clocks.ok.0 in let e = c.requires.clocks in omega (arith, n, m, e)) in
-    let begun = begun-of g.P.Port.state g.C.Clock.told g.C.Clock.answers (first_pass c.in-Ok-new.made.0) c.args.ports.now.items c.args.clocks.items c.make_workers-workers.result.items
-    c.make_workers-workers.ensures.workers same in
-    let done = done-after (worker_state port clock.told clock.answers) share lock workers.items c.as_mut_slice.result.now c.as_mut_slice.ensures.value
-    c.serve.new.workers workers.len c.serve.auto.workers workers.ok.0 ids asked olds clocks c.ranges.connections.fits begun e.worked e.most e.ends in
-    let all = c.gather-pass.ensures.gathered share ids asked olds clocks done in
-    let joined = joined-all share ids asked lock c.gather-pass.result.0 olds (map port c.gather-pass.new.ports.items) clocks c.gather-pass.result.1 all in
+    let done = done-of port clock.told clock.answers share ids c.args.connections c.in-Ok-new.made.0 c.args.ports.now.items c.args.clocks.items workers.items c.as_mut_slice.result.now
+    c.serve.new.workers workers.len c.make_workers-workers.ensures.workers (sym c.args.ports.now.ok.0 ∙ sym c.requires.clocks ∙ c.args.clocks.ok.0) c.as_mut_slice.ensures.value c.serve.auto.workers
+    workers.ok.0 c.ranges.connections.fits e.worked e.most e.ends in
+    let joined = joined-all share ids c.args.connections c.in-Ok-new.made.0 c.gather-pass.result.0 _ _ _ c.gather-pass.result.1 (c.gather-pass.ensures.gathered share ids c.args.connections _ _ done) in
     let many = length-map c.args.ports.now.items port in
     let made = c.in-Ok-new.ensures.numbers.1 in
     let count = c.len-count.ensures in
@@ -61,25 +53,18 @@ pub returns-clause-served : goal.returns-clause-served
 returns-clause-served g c =
     let clock = g.C.Clock in
     let port = g.P.Port.state in
-    let own = clock_state clock.told clock.answers in
     let workers = c.make_workers-workers.result in
     let share = c.args.share.now in
     let ids = option_map (λ b. ids_of b.now) c.args.book in
-    let lock = c.in-Ok-new.made.0 in
-    let asked = c.args.connections in
-    let olds = map port c.args.ports.now.items in
-    let clocks = map own c.args.clocks.items in
     let e = c.serve.ensures in
-    let same : length c.args.ports.now.items ≡ length c.args.clocks.items =
-    (let n = c.args.ports.now.ok.0 in let m = c.args.clocks.ok.0 in let e = c.requires.clocks in omega (arith, n, m, e)) in
-    let begun = begun-of g.P.Port.state g.C.Clock.told g.C.Clock.answers (first_pass c.in-Ok-new.made.0) c.args.ports.now.items c.args.clocks.items c.make_workers-workers.result.items
-    c.make_workers-workers.ensures.workers same in
-    let done = done-after (worker_state port clock.told clock.answers) share lock workers.items c.as_mut_slice.result.now c.as_mut_slice.ensures.value
-    c.serve.new.workers workers.len c.serve.auto.workers workers.ok.0 ids asked olds clocks c.ranges.connections.fits begun e.worked e.most e.ends in
-    let all = c.gather-pass.ensures.gathered share ids asked olds clocks done in
+    let done = done-of port clock.told clock.answers share ids c.args.connections c.in-Ok-new.made.0 c.args.ports.now.items c.args.clocks.items workers.items c.as_mut_slice.result.now
+    c.serve.new.workers workers.len c.make_workers-workers.ensures.workers (sym c.args.ports.now.ok.0 ∙ sym c.requires.clocks ∙ c.args.clocks.ok.0) c.as_mut_slice.ensures.value c.serve.auto.workers
+    workers.ok.0 c.ranges.connections.fits e.worked e.most e.ends in
+    let ports = ports_run (map port c.args.ports.now.items) (map port c.gather-pass.new.ports.items) (map (clock_state clock.told clock.answers) c.args.clocks.items) in
     let opening = c.in-Ok-new.ensures.opening in
     let end = c.close.ensures in
-    ends-served share ids asked lock (trustee_state c.args.trustee) (trustee_state c.close.result) c.gather-pass.result.0 olds (map port c.gather-pass.new.ports.items) clocks c.gather-pass.result.1
+    ends-served share ids c.args.connections c.in-Ok-new.made.0 (trustee_state c.args.trustee) (trustee_state c.close.result) c.gather-pass.result.0 ports c.gather-pass.result.1
     record { log = opening.0; entries = entries-held c.args.trustee; number = opening.1; name = opening.2; first = c.in-Ok-new.ensures.numbers.0 }
     record { log = end.log; entries = entries-held c.close.result; doubt = doubt-held c.close.result; number = end.number; name = end.named; whole = end.whole }
-    all (let many = length-map c.args.ports.now.items port in let n = c.args.ports.now.ok.0 in let few = c.requires.ports.1 in omega (arith, many, n, few))
+    (c.gather-pass.ensures.gathered share ids c.args.connections _ _ done)
+    (let many = length-map c.args.ports.now.items port in let n = c.args.ports.now.ok.0 in let few = c.requires.ports.1 in omega (arith, many, n, few))

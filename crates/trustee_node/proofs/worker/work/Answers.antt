@@ -1,7 +1,8 @@
 use Rattle.std.proofs.Common.{true, true≢false, refl, sym, ◌∙◌, arith, rules}
 use Rattle.std.specs.Option.{option_map}
 use Rattle.approval_book.specs.Approved.{ids_of}
-use Rattle.trustee_node.specs.Workers.{clock_state, worker_state}
+use Rattle.trustee_node.specs.Connections.{clock_state}
+use Rattle.trustee_node.specs.Workers.{worker_state}
 use Rattle.trustee_node.proofs.Working.{worked-more, worked-none}
 use Rattle.trustee_node.proofs.worker.work.Goals as goal
 
