@@ -3,16 +3,21 @@ use Rattle.std.proofs.Common.{◌≡◌, ◌^◌, ◌≤◌, ◌<◌, false, ℕ
 use Rattle.std.proofs.lemmas.List.{length-map}
 use Rattle.aggregator_node.specs.Turns.{IsIdle}
 use Rattle.aggregator_node.specs.Gathered.{AreBegun, AreDone, Gathered, IsBegun, IsDone}
-use Rattle.aggregator_node.specs.Ports.{Place, PortRun}
-use Rattle.aggregator_node.specs.Workers.{IsReady, WorkEnds, Worked, WorkerState}
+use Rattle.aggregator_node.specs.Ports.{Place, PortRun, places_of}
+use Rattle.aggregator_node.specs.Workers.{IsReady, WorkEnds, Worked, WorkerState, worker_state}
 use Rattle.aggregator_node.proofs.Standing.{stand-all, stand-then}
+use Rattle.aggregator_node.proofs.Starting.{begun-of}
 use Rattle.coalition_map.specs.Coalitions.{PlanNumbers}
 use Rattle.leaf_table.specs.declared.lease.Lease.{Lease}
 use Rattle.leaf_table.specs.declared.table.TableName.{TableName}
 use Rattle.aggregator_session.specs.Desks.{DeskState, ReadsFor, desk_state}
 use Rattle.aggregator_session.specs.declared.desk.Desk.{Desk}
+use Rattle.disk_trait.specs.declared.faults.Faults as faults
 use Rattle.reference_value.specs.declared.cells.Cells as cells
+use Rattle.stream_io.specs.Net.{PortState}
+use Rattle.trustee_node.specs.Starting.{fresh_workers}
 use Rattle.trustee_node.specs.declared.totals.Totals.{Totals}
+use Rattle.trustee_node.specs.declared.worker.Worker.{Worker}
 use Rattle.trustee_node.proofs.PortStanding.{written-whole}
 use Rattle.turn_lock.specs.Lock.{Lock}
 use Rattle.turn_lock.specs.Pass.{Seen, first_pass}
@@ -65,6 +70,17 @@ module _ {W : Type 0} (state : W → WorkerState) (desk : Desk) (lock : Lock Lea
           most = most i d (omega (arith, lt, size));
           ends = ends i d (omega (arith, lt, size));
         }))
+
+-- the workers that were made for these ports and cells, once they were run
+pub done-of : {P T X L : Type 0} (state : P → PortState) (c : cells.Ghosts X) (f : faults.Ghosts X) (desk : Desk) (asked : ℕ) (lock : Lock Lease TableName)
+    (ports : List P) (owns : List X) (items slice news : List (Worker P T X L Lease TableName)) (len : ℕ)
+    → items ≡ fresh_workers (first_pass lock) ports owns → length ports ≡ length owns → slice ≡ items → length news ≡ length slice → len ≡ length items → asked < 2 ^ 32
+    → ((i : ℕ) (d : Worker P T X L Lease TableName) → i < length slice → Worked (desk_state desk) (worker_state state c f (get_or slice i d)) (worker_state state c f (get_or news i d)))
+    → All (λ worker. worker.connections ≤ asked) news → All (λ worker. WorkEnds asked (worker_state state c f worker)) news
+    → AreDone (worker_state state c f) (desk_state desk) asked (first_pass lock) (places_of c f state ports owns) (take len (news ++ drop (length news) items))
+done-of state c f desk asked lock ports owns items slice news len are same value size count small worked most ends =
+    done-after (worker_state state c f) desk lock items slice value news len size count asked (places_of c f state ports owns) small
+    (begun-of state c f (first_pass lock) ports owns items are same) worked most ends
 
 pub joined-all : (desk : DeskState) (asked : ℕ) (lock : Lock Lease TableName) (pass : Seen Lease TableName) (olds news : List Place) (totals : Totals)
     → Gathered desk asked lock pass olds news totals → pass.joined ≡ length olds

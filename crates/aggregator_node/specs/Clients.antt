@@ -53,7 +53,7 @@ reply_frame (Err fault) = failure_frame (failure_of fault)
 abbrev pub longest_reply : Params → ℕ
 longest_reply params = 8 + signature_length params
 
--- how a connection ends behind a request of this fault, or none where it goes on
+-- how a connection ends behind a request whose session had this fault, or none where it goes on
 abbrev pub end_by_session : session.SessionFault → Option ServedEnd
 end_by_session (Missing member round) = None
 end_by_session (SpentLeaf leaf member kept) = None
@@ -63,6 +63,7 @@ end_by_session (MemberRefused member code) = None
 end_by_session Reference = None
 end_by_session session.TheVariants.NoMemory = Some (Frame frame.NoMemory)
 
+-- the same of any fault of a request
 abbrev pub end_by_fault : SignFault → Option ServedEnd
 end_by_fault (sign.TooLong got) = None
 end_by_fault sign.Worn = Some Worn

@@ -62,10 +62,11 @@ pub record IsPortRun (desk : DeskState) (asked : ℕ) (name : Option TableName) 
 abbrev pub requests_in : List PortRun → List Request
 requests_in runs = flat_map (λ (run : PortRun). requests_of run.served) runs
 
--- the counts of faults of all references, before and after
+-- the counts of faults of all references before
 abbrev pub faults_before : List PortRun → ℕ
 faults_before runs = sum_by (λ (run : PortRun). run.before.faults) runs
 
+-- and after
 abbrev pub faults_after : List PortRun → ℕ
 faults_after runs = sum_by (λ (run : PortRun). run.after.faults) runs
 

@@ -14,10 +14,11 @@ abbrev pub IsIdle : Lock Lease TableName → PlanNumbers → Seen Lease TableNam
 IsIdle lock plan pass =
     (pass.lock ≡ lock) × (pass.in_turn ≡ false) × IfSome pass.name (λ name. name.plan ≡ plan)
 
--- the disk of the lock's table tells its content; and it is steady too
+-- the disk of the lock's table tells its content
 abbrev pub TellsDisk : Option TableName → Type 0
 TellsDisk name = IsSomeAnd name (λ name. IsTrue name.told)
 
+-- the same, and the disk is steady too
 abbrev pub HasSteadyDisk : Option TableName → Type 0
 HasSteadyDisk name = IsSomeAnd name (λ name. IsTrue name.steady × IsTrue name.told)
 

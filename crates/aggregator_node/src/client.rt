@@ -90,13 +90,13 @@ fn answer_next<R: Cells, D: Disk, P: Port, L: Source + Sink>(
     link: &mut L,
 ) -> Step
     requires ready { IsReady R.Cells.own lock.now desk.now pass.old cells.old }
+    ensures ends { StepEnds (IsTrue (L.steady link.old))
+        (longest_reply desk.now.key.now.params ≤ L.room link.old) result.replies result.ended }
+    ensures room { L.room link.old ≤ L.room link.new + longest_reply desk.now.key.now.params }
     ensures answers { HasAnswered (desk_state desk.now) (reference_state R.Cells.own R.Faults cells.old)
         (record { pass = pass.old; port = P.state port.old; faults = R.count cells.old; talk = L.talk link.old })
         (record { pass = pass.new; port = P.state port.new; faults = R.count cells.new; talk = L.talk link.new })
         result.replies result.ended }
-    ensures ends { StepEnds (IsTrue (L.steady link.old))
-        (longest_reply desk.now.key.now.params ≤ L.room link.old) result.replies result.ended }
-    ensures room { L.room link.old ≤ L.room link.new + longest_reply desk.now.key.now.params }
     ensures steady { L.steady link.new ≡ L.steady link.old }
     ensures cells { CellsStay R.Cells.own R.Faults cells.old cells.new }
     ensures pass { IsIdle lock.now desk.now.plan.now pass.new }

@@ -1,8 +1,8 @@
-use Rattle.std.proofs.Common.{◌≡◌, All, length, sym, subst, arith}
+use Rattle.std.proofs.Common.{◌≡◌, ◌∙◌, All, length, sym, subst, arith}
 use Rattle.aggregator_node.specs.Ports.{places_of}
 use Rattle.aggregator_node.specs.Workers.{worker_state}
 use Rattle.aggregator_node.proofs.Finishing.{ends-served}
-use Rattle.aggregator_node.proofs.Running.{done-after, idle-after, joined-all, ready-begun}
+use Rattle.aggregator_node.proofs.Running.{done-of, idle-after, joined-all, ready-begun}
 use Rattle.aggregator_node.proofs.Standing.{places-many}
 use Rattle.aggregator_node.proofs.Starting.{begun-of}
 use Rattle.aggregator_session.specs.Desks.{ReadsFor, desk_state}
@@ -17,8 +17,7 @@ serve-requires-clause-ready g c κs within =
     let desk = c.args.desk.now in
     let first = first_pass c.in-Ok-new.made.0 in
     let made = c.make_workers-workers.ensures.workers in
-    let same : length c.args.ports.now.items ≡ length c.args.cells.now.items =
-    (let n = c.args.ports.now.ok.0 in let m = c.args.cells.now.ok.0 in let e = c.requires.many in omega (arith, n, m, e)) in
+    let same : length c.args.ports.now.items ≡ length c.args.cells.now.items = sym c.args.ports.now.ok.0 ∙ sym c.requires.many ∙ c.args.cells.now.ok.0 in
     let begun = begun-of g.P.Port.state g.X.Cells g.X.Faults (first_pass c.in-Ok-new.made.0) c.args.ports.now.items c.args.cells.now.items c.make_workers-workers.result.items
     c.make_workers-workers.ensures.workers same in
     ready-begun (worker_state port g.X.Cells g.X.Faults) desk c.in-Ok-new.made.0 c.make_workers-workers.result.items c.as_mut_slice.result.now c.as_mut_slice.ensures.value
@@ -35,62 +34,39 @@ gather-pass-requires-clause-idle g c κs within =
 pub close-requires-clause-all : goal.close-requires-clause-all
 close-requires-clause-all g c =
     let port = g.P.Port.state in
-    let places = places_of g.X.Cells g.X.Faults port in
     let workers = c.make_workers-workers.result in
-    let desk = desk_state c.args.desk.now in
-    let lock = c.in-Ok-new.made.0 in
-    let asked = c.args.connections in
     let ports = c.args.ports.now in
     let cells = c.args.cells.now in
-    let olds = places ports.items cells.items in
+    let same : length ports.items ≡ length cells.items = sym ports.ok.0 ∙ sym c.requires.many ∙ cells.ok.0 in
     let e = c.serve.ensures in
-    let same : length c.args.ports.now.items ≡ length c.args.cells.now.items =
-    (let n = c.args.ports.now.ok.0 in let m = c.args.cells.now.ok.0 in let e = c.requires.many in omega (arith, n, m, e)) in
-    let begun = begun-of g.P.Port.state g.X.Cells g.X.Faults (first_pass c.in-Ok-new.made.0) c.args.ports.now.items c.args.cells.now.items c.make_workers-workers.result.items
-    c.make_workers-workers.ensures.workers same in
-    let done = done-after (worker_state port g.X.Cells g.X.Faults) c.args.desk.now lock workers.items c.as_mut_slice.result.now c.as_mut_slice.ensures.value
-    c.serve.new.workers workers.len c.serve.auto.workers workers.ok.0 asked olds c.ranges.connections.fits begun e.worked e.most e.ends in
-    let all = c.gather-pass.ensures.gathered desk asked olds done in
-    let joined = joined-all desk asked lock c.gather-pass.result.0 olds (places c.gather-pass.new.ports.items c.gather-pass.new.cells.items) c.gather-pass.result.1 all in
-    let n = ports.ok.0 in
-    let m = cells.ok.0 in
-    let same = c.requires.many in
-    let many = places-many g.X.Cells g.X.Faults port ports.items cells.items (omega (arith, n, m, same)) in
+    let done = done-of port g.X.Cells g.X.Faults c.args.desk.now c.args.connections c.in-Ok-new.made.0 ports.items cells.items workers.items c.as_mut_slice.result.now
+    c.serve.new.workers workers.len c.make_workers-workers.ensures.workers same c.as_mut_slice.ensures.value c.serve.auto.workers
+    workers.ok.0 c.ranges.connections.fits e.worked e.most e.ends in
+    let desk = desk_state c.args.desk.now in
+    let joined = joined-all desk c.args.connections c.in-Ok-new.made.0 c.gather-pass.result.0 _ _ c.gather-pass.result.1 (c.gather-pass.ensures.gathered desk c.args.connections _ done) in
+    let many = places-many g.X.Cells g.X.Faults port ports.items cells.items same in
     let made = c.in-Ok-new.ensures.numbers.1 in
     let count = c.len-count.ensures in
+    let n = ports.ok.0 in
     omega (arith, joined, many, made, count, n)
 
 pub returns-clause-served : goal.returns-clause-served
 returns-clause-served g c =
     let port = g.P.Port.state in
-    let places = places_of g.X.Cells g.X.Faults port in
     let workers = c.make_workers-workers.result in
-    let desk = desk_state c.args.desk.now in
-    let lock = c.in-Ok-new.made.0 in
-    let asked = c.args.connections in
     let ports = c.args.ports.now in
     let cells = c.args.cells.now in
-    let olds = places ports.items cells.items in
+    let same : length ports.items ≡ length cells.items = sym ports.ok.0 ∙ sym c.requires.many ∙ cells.ok.0 in
     let e = c.serve.ensures in
-    let same : length c.args.ports.now.items ≡ length c.args.cells.now.items =
-    (let n = c.args.ports.now.ok.0 in let m = c.args.cells.now.ok.0 in let e = c.requires.many in omega (arith, n, m, e)) in
-    let begun = begun-of g.P.Port.state g.X.Cells g.X.Faults (first_pass c.in-Ok-new.made.0) c.args.ports.now.items c.args.cells.now.items c.make_workers-workers.result.items
-    c.make_workers-workers.ensures.workers same in
-    let done = done-after (worker_state port g.X.Cells g.X.Faults) c.args.desk.now lock workers.items c.as_mut_slice.result.now c.as_mut_slice.ensures.value
-    c.serve.new.workers workers.len c.serve.auto.workers workers.ok.0 asked olds c.ranges.connections.fits begun e.worked e.most e.ends in
-    let all = c.gather-pass.ensures.gathered desk asked olds done in
+    let done = done-of port g.X.Cells g.X.Faults c.args.desk.now c.args.connections c.in-Ok-new.made.0 ports.items cells.items workers.items c.as_mut_slice.result.now
+    c.serve.new.workers workers.len c.make_workers-workers.ensures.workers same c.as_mut_slice.ensures.value c.serve.auto.workers
+    workers.ok.0 c.ranges.connections.fits e.worked e.most e.ends in
+    let places = places_of g.X.Cells g.X.Faults port in
     let opening = c.in-Ok-new.ensures.opening in
     let end = c.close.ensures in
-    ends-served desk asked lock (table_seen c.args.table) (table_seen c.close.result) c.gather-pass.result.0 olds
-    (places c.gather-pass.new.ports.items c.gather-pass.new.cells.items) c.gather-pass.result.1
+    ends-served (desk_state c.args.desk.now) c.args.connections c.in-Ok-new.made.0 (table_seen c.args.table) (table_seen c.close.result) c.gather-pass.result.0
+    (places ports.items cells.items) (places c.gather-pass.new.ports.items c.gather-pass.new.cells.items) c.gather-pass.result.1
     record { log = opening.0; number = opening.1; name = opening.2; first = c.in-Ok-new.ensures.numbers.0 }
     record { log = end.log; number = end.number; name = end.named; whole = end.whole }
-    all
-    (
-    let n = ports.ok.0 in
-    let m = cells.ok.0 in
-    let same = c.requires.many in
-    let many = places-many g.X.Cells g.X.Faults port ports.items cells.items (omega (arith, n, m, same)) in
-    let few = c.requires.ports.1 in
-    omega (arith, many, n, few)
-    )
+    (c.gather-pass.ensures.gathered (desk_state c.args.desk.now) c.args.connections _ done)
+    (let many = places-many g.X.Cells g.X.Faults port ports.items cells.items same in let n = ports.ok.0 in let few = c.requires.ports.1 in omega (arith, many, n, few))
