@@ -6,12 +6,13 @@ use Rattle.std.proofs.lemmas.List.Sums.{sum_by-append}
 use Rattle.aggregator_node.specs.Clients.{ReferenceState, Request, SameReference}
 use Rattle.aggregator_node.specs.Posts.{Connection, Leaves, Post, ServesLink, Works, left, next, requests_of}
 use Rattle.aggregator_node.specs.Posts.{frames_of}
-use Rattle.aggregator_node.specs.Workers.{HasServedLink, Worked, WorkerState}
+use Rattle.aggregator_node.specs.Workers.{HasServedLink, WorkEnds, Worked, WorkerState, accept_failed, no_further}
 use Rattle.aggregator_node.proofs.Serving.{serves-few, serves-port, serves-told, serves-worn}
 use Rattle.trustee_node.proofs.Onward.{onward-same, onward-then}
 use Rattle.stream_io.specs.Net.{Accepts, PortOnward, PortState, SameLinks}
 use Rattle.stream_io.specs.Store.{RisesWhere}
 use Rattle.stream_io.specs.Talk.{Talk}
+use Rattle.trustee_node.specs.Workers.{NoLink}
 use Rattle.trustee_node.specs.declared.served.Served.{Served}
 use Rattle.trustee_node.specs.declared.served.ServedEnd.TheVariants.{Worn}
 
@@ -61,6 +62,11 @@ pub record Working (desk : DeskState) (old new : WorkerState) : Type 0 where
   pub connections : new.connections ≡ length served
   pub frames : new.frames ≡ min (frames_of served) (2 ^ 32 - 1)
 
+-- a worker ends where its port gave no link
+pub ends-none : (asked : ℕ) (new : WorkerState) (old : PortState) (failed : Bool) → new.failed ≡ failed → NoLink old new.post.port failed → WorkEnds asked new
+ends-none asked new old true is none = accept_failed is (none.unsteady refl)
+ends-none asked new old false is none = no_further (none.none_waits refl) is
+
 -- a worker that has done nothing yet
 abbrev pub begun : WorkerState → WorkerState
 begun old = record { post = old.post; reference = old.reference; connections = 0; frames = 0; worn = false; failed = false }
@@ -79,12 +85,12 @@ module _ (desk : DeskState) where
   }
 
   -- a link was accepted and served
-  pub working-more : (old mid : WorkerState) (port : PortState) (post : Post) (reference : ReferenceState) (link : Talk) (steady : Bool) (served : Served) (frames : ℕ) (worn : Bool)
+  pub working-more : (old mid : WorkerState) (port : PortState) (post : Post) (reference : ReferenceState) (link : Talk) (steady : Bool) (served : Served) (frames : ℕ) (worn failed : Bool)
       → Working desk old mid → Accepts mid.post.port link steady link.room port → PortOnward mid.post.port port → port.accept_count ≡ mid.post.port.accept_count
       → HasServedLink desk mid.reference (record { pass = mid.post.pass; port = port; faults = mid.post.faults }) post link steady served → SameReference mid.reference reference
       → frames ≡ min (mid.frames + served.frames) (2 ^ 32 - 1)
-      → Working desk old (record { post = post; reference = reference; connections = mid.connections + 1; frames = frames; worn = worn; failed = mid.failed })
-  working-more old mid port post reference link steady served frames worn a accepts onward quiet b same sum =
+      → Working desk old (record { post = post; reference = reference; connections = mid.connections + 1; frames = frames; worn = worn; failed = failed })
+  working-more old mid port post reference link steady served frames worn failed a accepts onward quiet b same sum =
       let one : Connection = record { link = link; talk = b.talk; last = b.hung_up.last; requests = b.requests; served = served } in
       let dialled = serves-port desk mid.reference _ _ _ _ _ b.serves in
       let serves : ServesLink desk old.reference mid.post post one = record {

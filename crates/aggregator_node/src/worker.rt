@@ -15,8 +15,8 @@ use std::alloc::Global;
 use std::sync::Wait;
 use std::thread;
 use std::thread::Threads;
-use stream_io::{Accepted, Port, Sink, Stream};
-use trustee_node::{Served, ServedEnd, Worker};
+use stream_io::{Port, Sink, Stream};
+use trustee_node::{Served, ServedEnd, Worker, next_link};
 use turn_lock::{Pass, TurnLock};
 
 /// Serves one link after the other by each worker, all beside each other, until each has served `connections`, there is
@@ -73,18 +73,10 @@ fn work<X: Cells, D: Disk, P: Port>(
     ensures most { worker.new.connections ≤ connections }
     ensures ends { WorkEnds connections (worker_state P.state X.Cells.own X.Faults worker.new) }
 {
-    worker.connections = 0;
-    worker.frames = 0;
-    worker.worn = false;
-    worker.failed = false;
+    worker.begin();
     for _ in 0..connections {
-        let link = match worker.port.accept() {
-            Accepted::Link(link) => link,
-            Accepted::End => return,
-            Accepted::Failed => {
-                worker.failed = true;
-                return;
-            }
+        let Some(link) = next_link(&mut worker.port, &mut worker.failed) else {
+            return;
         };
         let served = serve_link(
             rt,

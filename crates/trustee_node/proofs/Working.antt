@@ -13,7 +13,7 @@ use Rattle.trustee_core.specs.declared.note.Note.{Note}
 use Rattle.turn_lock.specs.Pass.{Seen}
 use Rattle.trustee_node.specs.Connections.{ClockState, EndsBy, HaveMoments, IsDated}
 use Rattle.trustee_node.specs.Turns.{Serves, Turn, with_code}
-use Rattle.trustee_node.specs.Workers.{Connection, IsConnection, ServesLink, WorkerState, Worked, turns_of}
+use Rattle.trustee_node.specs.Workers.{Connection, IsConnection, NoLink, ServesLink, WorkEnds, WorkerState, Worked, accept_failed, no_further, turns_of}
 use Rattle.trustee_node.specs.declared.served.Served.{Served}
 use Rattle.trustee_node.specs.declared.served.ServedEnd.{ServedEnd}
 use Rattle.trustee_node.specs.declared.served.ServedEnd.TheVariants.{Worn}
@@ -54,6 +54,11 @@ rises-nowhere failed before now never same = record { later = omega (arith, same
 abbrev pub begun : WorkerState → WorkerState
 begun old = record { port = old.port; pass = old.pass; clock = old.clock; connections = 0; frames = 0; worn = false; failed = false }
 
+-- a worker ends where its port gave no link
+pub ends-none : (asked : ℕ) (new : WorkerState) (old : PortState) (failed : Bool) → new.failed ≡ failed → NoLink old new.port failed → WorkEnds asked new
+ends-none asked new old true is none = accept_failed is (none.unsteady refl)
+ends-none asked new old false is none = no_further (none.none_waits refl) is
+
 module _ (share : Share) (ids : Option (List (List ℕ))) where
   pub worked-none : (old : WorkerState) → old.pass.in_turn ≡ false → Worked share ids old (begun old)
   worked-none old idle = record {
@@ -93,13 +98,13 @@ module _ (share : Share) (ids : Option (List (List ℕ))) where
       }
 
   -- a link was accepted and served
-  pub worked-more : (old mid : WorkerState) (port_in port : PortState) (pass : Seen Note TrusteeName) (clock : ClockState) (link : Talk) (steady : Bool) (room : ℕ) (served : Served) (frames : ℕ) (worn : Bool)
+  pub worked-more : (old mid : WorkerState) (port_in port : PortState) (pass : Seen Note TrusteeName) (clock : ClockState) (link : Talk) (steady : Bool) (room : ℕ) (served : Served) (frames : ℕ) (worn failed : Bool)
       → Worked share ids old mid → mid.failed ≡ false
       → link.room ≡ room → Accepts mid.port link steady room port_in → PortOnward mid.port port_in → port_in.accept_count ≡ mid.port.accept_count
       → ServesLink share ids (record { pass = mid.pass; clock = mid.clock }) (record { pass = pass; clock = clock }) (record { steady = steady; talk = link }) port_in port served → PortOnward port_in port → clock.told ≡ mid.clock.told
-      → frames ≡ min (mid.frames + served.frames) (2 ^ 32 - 1) → (worn ≡ true → served.ended ≡ Worn)
-      → Worked share ids old (record { port = port; pass = pass; clock = clock; connections = mid.connections + 1; frames = frames; worn = worn; failed = mid.failed })
-  worked-more old mid port_in port pass clock link steady room served frames worn a sound takes accepts onward_in quiet b onward told sum ended =
+      → frames ≡ min (mid.frames + served.frames) (2 ^ 32 - 1) → (worn ≡ true → served.ended ≡ Worn) → failed ≡ false
+      → Worked share ids old (record { port = port; pass = pass; clock = clock; connections = mid.connections + 1; frames = frames; worn = worn; failed = failed })
+  worked-more old mid port_in port pass clock link steady room served frames worn failed a sound takes accepts onward_in quiet b onward told sum ended still =
       let conversation = b.conversation in
       let one : Connection = record { link = link; talk = b.talk; last = b.hung.last; turns = conversation.turns; served = served } in
       let turns = turns-more a.served one in
@@ -138,8 +143,8 @@ module _ (share : Share) (ids : Option (List (List ℕ))) where
         onward = onward-then old.port port_in port (onward-then old.port mid.port port_in a.onward onward_in) onward;
         accepts = record {
           later = (let p = a.accepts.later in let q = b.hung.kept.accept_count in omega (arith, quiet));
-          rose = λ failed. absurd (true≢false (sym failed ∙ sound));
-          same = λ never. b.hung.kept.accept_count ∙ quiet ∙ a.accepts.same never;
+          rose = λ is. absurd (true≢false (sym is ∙ still));
+          same = λ _. b.hung.kept.accept_count ∙ quiet ∙ a.accepts.same (λ is. absurd (true≢false (sym is ∙ sound)));
         };
         clock_told = told ∙ before_clock;
         connections = (let c = a.connections in omega (arith, c, length-append a.served (one ∷ [])));

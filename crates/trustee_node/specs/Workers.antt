@@ -3,7 +3,7 @@ use Rattle.std.specs.Prelude.{◌≡◌, ◌≤◌, ◌+◌, ◌-◌, ◌*◌, �
 use Rattle.std.specs.Prelude.{Option, None, IsTrue}
 use Rattle.std.specs.List.{flat_map, sum_by}
 use Rattle.share_files.specs.declared.share.Share.{Share}
-use Rattle.stream_io.specs.Net.{HangsUp, IsNewLink, PortOnward, PortState}
+use Rattle.stream_io.specs.Net.{HangsUp, IsNewLink, PortOnward, PortState, SameLinks}
 use Rattle.stream_io.specs.Store.{RisesWhere}
 use Rattle.stream_io.specs.Talk.{Ended, Talk}
 use Rattle.trustee_core.specs.declared.kept.TrusteeName.{TrusteeName}
@@ -38,6 +38,12 @@ worker_state state told answers worker = record {
   worn = worker.worn;
   failed = worker.failed;
 }
+
+-- a port gave no link: no further one is to come, or accepting failed where this says so
+pub record NoLink (old new : PortState) (failed : Bool) : Type 0 where
+  pub links : SameLinks old new
+  pub none_waits : failed ≡ false → IsTrue new.told → new.waiting ≡ 0
+  pub unsteady : failed ≡ true → IsTrue new.steady → ⊥
 
 -- a link was served, and then hung up at its port
 pub record ServesLink (share : Share) (ids : Option (List (List ℕ))) (old new : ServerState) (link : LinkState)

@@ -19,4 +19,4 @@ pub use served::{Served, ServedEnd, end_by};
 pub use service::serve_ports;
 pub use start::make_workers;
 pub use totals::Totals;
-pub use worker::{Worker, serve};
+pub use worker::{Worker, next_link, serve};

@@ -1,12 +1,14 @@
 //! Workers, which serve one link after the other.
 
-ghost use Rattle.std.specs.Prelude.{◌≡◌, ◌≤◌, ◌<◌, ℕ, All, length, slice_index_or};
+ghost use Rattle.std.specs.Prelude.{◌≡◌, ◌≤◌, ◌<◌, ℕ, true, false, All, None, IfSome, length, slice_index_or};
 ghost use Rattle.std.specs.Option.{option_map};
 ghost use Rattle.approval_book.specs.Approved.{ids_of};
-ghost use Rattle.stream_io.specs.Net.{PortOnward};
+ghost use Rattle.stream_io.specs.Net.{Accepts, PortOnward};
+ghost use Rattle.stream_io.specs.Store.{RisesWhere};
 ghost use Rattle.trustee_node.specs.Connections.{clock_state};
+ghost use Rattle.trustee_node.specs.Starting.{fresh_worker};
 ghost use Rattle.trustee_node.specs.Turns.{IsIdle};
-ghost use Rattle.trustee_node.specs.Workers.{ServesLink, WorkEnds, Worked, worker_state};
+ghost use Rattle.trustee_node.specs.Workers.{NoLink, ServesLink, WorkEnds, Worked, worker_state};
 
 use crate::connection::serve_connection;
 use crate::served::{Served, ServedEnd};
@@ -36,6 +38,38 @@ pub struct Worker<P: Port, T: Kept, X> {
     pub worn: bool,
     /// Whether accepting failed.
     pub failed: bool,
+}
+
+impl<P: Port, T: Kept, X> Worker<P, T, X> {
+    /// Begins anew: so far it has served nothing.
+    pub fn begin(&mut self)
+        ensures { self.new ≡ fresh_worker self.old.pass self.old.port self.old.own }
+    {
+        self.connections = 0;
+        self.frames = 0;
+        self.worn = false;
+        self.failed = false;
+    }
+}
+
+/// The next link of a port, if there is one, and whether accepting failed.
+pub fn next_link<P: Port>(port: &mut P, failed: &mut bool) -> Option<P::Link>
+    ensures link { IfSome result (λ link. Accepts (P.state port.old) (P.Link.talk link) (P.Link.steady link)
+        (P.Link.room link) (P.state port.new)) }
+    ensures sound { IfSome result (λ _. failed.new ≡ false) }
+    ensures none { result ≡ None → NoLink (P.state port.old) (P.state port.new) failed.new }
+    ensures cause { RisesWhere (failed.new ≡ true) (P.state port.old).accept_count (P.state port.new).accept_count }
+    ensures onward { PortOnward (P.state port.old) (P.state port.new) }
+{
+    *failed = false;
+    match port.accept() {
+        Accepted::Link(link) => Some(link),
+        Accepted::End => None,
+        Accepted::Failed => {
+            *failed = true;
+            None
+        }
+    }
 }
 
 /// Serves one link after the other by each worker, all beside each other, until each has served `connections`, there is
@@ -89,18 +123,10 @@ fn work<D: Disk, C: Clock, P: Port>(
     ensures most { worker.new.connections ≤ connections }
     ensures ends { WorkEnds connections (worker_state P.state C.told C.answers worker.new) }
 {
-    worker.connections = 0;
-    worker.frames = 0;
-    worker.worn = false;
-    worker.failed = false;
+    worker.begin();
     for _ in 0..connections {
-        let link = match worker.port.accept() {
-            Accepted::Link(link) => link,
-            Accepted::End => return,
-            Accepted::Failed => {
-                worker.failed = true;
-                return;
-            }
+        let Some(link) = next_link(&mut worker.port, &mut worker.failed) else {
+            return;
         };
         let served = serve_link(
             rt,

@@ -1,4 +1,4 @@
-use Rattle.std.proofs.Common.{◌≡◌, ◌≤◌, ◌+◌, ◌++◌, ℕ, List, [], ◌∷◌, length, Err, refl, sym, ap, subst, ◌∙◌, arith, append-nil, true≢false}
+use Rattle.std.proofs.Common.{◌≡◌, ◌≤◌, ◌+◌, ◌++◌, ℕ, [], ◌∷◌, length, Err, refl, sym, ap, subst, ◌∙◌, arith, append-nil, true≢false}
 use Rattle.trustee_node.specs.Connections.{IsLinkFault, ServerState, clock_state, read_none}
 use Rattle.trustee_node.specs.Replies.{outcome_in, reply_bytes}
 use Rattle.trustee_node.specs.declared.served.ServedEnd.TheVariants.{WriteFailed, Worn, Full}

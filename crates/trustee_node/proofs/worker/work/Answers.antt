@@ -1,50 +1,67 @@
-use Rattle.std.proofs.Common.{true, true≢false, refl, sym, ◌∙◌, arith, rules}
+use Rattle.std.proofs.Common.{true, true≢false, refl, sym, ap, ◌∙◌, subst, arith, rules}
 use Rattle.std.specs.Option.{option_map}
 use Rattle.approval_book.specs.Approved.{ids_of}
 use Rattle.trustee_node.specs.Connections.{clock_state}
-use Rattle.trustee_node.specs.Workers.{worker_state}
-use Rattle.trustee_node.proofs.Working.{worked-more, worked-none}
+use Rattle.trustee_node.specs.Turns.{IsIdle}
+use Rattle.trustee_node.specs.Workers.{Worked, worker_state}
+use Rattle.trustee_node.proofs.Working.{ends-none, worked-more, worked-none, worked-refused}
 use Rattle.trustee_node.proofs.worker.work.Goals as goal
 
 pub loop-init : goal.loop-init
 loop-init g c =
     let state = worker_state g.P.Port.state g.C.Clock.told g.C.Clock.answers in
+    let is = c.begin.ensures in
     record {
-      worked = worked-none c.args.share.now _ (state c.args.worker.now) c.requires.1;
-      pass = c.requires;
-      count = refl;
-      sound = refl;
-      fresh = refl;
+      worked = subst (λ worker. Worked c.args.share.now (option_map (λ b. ids_of b.now) c.args.book) (state c.args.worker.now) (state worker)) (sym is)
+          (worked-none c.args.share.now _ (state c.args.worker.now) c.requires.1);
+      pass = subst (λ worker. IsIdle c.args.lock.now c.args.share.now worker.pass) (sym is) c.requires;
+      count = ap (λ worker. worker.connections) is;
+      sound = ap (λ worker. worker.failed) is;
+      fresh = ap (λ worker. worker.worn) is;
     }
 
 pub loop-preserved : goal.loop-preserved
 loop-preserved g c =
     let state = worker_state g.P.Port.state g.C.Clock.told g.C.Clock.answers in
     let v = c.loop.invariant in
-    let a = c.accept.ensures in
+    let a = c.in-Some.ensures in
     let e = c.serve_link-served.ensures in
     record {
       worked = worked-more c.args.share.now (option_map (λ b. ids_of b.now) c.args.book) (state c.args.worker.now) (state c.loop.worker)
-          (g.P.Port.state c.accept.new.self) (g.P.Port.state c.serve_link-served.new.port) c.serve_link-served.new.pass
+          (g.P.Port.state c.next_link.new.port) (g.P.Port.state c.serve_link-served.new.port) c.serve_link-served.new.pass
           (clock_state g.C.Clock.told g.C.Clock.answers c.serve_link-served.new.clock)
-          (g.P.Link.Stream.talk c.in-Link.link) (g.P.Link.Faults.steady c.in-Link.link) (g.P.Link.Sink.room c.in-Link.link) c.serve_link-served.result c.saturating_add-worker.result c.loop.worker.worn
-          v.worked v.sound e.takes (a.link c.in-Link.link c.in-Link.is) a.onward (a.accept_cause.same (λ is. absurd (cc))) e.served e.onward e.clock
-          c.saturating_add-worker.ensures (λ is. absurd (true≢false (sym is ∙ v.fresh)));
+          (g.P.Link.Stream.talk c.in-Some.link) (g.P.Link.Faults.steady c.in-Some.link) (g.P.Link.Sink.room c.in-Some.link) c.serve_link-served.result c.saturating_add-worker.result c.loop.worker.worn c.next_link.new.failed
+          v.worked v.sound e.takes a.link a.onward (a.cause.same (λ is. absurd (true≢false (sym is ∙ a.sound)))) e.served e.onward e.clock
+          c.saturating_add-worker.ensures (λ is. absurd (true≢false (sym is ∙ v.fresh))) a.sound;
       pass = e.pass;
       count = (let n = v.count in omega (arith, n));
-      sound = v.sound;
+      sound = a.sound;
       fresh = v.fresh;
     }
+
+pub returns-in_default-clause-worked : goal.returns-in_default-clause-worked
+returns-in_default-clause-worked g c =
+    let state = worker_state g.P.Port.state g.C.Clock.told g.C.Clock.answers in
+    let v = c.loop.invariant in
+    let a = c.in_default.ensures in
+    worked-refused c.args.share.now (option_map (λ b. ids_of b.now) c.args.book) (state c.args.worker.now) (state c.loop.worker) (g.P.Port.state c.next_link.new.port) c.next_link.new.failed
+    v.worked v.sound (a.none refl).links a.onward a.cause
+
+pub returns-in_default-clause-ends : goal.returns-in_default-clause-ends
+returns-in_default-clause-ends g c =
+    let state = worker_state g.P.Port.state g.C.Clock.told g.C.Clock.answers in
+    let w = c.loop.worker in
+    ends-none c.args.connections (state (record w { port = c.next_link.new.port; failed = c.next_link.new.failed })) (g.P.Port.state w.port) c.next_link.new.failed refl (c.in_default.ensures.none refl)
 
 pub returns-then-eq-clause-worked : goal.returns-then-eq-clause-worked
 returns-then-eq-clause-worked g c =
     let state = worker_state g.P.Port.state g.C.Clock.told g.C.Clock.answers in
     let v = c.loop.invariant in
-    let a = c.accept.ensures in
+    let a = c.in-Some.ensures in
     let e = c.serve_link-served.ensures in
     worked-more c.args.share.now (option_map (λ b. ids_of b.now) c.args.book) (state c.args.worker.now) (state c.loop.worker)
-    (g.P.Port.state c.accept.new.self) (g.P.Port.state c.serve_link-served.new.port) c.serve_link-served.new.pass
+    (g.P.Port.state c.next_link.new.port) (g.P.Port.state c.serve_link-served.new.port) c.serve_link-served.new.pass
     (clock_state g.C.Clock.told g.C.Clock.answers c.serve_link-served.new.clock)
-    (g.P.Link.Stream.talk c.in-Link.link) (g.P.Link.Faults.steady c.in-Link.link) (g.P.Link.Sink.room c.in-Link.link) c.serve_link-served.result c.saturating_add-worker.result true
-    v.worked v.sound e.takes (a.link c.in-Link.link c.in-Link.is) a.onward (a.accept_cause.same (λ is. absurd (cc))) e.served e.onward e.clock
-    c.saturating_add-worker.ensures (λ _. search rules)
+    (g.P.Link.Stream.talk c.in-Some.link) (g.P.Link.Faults.steady c.in-Some.link) (g.P.Link.Sink.room c.in-Some.link) c.serve_link-served.result c.saturating_add-worker.result true c.next_link.new.failed
+    v.worked v.sound e.takes a.link a.onward (a.cause.same (λ is. absurd (true≢false (sym is ∙ a.sound)))) e.served e.onward e.clock
+    c.saturating_add-worker.ensures (λ _. search rules) a.sound
