@@ -11,7 +11,7 @@ use Rattle.reference_value.specs.declared.cells.Cells as cells
 use Rattle.stream_io.specs.Net.{IsNewPort, PortState, SomeUnaccepted}
 use Rattle.tool_base.proofs.Heard.{heard_new}
 use Rattle.tool_base.specs.Ending.{Ending}
-use Rattle.tool_aggregate.specs.Serving.{NetEnds, no_memory, served}
+use Rattle.tool_aggregate.specs.Serving.{NetClientsEnd, cells_run, no_memory, served}
 use Rattle.tool_trustee.specs.Nets.{ServiceEnds}
 use Rattle.tool_sign.specs.Ports.{NetRun}
 use Rattle.tool_words.specs.Words.{AggregateWords}
@@ -32,7 +32,7 @@ module _ {X P : Type 0} (c : cells.Ghosts X) (f : faults.Ghosts X) (state : P �
       → (IsTrue net.before.told → net.after.kept ≡ net.before.kept ++ map state ports_new)
       → (SomeUnaccepted (map state ports_new) → Rose net.before.port_count net.after.port_count)
       → OnErr totals (table_same × ports_same × cells_same) → (ports_same → map state ports_new ≡ map state ports_old) → ServiceEnds (map state ports_new) totals end
-      → NetEnds c f words desk (table_same × cells_same) old new own_old own_new net end
+      → NetClientsEnd words desk (table_same × cells_same) old new (cells_run c f own_old own_new) net end
   net_ends (Ok totals) end many offered made serves kept deaf refused back ends =
       let was = ports_are c f state ports_old own_old before in
       let now = ports_are c f state ports_new own_new after in

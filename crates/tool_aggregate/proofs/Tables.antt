@@ -1,15 +1,13 @@
 -- Serving with a table of a store, from what serving over a net says.
-use Rattle.std.proofs.Common.{List, [], ◌∷◌}
+use Rattle.std.proofs.Common.{[], ◌∷◌}
 use Rattle.std.proofs.lemmas.List.Elements.{All-cons, All-nil}
-use Rattle.disk_trait.specs.declared.faults.Faults as faults
 use Rattle.aggregator_session.specs.Desks.{DeskState}
 use Rattle.aggregator_session.specs.Tables.{TableSeen}
-use Rattle.reference_value.specs.declared.cells.Cells as cells
 use Rattle.stream_io.specs.Store.{StoreState}
 use Rattle.tool_base.specs.Ending.{Ending}
 use Rattle.tool_base.specs.World.{from_to}
 use Rattle.tool_aggregate.specs.Aggregate.{TableEnds, no_memory, no_ports, served}
-use Rattle.tool_aggregate.specs.Serving.{NetEnds, ServesWith}
+use Rattle.tool_aggregate.specs.Serving.{CellsRun, NetClientsEnd, ServesWith}
 use Rattle.tool_aggregate.specs.Serving as nets
 use Rattle.tool_base.specs.Disks.{Stays}
 use Rattle.tool_sign.specs.Ports.{NetRun}
@@ -17,12 +15,12 @@ use Rattle.tool_sign.specs.Tables.{table_header}
 use Rattle.tool_sign.proofs.Tables.{TableRound}
 use Rattle.tool_words.specs.Words.{AggregateWords}
 
-module _ {X : Type 0} (c : cells.Ghosts X) (f : faults.Ghosts X) (words : AggregateWords) (desk : DeskState) (a e : StoreState) (net : NetRun) (olds news : List X)
+module _ (words : AggregateWords) (desk : DeskState) (a e : StoreState) (net : NetRun) (own : CellsRun)
     (same rest : Type 0) (old new : TableSeen) (round : TableRound a e words.table (table_header desk.key) desk.plan same old new) where
   abbrev Ends : Ending → Type 0
-  Ends end = TableEnds words (from_to a e) net desk (ServesWith c f words (from_to a e) net desk olds news) end (words.table ∷ [])
+  Ends end = TableEnds words (from_to a e) net desk (ServesWith words (from_to a e) net desk own) end (words.table ∷ [])
 
-  pub ends_whole : (end : Ending) → NetEnds c f words desk (same × rest) old new olds news net end → Ends end
+  pub ends_whole : (end : Ending) → NetClientsEnd words desk (same × rest) old new own net end → Ends end
   ends_whole _ (nets.no_memory is heard) = no_memory (words.table ∷ []) heard (All-cons (Stays (from_to a e)) words.table [] (round.stays is.0) (All-nil (Stays (from_to a e))))
   ends_whole _ (nets.no_ports is heard rose never) = no_ports old.state.entries round.table_is heard rose never (round.stays is.0)
   ends_whole _ (nets.served places_old places_new end have over) = served end (record {

@@ -4,13 +4,12 @@ use Rattle.std.proofs.Common.{◌≡◌, ◌+◌, ◌-◌, ◌^◌, ◌≤◌, �
 use Rattle.std.proofs.Math.Seq.{drop-append_seam}
 use Rattle.std.proofs.lemmas.List.Elements.{All-cons, All-head, All-nil, All-tail, All-weaker}
 use Rattle.std.proofs.lemmas.List.Sums.{sum_by-cons}
-use Rattle.aggregator_node.specs.Ports.{Place, reference_state}
+use Rattle.aggregator_node.specs.Ports.{Place}
 use Rattle.coalition_map.specs.Coalitions.{PlanNumbers}
 use Rattle.disk_trait.specs.declared.disk.Pages as pages
 use Rattle.disk_trait.specs.declared.faults.Faults as faults
 use Rattle.leaf_table.specs.State.{TableState}
 use Rattle.reference_value.specs.Paged.{pages_of}
-use Rattle.reference_value.specs.declared.cells.Cells as cells
 use Rattle.reference_value.specs.declared.paged.Paged.{Paged}
 use Rattle.share_files.specs.Reference.{HasReferenceLayout, reference_head}
 use Rattle.share_files.specs.declared.reference.RefHeader.{RefHeader}
@@ -22,7 +21,7 @@ use Rattle.tool_base.specs.Touched.{Keeps}
 use Rattle.tool_base.specs.World.{Failed, IsRead, from_to}
 use Rattle.tool_aggregate.specs.Aggregate.{TableEnds, no_memory, no_ports, no_table, not_loaded, served}
 use Rattle.tool_aggregate.specs.Desks.{ReadsReference}
-use Rattle.tool_aggregate.specs.Serving.{ServedTable, ServesTable, ServesWith, faults_of}
+use Rattle.tool_aggregate.specs.Serving.{CellsRun, ServedTable, ServesTable, ServesWith, faults_of}
 use Rattle.tool_desk.specs.Files.{reference_name}
 use Rattle.tool_desk.specs.Reference.{IsReferenceOf, IsReferenceViewed}
 use Rattle.tool_base.specs.Disks.{DeviceFails, Stays}
@@ -135,13 +134,13 @@ module _ (a b c d : StoreState) (count : ℕ) (counts : List ℕ) (goes : ViewsO
         sum_by-cons (λ (one : Place). one.faults) place places ∙ ap (λ n. place.faults + n) (sum-places places)
         ∙ sym (sum_by-cons (λ (n : ℕ). n) place.faults (map (λ (one : Place). one.faults) places))
 
-    module _ {X : Type 0} (cg : cells.Ghosts X) (fg : faults.Ghosts X) (header : RefHeader) (olds news : List X) where
+    module _ (header : RefHeader) (own : CellsRun) where
       -- places that have these cells read the reference of the words
       abbrev pub AllRead : Type 0
-      AllRead = (places : List Place) → map (λ (place : Place). place.reference) places ≡ map (reference_state cg fg) olds
-          → map (λ (place : Place). place.faults) places ≡ map fg.count olds → All (ReadsReference words (from_to a d) header) places
+      AllRead = (places : List Place) → map (λ (place : Place). place.reference) places ≡ own.references
+          → map (λ (place : Place). place.faults) places ≡ own.before → All (ReadsReference words (from_to a d) header) places
 
-      served_in : (end : Ending) → ServesWith cg fg words (from_to b c) net desk olds news end → AllRead → sum_of counts ≡ sum_of (map fg.count news) → ServedTable words (from_to a d) net header desk end
+      served_in : (end : Ending) → ServesWith words (from_to b c) net desk own end → AllRead → sum_of counts ≡ sum_of own.after → ServedTable words (from_to a d) net header desk end
       served_in end s reads counted = record {
         places_old = s.places_old;
         places_new = s.places_new;
@@ -155,16 +154,16 @@ module _ (a b c d : StoreState) (count : ℕ) (counts : List ℕ) (goes : ViewsO
             all;
       }
 
-    pub ends_in : {X : Type 0} {cg : cells.Ghosts X} {fg : faults.Ghosts X} (header : RefHeader) {olds news : List X} {end : Ending} {touched : List (List ℕ)}
-        → TableEnds words (from_to b c) net desk (ServesWith cg fg words (from_to b c) net desk olds news) end touched
-        → AllRead cg fg header olds news → sum_of counts ≡ sum_of (map fg.count news)
+    pub ends_in : (header : RefHeader) {own : CellsRun} {end : Ending} {touched : List (List ℕ)}
+        → TableEnds words (from_to b c) net desk (ServesWith words (from_to b c) net desk own) end touched
+        → AllRead header own → sum_of counts ≡ sum_of own.after
         → TableEnds words (from_to a d) net desk (ServedTable words (from_to a d) net header desk) end touched
     ends_in header (no_memory touched heard stays) reads counted = no_memory touched heard (All-weaker (Stays (from_to b c)) (Stays (from_to a d)) stays_in touched stays)
     ends_in header (no_table read heard) reads counted = no_table (failed_in words.table read) heard
     ends_in header (not_loaded end fails heard stays) reads counted = not_loaded end (not_loaded_in (table_header desk.key) (2 ^ desk.plan.h) words.table end fails) heard (stays_in words.table stays)
     ends_in header (no_ports entries have heard rose never stays) reads counted =
         no_ports entries (reads_as_in words.table (IsTable (table_header desk.key) desk.plan entries) have) heard rose never (stays_in words.table stays)
-    ends_in {X} {cg} {fg} header {olds} {news} (served end serves) reads counted = served end (served_in cg fg header olds news end serves reads counted)
+    ends_in header {own} (served end serves) reads counted = served end (served_in header own end serves reads counted)
 
 -- the reference that is read through views
 module _ (header : RefHeader) where

@@ -2,6 +2,7 @@
 use Rattle.std.specs.Prelude.{◌≡◌, ◌≤◌, ◌+◌, ◌-◌, ◌^◌, ◌++◌, min, map, ℕ, List, All, length, None, Some}
 use Rattle.std.specs.Prelude.{Ok, IsTrue, false}
 use Rattle.std.specs.List.{sum_by}
+use Rattle.aggregator_node.specs.Clients.{ReferenceState}
 use Rattle.aggregator_node.specs.Ports.{Place, ServedClients, reference_state}
 use Rattle.disk_trait.specs.Faults.{Rose}
 use Rattle.disk_trait.specs.declared.faults.Faults as faults
@@ -68,30 +69,43 @@ pub record ServedTable (words : AggregateWords) (store : StoreRun) (net : NetRun
   pub faults : min (store.before.disk_count + serves.new.faults + faults_of places_new) (2 ^ 64 - 1)
       ≤ store.after.disk_count
 
--- internal: places that have these cells, by what a call made of them
-pub record HaveCells {X : Type 0} (c : cells.Ghosts X) (f : faults.Ghosts X) (olds news : List X)
-    (places_old places_new : List Place) : Type 0 where
-  pub references : map (λ (place : Place). place.reference) places_old ≡ map (reference_state c f) olds
-  pub before : map (λ (place : Place). place.faults) places_old ≡ map f.count olds
-  pub after : map (λ (place : Place). place.faults) places_new ≡ map f.count news
+-- internal: the cells of workers: the references that they read, and the counts of faults of these before and after
+pub record CellsRun : Type 0 where
+  pub references : List ReferenceState
+  pub before : List ℕ
+  pub after : List ℕ
+
+-- internal: the same of cells that have these members, by what a call made of them
+abbrev pub cells_run : {X : Type 0} → cells.Ghosts X → faults.Ghosts X → List X → List X → CellsRun
+cells_run c f olds news = record {
+  references = map (reference_state c f) olds;
+  before = map f.count olds;
+  after = map f.count news;
+}
+
+-- internal: places that have these cells
+pub record HaveCells (own : CellsRun) (places_old places_new : List Place) : Type 0 where
+  pub references : map (λ (place : Place). place.reference) places_old ≡ own.references
+  pub before : map (λ (place : Place). place.faults) places_old ≡ own.before
+  pub after : map (λ (place : Place). place.faults) places_new ≡ own.after
 
 -- internal: how serving over a net ends with a table that is loaded: clients were served, or nobody was heard and all
 -- is as it was
-pub data NetEnds {X : Type 0} (c : cells.Ghosts X) (f : faults.Ghosts X) (words : AggregateWords) (desk : DeskState)
-    (same : Type 0) (old new : TableSeen) (olds news : List X) (net : NetRun) : Ending → Type 0 where
+pub data NetClientsEnd (words : AggregateWords) (desk : DeskState) (same : Type 0) (old new : TableSeen)
+    (own : CellsRun) (net : NetRun) : Ending → Type 0 where
   no_memory : same → HeardNobody words.place net.before net.after
-      → NetEnds c f words desk same old new olds news net ending.NoMemory
+      → NetClientsEnd words desk same old new own net ending.NoMemory
   no_ports : same → HeardNobody words.place net.before net.after → Rose net.before.port_count net.after.port_count
       → (IsTrue net.before.told → IsTrue net.before.steady → net.before.offers words.place ≡ false)
-      → NetEnds c f words desk same old new olds news net ending.NetFailed
-  served : (places_old places_new : List Place) (end : Ending) → HaveCells c f olds news places_old places_new
+      → NetClientsEnd words desk same old new own net ending.NetFailed
+  served : (places_old places_new : List Place) (end : Ending) → HaveCells own places_old places_new
       → ServedNet words desk old new places_old places_new net end
-      → NetEnds c f words desk same old new olds news net end
+      → NetClientsEnd words desk same old new own net end
 
 -- internal: clients were served with a table, by workers that have these cells
-pub record ServesWith {X : Type 0} (c : cells.Ghosts X) (f : faults.Ghosts X) (words : AggregateWords)
-    (store : StoreRun) (net : NetRun) (desk : DeskState) (olds news : List X) (end : Ending) : Type 0 where
+pub record ServesWith (words : AggregateWords) (store : StoreRun) (net : NetRun) (desk : DeskState)
+    (own : CellsRun) (end : Ending) : Type 0 where
   pub places_old : List Place
   pub places_new : List Place
-  pub have : HaveCells c f olds news places_old places_new
+  pub have : HaveCells own places_old places_new
   pub serves : ServesTable words store net desk places_old places_new end

@@ -7,7 +7,7 @@ ghost use Rattle.aggregator_session.specs.Tables.{TableOnward, table_seen};
 ghost use Rattle.tool_base.specs.Endings.{ending};
 ghost use Rattle.tool_base.specs.World.{IsNetBack, from_to};
 ghost use Rattle.tool_aggregate.specs.Aggregate.{TableRun};
-ghost use Rattle.tool_aggregate.specs.Serving.{NetEnds, ServesWith};
+ghost use Rattle.tool_aggregate.specs.Serving.{NetClientsEnd, ServesWith, cells_run};
 ghost use Rattle.tool_sign.specs.Ports.{over_net};
 ghost use Rattle.tool_words.specs.Rows.{aggregate_words};
 
@@ -39,8 +39,9 @@ pub(crate) fn serve_table<R: Threads + Wait + Sync, X: Cells + Send, S: Store, N
     requires many { vec_len cells.old ≡ words.now.workers }
     ensures run { TableRun (aggregate_words words.now) (from_to (S.state store.old) (S.state store.new))
         (over_net (N.state net.old) (N.state net.new)) (desk_state desk.now)
-        (ServesWith X.Cells.own X.Faults (aggregate_words words.now) (from_to (S.state store.old) (S.state store.new))
-        (over_net (N.state net.old) (N.state net.new)) (desk_state desk.now) cells.old.items cells.new.items)
+        (ServesWith (aggregate_words words.now) (from_to (S.state store.old) (S.state store.new))
+        (over_net (N.state net.old) (N.state net.new)) (desk_state desk.now)
+        (cells_run X.Cells.own X.Faults cells.old.items cells.new.items))
         (ending result) }
     ensures count { vec_len cells.new ≡ vec_len cells.old }
 {
@@ -75,9 +76,10 @@ fn serve_net<R: Threads + Wait + Sync, X: Cells + Send, D: Disk + Send, N: Net>(
     requires plan { plan_of table ≡ desk.now.plan.now }
     requires cells { All (ReadsFor X.Cells.own desk.now) cells.old.items }
     requires many { vec_len cells.old ≡ words.now.workers }
-    ensures ends { NetEnds X.Cells.own X.Faults (aggregate_words words.now) (desk_state desk.now)
+    ensures ends { NetClientsEnd (aggregate_words words.now) (desk_state desk.now)
         ((result.0 ≡ table) × (cells.new.items ≡ cells.old.items)) (table_seen table) (table_seen result.0)
-        cells.old.items cells.new.items (over_net (N.state net.old) (N.state net.new)) (ending result.1) }
+        (cells_run X.Cells.own X.Faults cells.old.items cells.new.items)
+        (over_net (N.state net.old) (N.state net.new)) (ending result.1) }
     ensures onward { TableOnward (table_seen table) (table_seen result.0) }
     ensures net { IsNetBack (N.state net.old) (N.state net.new) }
     ensures count { vec_len cells.new ≡ vec_len cells.old }

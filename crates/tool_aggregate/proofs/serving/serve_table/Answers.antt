@@ -9,6 +9,7 @@ use Rattle.tool_base.proofs.Outs.{keeps_unchanged, out_here, taken_out}
 use Rattle.tool_base.proofs.Heard.{heard_none}
 use Rattle.tool_base.proofs.Nets.{net_none}
 use Rattle.tool_aggregate.specs.Aggregate.{no_memory, no_table, not_loaded}
+use Rattle.tool_aggregate.specs.Serving.{cells_run}
 use Rattle.tool_aggregate.proofs.Tables.{ends_whole}
 use Rattle.tool_sign.proofs.Tables.{disk_seen, same_disk, table_refused, table_round}
 use Rattle.tool_sign.specs.Ports.{over_net}
@@ -74,8 +75,8 @@ returns-clause-run g c =
     (state c.args.store.now) _ (state c.return_disk-2.new.self) name out.taken out.onward c.return_disk-2.ensures.returned c.return_disk-2.ensures.onward in
     record {
       touched = name ∷ [];
-      ends = ends_whole g.X.Cells g.X.Faults (aggregate_words c.args.words.now) (desk_state desk) _ _ (over_net (g.N.Net.state c.args.net.now) (g.N.Net.state c.serve_net-table.new.net))
-          c.args.cells.now.items c.serve_net-table.new.cells.items (new ≡ old) (c.serve_net-table.new.cells.items ≡ c.args.cells.now.items) (table_seen old) (table_seen new) round _ served.ends;
+      ends = ends_whole (aggregate_words c.args.words.now) (desk_state desk) _ _ (over_net (g.N.Net.state c.args.net.now) (g.N.Net.state c.serve_net-table.new.net))
+          (cells_run g.X.Cells g.X.Faults c.args.cells.now.items c.serve_net-table.new.cells.items) (new ≡ old) (c.serve_net-table.new.cells.items ≡ c.args.cells.now.items) (table_seen old) (table_seen new) round _ served.ends;
       keeps = round.keeps;
       ports = served.net;
     }
