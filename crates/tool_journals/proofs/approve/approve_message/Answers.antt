@@ -3,8 +3,9 @@ use Rattle.lms_bytes.specs.MessageId.{message_id_bytes}
 use Rattle.slot_file.specs.declared.header.Header.{Header}
 use Rattle.stream_io.specs.Store.{StoreOnward, pages_state}
 use Rattle.tool_base.specs.Endings.{ending}
+use Rattle.tool_base.specs.Reads.{FailsToRead}
 use Rattle.tool_base.specs.World.{IsUnchanged, from_to}
-use Rattle.tool_base.proofs.Runs.{unchanged_none, unchanged_on, onward_none, onward_on, part_of}
+use Rattle.tool_base.proofs.Runs.{unchanged_none, unchanged_on, onward_on, part_of}
 use Rattle.tool_journals.specs.Adding.{AddEnds, DiskFails, disk_run}
 use Rattle.tool_base.specs.Headers.{book_header}
 use Rattle.tool_journals.specs.Approve.{ApproveEnds, IsBookDisk, IsNotOpened, no_book, no_message, no_share}
@@ -12,29 +13,20 @@ use Rattle.tool_base.specs.Disks.{DeviceFails}
 use Rattle.tool_base.specs.Disks.{IsOut}
 use Rattle.tool_base.proofs.Outs.{IsBackAs}
 use Rattle.tool_journals.proofs.Approving.{book_ends, book_out}
-use Rattle.tool_base.proofs.Outs.{back_as, ends_unchanged, ends_map, out_unchanged, out_here, out_same}
-use Rattle.tool_journals.proofs.Sharing.{unshared}
+use Rattle.tool_base.proofs.Outs.{back_as, ends_map, out_unchanged, out_here, out_same}
+use Rattle.tool_journals.proofs.Sharing.{next_fails, unshared}
 use Rattle.tool_journals.proofs.approve.approve_message.Goals as goal
 
 pub returns-in-Err : goal.returns-in-Err
 returns-in-Err g c =
-    let one = c.in-Err.ensures in
-    record {
-      ended = unshared _ _ c.args.share.now (ApproveEnds _ c.args.share.now c.args.book.now c.args.message.now) _ one.unchanged (λ end fails. no_share end fails)
-          (one.refused c.args.store.now c.read_share_file.new.store (part_of _ _ _ _ (unchanged_none _) (onward_none _)));
-    }
+    record { ended = unshared g.S.Store.state c.args.store.now c.read_share_file.new.store c.args.share.now c.in-Err.ensures.unchanged (ApproveEnds _ c.args.share.now c.args.book.now c.args.message.now) _ (λ end fails. no_share end fails) c.in-Err.ensures.refused }
 
 pub returns-in-Err-read_message : goal.returns-in-Err-read_message
 returns-in-Err-read_message g c =
-    let first = c.args.store.now in
-    let last = c.read_message.new.store in
-    let one = c.in-Ok.ensures in
-    let two = c.in-Err-read_message.ensures in
-    let read = one.share first last (part_of _ _ _ _ (unchanged_none _) two.unchanged.onward) in
-    record {
-      ended = ends_unchanged _ _ (unchanged_on _ _ _ one.unchanged two.unchanged) (ApproveEnds _ c.args.share.now c.args.book.now c.args.message.now) _
-          (no_message c.in-Ok.found _ read (two.refused first last (part_of _ _ _ _ one.unchanged (onward_none _))));
-    }
+    let read = c.in-Ok.ensures in
+    let next = c.in-Err-read_message.ensures in
+    let before = next_fails g.S.Store.state c.args.store.now c.read_share_file.new.store c.args.share.now read.unchanged c.read_message.new.store c.in-Ok.found in
+    record { ended = before (λ run. FailsToRead run c.args.message.now (ending c.in-Err-read_message.end)) (ApproveEnds _ c.args.share.now c.args.book.now c.args.message.now) _ (λ share fails. no_message c.in-Ok.found _ share fails) read.share next.unchanged next.refused }
 
 pub returns-in-Err-open_book : goal.returns-in-Err-open_book
 returns-in-Err-open_book g c =

@@ -1,7 +1,7 @@
 use Rattle.std.proofs.Common.{◌≡◌, ◌∷◌, IsTrue, Some, Err, refl, sym, ap, ◌∙◌, subst, inl, inr, arith}
 use Rattle.stream_io.specs.Store.{Handed, StoreOnward, pages_state}
 use Rattle.tool_base.specs.Endings.{ending}
-use Rattle.tool_base.specs.Outputs.{IsNew}
+use Rattle.tool_base.specs.Outputs.{IsNew, IsNotNew}
 use Rattle.tool_base.specs.World.{IsUnchanged, from_to}
 use Rattle.tool_base.proofs.Runs.{unchanged_none, unchanged_on, onward_none, onward_on, part_of}
 use Rattle.tool_base.specs.Disks.{DeviceFails}
@@ -9,30 +9,21 @@ use Rattle.tool_base.specs.Disks.{IsOut, OneFails}
 use Rattle.tool_journals.specs.Migrate.{MigrateEnds, StandsStill, no_share, not_new, taken}
 use Rattle.tool_journals.specs.Taking.{no_memory_to_take, take_failed}
 use Rattle.tool_journals.proofs.Copying.{Later, copy_later}
-use Rattle.tool_base.proofs.Outs.{Round, ends_unchanged, new_beside, new_differs, out_unchanged, out_same, round, taken_out}
+use Rattle.tool_base.proofs.Outs.{Round, new_beside, new_differs, out_unchanged, out_same, round, taken_out}
 use Rattle.tool_journals.proofs.Migrating.{untaken}
-use Rattle.tool_journals.proofs.Sharing.{unshared}
+use Rattle.tool_journals.proofs.Sharing.{next_fails, unshared}
 use Rattle.tool_journals.proofs.migrate.migrate_journal.Goals as goal
 
 pub returns-in-Err : goal.returns-in-Err
 returns-in-Err g c =
-    let one = c.in-Err.ensures in
-    record {
-      ended = unshared _ _ c.args.share.now (MigrateEnds _ c.args.share.now c.args.journal.now c.args.new.now) _ one.unchanged (λ end fails. no_share end fails)
-          (one.refused c.args.store.now c.read_share_file.new.store (part_of _ _ _ _ (unchanged_none _) (onward_none _)));
-    }
+    record { ended = unshared g.S.Store.state c.args.store.now c.read_share_file.new.store c.args.share.now c.in-Err.ensures.unchanged (MigrateEnds _ c.args.share.now c.args.journal.now c.args.new.now) _ (λ end fails. no_share end fails) c.in-Err.ensures.refused }
 
 pub returns-in-Err-test_new : goal.returns-in-Err-test_new
 returns-in-Err-test_new g c =
-    let first = c.args.store.now in
-    let last = c.test_new.new.store in
-    let one = c.in-Ok.ensures in
-    let two = c.in-Err-test_new.ensures in
-    let read = one.share first last (part_of _ _ _ _ (unchanged_none _) two.unchanged.onward) in
-    record {
-      ended = ends_unchanged _ _ (unchanged_on _ _ _ one.unchanged two.unchanged) (MigrateEnds _ c.args.share.now c.args.journal.now c.args.new.now) _
-          (not_new c.in-Ok.found _ read (two.refused first last (part_of _ _ _ _ one.unchanged (onward_none _))));
-    }
+    let read = c.in-Ok.ensures in
+    let next = c.in-Err-test_new.ensures in
+    let before = next_fails g.S.Store.state c.args.store.now c.read_share_file.new.store c.args.share.now read.unchanged c.test_new.new.store c.in-Ok.found in
+    record { ended = before (λ run. IsNotNew run c.args.new.now (ending c.in-Err-test_new.end)) (MigrateEnds _ c.args.share.now c.args.journal.now c.args.new.now) _ (λ share fails. not_new c.in-Ok.found _ share fails) read.share next.unchanged next.refused }
 
 pub returns-in-Err-Failed : goal.returns-in-Err-Failed
 returns-in-Err-Failed g c =
