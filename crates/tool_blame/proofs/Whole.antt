@@ -9,12 +9,12 @@ use Rattle.share_files.specs.declared.reference.RefHeader.{RefHeader}
 use Rattle.stream_io.specs.Net.{NetState}
 use Rattle.stream_io.specs.Store.{PagesState, StoreOnward, StoreState, ViewEnded, Viewed, has_name}
 use Rattle.tool_base.proofs.Nets.{net_none}
-use Rattle.tool_base.proofs.Runs.{unchanged_none, onward_on}
+use Rattle.tool_base.proofs.Runs.{unchanged_none, onward_none, onward_on, part_of}
 use Rattle.tool_base.specs.Ending.{Ending}
 use Rattle.tool_base.specs.Endings as endings
 use Rattle.tool_base.specs.Outputs.{IsNew, IsNotNew}
 use Rattle.tool_base.specs.Touched.{Keeps}
-use Rattle.tool_base.specs.World.{Bytes, Failed, IsBack, IsUnchanged, IsNetBack, file_limit, from_to}
+use Rattle.tool_base.specs.World.{Bytes, Failed, InAnyRun, IsBack, IsUnchanged, IsNetBack, file_limit, from_to}
 use Rattle.tool_base.specs.declared.ending.Ending as declared
 use Rattle.tool_desk.specs.Files.{reference_name}
 use Rattle.tool_desk.specs.declared.files.KeyFiles.{KeyFiles}
@@ -42,8 +42,14 @@ use Rattle.tool_sign.specs.Writes as writes
 use Rattle.tool_words.specs.Words.{SignWords}
 
 -- the name of the signature was not found new
-pub run_taken : (words : SignWords) (a d : StoreState) (net : NetState) (end : Ending) → IsUnchanged a d → IsNotNew (from_to a d) words.out end → BlameRun words (from_to a d) (over_net net net) end
-run_taken words a d net end unchanged fails = record { touched = []; ends = blame.not_new end fails refl; keeps = keeps_unchanged [] a d unchanged; ports = net_none net }
+pub run_taken : {S : Type 0} (state : S → StoreState) (words : SignWords) (first last : S) (net : NetState) (end : Ending) → IsUnchanged (state first) (state last)
+    → InAnyRun state first last (λ run. IsNotNew run words.out end) → BlameRun words (from_to (state first) (state last)) (over_net net net) end
+run_taken state words first last net end unchanged fails = record {
+  touched = [];
+  ends = blame.not_new end (fails first last (part_of _ _ _ _ (unchanged_none _) (onward_none _))) refl;
+  keeps = keeps_unchanged [] _ _ unchanged;
+  ports = net_none net;
+}
 
 -- nothing was begun
 pub unbegun : (words : SignWords) (a e : StoreState) (net : NetState) (end : declared.Ending) → Keeps [] a e
@@ -189,7 +195,7 @@ module _ (words : SignWords) (a d : StoreState) (net : NetRun) where
     pub steady : Bool
     pub commits : ReadsCommits (session_words words) (from_to a d) by.task.header reads steady
 
-  pub signed_beside : (told : Result Signature Ending) (touched : List (List ℕ)) (signature : Signature) → EndsNaming words (from_to a d) net told touched → told ≡ Ok signature → Beside signature touched
+  signed_beside : (told : Result Signature Ending) (touched : List (List ℕ)) (signature : Signature) → EndsNaming words (from_to a d) net told touched → told ≡ Ok signature → Beside signature touched
   signed_beside _ _ signature (blame.not_begun end fails same) is = absurd (cc)
   signed_beside told touched signature (blame.ended s reads steady answer _ _ task ends commits tells) is =
       let both = as-signed s words.table a d net answer touched signature ends (tells_ok reads steady s.message (last_in ends) answer told signature tells is) in
@@ -232,18 +238,23 @@ module _ (words : SignWords) (a d : StoreState) (net : NetRun) where
         (task_later (session_words words) a d e back.onward (message_in (from_to a d) words.message) (message_in (from_to a e) words.message) (λ message is. is) beside.by.signing beside.by.task)
         (signs.signed (Ok signature) table) commits_later (names.as_signed signature))
 
-    pub run_signed : (end : Ending) → WriteEnds (from_to d e) words.out signature.leaf signature.bytes end → BlameRun words (from_to a e) net end
-    run_signed _ (writes.written left) = record {
+    run_written : (end : Ending) → WriteEnds (from_to d e) words.out signature.leaf signature.bytes end → BlameRun words (from_to a e) net end
+    run_written _ (writes.written left) = record {
       touched = words.out ∷ touched;
       ends = blame.signed signature touched is_new (ends_later (table_written words a d net e touched signature is_new keeps ports back beside.by left))
           (is_written a d e touched keeps words.out signature.bytes back left);
       keeps = keeps_written a d e touched keeps words.out signature.bytes back left;
       ports = ports;
     }
-    run_signed _ (writes.not_written end left cause) = record {
+    run_written _ (writes.not_written end left cause) = record {
       touched = touched;
       ends = blame.not_written signature end touched is_new (ends_later (table_unwritten words a d net e touched signature is_new keeps ports back beside.by left))
           (not_written a d e touched keeps words.out signature.bytes back end cause);
       keeps = keeps_unwritten a d e touched keeps words.out signature.bytes back left;
       ports = ports;
     }
+
+  pub run_signed : (e : StoreState) (touched : List (List ℕ)) (signature : Signature) (end : Ending) → IsNew (from_to a d) words.out → Keeps touched a d → IsNetBack net.before net.after
+      → EndsNaming words (from_to a d) net (Ok signature) touched → IsBack d e → WriteEnds (from_to d e) words.out signature.leaf signature.bytes end → BlameRun words (from_to a e) net end
+  run_signed e touched signature end is_new keeps ports ends back written =
+      run_written e touched signature is_new keeps ports back (signed_beside (Ok signature) touched signature ends refl) end written

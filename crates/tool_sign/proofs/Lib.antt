@@ -1,3 +1,4 @@
+pub mod Before
 pub mod Causes
 pub mod Dealt
 pub mod Exacts

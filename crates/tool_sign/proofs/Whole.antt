@@ -11,13 +11,13 @@ use Rattle.share_files.specs.Reference.{HasReferenceLayout, reference_head}
 use Rattle.share_files.specs.declared.reference.RefHeader.{RefHeader}
 use Rattle.stream_io.specs.Net.{NetState}
 use Rattle.stream_io.specs.Store.{PagesState, StoreOnward, StoreState, ViewEnded, Viewed, has_name}
-use Rattle.tool_base.proofs.Runs.{unchanged_none, onward_on}
+use Rattle.tool_base.proofs.Runs.{unchanged_none, onward_none, onward_on, part_of}
 use Rattle.tool_base.specs.Ending.{Ending}
 use Rattle.tool_base.specs.Endings as endings
 use Rattle.tool_base.specs.declared.ending.Ending as declared
 use Rattle.tool_base.specs.Outputs.{IsLeft, IsNew, IsNotNew}
 use Rattle.tool_base.specs.Touched.{IsUntouched, Keeps}
-use Rattle.tool_base.specs.World.{IsBack, IsUnchanged, IsNetBack, StoreRun, from_to}
+use Rattle.tool_base.specs.World.{InAnyRun, IsBack, IsUnchanged, IsNetBack, StoreRun, from_to}
 use Rattle.tool_desk.specs.Files.{HaveSizesOf, reference_name}
 use Rattle.tool_desk.specs.Reference.{IsReferenceOf}
 use Rattle.tool_desk.specs.declared.files.KeyFiles.{KeyFiles}
@@ -46,8 +46,14 @@ use Rattle.tool_sign.specs.declared.task.SignedBy.{SignedBy}
 use Rattle.tool_words.specs.Words.{SignWords}
 
 -- the name of the signature was not found new
-pub run_taken : (words : SignWords) (a d : StoreState) (net : NetState) (end : Ending) → IsUnchanged a d → IsNotNew (from_to a d) words.out end → SigningRun words (from_to a d) (over_net net net) end
-run_taken words a d net end unchanged fails = record { touched = []; ends = sign.not_new end fails refl; keeps = keeps_unchanged [] a d unchanged; ports = net_none net }
+pub run_taken : {S : Type 0} (state : S → StoreState) (words : SignWords) (first last : S) (net : NetState) (end : Ending) → IsUnchanged (state first) (state last)
+    → InAnyRun state first last (λ run. IsNotNew run words.out end) → SigningRun words (from_to (state first) (state last)) (over_net net net) end
+run_taken state words first last net end unchanged fails = record {
+  touched = [];
+  ends = sign.not_new end (fails first last (part_of _ _ _ _ (unchanged_none _) (onward_none _))) refl;
+  keeps = keeps_unchanged [] _ _ unchanged;
+  ports = net_none net;
+}
 
 -- nothing was begun
 pub unbegun : (words : SessionWords) (source : StoreRun → MessageSource) (a e : StoreState) (net : NetState) (end : declared.Ending) → Keeps [] a e → FailsTask words (from_to a e) (source (from_to a e)) (endings.ending end)
@@ -299,7 +305,7 @@ module _ (words : SignWords) (a d : StoreState) (net : NetRun) where
     pub table : SignedTable signing words.table store net (Ok signature)
     pub touches : touched ≡ words.table ∷ []
 
-  pub signed-by : (answer : Result Signature Ending) (touched : List (List ℕ)) (signature : Signature) → SessionEnds session (from_to a d) (source (from_to a d)) net answer touched → answer ≡ Ok signature
+  signed-by : (answer : Result Signature Ending) (touched : List (List ℕ)) (signature : Signature) → SessionEnds session (from_to a d) (source (from_to a d)) net answer touched → answer ≡ Ok signature
       → Signed (from_to a d) signature touched
   signed-by _ _ signature (sessions.no_task end fails same) is = absurd (cc)
   signed-by answer touched signature (sessions.ended s _ _ task ends) is =
@@ -349,16 +355,22 @@ module _ (words : SignWords) (a d : StoreState) (net : NetRun) where
     session_ends table = subst Ended (sym by.touches)
         (sessions.ended by.signing (Ok signature) (words.table ∷ []) (task_later session a d e back.onward (source (from_to a d)) (source (from_to a e)) (λ message is. is) by.signing by.task) (signs.signed (Ok signature) table))
 
-    pub run_signed : (end : Ending) → WriteEnds (from_to d e) words.out signature.leaf signature.bytes end → SigningRun words (from_to a e) net end
-    run_signed _ (writes.written left) = record {
+    run_written : (end : Ending) → WriteEnds (from_to d e) words.out signature.leaf signature.bytes end → SigningRun words (from_to a e) net end
+    run_written _ (writes.written left) = record {
       touched = words.out ∷ touched;
       ends = sign.signed signature touched is_new (session_ends (table_written left)) (is_written a d e touched keeps words.out signature.bytes back left);
       keeps = keeps_written a d e touched keeps words.out signature.bytes back left;
       ports = ports;
     }
-    run_signed _ (writes.not_written end left cause) = record {
+    run_written _ (writes.not_written end left cause) = record {
       touched = touched;
       ends = sign.not_written signature end touched is_new (session_ends (table_unwritten left)) (not_written a d e touched keeps words.out signature.bytes back end cause);
       keeps = keeps_unwritten a d e touched keeps words.out signature.bytes back left;
       ports = ports;
     }
+
+  pub run_signed : (e : StoreState) (touched : List (List ℕ)) (signature : Signature) (answer : Result Signature Ending) (end : Ending) → IsNew (from_to a d) words.out → Keeps touched a d
+      → IsNetBack net.before net.after → SessionEnds session (from_to a d) (source (from_to a d)) net answer touched → answer ≡ Ok signature → IsBack d e
+      → WriteEnds (from_to d e) words.out signature.leaf signature.bytes end → SigningRun words (from_to a e) net end
+  run_signed e touched signature answer end is_new keeps ports ends is back written =
+      run_written e touched signature is_new keeps ports back (signed-by answer touched signature ends is) end written

@@ -8,11 +8,12 @@ use Rattle.tool_base.proofs.Runs.{unchanged_none, unchanged_on, onward_none, onw
 use Rattle.tool_base.specs.Ending.{Ending}
 use Rattle.tool_base.specs.World.{from_to}
 use Rattle.tool_base.proofs.Outs.{keeps_unchanged}
+use Rattle.tool_sign.proofs.Before.{has_files}
 use Rattle.tool_sign.proofs.Whole.{is_task, keeps_on}
 use Rattle.tool_sign.specs.Ports.{NetRun, Signing, is_exact, over_net}
 use Rattle.tool_sign.specs.Sessions.{answer_by}
 use Rattle.tool_sign.specs.Sign.{session_words}
-use Rattle.tool_sign.specs.Tasks.{HasFiles, desk_of, message_in}
+use Rattle.tool_sign.specs.Tasks.{desk_of, message_in}
 use Rattle.tool_words.specs.Rows.{sign_words}
 use Rattle.hss_levels.proofs.Sets.{same-set}
 use Rattle.tool_blame.proofs.Lasts.{begun_if, session_fits, session_whole}
@@ -50,10 +51,8 @@ returns-in-Err-view_commits g c = λ first before.
     let header = c.in-Ok-view_reference.viewed.1 in
     let unchanged = unchanged_on _ _ _ before read.unchanged in
     let later = onward_on _ _ _ none.taken.onward c.end_view.ensures.onward in
-    let has : HasFiles (session_words words) (from_to (state first) (state last)) c.in-Ok.files header = record {
-      files_are = read.files first last (part_of _ _ _ _ before (onward_on _ _ _ viewed.taken.onward later));
-      reference_is = viewed.taken.found first last (part_of _ _ _ _ unchanged later);
-    } in
+    let has = has_files state first c.args.store.now c.read_key_and_tree.new.store c.view_reference.new.store last (session_words words) c.in-Ok.files header
+    before read.unchanged viewed.taken.onward later read.files viewed.taken.found in
     run_without words c.in-Ok.files header (state first) (state c.read_key_and_tree.new.store) (state c.view_reference.new.store) (pages c.in-Ok-view_reference.viewed.0) unchanged viewed.viewed viewed.taken.onward
     (state c.view_commits.new.store) (state last) c.end_view.ensures.ended c.end_view.ensures.onward (g.N.Net.state c.args.net.now) c.in-Err-view_commits.end none.taken.keeps has
     (none.taken.refused c.view_reference.new.store c.view_commits.new.store (part_of _ _ _ _ (unchanged_none _) (onward_none _)))
@@ -74,10 +73,8 @@ returns-in-Err-read_task g c = λ first before.
     let unchanged = unchanged_on _ _ _ before read.unchanged in
     let back = onward_on _ _ _ c.end_view-in-Err-read_task.ensures.onward c.end_view-in-Err-read_task-2.ensures.onward in
     let later = onward_on _ _ _ beside.taken.onward (onward_on _ _ _ lacks.unchanged.onward back) in
-    let has : HasFiles (session_words words) (from_to (state first) (state last)) files header = record {
-      files_are = read.files first last (part_of _ _ _ _ before (onward_on _ _ _ viewed.taken.onward later));
-      reference_is = viewed.taken.found first last (part_of _ _ _ _ unchanged later);
-    } in
+    let has = has_files state first c.args.store.now c.read_key_and_tree.new.store c.view_reference.new.store last (session_words words) files header
+    before read.unchanged viewed.taken.onward later read.files viewed.taken.found in
     run_lacking words files header (state first) (state c.read_key_and_tree.new.store) (state c.view_reference.new.store) (pages c.in-Ok-view_reference.viewed.0) unchanged viewed.viewed viewed.taken.onward
     (state c.view_commits.new.store) (state c.read_task.new.store) (pages (pages_of c.in-Ok-view_commits.commits)) beside.viewed beside.taken.onward lacks.unchanged
     (state c.end_view-in-Err-read_task.new.self) (state last) (rw c.end.ensures at c.end_view-in-Err-read_task.ensures.ended) c.end_view-in-Err-read_task.ensures.onward c.end_view-in-Err-read_task-2.ensures.ended c.end_view-in-Err-read_task-2.ensures.onward
@@ -128,10 +125,8 @@ returns g c = λ first before.
     signing words.table net answer run.touched run.ends in
     let works = onward_on _ _ _ run.keeps.back.onward (onward_on _ _ _ c.end_view-2.ensures.onward c.end_view-3.ensures.onward) in
     let later = onward_on _ _ _ besides.taken.onward (onward_on _ _ _ tasked.unchanged.onward works) in
-    let has : HasFiles (session_words words) (from_to (state first) (state last)) files header = record {
-      files_are = read.files first last (part_of _ _ _ _ before (onward_on _ _ _ viewed.taken.onward later));
-      reference_is = viewed.taken.found first last (part_of _ _ _ _ unchanged later);
-    } in
+    let has = has_files state first c.args.store.now c.read_key_and_tree.new.store c.view_reference.new.store last (session_words words) files header
+    before read.unchanged viewed.taken.onward later read.files viewed.taken.found in
     let goes = all_goes words files header (state first) (state c.read_key_and_tree.new.store) (state c.view_reference.new.store) view unchanged viewed.viewed viewed.taken.onward
     (state c.view_commits.new.store) (state c.read_task.new.store) beside besides.viewed besides.taken.onward tasked.unchanged
     (state c.sign_task-view.new.store) (state c.end_view-2.new.self) (state last) beside_now now ended_first c.end_view-2.ensures.onward c.end_view-3.ensures.ended c.end_view-3.ensures.onward

@@ -6,11 +6,12 @@ use Rattle.tool_base.specs.Ending.{Ending}
 use Rattle.tool_base.specs.World.{from_to}
 use Rattle.tool_desk.specs.Files.{reference_name}
 use Rattle.tool_base.proofs.Outs.{keeps_unchanged}
+use Rattle.tool_sign.proofs.Before.{has_files}
 use Rattle.tool_sign.proofs.Whole.{goes_in, is_task, keeps_on, run_lacking, signed_with_key, unbegun, whole_ends, whole_keeps}
 use Rattle.tool_sign.specs.Ports.{NetRun, Signing, is_exact, over_net}
 use Rattle.tool_sign.specs.Sessions.{answer_by, ended}
 use Rattle.tool_sign.specs.Sources.{session_words, source_of}
-use Rattle.tool_sign.specs.Tasks.{HasFiles, desk_of, no_key_files, no_reference}
+use Rattle.tool_sign.specs.Tasks.{desk_of, no_key_files, no_reference}
 use Rattle.tool_sign.proofs.task.sign_message.Goals as goal
 
 pub returns-in-Err : goal.returns-in-Err
@@ -41,10 +42,8 @@ returns-in-Err-read_task g c = λ first before.
     let lacks = c.in-Err-read_task.ensures in
     let unchanged = unchanged_on _ _ _ before read.unchanged in
     let later = onward_on _ _ _ lacks.unchanged.onward c.end_view.ensures.onward in
-    let has : HasFiles words (from_to (state first) (state last)) c.in-Ok.files c.in-Ok-view_reference.viewed.1 = record {
-      files_are = read.files first last (part_of _ _ _ _ before (onward_on _ _ _ viewed.taken.onward later));
-      reference_is = viewed.taken.found first last (part_of _ _ _ _ unchanged later);
-    } in
+    let has = has_files state first c.args.store.now c.read_key_and_tree.new.store c.view_reference.new.store last words c.in-Ok.files c.in-Ok-view_reference.viewed.1
+    before read.unchanged viewed.taken.onward later read.files viewed.taken.found in
     run_lacking words c.args.message c.in-Ok.files c.in-Ok-view_reference.viewed.1 (state first) (state c.read_key_and_tree.new.store) (state c.view_reference.new.store) (state c.read_task.new.store) (state last)
     (reference_name words.prefix) (pages c.in-Ok-view_reference.viewed.0) unchanged viewed.viewed viewed.taken.onward lacks.unchanged c.end_view.ensures.ended c.end_view.ensures.onward
     (g.N.Net.state c.args.net.now) c.in-Err-read_task.end has lacks.refused
@@ -81,10 +80,8 @@ returns g c = λ first before.
     let ends = whole_ends files header (state first) (state c.read_key_and_tree.new.store) (state c.view_reference.new.store) (state c.read_task.new.store) (reference_name words.prefix) view
     unchanged viewed.viewed viewed.taken.onward tasked.unchanged (state c.sign_task-view.new.store) (state last) now c.end_view-2.ensures.ended c.end_view-2.ensures.onward signing words.table net answer run.touched run.ends in
     let works = onward_on _ _ _ run.keeps.back.onward c.end_view-2.ensures.onward in
-    let has : HasFiles words (from_to (state first) (state last)) files header = record {
-      files_are = read.files first last (part_of _ _ _ _ before (onward_on _ _ _ viewed.taken.onward (onward_on _ _ _ tasked.unchanged.onward works)));
-      reference_is = viewed.taken.found first last (part_of _ _ _ _ unchanged (onward_on _ _ _ tasked.unchanged.onward works));
-    } in
+    let has = has_files state first c.args.store.now c.read_key_and_tree.new.store c.view_reference.new.store last words files header
+    before read.unchanged viewed.taken.onward (onward_on _ _ _ tasked.unchanged.onward works) read.files viewed.taken.found in
     let goes = goes_in words c.args.message files header (state first) (state c.read_key_and_tree.new.store) (state c.view_reference.new.store) (state c.read_task.new.store) (state last)
     (reference_name words.prefix) view unchanged viewed.viewed viewed.taken.onward tasked.unchanged task.message.items task.members task.addresses.items tasked.task in
     let task_is = is_task words files header tasked.sizes (state first) (state c.read_key_and_tree.new.store) (state c.view_reference.new.store) view unchanged viewed.viewed viewed.reads
