@@ -1,17 +1,18 @@
 //! Tests of what no clause says: that ports are served and come back in their order, and what a peer is answered. The
 //! ask and the reply are of a session that another implementation ran.
 
-ghost use Rattle.std.specs.Prelude.{◌≡◌, IfOk, IfSome, true, vec_len};
-ghost use Rattle.trustee_core.specs.Trustee.{journal_header, share_of};
+ghost use Rattle.std.specs.Prelude.{◌≡◌, IfSome};
+ghost use Rattle.trustee_core.specs.Trustee.{share_of};
 
 use crate::ports::{have_written, two_ports};
 use disk_trait::MemDisk;
 use memory::NoMemory;
 use opening_journal::Journal;
 use share_files::{Share, read_share};
-use slot_file::{Header, prepare};
+use slot_file::prepare;
 use std::alloc::Global;
-use trustee_core::{Clock, Trustee};
+use tool_base::{Clocks, MemClocks, header_of};
+use trustee_core::Trustee;
 use trustee_node::{Totals, serve_ports};
 
 /// The share of trustee 1 in a dealing of the typecodes 5 and 3 to coalitions of 3 of 5 trustees.
@@ -42,52 +43,15 @@ const REPLY: [u8; 97] = [
 /// The bytes of a journal of 32 leaves.
 const JOURNAL: usize = 5248;
 
-/// A clock that stands still.
-#[derive(Drop)]
-struct Still;
-
-impl Clock for Still {
-    ghost told = { λ _. true };
-
-    ghost answers = { λ _ _. 0 };
-
-    fn now(&mut self) -> u64 {
-        0
-    }
-}
-
-/// The header of a trustee's journal.
-fn header(share: &Share) -> Header
-    ensures { result ≡ journal_header share.now }
-{
-    Header {
-        version: 2,
-        number: share.member,
-        lms: share.params.lms,
-        ots: share.params.ots,
-        id: share.id,
-    }
-}
-
 /// A trustee of the share, whose journal is empty.
 fn trustee(alloc: Global, share: &Share) -> Option<Trustee<MemDisk>>
     ensures { IfSome result (λ trustee. share_of trustee ≡ share.now) }
 {
     let mut disk = MemDisk::new(alloc, JOURNAL, usize::MAX).ok()?;
-    let header = header(share);
+    let header = header_of(share, 2);
     prepare(&mut disk, &header, 32).ok()?;
     let journal = Journal::load(alloc, disk, &header, &share.params).ok()?;
     Some(Trustee::new(*share, journal))
-}
-
-/// The clocks of two ports.
-fn clocks(alloc: Global) -> Result<Vec<Still>, NoMemory>
-    ensures { IfOk result (λ clocks. vec_len clocks ≡ 2) }
-{
-    let mut clocks = Vec::new(alloc);
-    clocks.push(Still)?;
-    clocks.push(Still)?;
-    Ok(clocks)
 }
 
 #[test]
@@ -96,7 +60,7 @@ fn an_ask_at_a_port_is_answered(rt: HostRuntime) -> Result<(), NoMemory> {
     let share = read_share(&SHARE).expect(&rt, "share");
     let trustee = trustee(alloc, &share).expect(&rt, "trustee");
     let mut ports = two_ports(alloc, &[&ASK, &[]])?;
-    let clocks = clocks(alloc)?;
+    let clocks = MemClocks::new(0).clocks(alloc, 2)?;
     let (_, served) = serve_ports(&rt, alloc, trustee, &share, None, &mut ports, clocks, 5);
     let totals = Totals {
         connections: 2,
