@@ -11,7 +11,8 @@ use round_frames::{
     write_failure, write_reply_head, write_request, write_signature,
 };
 use std::alloc::Global;
-use stream_io::{Failed, Source, Stream, write_whole};
+use std::process::Abort;
+use stream_io::{Failed, Sink, Source, Stream, write_whole};
 use stream_memory::{MemSink, MemSource};
 
 /// A failure of round two.
@@ -59,109 +60,134 @@ fn sink(alloc: Global) -> Option<MemSink> {
     MemSink::new(alloc, 10_000, 7, Vec::new(alloc)).ok()
 }
 
-/// A source of what a sink took, five bytes at a time. The listed calls fail.
-fn source(alloc: Global, sink: &MemSink, failing: &[u64]) -> Option<MemSource> {
+/// A source of these bytes, five at a time. The listed calls fail.
+fn source(alloc: Global, bytes: &[u8], failing: &[u64]) -> Option<MemSource> {
     let mut pieces = Vec::new(alloc);
-    pieces.resize(sink.written().len(), 5).ok()?;
-    let bytes = Vec::from_slice(alloc, sink.written()).ok()?;
+    pieces.resize(bytes.len(), 5).ok()?;
+    let bytes = Vec::from_slice(alloc, bytes).ok()?;
     Some(MemSource::new(bytes, pieces, Vec::from_slice(alloc, failing).ok()?))
 }
 
 /// Whether a request to the members of these bits is written.
-fn writes_request(bits: u16, sink: &mut MemSink) -> bool {
+fn writes_request<K: Sink>(bits: u16, sink: &mut K) -> bool {
     write_request(Members::of_bits(bits), b"abc", sink).is_ok()
 }
 
 /// Whether a request, a failure and an ask are written.
-fn writes_three(params: &Params, sink: &mut MemSink) -> bool {
+fn writes_three<K: Sink>(params: &Params, sink: &mut K) -> bool {
     writes_request(0b1011, sink)
         && write_failure(&FAILURE, sink).is_ok()
         && write_ask(params, &ask(&MessageId::of(b"abc")), b"abc", sink).is_ok()
 }
 
 /// Whether the next frame is that request.
-fn reads_request(alloc: Global, source: &mut MemSource) -> bool {
+fn reads_request<S: Source>(alloc: Global, source: &mut S) -> bool {
     let request = next_request(alloc, source);
     matches!(&request, Ok((members, message))
         if members.bits() == 0b1011 && message.as_slice() == b"abc".as_slice())
 }
 
 /// Whether the next frame is that failure.
-fn reads_failure(alloc: Global, params: &Params, source: &mut MemSource) -> bool {
+fn reads_failure<S: Source>(alloc: Global, params: &Params, source: &mut S) -> bool {
     let failure = next_result(alloc, params, source);
     matches!(&failure, Ok(Outcome::Failure(found)) if *found == FAILURE)
 }
 
 /// Whether the next frame is that ask, and the last.
-fn reads_last_ask(params: &Params, source: &mut MemSource) -> bool {
+fn reads_last_ask<S: Source>(params: &Params, source: &mut S) -> bool {
     next_ask(params, source) == Ok(ask(&MessageId::of(b"abc")))
         && next_ask(params, source) == Err(FrameFault::End)
 }
 
-#[test]
-fn requests_failures_and_asks_are_read(rt: HostRuntime) {
-    let params = Params::of_codes(5, 3).ok().expect(&rt, "a set");
-    let mut sink = sink(rt.alloc()).expect(&rt, "a sink");
-    assert!(rt; writes_three(&params, &mut sink));
-    let mut source = source(rt.alloc(), &sink, &[]).expect(&rt, "a source");
-    assert!(rt; reads_request(rt.alloc(), &mut source));
-    assert!(rt; reads_failure(rt.alloc(), &params, &mut source));
-    assert!(rt; reads_last_ask(&params, &mut source));
-}
-
 /// Whether a reply of round two is written.
-fn writes_reply(params: &Params, sink: &mut MemSink) -> bool {
+fn writes_reply<K: Sink>(params: &Params, sink: &mut K) -> bool {
     write_reply_head(params, &head(params), sink).is_ok() && write_whole(sink, &[9; 2144]).is_ok()
 }
 
 /// Whether the next frame is that reply.
-fn reads_reply(params: &Params, source: &mut MemSource) -> bool {
+fn reads_reply<S: Source>(params: &Params, source: &mut S) -> bool {
     let mut room = [0; 8480];
     next_reply(params, source, &mut room) == Ok((head(params), 2144))
         && room.iter().take(2144).all(|byte| *byte == 9)
 }
 
-#[test]
-fn replies_are_read(rt: HostRuntime) {
-    let params = Params::of_codes(5, 3).ok().expect(&rt, "a set");
-    let mut sink = sink(rt.alloc()).expect(&rt, "a sink");
-    assert!(rt; writes_reply(&params, &mut sink));
-    let mut source = source(rt.alloc(), &sink, &[]).expect(&rt, "a source");
-    assert!(rt; reads_reply(&params, &mut source));
-}
-
 /// Whether the next frame is the signature.
-fn reads_signature(alloc: Global, params: &Params, source: &mut MemSource) -> bool {
+fn reads_signature<S: Source>(alloc: Global, params: &Params, source: &mut S) -> bool {
     let result = next_result(alloc, params, source);
     matches!(&result, Ok(Outcome::Signature(bytes)) if bytes.as_slice() == SIGNATURE.as_slice())
 }
 
-#[test]
-fn signatures_are_read(rt: HostRuntime) {
-    let params = Params::of_codes(5, 3).ok().expect(&rt, "a set");
-    let mut sink = sink(rt.alloc()).expect(&rt, "a sink");
-    assert!(rt; write_signature(&SIGNATURE, &mut sink).is_ok());
-    let mut source = source(rt.alloc(), &sink, &[]).expect(&rt, "a source");
-    assert!(rt; reads_signature(rt.alloc(), &params, &mut source));
+/// Whether a request ends by one read that fails.
+fn fails_once<S: Source>(alloc: Global, source: &mut S) -> bool {
+    match next_request(alloc, source) {
+        Err(FrameFault::ReadFault) => source.faults() == 1,
+        _ => false,
+    }
 }
 
-/// How many calls of a source have failed, where a request could not be read because this call failed.
-fn faults_of_request(alloc: Global, sink: &MemSink, call: u64) -> Option<u64> {
-    let mut source = source(alloc, sink, &[call])?;
-    match next_request(alloc, &mut source) {
-        Err(FrameFault::ReadFault) => Some(source.faults()),
-        _ => None,
+/// Frames that are written one after the other.
+#[derive(Clone, Copy)]
+enum Frames {
+    Request,
+    Three,
+    Reply,
+    Signature,
+}
+
+/// Whether they are written.
+fn writes<K: Sink>(params: &Params, frames: Frames, sink: &mut K) -> bool {
+    match frames {
+        Frames::Request => writes_request(3, sink),
+        Frames::Three => writes_three(params, sink),
+        Frames::Reply => writes_reply(params, sink),
+        Frames::Signature => write_signature(&SIGNATURE, sink).is_ok(),
     }
+}
+
+/// Whether they are read, but for a request, of which one read fails.
+fn reads<S: Source>(alloc: Global, params: &Params, frames: Frames, source: &mut S) -> bool {
+    match frames {
+        Frames::Request => fails_once(alloc, source),
+        Frames::Three => {
+            reads_request(alloc, source)
+                && reads_failure(alloc, params, source)
+                && reads_last_ask(params, source)
+        }
+        Frames::Reply => reads_reply(params, source),
+        Frames::Signature => reads_signature(alloc, params, source),
+    }
+}
+
+/// The same of a sink and a source in memory, of which the listed calls fail. The tests share it, since what costs a
+/// proof is a call over these very types.
+fn run(rt: &impl Abort, alloc: Global, frames: Frames, failing: &[u64]) {
+    let params = Params::of_codes(5, 3).ok().expect(rt, "a set");
+    let mut sink = sink(alloc).expect(rt, "a sink");
+    assert!(rt; writes(&params, frames, &mut sink));
+    let mut source = source(alloc, sink.written(), failing).expect(rt, "a source");
+    assert!(rt; reads(alloc, &params, frames, &mut source));
+}
+
+#[test]
+fn requests_failures_and_asks_are_read(rt: HostRuntime) {
+    run(&rt, rt.alloc(), Frames::Three, &[]);
+}
+
+#[test]
+fn replies_are_read(rt: HostRuntime) {
+    run(&rt, rt.alloc(), Frames::Reply, &[]);
+}
+
+#[test]
+fn signatures_are_read(rt: HostRuntime) {
+    run(&rt, rt.alloc(), Frames::Signature, &[]);
 }
 
 #[test]
 fn each_read_that_fails_ends_a_request(rt: HostRuntime) {
-    let mut sink = sink(rt.alloc()).expect(&rt, "a sink");
-    assert!(rt; writes_request(3, &mut sink));
     // Two reads of the header, one of the members and one of the message.
     for call in 0..4 {
-        let faults = faults_of_request(rt.alloc(), &sink, call);
-        assert!(rt; faults == Some(1), "call {call}");
+        run(&rt, rt.alloc(), Frames::Request, &[call]);
     }
 }
 
