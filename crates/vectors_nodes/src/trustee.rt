@@ -1,22 +1,23 @@
 //! Trustees whose journals are empty, in memory.
 
-ghost use Rattle.std.specs.Prelude.{◌≡◌, IfSome, true};
+ghost use Rattle.std.specs.Prelude.{◌≡◌, ◌≤◌, IfSome, true, vec_len};
 ghost use Rattle.opening_journal.specs.Journal.{header_of, params_of};
 ghost use Rattle.trustee_core.specs.Trustee.{journal_header, share_of};
-ghost use Rattle.trustee_node.specs.Turns.{IsIdle};
 
 use crate::links::link;
 use crate::turns::only_pass;
-use disk_trait::MemDisk;
+use disk_trait::{Disk, MemDisk};
 use opening_journal::Journal;
 use share_files::Share;
 use slot_file::{Header, prepare};
 use std::alloc::Global;
 use std::sync::Wait;
-use stream_memory::MemLink;
+use std::thread::Threads;
+use stream_io::{Sink, Source};
+use stream_memory::{MemLink, MemPort};
 use trustee_core::{Clock, Trustee};
-use trustee_node::{Served, serve_connection};
-use turn_lock::{Pass, TurnLock};
+use trustee_node::{Served, Totals, serve_connection, serve_ports};
+use turn_lock::TurnLock;
 
 /// The bytes of a journal of 32 leaves.
 const JOURNAL: usize = 5248;
@@ -71,19 +72,58 @@ pub(crate) fn trustee(alloc: Global, share: &Share) -> Option<Trustee<MemDisk>>
     Some(Trustee::new(*share, journal))
 }
 
-/// Serves a link of a trustee in memory. All here is served by it, since what costs a proof is a call over these very
-/// types.
-pub(crate) fn serve_link(
+/// Serves a link of a trustee, and then another one, if there is one. It gives what came of the first, or nothing where
+/// memory ran out.
+fn serve_over<D: Disk + Drop, L: Source + Sink>(
     waits: &impl Wait,
-    lock: &TurnLock<Trustee<MemDisk>>,
-    pass: &mut Pass<Trustee<MemDisk>>,
+    alloc: Global,
+    trustee: Trustee<D>,
     share: &Share,
-    link: &mut MemLink,
-) -> Served
-    requires { IsIdle lock.now share.now pass.old }
-    ensures { IsIdle lock.now share.now pass.new }
+    first: &mut L,
+    second: Option<&mut L>,
+) -> Option<Served>
+    requires { share_of trustee ≡ share.now }
 {
-    serve_connection(waits, lock, pass, share, None, &mut Still, link)
+    let Ok((lock, passes)) = TurnLock::new(alloc, trustee, 1, 0) else {
+        return None;
+    };
+    let mut pass = only_pass(&lock, passes)?;
+    let served = serve_connection(waits, &lock, &mut pass, share, None, &mut Still, first);
+    if let Some(link) = second {
+        serve_connection(waits, &lock, &mut pass, share, None, &mut Still, link);
+    }
+    Some(served)
+}
+
+/// The same in memory. All links here are served by it, since what costs a proof is a call over these very types.
+pub(crate) fn serve_links(
+    waits: &impl Wait,
+    alloc: Global,
+    trustee: Trustee<MemDisk>,
+    share: &Share,
+    first: &mut MemLink,
+    second: Option<&mut MemLink>,
+) -> Option<Served>
+    requires { share_of trustee ≡ share.now }
+{
+    serve_over(waits, alloc, trustee, share, first, second)
+}
+
+/// Serves ports of a trustee in memory, two links at each, and gives the trustee back. It is shared as well.
+pub(crate) fn serve_two_at_each(
+    threads: &(impl Threads + Wait + Sync),
+    alloc: Global,
+    trustee: Trustee<MemDisk>,
+    share: &Share,
+    ports: &mut Vec<MemPort>,
+    clocks: Vec<Still>,
+) -> Option<(Trustee<MemDisk>, Totals)>
+    requires share { share_of trustee ≡ share.now }
+    requires ports { (1 ≤ vec_len ports.old) × (vec_len ports.old ≤ 64) }
+    requires clocks { vec_len clocks ≡ vec_len ports.old }
+{
+    let (trustee, served) = serve_ports(threads, alloc, trustee, share, None, ports, clocks, 2);
+    Some((trustee, served.ok()?))
 }
 
 /// Serves these asks as a trustee of this share whose journal is empty. It gives what came of it and the bytes that
@@ -94,14 +134,11 @@ pub(crate) fn replies(
     share: &Share,
     asks: &[u8],
 ) -> Option<(Served, Vec<u8>)> {
-    let Ok((lock, passes)) = TurnLock::new(alloc, trustee(alloc, share)?, 1, 0) else {
-        return None;
-    };
-    let mut pass = only_pass(&lock, passes)?;
+    let trustee = trustee(alloc, share)?;
     let asks = Vec::from_slice(alloc, asks).ok()?;
     // Each of the two replies of a session goes out in one write: the third would fail.
     let mut link = link(alloc, asks, Some(2))?;
-    let served = serve_link(waits, &lock, &mut pass, share, &mut link);
+    let served = serve_links(waits, alloc, trustee, share, &mut link, None)?;
     let written = Vec::from_slice(alloc, link.conversation().written()).ok()?;
     Some((served, written))
 }

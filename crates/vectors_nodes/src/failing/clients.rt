@@ -1,18 +1,14 @@
 //! A client of an aggregator at a link that fails.
 
 use super::{MOST, SESSION};
-use crate::aggregator::client::requests;
+use crate::aggregator::client::{requests, serve_links};
 use crate::aggregator::scene::{Scene, port_of};
 use crate::aggregator::{answers, replies};
 use crate::links::failing_link;
-use crate::turns::only_pass;
-use aggregator_node::serve_client;
-use reference_value::Whole;
 use std::alloc::Global;
 use std::io;
 use std::sync::Wait;
 use trustee_node::ServedEnd;
-use turn_lock::TurnLock;
 
 /// What was written to two clients, and how the connection of the first one ended.
 #[derive(Drop)]
@@ -30,29 +26,18 @@ fn serve_two(
     replies: &[Vec<u8>; 3],
     call: u64,
 ) -> Option<Two> {
-    let Ok((lock, passes)) = TurnLock::new(alloc, scene.table(alloc)?, 1, 0) else {
-        return None;
-    };
-    let mut pass = only_pass(&lock, passes)?;
-    let mut cells = Whole::new(&scene.key.params, &scene.plan, &scene.leaves);
     let mut port = port_of(alloc, replies, 2)?;
     let asked = requests(alloc, &scene.message)?;
-    let desk = scene.desk();
     let mut first = failing_link(alloc, &asked, Some(call))?;
-    let served = serve_client(
-        waits, alloc, &desk, &mut cells, &lock, &mut pass, &mut port, &mut first,
-    );
     let mut second = failing_link(alloc, &asked, None)?;
-    serve_client(
+    let served = serve_links(
         waits,
         alloc,
-        &desk,
-        &mut cells,
-        &lock,
-        &mut pass,
+        scene,
         &mut port,
-        &mut second,
-    );
+        &mut first,
+        Some(&mut second),
+    )?;
     Some(Two {
         ended: served.ended,
         first: Vec::from_slice(alloc, first.conversation().written()).ok()?,

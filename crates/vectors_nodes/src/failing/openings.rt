@@ -6,7 +6,7 @@ ghost use Rattle.trustee_core.specs.Trustee.{share_of};
 use super::{MOST, PICKS, SESSION};
 use crate::files::file_of;
 use crate::links::failing_link;
-use crate::trustee::{Still, empty_journal, load};
+use crate::trustee::{Still, empty_journal, load, serve_two_at_each};
 use disk_trait::MemDisk;
 use lms_bytes::MessageId;
 use opening_journal::{Entry, Journal};
@@ -17,7 +17,6 @@ use std::sync::Wait;
 use std::thread::Threads;
 use stream_memory::{MemPort, PortScript};
 use trustee_core::Trustee;
-use trustee_node::serve_ports;
 
 /// The bytes of an ask of round one, and of the reply to it.
 const ASK: usize = 64;
@@ -119,10 +118,7 @@ fn serve(
     let mut clocks = Vec::new(alloc);
     clocks.push(Still).ok()?;
     let share = &given.share;
-    let (trustee, served) = serve_ports(
-        threads, alloc, trustee, share, None, &mut ports, clocks, 2,
-    );
-    served.ok()?;
+    let (trustee, _) = serve_two_at_each(threads, alloc, trustee, share, &mut ports, clocks)?;
     let granted = given.granted(ports.get(0)?)?;
     Some((trustee, granted))
 }

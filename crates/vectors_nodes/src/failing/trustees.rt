@@ -6,8 +6,7 @@ ghost use Rattle.trustee_core.specs.Trustee.{share_of};
 use super::{MOST, SESSION};
 use crate::files::file_of;
 use crate::links::{failing_link, wide_link};
-use crate::trustee::{Still, empty_journal, load, serve_link, trustee};
-use crate::turns::only_pass;
+use crate::trustee::{Still, empty_journal, load, serve_links, serve_two_at_each, trustee};
 use disk_trait::MemDisk;
 use share_files::{Share, read_share};
 use std::alloc::Global;
@@ -16,8 +15,7 @@ use std::sync::Wait;
 use std::thread::Threads;
 use stream_memory::{MemPort, PortScript};
 use trustee_core::Trustee;
-use trustee_node::{Served, ServedEnd, Totals, serve_ports};
-use turn_lock::TurnLock;
+use trustee_node::{Served, ServedEnd, Totals};
 
 /// The bytes of an ask of round one, and of the reply to it.
 const ASK: usize = 64;
@@ -72,16 +70,11 @@ struct Two {
 
 /// Serves both asks over two links, one after the other. Of the first one this call fails.
 fn serve_two(waits: &impl Wait, alloc: Global, given: &Given, call: u64) -> Option<Two> {
-    let trustee = trustee(alloc, &given.share)?;
-    let Ok((lock, passes)) = TurnLock::new(alloc, trustee, 1, 0) else {
-        return None;
-    };
-    let mut pass = only_pass(&lock, passes)?;
     let share = &given.share;
+    let trustee = trustee(alloc, share)?;
     let mut first = failing_link(alloc, &given.asks, Some(call))?;
-    let served = serve_link(waits, &lock, &mut pass, share, &mut first);
     let mut second = failing_link(alloc, &given.asks, None)?;
-    serve_link(waits, &lock, &mut pass, share, &mut second);
+    let served = serve_links(waits, alloc, trustee, share, &mut first, Some(&mut second))?;
     Some(Two {
         ended: served.ended,
         first: Vec::from_slice(alloc, first.conversation().written()).ok()?,
@@ -118,12 +111,8 @@ fn serve_one(
 ) -> Option<(Served, Vec<u8>)>
     requires { share_of trustee ≡ share.now }
 {
-    let Ok((lock, passes)) = TurnLock::new(alloc, trustee, 1, 0) else {
-        return None;
-    };
-    let mut pass = only_pass(&lock, passes)?;
     let mut link = wide_link(alloc, asks, room, None)?;
-    let served = serve_link(waits, &lock, &mut pass, share, &mut link);
+    let served = serve_links(waits, alloc, trustee, share, &mut link, None)?;
     let written = Vec::from_slice(alloc, link.conversation().written()).ok()?;
     Some((served, written))
 }
@@ -247,12 +236,12 @@ fn serve_deaf(
     clocks.push(Still).ok()?;
     let trustee = trustee(alloc, &given.share)?;
     let share = &given.share;
-    let (_, served) = serve_ports(threads, alloc, trustee, share, None, &mut ports, clocks, 2);
+    let (_, totals) = serve_two_at_each(threads, alloc, trustee, share, &mut ports, clocks)?;
     let reply = given.replies.get(..REPLY)?;
     let as_given = is_written(ports.get(0), 0, reply)
         && is_written(ports.get(1), 0, &given.replies)
         && is_written(ports.get(1), 1, reply);
-    Some((served.ok()?, as_given))
+    Some((totals, as_given))
 }
 
 /// All that is run.
