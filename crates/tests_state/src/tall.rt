@@ -98,20 +98,35 @@ impl<D: Disk + Drop> Tall<D> {
     }
 }
 
+/// Makes a journal of this name, and enters its last leaf.
+fn make<S: Store>(rt: &impl Abort, alloc: Global, store: &mut S, name: &str)
+where
+    S::Disk: Drop,
+{
+    let made = store.new_disk(alloc, name, BYTES);
+    let mut disk = made.ok().expect(rt, "a new file");
+    assert!(rt; prepare(&mut disk, &header(&params(rt)), 1024) == Ok(()));
+    let mut journal = Tall::open(rt, alloc, disk);
+    assert!(rt; journal.enter_last());
+}
+
+/// Takes that journal, and looks for the leaf.
+fn take<S: Store>(rt: &impl Abort, alloc: Global, store: &mut S, name: &str)
+where
+    S::Disk: Drop,
+{
+    let disk = store.take_disk(name).ok().expect(rt, "the file");
+    let mut journal = Tall::open(rt, alloc, disk);
+    assert!(rt; journal.has_last());
+}
+
 #[test]
 fn the_last_leaf_of_a_tall_journal_is_kept(rt: HostRuntime) -> Result<(), Fail> {
     let name = "the_last_leaf_of_a_tall_journal_is_kept.journal";
     let mut store = FileStore::new(rt);
-    let made = store.new_disk(rt.alloc(), name, BYTES);
-    let mut disk = made.ok().expect(&rt, "a new file");
-    assert!(rt; prepare(&mut disk, &header(&params(&rt)), 1024) == Ok(()));
-    let mut journal = Tall::open(&rt, rt.alloc(), disk);
-    assert!(rt; journal.enter_last());
-    drop(journal);
+    make(&rt, rt.alloc(), &mut store, name);
     assert!(rt; metadata(&rt, name)?.len() == BYTES as u64);
-    let disk = store.take_disk(name).ok().expect(&rt, "the file");
-    let mut journal = Tall::open(&rt, rt.alloc(), disk);
-    assert!(rt; journal.has_last());
+    take(&rt, rt.alloc(), &mut store, name);
     remove_file(&rt, name)?;
     Ok(())
 }
