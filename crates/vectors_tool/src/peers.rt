@@ -29,6 +29,16 @@ pub(crate) struct Member {
     pub(crate) sent: &'static [Sent],
 }
 
+/// The trustee at a place, who sends this.
+macro_rules! sends {
+    ($place:literal, $($sent:expr),+) => {
+        Member {
+            place: $place,
+            sent: &[$($sent),+],
+        }
+    };
+}
+
 /// Room for more bytes than any peer here is sent.
 pub(crate) const ROOM: usize = 8192;
 
@@ -39,53 +49,26 @@ const MOST: usize = 4096;
 const FIRST_REPLY: usize = 97;
 
 /// The trustees 1, 2 and 3 of a session, who reply as another implementation's did.
-pub(crate) const ONE: Member = Member {
-    place: "one",
-    sent: &[Sent::File("replies1")],
-};
+pub(crate) const ONE: Member = sends!("one", Sent::File("replies1"));
 
-pub(crate) const TWO: Member = Member {
-    place: "two",
-    sent: &[Sent::File("replies2")],
-};
+pub(crate) const TWO: Member = sends!("two", Sent::File("replies2"));
 
-pub(crate) const THREE: Member = Member {
-    place: "three",
-    sent: &[Sent::File("replies3")],
-};
+pub(crate) const THREE: Member = sends!("three", Sent::File("replies3"));
 
 pub(crate) const SESSION: &[Member] = &[ONE, TWO, THREE];
 
 /// The same over hashes of 24 bytes.
 pub(crate) const SESSION_24: &[Member] = &[
-    Member {
-        place: "one",
-        sent: &[Sent::File("replies1.24")],
-    },
-    Member {
-        place: "two",
-        sent: &[Sent::File("replies2.24")],
-    },
-    Member {
-        place: "three",
-        sent: &[Sent::File("replies3.24")],
-    },
+    sends!("one", Sent::File("replies1.24")),
+    sends!("two", Sent::File("replies2.24")),
+    sends!("three", Sent::File("replies3.24")),
 ];
 
 /// The same as they reply for a lower key.
 pub(crate) const SESSION_LOW: &[Member] = &[
-    Member {
-        place: "one",
-        sent: &[Sent::File("replies1.low")],
-    },
-    Member {
-        place: "two",
-        sent: &[Sent::File("replies2.low")],
-    },
-    Member {
-        place: "three",
-        sent: &[Sent::File("replies3.low")],
-    },
+    sends!("one", Sent::File("replies1.low")),
+    sends!("two", Sent::File("replies2.low")),
+    sends!("three", Sent::File("replies3.low")),
 ];
 
 /// Where the randomizer mask stands in a trustee's replies, and where its mask of chain 0.
@@ -95,100 +78,63 @@ const CHAIN_MASK: usize = FIRST_REPLY + 8 + 89;
 
 /// Trustees 2 and 3, who change a byte of their mask, one of chain 0 and one of chain 1: equal changes of one chain
 /// would cancel each other, and the signature would be accepted.
-pub(crate) const LIAR: Member = Member {
-    place: "two",
-    sent: &[Sent::Changed("replies2", CHAIN_MASK)],
-};
+pub(crate) const LIAR: Member = sends!("two", Sent::Changed("replies2", CHAIN_MASK));
 
-pub(crate) const OTHER_LIAR: Member = Member {
-    place: "three",
-    sent: &[Sent::Changed("replies3", CHAIN_MASK + 32)],
-};
+pub(crate) const OTHER_LIAR: Member = sends!("three", Sent::Changed("replies3", CHAIN_MASK + 32));
 
 /// Trustee 2, who changes a byte of its randomizer mask, and trustee 1, who then finds its check tag wrong.
-pub(crate) const FIRST_LIAR: Member = Member {
-    place: "two",
-    sent: &[Sent::Changed("replies2", RANDOMIZER_MASK)],
-};
+pub(crate) const FIRST_LIAR: Member = sends!("two", Sent::Changed("replies2", RANDOMIZER_MASK));
 
-pub(crate) const CHECKING: Member = Member {
-    place: "one",
-    sent: &[Sent::File("replies1.check")],
-};
+pub(crate) const CHECKING: Member = sends!("one", Sent::File("replies1.check"));
 
 /// Trustee 2, whose link ends behind its first reply.
-pub(crate) const LOST: Member = Member {
-    place: "two",
-    sent: &[Sent::Start("replies2", FIRST_REPLY)],
-};
+pub(crate) const LOST: Member = sends!("two", Sent::Start("replies2", FIRST_REPLY));
 
 /// Another message's id: of no bytes, with a hash of zeros.
 const OTHER_MESSAGE: &[u8] = &[0; 36];
 
 /// Trustee 1, who has bound leaf 0, 10, 20 or 30 to another message.
-pub(crate) const BOUND_0: Member = Member {
-    place: "one",
-    sent: &[Sent::Refusal(0, 9, OTHER_MESSAGE)],
-};
+pub(crate) const BOUND_0: Member = sends!("one", Sent::Refusal(0, 9, OTHER_MESSAGE));
 
-pub(crate) const BOUND_10: Member = Member {
-    place: "one",
-    sent: &[Sent::Refusal(10, 9, OTHER_MESSAGE)],
-};
+pub(crate) const BOUND_10: Member = sends!("one", Sent::Refusal(10, 9, OTHER_MESSAGE));
 
-pub(crate) const BOUND_20: Member = Member {
-    place: "one",
-    sent: &[Sent::Refusal(20, 9, OTHER_MESSAGE)],
-};
+pub(crate) const BOUND_20: Member = sends!("one", Sent::Refusal(20, 9, OTHER_MESSAGE));
 
-pub(crate) const BOUND_30: Member = Member {
-    place: "one",
-    sent: &[Sent::Refusal(30, 9, OTHER_MESSAGE)],
-};
+pub(crate) const BOUND_30: Member = sends!("one", Sent::Refusal(30, 9, OTHER_MESSAGE));
 
 /// Trustee 1, whose book does not list the message.
-pub(crate) const UNLISTED: Member = Member {
-    place: "one",
-    sent: &[Sent::Refusal(0, 12, &[])],
-};
+pub(crate) const UNLISTED: Member = sends!("one", Sent::Refusal(0, 12, &[]));
 
 /// Trustee 1, who sends a frame of no kind.
-pub(crate) const GARBLED: Member = Member {
-    place: "one",
-    sent: &[Sent::Bytes(b"TL\x01\x09\0\0\0\0")],
-};
+pub(crate) const GARBLED: Member = sends!("one", Sent::Bytes(b"TL\x01\x09\0\0\0\0"));
 
 /// A reply that trustee 1 has no part in, and trustee 1, who sends eight of them first, or seven.
 const STRAY: Sent = Sent::Start("replies2", FIRST_REPLY);
 
-pub(crate) const EIGHT: Member = Member {
-    place: "one",
-    sent: &[
-        STRAY,
-        STRAY,
-        STRAY,
-        STRAY,
-        STRAY,
-        STRAY,
-        STRAY,
-        STRAY,
-        Sent::File("replies1"),
-    ],
-};
+pub(crate) const EIGHT: Member = sends!(
+    "one",
+    STRAY,
+    STRAY,
+    STRAY,
+    STRAY,
+    STRAY,
+    STRAY,
+    STRAY,
+    STRAY,
+    Sent::File("replies1")
+);
 
-pub(crate) const SEVEN: Member = Member {
-    place: "one",
-    sent: &[
-        STRAY,
-        STRAY,
-        STRAY,
-        STRAY,
-        STRAY,
-        STRAY,
-        STRAY,
-        Sent::File("replies1"),
-    ],
-};
+pub(crate) const SEVEN: Member = sends!(
+    "one",
+    STRAY,
+    STRAY,
+    STRAY,
+    STRAY,
+    STRAY,
+    STRAY,
+    STRAY,
+    Sent::File("replies1")
+);
 
 /// Adds a request by these trustees for the signature of a message.
 pub(crate) fn push_request(

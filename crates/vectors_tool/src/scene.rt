@@ -25,6 +25,25 @@ pub(crate) const LINE: usize = 1000;
 /// More conversations than a port here has.
 pub(crate) const TALKS: usize = 32;
 
+/// A step of these words: with what is named beside them, or else as another one.
+macro_rules! step {
+    ($words:literal $(, $field:ident: $value:expr)*) => {
+        Step {
+            words: $words,
+            $($field: $value,)*
+            ..PLAIN
+        }
+    };
+    ($words:literal, ..$other:expr) => {
+        Step {
+            words: $words,
+            ..$other
+        }
+    };
+}
+
+pub(crate) use step;
+
 /// The words of a text.
 pub(crate) fn words_of(alloc: Global, text: &str) -> Result<Vec<String>, AllocError> {
     let mut words = Vec::new(alloc);

@@ -3,6 +3,7 @@
 use crate::peers::{
     EIGHT, GARBLED, LOST, Member, ONE, ROOM, SESSION, SESSION_24, SEVEN, Sent, THREE, TWO,
 };
+use crate::scene::step;
 
 /// A client: what it sends, and for how many bytes of answers its link has room.
 #[derive(Clone, Copy)]
@@ -38,19 +39,22 @@ const SIGNED: Client = Client {
     room: ROOM,
 };
 
-/// The same, and behind it a request of trustees who are no coalition.
+/// A step with one such client, to whom all trustees reply.
+const SIGNING: Step = step!("", clients: &[&[SIGNED]], members: SESSION);
+
+/// A client with a request that is signed, and behind it one of trustees who are no coalition.
 const SIGNED_AND_REFUSED: Client = Client {
     sent: &[
         Sent::Request(0b111, "message"),
         Sent::Request(0b11, "message"),
     ],
-    room: ROOM,
+    ..SIGNED
 };
 
 /// A request that is signed, of a client who takes 100 bytes of the answer.
 const CRAMPED: Client = Client {
-    sent: &[Sent::Request(0b111, "message")],
     room: 100,
+    ..SIGNED
 };
 
 /// Clients whose bytes are no request: a line of another protocol, a frame that a trustee reads, a request that is cut
@@ -58,340 +62,188 @@ const CRAMPED: Client = Client {
 /// by a byte.
 const OTHER: Client = Client {
     sent: &[Sent::Bytes(b"GET / HTTP/1.0\r\n\r\n")],
-    room: ROOM,
+    ..SIGNED
 };
 
 const ASK: Client = Client {
     sent: &[Sent::Bytes(b"TL\x01\x01\0\0\0\x38")],
-    room: ROOM,
+    ..SIGNED
 };
 
 const CUT: Client = Client {
     sent: &[Sent::Bytes(b"TL\x01\x06\0")],
-    room: ROOM,
+    ..SIGNED
 };
 
 const CUT_LATER: Client = Client {
     sent: &[Sent::Bytes(b"TL\x01\x06\0\0\0\x05\0\x07ab")],
-    room: ROOM,
+    ..SIGNED
 };
 
 const SHORT: Client = Client {
     sent: &[Sent::Bytes(b"TL\x01\x06\0\0\0\x01\0")],
-    room: ROOM,
+    ..SIGNED
 };
 
 const LONG: Client = Client {
     sent: &[Sent::Bytes(b"TL\x01\x06\x01\0\0\x03")],
-    room: ROOM,
+    ..SIGNED
 };
 
 /// A request that is signed, and one of trustees who are no coalition; the same request again over the same table, from
 /// two clients one after the other, and at two workers beside each other; and a key of 24-byte hashes.
 pub(crate) const SIGN: &[Step] = &[
-    Step {
-        words: "deal entropy 5 3 5 3 A",
-        ..PLAIN
-    },
-    Step {
-        words: "enrol A.ref table",
-        table: Some("table"),
-        ..PLAIN
-    },
-    Step {
-        words: "aggregate A table here 1 1 1=one 2=two 3=three",
-        clients: &[&[SIGNED_AND_REFUSED]],
-        members: SESSION,
-        table: Some("table"),
-        ..PLAIN
-    },
-    Step {
-        words: "aggregate A table here 1 2 1=one 2=two 3=three",
-        clients: &[&[SIGNED, SIGNED]],
-        members: SESSION,
-        table: Some("table"),
-        ..PLAIN
-    },
-    Step {
-        words: "aggregate A table here 2 1 1=one 2=two 3=three",
-        clients: &[&[SIGNED], &[SIGNED]],
-        members: SESSION,
-        table: Some("table"),
-        ..PLAIN
-    },
-    Step {
-        words: "deal entropy 10 7 5 3 B",
-        ..PLAIN
-    },
-    Step {
-        words: "enrol B.ref table.24",
-        ..PLAIN
-    },
-    Step {
-        words: "aggregate B table.24 here 1 1 1=one 2=two 3=three",
-        clients: &[&[SIGNED]],
-        members: SESSION_24,
-        table: Some("table.24"),
-        ..PLAIN
-    },
+    step!("deal entropy 5 3 5 3 A"),
+    step!("enrol A.ref table", table: Some("table")),
+    step!(
+        "aggregate A table here 1 1 1=one 2=two 3=three",
+        clients: &[&[SIGNED_AND_REFUSED]], members: SESSION, table: Some("table")
+    ),
+    step!(
+        "aggregate A table here 1 2 1=one 2=two 3=three",
+        clients: &[&[SIGNED, SIGNED]], members: SESSION, table: Some("table")
+    ),
+    step!(
+        "aggregate A table here 2 1 1=one 2=two 3=three",
+        clients: &[&[SIGNED], &[SIGNED]], members: SESSION, table: Some("table")
+    ),
+    step!("deal entropy 10 7 5 3 B"),
+    step!("enrol B.ref table.24"),
+    step!(
+        "aggregate B table.24 here 1 1 1=one 2=two 3=three",
+        clients: &[&[SIGNED]], members: SESSION_24, table: Some("table.24")
+    ),
 ];
 
 /// Trustees who are not there, are lost, send garbage or stray; then all is well with the same leaf.
 pub(crate) const LOSE: &[Step] = &[
-    Step {
-        words: "enrol A.ref lost",
-        ..PLAIN
-    },
-    Step {
-        words: "aggregate A lost here 1 1 1=one 3=three",
-        clients: &[&[SIGNED]],
-        members: SESSION,
-        ..PLAIN
-    },
-    Step {
-        words: "aggregate A lost here 1 1 1=one 2=two 3=three",
-        clients: &[&[SIGNED]],
-        members: &[ONE, THREE],
-        ..PLAIN
-    },
-    Step {
-        words: "aggregate A lost here 1 1 1=one 2=two 3=three",
-        clients: &[&[SIGNED]],
-        members: &[ONE, LOST, THREE],
-        ..PLAIN
-    },
-    Step {
-        words: "aggregate A lost here 1 1 1=one 2=two 3=three",
-        clients: &[&[SIGNED]],
-        members: &[GARBLED, TWO, THREE],
-        ..PLAIN
-    },
-    Step {
-        words: "aggregate A lost here 1 1 1=one 2=two 3=three",
-        clients: &[&[SIGNED]],
-        members: &[EIGHT, TWO, THREE],
-        ..PLAIN
-    },
-    Step {
-        words: "aggregate A lost here 1 1 1=one 2=two 3=three",
-        clients: &[&[SIGNED]],
-        members: &[SEVEN, TWO, THREE],
-        table: Some("lost"),
-        ..PLAIN
-    },
+    step!("enrol A.ref lost"),
+    step!("aggregate A lost here 1 1 1=one 3=three", ..SIGNING),
+    step!(
+        "aggregate A lost here 1 1 1=one 2=two 3=three",
+        clients: &[&[SIGNED]], members: &[ONE, THREE]
+    ),
+    step!(
+        "aggregate A lost here 1 1 1=one 2=two 3=three",
+        clients: &[&[SIGNED]], members: &[ONE, LOST, THREE]
+    ),
+    step!(
+        "aggregate A lost here 1 1 1=one 2=two 3=three",
+        clients: &[&[SIGNED]], members: &[GARBLED, TWO, THREE]
+    ),
+    step!(
+        "aggregate A lost here 1 1 1=one 2=two 3=three",
+        clients: &[&[SIGNED]], members: &[EIGHT, TWO, THREE]
+    ),
+    step!(
+        "aggregate A lost here 1 1 1=one 2=two 3=three",
+        clients: &[&[SIGNED]], members: &[SEVEN, TWO, THREE], table: Some("lost")
+    ),
 ];
 
 /// Clients who send what is no request, at one worker and beside one that signs; and one that does not take its answer.
 pub(crate) const GARBAGE: &[Step] = &[
-    Step {
-        words: "aggregate A table here 2 3 1=one 2=two 3=three",
-        clients: &[&[OTHER, ASK, CUT], &[SIGNED]],
-        members: SESSION,
-        ..PLAIN
-    },
-    Step {
-        words: "aggregate A table here 2 3 1=one 2=two 3=three",
-        clients: &[&[SIGNED], &[CUT_LATER, SHORT, LONG]],
-        members: SESSION,
-        ..PLAIN
-    },
-    Step {
-        words: "enrol A.ref idle",
-        ..PLAIN
-    },
-    Step {
-        words: "aggregate A idle here 1 6 1=one 2=two 3=three",
+    step!(
+        "aggregate A table here 2 3 1=one 2=two 3=three",
+        clients: &[&[OTHER, ASK, CUT], &[SIGNED]], members: SESSION
+    ),
+    step!(
+        "aggregate A table here 2 3 1=one 2=two 3=three",
+        clients: &[&[SIGNED], &[CUT_LATER, SHORT, LONG]], members: SESSION
+    ),
+    step!("enrol A.ref idle"),
+    step!(
+        "aggregate A idle here 1 6 1=one 2=two 3=three",
         clients: &[&[OTHER, ASK, CUT, CUT_LATER, SHORT, LONG]],
         members: SESSION,
-        table: Some("idle"),
-        ..PLAIN
-    },
-    Step {
-        words: "aggregate A table here 1 2 1=one 2=two 3=three",
-        clients: &[&[CRAMPED, SIGNED]],
-        members: SESSION,
-        table: Some("table"),
-        ..PLAIN
-    },
-    Step {
-        words: "aggregate A table here 3 1 1=one 2=two 3=three",
-        clients: &[&[], &[SIGNED], &[]],
-        members: SESSION,
-        ..PLAIN
-    },
+        table: Some("idle")
+    ),
+    step!(
+        "aggregate A table here 1 2 1=one 2=two 3=three",
+        clients: &[&[CRAMPED, SIGNED]], members: SESSION, table: Some("table")
+    ),
+    step!(
+        "aggregate A table here 3 1 1=one 2=two 3=three",
+        clients: &[&[], &[SIGNED], &[]], members: SESSION
+    ),
 ];
 
 /// Words that are no command.
 pub(crate) const WORDS: &[Step] = &[
-    Step {
-        words: "aggregate  table here 1 1 1=one 2=two 3=three",
-        ..PLAIN
-    },
-    Step {
-        words: "aggregate A table here 0 1 1=one 2=two 3=three",
-        ..PLAIN
-    },
-    Step {
-        words: "aggregate A table here 65 1 1=one 2=two 3=three",
-        ..PLAIN
-    },
-    Step {
-        words: "aggregate A table here 1 0 1=one 2=two 3=three",
-        ..PLAIN
-    },
-    Step {
-        words: "aggregate A table here 1 4294967296 1=one 2=two 3=three",
-        ..PLAIN
-    },
-    Step {
-        words: "aggregate A table here 1 1 1=t 2=t 3=t 4=t 5=t 6=t 7=t 8=t 9=t 10=t 11=t 12=t 12=t",
-        ..PLAIN
-    },
-    Step {
-        words: "aggregate A table here 1 1 1=one 2=two 01=three",
-        ..PLAIN
-    },
-    Step {
-        words: "aggregate A table here 1 1 13=one",
-        ..PLAIN
-    },
-    Step {
-        words: "aggregate A table here 1 1 1=",
-        ..PLAIN
-    },
-    Step {
-        words: "aggregate A table here 1 1",
-        ..PLAIN
-    },
+    step!("aggregate  table here 1 1 1=one 2=two 3=three"),
+    step!("aggregate A table here 0 1 1=one 2=two 3=three"),
+    step!("aggregate A table here 65 1 1=one 2=two 3=three"),
+    step!("aggregate A table here 1 0 1=one 2=two 3=three"),
+    step!("aggregate A table here 1 4294967296 1=one 2=two 3=three"),
+    step!("aggregate A table here 1 1 1=t 2=t 3=t 4=t 5=t 6=t 7=t 8=t 9=t 10=t 11=t 12=t 12=t"),
+    step!("aggregate A table here 1 1 1=one 2=two 01=three"),
+    step!("aggregate A table here 1 1 13=one"),
+    step!("aggregate A table here 1 1 1="),
+    step!("aggregate A table here 1 1"),
 ];
 
 /// Files that are not there, not of one dealing or not whole, and a place that cannot be had.
 pub(crate) const FILES: &[Step] = &[
-    Step {
-        words: "aggregate X table here 1 1 1=one 2=two 3=three",
-        clients: &[&[SIGNED]],
-        members: SESSION,
-        ..PLAIN
-    },
-    Step {
-        words: "aggregate OtherTree table here 1 1 1=one 2=two 3=three",
-        clients: &[&[SIGNED]],
-        members: SESSION,
-        ..PLAIN
-    },
-    Step {
-        words: "aggregate OtherReference table here 1 1 1=one 2=two 3=three",
-        clients: &[&[SIGNED]],
-        members: SESSION,
-        ..PLAIN
-    },
-    Step {
-        words: "aggregate ShortReference table here 1 1 1=one 2=two 3=three",
-        clients: &[&[SIGNED]],
-        members: SESSION,
-        ..PLAIN
-    },
-    Step {
-        words: "aggregate NoReference table here 1 1 1=one 2=two 3=three",
-        clients: &[&[SIGNED]],
-        members: SESSION,
-        ..PLAIN
-    },
-    Step {
-        words: "aggregate ShortTree table here 1 1 1=one 2=two 3=three",
-        clients: &[&[SIGNED]],
-        members: SESSION,
-        ..PLAIN
-    },
-    Step {
-        words: "aggregate ShortKey table here 1 1 1=one 2=two 3=three",
-        clients: &[&[SIGNED]],
-        members: SESSION,
-        ..PLAIN
-    },
-    Step {
-        words: "aggregate A none here 1 1 1=one 2=two 3=three",
-        clients: &[&[SIGNED]],
-        members: SESSION,
-        ..PLAIN
-    },
-    Step {
-        words: "aggregate A A.tree here 1 1 1=one 2=two 3=three",
-        clients: &[&[SIGNED]],
-        members: SESSION,
-        ..PLAIN
-    },
-    Step {
-        words: "aggregate A table.24 here 1 1 1=one 2=two 3=three",
-        clients: &[&[SIGNED]],
-        members: SESSION,
-        ..PLAIN
-    },
-    Step {
-        words: "aggregate A table there 1 1 1=one 2=two 3=three",
-        clients: &[&[SIGNED]],
-        members: SESSION,
-        ..PLAIN
-    },
+    step!("aggregate X table here 1 1 1=one 2=two 3=three", ..SIGNING),
+    step!(
+        "aggregate OtherTree table here 1 1 1=one 2=two 3=three",
+        ..SIGNING
+    ),
+    step!(
+        "aggregate OtherReference table here 1 1 1=one 2=two 3=three",
+        ..SIGNING
+    ),
+    step!(
+        "aggregate ShortReference table here 1 1 1=one 2=two 3=three",
+        ..SIGNING
+    ),
+    step!(
+        "aggregate NoReference table here 1 1 1=one 2=two 3=three",
+        ..SIGNING
+    ),
+    step!(
+        "aggregate ShortTree table here 1 1 1=one 2=two 3=three",
+        ..SIGNING
+    ),
+    step!(
+        "aggregate ShortKey table here 1 1 1=one 2=two 3=three",
+        ..SIGNING
+    ),
+    step!("aggregate A none here 1 1 1=one 2=two 3=three", ..SIGNING),
+    step!("aggregate A A.tree here 1 1 1=one 2=two 3=three", ..SIGNING),
+    step!(
+        "aggregate A table.24 here 1 1 1=one 2=two 3=three",
+        ..SIGNING
+    ),
+    step!("aggregate A table there 1 1 1=one 2=two 3=three", ..SIGNING),
 ];
 
 /// Accepting fails behind the first connection of one worker, with its four calls of the port, and the other goes on.
-pub(crate) const DEAF: &[Step] = &[Step {
-    words: "aggregate A table here 2 2 1=one 2=two 3=three",
-    clients: &[&[SIGNED, SIGNED], &[SIGNED, SIGNED]],
-    members: SESSION,
-    fails: Some(4),
-    ..PLAIN
-}];
+pub(crate) const DEAF: &[Step] = &[step!(
+    "aggregate A table here 2 2 1=one 2=two 3=three",
+    clients: &[&[SIGNED, SIGNED], &[SIGNED, SIGNED]], members: SESSION, fails: Some(4)
+)];
 
 /// A command whose view fails.
-pub(crate) const FAULTY_VIEW: Step = Step {
-    words: "aggregate A table here 1 1 1=one 2=two 3=three",
-    clients: &[&[SIGNED]],
-    members: SESSION,
-    ..PLAIN
-};
+pub(crate) const FAULTY_VIEW: Step = step!(
+    "aggregate A table here 1 1 1=one 2=two 3=three",
+    ..SIGNING
+);
 
 /// A command whose table fails, with two clients, one after the other.
-pub(crate) const FAULTY_TABLE: Step = Step {
-    words: "aggregate A fresh here 1 2 1=one 2=two 3=three",
-    clients: &[&[SIGNED, SIGNED]],
-    members: SESSION,
-    ..PLAIN
-};
+pub(crate) const FAULTY_TABLE: Step = step!(
+    "aggregate A fresh here 1 2 1=one 2=two 3=three",
+    clients: &[&[SIGNED, SIGNED]], members: SESSION
+);
 
 /// Fresh tables, and the journals of five trustees.
 pub(crate) const ENROL: &[Step] = &[
-    Step {
-        words: "enrol A.ref fresh",
-        ..PLAIN
-    },
-    Step {
-        words: "enrol A.ref live",
-        ..PLAIN
-    },
-    Step {
-        words: "enrol A.ref other",
-        ..PLAIN
-    },
-    Step {
-        words: "enrol A.share1 journal1",
-        ..PLAIN
-    },
-    Step {
-        words: "enrol A.share2 journal2",
-        ..PLAIN
-    },
-    Step {
-        words: "enrol A.share3 journal3",
-        ..PLAIN
-    },
-    Step {
-        words: "enrol A.share4 journal4",
-        ..PLAIN
-    },
-    Step {
-        words: "enrol A.share5 journal5",
-        ..PLAIN
-    },
+    step!("enrol A.ref fresh"),
+    step!("enrol A.ref live"),
+    step!("enrol A.ref other"),
+    step!("enrol A.share1 journal1"),
+    step!("enrol A.share2 journal2"),
+    step!("enrol A.share3 journal3"),
+    step!("enrol A.share4 journal4"),
+    step!("enrol A.share5 journal5"),
 ];
