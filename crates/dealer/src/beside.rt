@@ -88,13 +88,15 @@ fn write_beside<R: Threads + Sync>(
     join_mut(
         rt,
         &mut ||
-            requires { IsSync R.row × Suit params.now plan.now secrets.now × (first.first + first.count ≤ 2 ^ params.now.h)
+            requires { IsSync R.row × Suit params.now plan.now secrets.now
+                × (first.first + first.count ≤ 2 ^ params.now.h)
                 × (length front.now ≡ leaf_length params.now plan.now.k * first.count) }
             ensures { front.exit.now
                 ≡ run_leaves (dealing_with params.entry.now plan.entry.now secrets.entry.now) first }
         { write_beside(rt, params, plan, secrets, first, some, front) },
         &mut ||
-            requires { IsSync R.row × Suit params.now plan.now secrets.now × (next.first + next.count ≤ 2 ^ params.now.h)
+            requires { IsSync R.row × Suit params.now plan.now secrets.now
+                × (next.first + next.count ≤ 2 ^ params.now.h)
                 × (length back.now ≡ leaf_length params.now plan.now.k * next.count) }
             ensures { back.exit.now
                 ≡ run_leaves (dealing_with params.entry.now plan.entry.now secrets.entry.now) next }

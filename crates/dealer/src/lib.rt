@@ -23,4 +23,4 @@ pub use committed::{CommittedFault, deal_committed, deal_committed_beside};
 pub use dealing::{Dealt, deal, deal_beside};
 pub use faults::DealFault;
 pub use files::{DealingFiles, public_file};
-pub use rehearsed::{Rehearsed, rehearse};
+pub use rehearsed::{Rehearsed, rehearsal_params, rehearse};

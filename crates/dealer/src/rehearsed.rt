@@ -31,7 +31,7 @@ pub fn rehearse(alloc: Global, entropy: &[u8], message: &[u8]) -> Result<Rehears
         ⊎ RehearsalFault entropy.now fault) }
 {
     let plan = plan_of_two();
-    let dealt = deal(alloc, &params(), &plan, entropy)?;
+    let dealt = deal(alloc, &rehearsal_params(), &plan, entropy)?;
     let keys = keys_of(&dealt.shares);
     match sign_leaf(alloc, &plan, &dealt, &keys, 0, message) {
         Ok(signature) => Ok(Rehearsed {
@@ -42,12 +42,13 @@ pub fn rehearse(alloc: Global, entropy: &[u8], message: &[u8]) -> Result<Rehears
     }
 }
 
-/// The parameter set of a rehearsal.
+/// The parameter set of a rehearsal, and of a drill: LMS typecode 5 and LM-OTS typecode 3.
 #[tactic(auto, unfolding(lms_bytes::specs::ParameterSets::lms_row, lms_bytes::specs::ParameterSets::lmots_row))]
-fn params() -> Params
+pub fn rehearsal_params() -> Params
     ensures lms { result.lms ≡ 5 }
     ensures ots { result.ots ≡ 3 }
     ensures hash_length { result.n ≡ 32 }
+    ensures chains { result.p ≡ 67 }
     ensures height { result.h ≡ 5 }
 {
     Params::of_codes(5, 3).unwrap()

@@ -7,8 +7,7 @@ ghost use Rattle.drill_schedule.specs.Draws.{entropy_of};
 
 use crate::desk::Desk;
 use coalition_map::Plan;
-use dealer::{DealFault, deal};
-use lms_bytes::Params;
+use dealer::{DealFault, deal, rehearsal_params};
 use memory::NoMemory;
 use std::alloc::Global;
 
@@ -19,7 +18,7 @@ pub(crate) fn deal_drill(alloc: Global, entropy: &[u8]) -> Result<Desk, NoMemory
         IsDealt (dealing_of desk.dealt.public.params desk.plan entropy.now) desk.dealt) }
 {
     let plan = plan_of_three();
-    match deal(alloc, &params(), &plan, entropy) {
+    match deal(alloc, &rehearsal_params(), &plan, entropy) {
         Ok(dealt) => Ok(Desk { dealt, plan }),
         Err(fault) => Err(memory_fault(fault)),
     }
@@ -33,18 +32,6 @@ fn memory_fault(fault: DealFault) -> NoMemory
         DealFault::NoMemory => NoMemory,
         _ => unreachable!(),
     }
-}
-
-/// The parameter set of a drill.
-#[tactic(auto, unfolding(lms_bytes::specs::ParameterSets::lms_row, lms_bytes::specs::ParameterSets::lmots_row))]
-fn params() -> Params
-    ensures lms { result.lms ≡ 5 }
-    ensures ots { result.ots ≡ 3 }
-    ensures hash_length { result.n ≡ 32 }
-    ensures chains { result.p ≡ 67 }
-    ensures height { result.h ≡ 5 }
-{
-    Params::of_codes(5, 3).unwrap()
 }
 
 /// The plan of a drill: each leaf belongs to two of three trustees.

@@ -32,8 +32,8 @@ pub(crate) fn requests(alloc: Global, message: &[u8]) -> Option<Vec<u8>> {
     Some(bytes)
 }
 
-/// Serves a client over a link, and then another one, if there is one. It gives what came of the first, or nothing where
-/// memory ran out.
+/// Serves a client over a link, and then another one, if there is one. It gives what came of the first, or nothing
+/// where memory ran out.
 fn serve_over<R: Cells, D: Disk + Drop, P: Port, L: Source + Sink>(
     waits: &impl Wait,
     alloc: Global,

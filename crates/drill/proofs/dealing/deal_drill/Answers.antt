@@ -8,12 +8,12 @@ use Rattle.drill.proofs.dealing.deal_drill.Goals as goal
 pub memory_fault-requires : goal.memory_fault-requires
 memory_fault-requires c = elim c.in-Err.ensures.cause [
   | inl none ↦ none.0
-  | inr has ↦ absurd (no-fault c.params.result c.plan_of_three-plan.result c.args.entropy.now c.requires.0 _ c.params.ensures.height c.plan_of_three-plan.ensures c.requires.1 has)
+  | inr has ↦ absurd (no-fault c.rehearsal_params.result c.plan_of_three-plan.result c.args.entropy.now c.requires.0 _ c.rehearsal_params.ensures.height c.plan_of_three-plan.ensures c.requires.1 has)
 ]
 
 pub invariant_of-result : goal.invariant_of-result
 invariant_of-result c =
-    let d = desk-of c.params.result c.plan_of_three-plan.result c.args.entropy.now c.in-Ok.dealt c.params.ensures.lms c.params.ensures.ots c.params.ensures.hash_length c.params.ensures.chains c.params.ensures.height
+    let d = desk-of c.rehearsal_params.result c.plan_of_three-plan.result c.args.entropy.now c.in-Ok.dealt c.rehearsal_params.ensures.lms c.rehearsal_params.ensures.ots c.rehearsal_params.ensures.hash_length c.rehearsal_params.ensures.chains c.rehearsal_params.ensures.height
     c.plan_of_three-plan.ensures c.in-Ok.ensures.dealt in
     record {
       plan_is = c.plan_of_three-plan.ensures;

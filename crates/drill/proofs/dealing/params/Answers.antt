@@ -1,8 +1,0 @@
-use Rattle.std.proofs.Common.{arith}
-use Rattle.lms_bytes.specs.ParameterSets.{lmots_row, lms_row}
-use Rattle.lms_bytes.specs.Params.{codes_fault}
-use Rattle.drill.proofs.dealing.params.Goals as goal
-
-pub unwrap-requires : goal.unwrap-requires
-unfolding codes_fault lms_row lmots_row
-unwrap-requires c = grind arith
