@@ -8,12 +8,12 @@ use mathlib.Core.List.{IsPrefix}
 use Rattle.aggregator_node.specs.Clients.{IsExact, ReferenceState, Request, SameReference}
 use Rattle.aggregator_node.specs.Gathered.{Gathered, HasDone, IsDone}
 use Rattle.aggregator_node.specs.Ports.{IsPortRun, Place, PortRun, requests_in}
-use Rattle.aggregator_node.specs.Posts.{Post, Works, frames_of, left, next, requests_of}
+use Rattle.aggregator_node.specs.Connections.{WorkerParts, Works, frames_of, left, next, requests_of}
 use Rattle.aggregator_node.specs.Workers.{WorkEnds, WorkerState, accept_failed, no_further, pass_worn, served_all}
 use Rattle.aggregator_node.proofs.Requests.{Goes, goes-none, goes-then}
 use Rattle.aggregator_node.proofs.Serving.{serves-go}
 use Rattle.aggregator_node.proofs.Summing.{done-join}
-use Rattle.aggregator_node.specs.Posts.{Connection}
+use Rattle.aggregator_node.specs.Connections.{Connection}
 use Rattle.leaf_table.specs.declared.lease.Lease.{Lease}
 use Rattle.leaf_table.specs.declared.table.TableName.{TableName}
 use Rattle.stream_io.specs.Net.{PortOnward, PortState}
@@ -25,7 +25,7 @@ use Rattle.turn_lock.specs.Lock.{Lock}
 use Rattle.turn_lock.specs.Pass.{Joins, Seen, first_pass}
 
 -- what a worker's connections made of its pass and of the count of its reference
-pub works-go : (desk : DeskState) (reference : ReferenceState) (old new : Post) (served : List Connection) → Works desk reference old served new
+pub works-go : (desk : DeskState) (reference : ReferenceState) (old new : WorkerParts) (served : List Connection) → Works desk reference old served new
     → Goes desk reference old.pass new.pass old.faults new.faults (requests_of served)
 works-go desk reference old new served (left at port leaves) = goes-none desk reference old.pass old.faults
 works-go desk reference old new served (next at mid last one others serves rest) =
@@ -34,7 +34,7 @@ works-go desk reference old new served (next at mid last one others serves rest)
 
 -- the place of a worker that is done
 abbrev after : WorkerState → Place
-after worker = record { port = worker.post.port; reference = worker.reference; faults = worker.post.faults }
+after worker = record { port = worker.parts.port; reference = worker.reference; faults = worker.parts.faults }
 
 module _ (desk : DeskState) (asked : ℕ) where
   -- a longer last log
@@ -59,43 +59,43 @@ module _ (desk : DeskState) (asked : ℕ) where
       (runs-longer name log mid last runs p (All-tail (IsPortRun desk asked name log mid) run runs are))
 
   module _ (lock : Lock Lease TableName) (place : Place) (worker : WorkerState) (done : IsDone desk asked (first_pass lock) place worker) where
-    abbrev base : Post
+    abbrev base : WorkerParts
     base = record { pass = first_pass lock; port = place.port; faults = place.faults }
 
     abbrev run : PortRun
     run = record { before = place; after = after worker; served = done.worked.served }
 
-    abbrev port-was : done.first.post.port ≡ place.port
-    port-was = ap (λ (p : Post). p.port) done.begun.post_is
+    abbrev port-was : done.first.parts.port ≡ place.port
+    port-was = ap (λ (p : WorkerParts). p.port) done.begun.parts_are
 
-    works : Works desk place.reference base done.worked.served worker.post
+    works : Works desk place.reference base done.worked.served worker.parts
     works =
-        subst (λ (r : ReferenceState). Works desk r base done.worked.served worker.post) done.begun.reference_is
-        (subst (λ (p : Post). Works desk done.first.reference p done.worked.served worker.post) done.begun.post_is done.worked.works)
+        subst (λ (r : ReferenceState). Works desk r base done.worked.served worker.parts) done.begun.reference_is
+        (subst (λ (p : WorkerParts). Works desk done.first.reference p done.worked.served worker.parts) done.begun.parts_are done.worked.works)
 
     same : SameReference place.reference worker.reference
     same = subst (λ (r : ReferenceState). SameReference r worker.reference) done.begun.reference_is done.worked.same
 
-    onward : PortOnward place.port worker.post.port
-    onward = subst (λ (p : PortState). PortOnward p worker.post.port) port-was done.worked.onward
+    onward : PortOnward place.port worker.parts.port
+    onward = subst (λ (p : PortState). PortOnward p worker.parts.port) port-was done.worked.onward
 
-    sound-same : worker.failed ≡ false → worker.post.port.accept_count ≡ place.port.accept_count
+    sound-same : worker.failed ≡ false → worker.parts.port.accept_count ≡ place.port.accept_count
     sound-same sound = done.worked.accepts.same (λ is. absurd (true≢false (sym is ∙ sound))) ∙ ap (λ (p : PortState). p.accept_count) port-was
 
-    ends-by : worker.post.pass.greatest < 2 ^ 62 → WorkEnds asked worker → PortEnds asked (length done.worked.served) place.port worker.post.port
+    ends-by : worker.parts.pass.greatest < 2 ^ 62 → WorkEnds asked worker → PortEnds asked (length done.worked.served) place.port worker.parts.port
     ends-by small (served_all all sound) = full (sym done.worked.connections ∙ all) (sound-same sound)
     ends-by small (no_further waits sound) = none_waits (λ told. waits (onward.told ∙ told)) (sound-same sound)
     ends-by small (accept_failed is unsteady) =
         failed (let rose = done.worked.accepts.rose is in let was = ap (λ (p : PortState). p.accept_count) port-was in omega (arith, rose, was)) unsteady
     ends-by small (pass_worn is sound) = absurd (let large = done.worked.worn is in omega (arith, large, small))
 
-    port-run : worker.post.pass.greatest < 2 ^ 62 → IsPortRun desk asked lock.name lock.opening_log worker.post.pass.log run
+    port-run : worker.parts.pass.greatest < 2 ^ 62 → IsPortRun desk asked lock.name lock.opening_log worker.parts.pass.log run
     port-run small = record {
       first = first_pass lock;
-      done = worker.post.pass;
+      done = worker.parts.pass;
       named = refl;
       begins = refl;
-      stands = prefix-same worker.post.pass.log;
+      stands = prefix-same worker.parts.pass.log;
       works = works;
       same = same;
       onward = onward;
@@ -103,12 +103,12 @@ module _ (desk : DeskState) (asked : ℕ) where
       ends = ends-by small done.ends;
     }
 
-    goes : Goes desk place.reference (first_pass lock) worker.post.pass place.faults worker.post.faults (requests_in (run ∷ []))
+    goes : Goes desk place.reference (first_pass lock) worker.parts.pass place.faults worker.parts.faults (requests_in (run ∷ []))
     goes =
-        subst (λ (l : List Request). Goes desk place.reference (first_pass lock) worker.post.pass place.faults worker.post.faults l)
-        (sym (append-nil (requests_of done.worked.served))) (works-go desk place.reference base worker.post done.worked.served works)
+        subst (λ (l : List Request). Goes desk place.reference (first_pass lock) worker.parts.pass place.faults worker.parts.faults l)
+        (sym (append-nil (requests_of done.worked.served))) (works-go desk place.reference base worker.parts done.worked.served works)
 
-    done-one : HasDone desk lock worker.post.pass (run ∷ [])
+    done-one : HasDone desk lock worker.parts.pass (run ∷ [])
     done-one =
         let g = goes in
         record {
@@ -133,10 +133,10 @@ module _ (desk : DeskState) (asked : ℕ) where
   -- the first worker
   pub gathered-one : (lock : Lock Lease TableName) (place : Place) (worker : WorkerState) (totals : Totals) → IsDone desk asked (first_pass lock) place worker
       → totals.connections ≡ worker.connections → totals.frames ≡ worker.frames
-      → Gathered desk asked lock worker.post.pass (place ∷ []) (after worker ∷ []) totals
+      → Gathered desk asked lock worker.parts.pass (place ∷ []) (after worker ∷ []) totals
   gathered-one lock place worker totals done connections frames =
       let one = run lock place worker done in
-      let Is = IsPortRun desk asked lock.name lock.opening_log worker.post.pass.log in
+      let Is = IsPortRun desk asked lock.name lock.opening_log worker.parts.pass.log in
       record {
         runs = one ∷ [];
         before = refl;
@@ -151,12 +151,12 @@ module _ (desk : DeskState) (asked : ℕ) where
 
   -- one more worker
   pub gathered-more : (lock : Lock Lease TableName) (old new : Seen Lease TableName) (olds news : List Place) (totals sums : Totals) (place : Place) (worker : WorkerState)
-      → Gathered desk asked lock old olds news totals → IsDone desk asked (first_pass lock) place worker → Joins old worker.post.pass new
+      → Gathered desk asked lock old olds news totals → IsDone desk asked (first_pass lock) place worker → Joins old worker.parts.pass new
       → sums.connections ≡ min (totals.connections + worker.connections) (2 ^ 32 - 1) → sums.frames ≡ min (totals.frames + worker.frames) (2 ^ 32 - 1)
       → Gathered desk asked lock new (olds ++ place ∷ []) (news ++ after worker ∷ []) sums
   gathered-more lock old new olds news totals sums place worker a done met connections frames =
       let one = run lock place worker done in
-      let here = worker.post.pass in
+      let here = worker.parts.pass in
       let start = lock.opening_log in
       let left_log = subst (IsPrefix old.log) (sym met.log) (begins-left old.log here.log met.one_log) in
       let right_log = subst (IsPrefix here.log) (sym met.log) (begins-right old.log here.log met.one_log) in

@@ -18,7 +18,7 @@ module _ {W : Type 0} (state : W → WorkerState) (desk : DeskState) (asked : �
 
   -- the place of a worker
   abbrev pub place-after : W → Place
-  place-after worker = record { port = (state worker).post.port; reference = (state worker).reference; faults = (state worker).post.faults }
+  place-after worker = record { port = (state worker).parts.port; reference = (state worker).reference; faults = (state worker).parts.faults }
 
   -- the first places are joined, and the workers of the others are left
   pub record InHand (olds : List Place) (workers : List W) (pass : Seen Lease TableName) (news : List Place) (totals : Totals) : Type 0 where
@@ -30,7 +30,7 @@ module _ {W : Type 0} (state : W → WorkerState) (desk : DeskState) (asked : �
 
   -- the first of them
   pub hand-one : (olds : List Place) (all workers : List W) (worker : W) (pass : Seen Lease TableName) (news : List Place) (totals : Totals)
-      → AreDone state desk asked (first_pass lock) olds all → all ≡ workers ++ worker ∷ [] → pass ≡ (state worker).post.pass → news ≡ place-after worker ∷ []
+      → AreDone state desk asked (first_pass lock) olds all → all ≡ workers ++ worker ∷ [] → pass ≡ (state worker).parts.pass → news ≡ place-after worker ∷ []
       → totals.connections ≡ (state worker).connections → totals.frames ≡ (state worker).frames → InHand olds workers pass news totals
   hand-one olds all workers worker pass news totals done is pass_is news_are connections frames =
       let s = split IsSo olds all workers worker done is in
@@ -41,7 +41,7 @@ module _ {W : Type 0} (state : W → WorkerState) (desk : DeskState) (asked : �
         places_are = s.places_are;
         left = s.others;
         gathered = subst (λ (p : Seen Lease TableName). Gathered desk asked lock p (s.place ∷ []) news totals) (sym pass_is)
-            (subst (λ (l : List Place). Gathered desk asked lock (state worker).post.pass (s.place ∷ []) l totals) (sym news_are) one);
+            (subst (λ (l : List Place). Gathered desk asked lock (state worker).parts.pass (s.place ∷ []) l totals) (sym news_are) one);
       }
 
   -- one more

@@ -4,7 +4,7 @@ use Rattle.std.proofs.Common.{◌≡◌, ◌+◌, ◌*◌, ◌-◌, ◌^◌, ◌
 use Rattle.std.proofs.lemmas.Grind.{flat_map-append}
 use Rattle.aggregator_node.specs.Clients.{IsExact, IsSigned, ReferenceState, Request, Stand}
 use Rattle.aggregator_node.specs.Turns.{HasSteadyDisk}
-use Rattle.aggregator_node.specs.Posts.{added_by, with_status}
+use Rattle.aggregator_node.specs.Connections.{added_by, with_status}
 use Rattle.aggregator_node.proofs.Statuses.{another, device, other, sixteen, ten, ten-covered, unread, with_status-append, worn}
 use Rattle.aggregator_node.proofs.PortTurns.{Steps, signs-count, signs-device, signs-steps, signs-worn, steps-none, steps-then}
 use Rattle.leaf_table.specs.declared.lease.Lease.{Lease}

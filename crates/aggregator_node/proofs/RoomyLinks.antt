@@ -3,7 +3,7 @@ use Rattle.std.proofs.Common.{◌≡◌, ◌⊎◌, ◌≤◌, ◌∙◌, ◌*�
 use Rattle.std.proofs.lemmas.List.Elements.{All-nil, All-cons, All-head, All-tail}
 use Rattle.aggregator_node.specs.Clients.{ReferenceState, longest_reply}
 use Rattle.aggregator_node.specs.Ports.{IsPortRun, Place, PortRun, ServedClients}
-use Rattle.aggregator_node.specs.Posts.{Connection, Post, ServesLink, Works, left, next}
+use Rattle.aggregator_node.specs.Connections.{Connection, WorkerParts, ServesLink, Works, left, next}
 use Rattle.aggregator_node.specs.Roomy.{HasRoomyLinks, NoLinkFails, TakesAll}
 use Rattle.aggregator_session.specs.Desks.{DeskState}
 use Rattle.aggregator_session.specs.Tables.{TableSeen}
@@ -30,7 +30,7 @@ abbrev Sound : Connection → Type 0
 Sound one = IsLinkFault one.served.ended → ⊥
 
 module _ (desk : DeskState) (reference : ReferenceState) where
-  sound-one : (old new : Post) (one : Connection) → IsTrue old.port.steady → TakesAll desk.key.params old.port.room → ServesLink desk reference old new one → Sound one
+  sound-one : (old new : WorkerParts) (one : Connection) → IsTrue old.port.steady → TakesAll desk.key.params old.port.room → ServesLink desk reference old new one → Sound one
   sound-one old new one steady takes is failed =
       let firm = is.accepted.link.steady steady in
       elim (which-fault one.served.ended failed) [
@@ -39,7 +39,7 @@ module _ (desk : DeskState) (reference : ReferenceState) where
             is.ends.writes firm (at-most (65536 * longest_reply desk.key.params) old.port.room one.link.room takes is.accepted.link.room) unwritten
       ]
 
-  sound-all : (old new : Post) (served : List Connection) → IsTrue old.port.steady → TakesAll desk.key.params old.port.room → Works desk reference old served new → All Sound served
+  sound-all : (old new : WorkerParts) (served : List Connection) → IsTrue old.port.steady → TakesAll desk.key.params old.port.room → Works desk reference old served new → All Sound served
   sound-all old new served steady takes (left from port leaves) = All-nil Sound
   sound-all old new served steady takes (next from mid last one others serves rest) =
       All-cons Sound one others (sound-one old mid one steady takes serves)

@@ -31,12 +31,12 @@ idle-first lock plan name pass is same begun =
 module _ {W : Type 0} (state : W → WorkerState) (desk : Desk) (lock : Lock Lease TableName) (items slice : List W) (value : slice ≡ items) where
   pub ready-begun : {X : Type 0} (c : cells.Ghosts X) (own : W → X) (name : TableName) (places : List Place) → lock.name ≡ Some name → name.plan ≡ desk.plan.now
       → AreBegun state (first_pass lock) places items → All (λ worker. ReadsFor c desk (own worker)) items
-      → All (λ worker. IsReady c lock desk (state worker).post.pass (own worker)) slice
+      → All (λ worker. IsReady c lock desk (state worker).parts.pass (own worker)) slice
   ready-begun c own name places is same begun kept =
-      let Each : W → Type 0 = λ worker. (state worker).post.pass ≡ first_pass lock in
+      let Each : W → Type 0 = λ worker. (state worker).parts.pass ≡ first_pass lock in
       let Is : Place → W → Type 0 = λ place worker. IsBegun (first_pass lock) place (state worker) in
-      let passes = stand-all Is Each (λ place worker b. ap (λ p. p.pass) b.post_is) places items begun in
-      subst (All (λ worker. IsReady c lock desk (state worker).post.pass (own worker))) (sym value) (λ i d lt. record {
+      let passes = stand-all Is Each (λ place worker b. ap (λ p. p.pass) b.parts_are) places items begun in
+      subst (All (λ worker. IsReady c lock desk (state worker).parts.pass (own worker))) (sym value) (λ i d lt. record {
         idle = idle-first lock desk.plan.now name _ is same (passes i d lt);
         reads = kept i d lt;
       })
@@ -46,10 +46,10 @@ module _ {W : Type 0} (state : W → WorkerState) (desk : Desk) (lock : Lock Lea
     whole : take len (news ++ drop (length news) items) ≡ news
     whole = written-whole items slice news len value size count
 
-    pub idle-after : {X : Type 0} (c : cells.Ghosts X) (own : W → X) → All (λ worker. IsReady c lock desk (state worker).post.pass (own worker)) news
-        → All (λ worker. ((state worker).post.pass.lock ≡ lock) × ((state worker).post.pass.in_turn ≡ false)) (take len (news ++ drop (length news) items))
+    pub idle-after : {X : Type 0} (c : cells.Ghosts X) (own : W → X) → All (λ worker. IsReady c lock desk (state worker).parts.pass (own worker)) news
+        → All (λ worker. ((state worker).parts.pass.lock ≡ lock) × ((state worker).parts.pass.in_turn ≡ false)) (take len (news ++ drop (length news) items))
     idle-after c own ready =
-        let Each : W → Type 0 = λ worker. ((state worker).post.pass.lock ≡ lock) × ((state worker).post.pass.in_turn ≡ false) in
+        let Each : W → Type 0 = λ worker. ((state worker).parts.pass.lock ≡ lock) × ((state worker).parts.pass.in_turn ≡ false) in
         subst (All Each) (sym whole) (λ k d lt. let is = (ready k d lt).idle in (is.0, is.1))
 
     pub done-after : (asked : ℕ) (places : List Place) → asked < 2 ^ 32 → AreBegun state (first_pass lock) places items

@@ -22,7 +22,7 @@ module _ {P T X L : Type 0} (state : P → PortState) (c : cells.Ghosts X) (f : 
   fresh-begun (port ∷ ports) [] same = absurd (omega (arith, same))
   fresh-begun (port ∷ ports) (own ∷ owns) same =
       one (place_of c f state port own) (fresh_worker pass port own) (places_of c f state ports owns) (fresh_workers pass ports owns)
-      (record { post_is = refl; reference_is = refl }) (fresh-begun ports owns (omega (arith, same)))
+      (record { parts_are = refl; reference_is = refl }) (fresh-begun ports owns (omega (arith, same)))
 
   -- workers that are these
   pub begun-of : (ports : List P) (owns : List X) (workers : List (Worker P T X L Lease TableName)) → workers ≡ fresh_workers pass ports owns → length ports ≡ length owns

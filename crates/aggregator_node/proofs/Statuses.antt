@@ -4,7 +4,7 @@ use Rattle.std.proofs.lemmas.List.Sums.{sum_by-append}
 use Rattle.aggregator_session.specs.declared.fault.SignFault.{SignFault}
 use Rattle.aggregator_session.specs.declared.fault.SignFault.TheVariants as sign
 use Rattle.aggregator_node.specs.Clients.{Request}
-use Rattle.aggregator_node.specs.Posts.{status_of, with_status}
+use Rattle.aggregator_node.specs.Connections.{status_of, with_status}
 use Rattle.leaf_table.specs.declared.faults.TableFault.TheVariants as table
 use Rattle.aggregator_session.specs.Signing.{Signature}
 use Rattle.session_core.specs.declared.faults.SessionFault.TheVariants as session

@@ -8,7 +8,7 @@ use Rattle.aggregator_node.specs.Clients.{IsExact, Request}
 use Rattle.aggregator_node.specs.Turns.{HasSteadyDisk}
 use Rattle.aggregator_node.specs.Gathered.{HasDone}
 use Rattle.aggregator_node.specs.Ports.{PortRun, requests_in}
-use Rattle.aggregator_node.specs.Posts.{added_by, requests_of, with_status}
+use Rattle.aggregator_node.specs.Connections.{added_by, requests_of, with_status}
 use Rattle.aggregator_node.proofs.Statuses.{with_status-append}
 use Rattle.leaf_table.specs.declared.lease.Lease.{Lease}
 use Rattle.leaf_table.specs.declared.table.TableName.{TableName}

@@ -4,8 +4,8 @@ use Rattle.std.proofs.Common.{◌≡◌, ◌+◌, ◌*◌, ◌-◌, ◌^◌, ◌
 use Rattle.std.proofs.lemmas.Grind.{flat_map-append}
 use Rattle.std.proofs.lemmas.List.Sums.{sum_by-append}
 use Rattle.aggregator_node.specs.Clients.{ReferenceState, Request, SameReference}
-use Rattle.aggregator_node.specs.Posts.{Connection, Leaves, Post, ServesLink, Works, left, next, requests_of}
-use Rattle.aggregator_node.specs.Posts.{frames_of}
+use Rattle.aggregator_node.specs.Connections.{Connection, Leaves, WorkerParts, ServesLink, Works, left, next, requests_of}
+use Rattle.aggregator_node.specs.Connections.{frames_of}
 use Rattle.aggregator_node.specs.Workers.{HasServedLink, WorkEnds, Worked, WorkerState, accept_failed, no_further}
 use Rattle.aggregator_node.proofs.Serving.{serves-few, serves-port, serves-told, serves-worn}
 use Rattle.trustee_node.proofs.Onward.{onward-same, onward-then}
@@ -21,20 +21,20 @@ pub accepted-as : (old new : PortState) (link : Talk) (steady : Bool) (room wide
 accepted-as old new link steady room wide is accepts = subst (λ (n : ℕ). Accepts old link steady n new) (sym is) accepts
 
 -- a worker's connections so far
-pub data Links (desk : DeskState) (reference : ReferenceState) : Post → List Connection → Post → Type 0 where
-  no_link : (post : Post) → Links desk reference post [] post
-  link_more : (old mid new : Post) (one : Connection) (others : List Connection) → ServesLink desk reference old mid one → Links desk reference mid others new
+pub data Links (desk : DeskState) (reference : ReferenceState) : WorkerParts → List Connection → WorkerParts → Type 0 where
+  no_link : (parts : WorkerParts) → Links desk reference parts [] parts
+  link_more : (old mid new : WorkerParts) (one : Connection) (others : List Connection) → ServesLink desk reference old mid one → Links desk reference mid others new
       → Links desk reference old (one ∷ others) new
 
-links-more : (desk : DeskState) (reference : ReferenceState) (old mid new : Post) (one : Connection) (served : List Connection) → Links desk reference old served mid
+links-more : (desk : DeskState) (reference : ReferenceState) (old mid new : WorkerParts) (one : Connection) (served : List Connection) → Links desk reference old served mid
     → ServesLink desk reference mid new one → Links desk reference old (served ++ one ∷ []) new
-links-more desk reference old mid new one served (no_link post) serves = link_more old new new one [] serves (no_link new)
+links-more desk reference old mid new one served (no_link parts) serves = link_more old new new one [] serves (no_link new)
 links-more desk reference old mid new one served (link_more at after last first others serves rest) more =
     link_more old after new first (others ++ one ∷ []) serves (links-more desk reference after mid new one others rest more)
 
-links-leave : (desk : DeskState) (reference : ReferenceState) (old new : Post) (served : List Connection) (port : PortState) → Links desk reference old served new → Leaves new.port port
+links-leave : (desk : DeskState) (reference : ReferenceState) (old new : WorkerParts) (served : List Connection) (port : PortState) → Links desk reference old served new → Leaves new.port port
     → Works desk reference old served (record new { port = port })
-links-leave desk reference old new served port (no_link post) leaves = left old port leaves
+links-leave desk reference old new served port (no_link parts) leaves = left old port leaves
 links-leave desk reference old new served port (link_more at after last first others serves rest) leaves =
     next old after (record new { port = port }) first others serves (links-leave desk reference after new others port rest leaves)
 
@@ -54,46 +54,46 @@ rises-nowhere failed before now never same =
 -- a worker that has served these connections, and serves on
 pub record Working (desk : DeskState) (old new : WorkerState) : Type 0 where
   pub served : List Connection
-  pub links : Links desk old.reference old.post served new.post
+  pub links : Links desk old.reference old.parts served new.parts
   pub few : length (requests_of served) ≤ 65537 * length served
   pub same : SameReference old.reference new.reference
-  pub onward : PortOnward old.post.port new.post.port
-  pub accepting : new.post.port.accept_count ≡ old.post.port.accept_count
+  pub onward : PortOnward old.parts.port new.parts.port
+  pub accepting : new.parts.port.accept_count ≡ old.parts.port.accept_count
   pub connections : new.connections ≡ length served
   pub frames : new.frames ≡ min (frames_of served) (2 ^ 32 - 1)
 
 -- a worker ends where its port gave no link
-pub ends-none : (asked : ℕ) (new : WorkerState) (old : PortState) (failed : Bool) → new.failed ≡ failed → NoLink old new.post.port failed → WorkEnds asked new
+pub ends-none : (asked : ℕ) (new : WorkerState) (old : PortState) (failed : Bool) → new.failed ≡ failed → NoLink old new.parts.port failed → WorkEnds asked new
 ends-none asked new old true is none = accept_failed is (none.unsteady refl)
 ends-none asked new old false is none = no_further (none.none_waits refl) is
 
 -- a worker that has done nothing yet
 abbrev pub begun : WorkerState → WorkerState
-begun old = record { post = old.post; reference = old.reference; connections = 0; frames = 0; worn = false; failed = false }
+begun old = record { parts = old.parts; reference = old.reference; connections = 0; frames = 0; worn = false; failed = false }
 
 module _ (desk : DeskState) where
   pub working-none : (old : WorkerState) → Working desk old (begun old)
   working-none old = record {
     served = [];
-    links = no_link old.post;
+    links = no_link old.parts;
     few = omega arith;
     same = record { told = refl; steady = refl; leaves = λ _. refl };
-    onward = onward-same old.post.port;
+    onward = onward-same old.parts.port;
     accepting = refl;
     connections = refl;
     frames = omega arith;
   }
 
   -- a link was accepted and served
-  pub working-more : (old mid : WorkerState) (port : PortState) (post : Post) (reference : ReferenceState) (link : Talk) (steady : Bool) (served : Served) (frames : ℕ) (worn failed : Bool)
-      → Working desk old mid → Accepts mid.post.port link steady link.room port → PortOnward mid.post.port port → port.accept_count ≡ mid.post.port.accept_count
-      → HasServedLink desk mid.reference (record { pass = mid.post.pass; port = port; faults = mid.post.faults }) post link steady served → SameReference mid.reference reference
+  pub working-more : (old mid : WorkerState) (port : PortState) (parts : WorkerParts) (reference : ReferenceState) (link : Talk) (steady : Bool) (served : Served) (frames : ℕ) (worn failed : Bool)
+      → Working desk old mid → Accepts mid.parts.port link steady link.room port → PortOnward mid.parts.port port → port.accept_count ≡ mid.parts.port.accept_count
+      → HasServedLink desk mid.reference (record { pass = mid.parts.pass; port = port; faults = mid.parts.faults }) parts link steady served → SameReference mid.reference reference
       → frames ≡ min (mid.frames + served.frames) (2 ^ 32 - 1)
-      → Working desk old (record { post = post; reference = reference; connections = mid.connections + 1; frames = frames; worn = worn; failed = failed })
-  working-more old mid port post reference link steady served frames worn failed a accepts onward quiet b same sum =
+      → Working desk old (record { parts = parts; reference = reference; connections = mid.connections + 1; frames = frames; worn = worn; failed = failed })
+  working-more old mid port parts reference link steady served frames worn failed a accepts onward quiet b same sum =
       let one : Connection = record { link = link; talk = b.talk; last = b.hung_up.last; requests = b.requests; served = served } in
       let dialled = serves-port desk mid.reference _ _ _ _ _ b.serves in
-      let serves : ServesLink desk old.reference mid.post post one = record {
+      let serves : ServesLink desk old.reference mid.parts parts one = record {
         steady = steady;
         begun = port;
         done = b.done;
@@ -102,11 +102,11 @@ module _ (desk : DeskState) where
         ends = b.ends;
         ended = b.hung_up.ended;
         kept = b.hung_up.kept;
-        onward = onward-then mid.post.port port post.port onward (onward-then port b.done post.port dialled.onward b.onward);
+        onward = onward-then mid.parts.port port parts.port onward (onward-then port b.done parts.port dialled.onward b.onward);
       } in
       record {
         served = a.served ++ one ∷ [];
-        links = links-more desk old.reference old.post mid.post post one a.served a.links serves;
+        links = links-more desk old.reference old.parts mid.parts parts one a.served a.links serves;
         few = (
             let before = a.few in
             let most = b.ends.most in
@@ -115,22 +115,22 @@ module _ (desk : DeskState) where
             omega (arith, before, most, here, all, length-append (requests_of a.served) b.requests, length-append a.served (one ∷ []))
             );
         same = same-then old.reference mid.reference reference a.same same;
-        onward = onward-then old.post.port mid.post.port post.port a.onward serves.onward;
+        onward = onward-then old.parts.port mid.parts.port parts.port a.onward serves.onward;
         accepting = b.hung_up.kept.accept_count ∙ dialled.accepting ∙ quiet ∙ a.accepting;
         connections = (let c = a.connections in omega (arith, c, length-append a.served (one ∷ [])));
         frames = (let t = a.frames in omega (arith, t, sum, sum_by-append (λ (c : Connection). c.served.frames) a.served (one ∷ [])));
       }
 
   -- a link that ended by a worn pass
-  pub link-worn : (reference : ReferenceState) (old new : Post) (link : Talk) (steady : Bool) (served : Served) → HasServedLink desk reference old new link steady served → served.ended ≡ Worn
+  pub link-worn : (reference : ReferenceState) (old new : WorkerParts) (link : Talk) (steady : Bool) (served : Served) → HasServedLink desk reference old new link steady served → served.ended ≡ Worn
       → 2 ^ 62 ≤ new.pass.greatest
   link-worn reference old new link steady served b is = serves-worn desk reference _ _ _ _ _ b.serves is
 
   -- no further link was accepted
-  pub worked-refused : (old mid : WorkerState) (port : PortState) (failed : Bool) → Working desk old mid → SameLinks mid.post.port port → PortOnward mid.post.port port
-      → RisesWhere (failed ≡ true) mid.post.port.accept_count port.accept_count → mid.worn ≡ false
+  pub worked-refused : (old mid : WorkerState) (port : PortState) (failed : Bool) → Working desk old mid → SameLinks mid.parts.port port → PortOnward mid.parts.port port
+      → RisesWhere (failed ≡ true) mid.parts.port.accept_count port.accept_count → mid.worn ≡ false
       → Worked desk old (record {
-        post = record { pass = mid.post.pass; port = port; faults = mid.post.faults };
+        parts = record { pass = mid.parts.pass; port = port; faults = mid.parts.faults };
         reference = mid.reference;
         connections = mid.connections;
         frames = mid.frames;
@@ -139,10 +139,10 @@ module _ (desk : DeskState) where
       })
   worked-refused old mid port failed a links onward rises fresh = record {
     served = a.served;
-    works = links-leave desk old.reference old.post mid.post a.served port a.links (record { links = links; onward = onward });
+    works = links-leave desk old.reference old.parts mid.parts a.served port a.links (record { links = links; onward = onward });
     few = a.few;
     same = a.same;
-    onward = onward-then old.post.port mid.post.port port a.onward onward;
+    onward = onward-then old.parts.port mid.parts.port port a.onward onward;
     accepts = subst (λ (n : ℕ). RisesWhere (failed ≡ true) n port.accept_count) a.accepting rises;
     connections = a.connections;
     frames = a.frames;
@@ -150,15 +150,15 @@ module _ (desk : DeskState) where
   }
 
   -- no further link was asked for
-  pub worked-all : (old new : WorkerState) → Working desk old new → new.failed ≡ false → (new.worn ≡ true → 2 ^ 62 ≤ new.post.pass.greatest) → Worked desk old new
+  pub worked-all : (old new : WorkerState) → Working desk old new → new.failed ≡ false → (new.worn ≡ true → 2 ^ 62 ≤ new.parts.pass.greatest) → Worked desk old new
   worked-all old new a sound worn = record {
     served = a.served;
-    works = links-leave desk old.reference old.post new.post a.served new.post.port a.links
-        (record { links = record { waiting = refl; reaches = refl; talks = refl }; onward = onward-same new.post.port });
+    works = links-leave desk old.reference old.parts new.parts a.served new.parts.port a.links
+        (record { links = record { waiting = refl; reaches = refl; talks = refl }; onward = onward-same new.parts.port });
     few = a.few;
     same = a.same;
     onward = a.onward;
-    accepts = rises-nowhere new.failed old.post.port.accept_count new.post.port.accept_count sound a.accepting;
+    accepts = rises-nowhere new.failed old.parts.port.accept_count new.parts.port.accept_count sound a.accepting;
     connections = a.connections;
     frames = a.frames;
     worn = worn;

@@ -4,7 +4,7 @@ use Rattle.std.specs.Prelude.{◌≡◌, ◌≤◌, ◌<◌, ◌+◌, ◌*◌, �
 use Rattle.aggregator_node.specs.Clients.{IsExact}
 use Rattle.aggregator_node.specs.Turns.{HasSteadyDisk}
 use Rattle.aggregator_node.specs.Ports.{HasTotals, IsPortRun, Place, PortRun, faults_after, faults_before, requests_in}
-use Rattle.aggregator_node.specs.Posts.{added_by, with_status}
+use Rattle.aggregator_node.specs.Connections.{added_by, with_status}
 use Rattle.aggregator_node.specs.Workers.{WorkEnds, Worked, WorkerState}
 use Rattle.leaf_table.specs.declared.lease.Lease.{Lease}
 use Rattle.leaf_table.specs.declared.table.TableName.{TableName}
@@ -20,7 +20,7 @@ pub data StandTo {W : Type 0} (Is : Place → W → Type 0) : List Place → Lis
 
 -- internal: a worker that was given this place and this pass
 pub record IsBegun (pass : Seen Lease TableName) (place : Place) (worker : WorkerState) : Type 0 where
-  pub post_is : worker.post ≡ record { pass = pass; port = place.port; faults = place.faults }
+  pub parts_are : worker.parts ≡ record { pass = pass; port = place.port; faults = place.faults }
   pub reference_is : worker.reference ≡ place.reference
 
 -- internal: such workers, by what each was given

@@ -3,7 +3,7 @@ pub mod Failures
 pub mod Logs
 pub mod Signing
 pub mod Turns
-pub mod Posts
+pub mod Connections
 pub mod Ports
 pub mod Roomy
 pub mod Workers

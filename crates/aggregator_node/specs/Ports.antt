@@ -4,7 +4,7 @@ use Rattle.std.specs.Prelude.{Option, Some}
 use Rattle.std.specs.List.{flat_map, sum_by, zip}
 use mathlib.Core.List.{IsPrefix}
 use Rattle.aggregator_node.specs.Clients.{IsExact, ReferenceState, Request, SameReference}
-use Rattle.aggregator_node.specs.Posts.{Connection, Works, added_by, frames_of, requests_of, with_status}
+use Rattle.aggregator_node.specs.Connections.{Connection, Works, added_by, frames_of, requests_of, with_status}
 use Rattle.disk_trait.specs.declared.faults.Faults as faults
 use Rattle.leaf_table.specs.declared.lease.Lease.{Lease}
 use Rattle.leaf_table.specs.declared.table.TableName.{TableName}

@@ -2,7 +2,7 @@
 use Rattle.std.specs.Prelude.{◌≤◌, ◌*◌, ℕ, List, All, IsTrue}
 use Rattle.aggregator_node.specs.Clients.{longest_reply}
 use Rattle.aggregator_node.specs.Ports.{Place, PortRun}
-use Rattle.aggregator_node.specs.Posts.{Connection}
+use Rattle.aggregator_node.specs.Connections.{Connection}
 use Rattle.lms_bytes.specs.declared.params.Params.{Params}
 use Rattle.trustee_node.specs.Connections.{IsLinkFault}
 

@@ -3,7 +3,7 @@ use Rattle.std.specs.Prelude.{◌≡◌, ◌≤◌, ◌*◌, ◌-◌, ◌^◌, �
 use Rattle.aggregator_node.specs.Clients.{HasEnded, ReferenceState, Request, SameReference, Serves}
 use Rattle.aggregator_node.specs.Turns.{IsIdle}
 use Rattle.aggregator_node.specs.Ports.{reference_state}
-use Rattle.aggregator_node.specs.Posts.{Connection, Post, Works, frames_of, requests_of}
+use Rattle.aggregator_node.specs.Connections.{Connection, WorkerParts, Works, frames_of, requests_of}
 use Rattle.disk_trait.specs.declared.faults.Faults as faults
 use Rattle.leaf_table.specs.declared.lease.Lease.{Lease}
 use Rattle.leaf_table.specs.declared.table.TableName.{TableName}
@@ -20,7 +20,7 @@ use Rattle.turn_lock.specs.Pass.{Seen}
 
 -- internal: a worker in one state: where it stands, the reference that it reads, and what it did
 pub record WorkerState : Type 0 where
-  pub post : Post
+  pub parts : WorkerParts
   pub reference : ReferenceState
   pub connections : ℕ
   pub frames : ℕ
@@ -31,7 +31,7 @@ pub record WorkerState : Type 0 where
 abbrev pub worker_state : {P T X L : Type 0} → (P → PortState) → cells.Ghosts X → faults.Ghosts X
     → Worker P T X L Lease TableName → WorkerState
 worker_state state c f worker = record {
-  post = record { pass = worker.pass; port = state worker.port; faults = f.count worker.own };
+  parts = record { pass = worker.pass; port = state worker.port; faults = f.count worker.own };
   reference = reference_state c f worker.own;
   connections = worker.connections;
   frames = worker.frames;
@@ -46,7 +46,7 @@ pub record IsReady {X : Type 0} (c : cells.Ghosts X) (lock : Lock Lease TableNam
   pub reads : ReadsFor c desk own
 
 -- internal: a link, steady where this says so, was served from where the worker stood, and hung up where it stands
-pub record HasServedLink (desk : DeskState) (reference : ReferenceState) (old new : Post) (link : Talk)
+pub record HasServedLink (desk : DeskState) (reference : ReferenceState) (old new : WorkerParts) (link : Talk)
     (steady : Bool) (served : Served) : Type 0 where
   pub talk : Talk
   pub requests : List Request
@@ -62,19 +62,19 @@ pub record HasServedLink (desk : DeskState) (reference : ReferenceState) (old ne
 -- pass has drawn a ticket of 2^62 or more.
 pub record Worked (desk : DeskState) (old new : WorkerState) : Type 0 where
   pub served : List Connection
-  pub works : Works desk old.reference old.post served new.post
+  pub works : Works desk old.reference old.parts served new.parts
   pub few : length (requests_of served) ≤ 65537 * length served
   pub same : SameReference old.reference new.reference
-  pub onward : PortOnward old.post.port new.post.port
-  pub accepts : RisesWhere (new.failed ≡ true) old.post.port.accept_count new.post.port.accept_count
+  pub onward : PortOnward old.parts.port new.parts.port
+  pub accepts : RisesWhere (new.failed ≡ true) old.parts.port.accept_count new.parts.port.accept_count
   pub connections : new.connections ≡ length served
   pub frames : new.frames ≡ min (frames_of served) (2 ^ 32 - 1)
-  pub worn : new.worn ≡ true → 2 ^ 62 ≤ new.post.pass.greatest
+  pub worn : new.worn ≡ true → 2 ^ 62 ≤ new.parts.pass.greatest
 
 -- internal: why a worker ended: it served as many connections as it was to, there is no further link, accepting failed,
 -- or its pass is worn
 pub data WorkEnds (asked : ℕ) (new : WorkerState) : Type 0 where
   served_all : new.connections ≡ asked → new.failed ≡ false → WorkEnds asked new
-  no_further : (IsTrue new.post.port.told → new.post.port.waiting ≡ 0) → new.failed ≡ false → WorkEnds asked new
-  accept_failed : new.failed ≡ true → (IsTrue new.post.port.steady → ⊥) → WorkEnds asked new
+  no_further : (IsTrue new.parts.port.told → new.parts.port.waiting ≡ 0) → new.failed ≡ false → WorkEnds asked new
+  accept_failed : new.failed ≡ true → (IsTrue new.parts.port.steady → ⊥) → WorkEnds asked new
   pass_worn : new.worn ≡ true → new.failed ≡ false → WorkEnds asked new

@@ -16,7 +16,7 @@ use std::sync::Wait;
 use std::thread;
 use std::thread::Threads;
 use stream_io::{Port, Sink, Stream};
-use trustee_node::{Served, ServedEnd, Worker, next_link};
+use trustee_node::{Served, Worker, next_link};
 use turn_lock::{Pass, TurnLock};
 
 /// Serves one link after the other by each worker, all beside each other, until each has served `connections`, there is
@@ -88,10 +88,7 @@ fn work<X: Cells, D: Disk, P: Port>(
             &mut worker.port,
             link,
         );
-        worker.connections += 1;
-        worker.frames = worker.frames.saturating_add(served.frames);
-        if served.ended == ServedEnd::Worn {
-            worker.worn = true;
+        if worker.count(served) {
             return;
         }
     }

@@ -9,8 +9,8 @@ use Rattle.aggregator_node.specs.Clients as clients
 use Rattle.aggregator_node.specs.Logs.{Shows}
 use Rattle.aggregator_node.specs.Logs as logs
 use Rattle.aggregator_node.specs.Ports.{Place, PortRun, ServedClients, requests_in}
-use Rattle.aggregator_node.specs.Posts.{Connection, Post, Works, requests_of}
-use Rattle.aggregator_node.specs.Posts as posts
+use Rattle.aggregator_node.specs.Connections.{Connection, WorkerParts, Works, requests_of}
+use Rattle.aggregator_node.specs.Connections as connections
 use Rattle.coalition_map.specs.Coalitions.{PlanNumbers}
 use Rattle.leaf_table.specs.declared.lease.Lease.{Lease}
 use Rattle.leaf_table.specs.declared.table.TableName.{TableName}
@@ -80,11 +80,11 @@ module _ (request : Request) (desk : DeskState) (reference : ReferenceState) whe
       ]
   served-come old new requests replies end (clients.full at) has = absurd (in-none request has)
 
-  worked-come : (old new : Post) (served : List Connection) (works : Works desk reference old served new) → Contains (requests_of served) request
+  worked-come : (old new : WorkerParts) (served : List Connection) (works : Works desk reference old served new) → Contains (requests_of served) request
       → Came (λ leaf. WorkedWith request leaf works)
-  worked-come old new served (posts.left at port leaves) has = absurd (in-none request has)
-  worked-come old new served (posts.next at mid last one others link works) has =
-      let whole = posts.next old mid new one others link works in
+  worked-come old new served (connections.left at port leaves) has = absurd (in-none request has)
+  worked-come old new served (connections.next at mid last one others link works) has =
+      let whole = connections.next old mid new one others link works in
       elim (Contains-append_cases one.requests (requests_of others) request has) [
         | inl first ↦
             weaker request.outcome (λ leaf. ServedWith request leaf link.serves) (λ leaf. WorkedWith request leaf whole) (λ leaf came. inl came)

@@ -11,8 +11,8 @@ use Rattle.laws_signing.proofs.Desks.{plan-is}
 use Rattle.aggregator_node.specs.Clients.{Answers, IsSigned, Request, Serves, Stand}
 use Rattle.aggregator_node.specs.Clients as clients
 use Rattle.aggregator_node.specs.Ports.{Place, PortRun, requests_in}
-use Rattle.aggregator_node.specs.Posts.{Connection, Post, Works, requests_of, with_status}
-use Rattle.aggregator_node.specs.Posts as posts
+use Rattle.aggregator_node.specs.Connections.{Connection, WorkerParts, Works, requests_of, with_status}
+use Rattle.aggregator_node.specs.Connections as connections
 use Rattle.aggregator_node.proofs.Serving.{serves-go}
 use Rattle.aggregator_node.proofs.Statuses.{is_status, with_status-append}
 use Rattle.leaf_table.specs.declared.lease.Lease.{Lease}
@@ -83,10 +83,10 @@ module _ (words : AggregateWords) (store : StoreRun) (d : Dealing) (key : Undivi
       )
   each-served old new requests replies end (clients.full at) fits fresh = tt
 
-  each-worked : (old new : Post) (served : List Connection) (works : Works desk place.reference old served new) → IsDealtTable d old.pass → with_status 16 (requests_of served) ≡ 0
+  each-worked : (old new : WorkerParts) (served : List Connection) (works : Works desk place.reference old served new) → IsDealtTable d old.pass → with_status 16 (requests_of served) ≡ 0
       → EachWorked words d key works
-  each-worked old new served (posts.left at port leaves) fits fresh = tt
-  each-worked old new served (posts.next at mid last one others link works) fits fresh =
+  each-worked old new served (connections.left at port leaves) fits fresh = tt
+  each-worked old new served (connections.next at mid last one others link works) fits fresh =
       let name = (serves-go desk place.reference _ _ one.requests one.served.frames one.served.ended link.serves).steps.same.name in
       let both = with_status-append 16 one.requests (requests_of others) in (
         each-served _ _ one.requests one.served.frames one.served.ended link.serves fits (omega (arith, fresh, both)),

@@ -12,8 +12,8 @@ use Rattle.aggregator_node.specs.Logs as logs
 use Rattle.aggregator_node.specs.Signing.{SignsInTurns}
 use Rattle.aggregator_node.specs.Signing as signing
 use Rattle.aggregator_node.specs.Ports.{Place, ServedClients}
-use Rattle.aggregator_node.specs.Posts.{Connection, Post, Works}
-use Rattle.aggregator_node.specs.Posts as posts
+use Rattle.aggregator_node.specs.Connections.{Connection, WorkerParts, Works}
+use Rattle.aggregator_node.specs.Connections as connections
 use Rattle.coalition_map.specs.Coalitions.{PlanNumbers}
 use Rattle.leaf_table.specs.declared.lease.Lease.{Lease}
 use Rattle.leaf_table.specs.declared.table.TableName.{TableName}
@@ -84,10 +84,10 @@ module _ (request : Request) (leaf : ℕ) (desk : DeskState) (reference : Refere
   served-short old new requests replies end (clients.more at mid last asked others many rest by answers serves) (inr with) = served-short mid new others rest end serves with
   served-short old new requests replies end (clients.full at) with = absurd with
 
-  worked-short : (old new : Post) (served : List Connection) (works : Works desk reference old served new) → WorkedWith request leaf works → Short
-  worked-short old new served (posts.left at port leaves) with = absurd with
-  worked-short old new served (posts.next at mid last one others link works) (inl with) = served-short _ _ one.requests one.served.frames one.served.ended link.serves with
-  worked-short old new served (posts.next at mid last one others link works) (inr with) = worked-short mid new others works with
+  worked-short : (old new : WorkerParts) (served : List Connection) (works : Works desk reference old served new) → WorkedWith request leaf works → Short
+  worked-short old new served (connections.left at port leaves) with = absurd with
+  worked-short old new served (connections.next at mid last one others link works) (inl with) = served-short _ _ one.requests one.served.frames one.served.ended link.serves with
+  worked-short old new served (connections.next at mid last one others link works) (inr with) = worked-short mid new others works with
 
 pub used-short : {desk : DeskState} {asked : ℕ} {old new : TableSeen} {places_old places_new : List Place} {totals : Totals}
     (all : ServedClients desk asked old new places_old places_new totals) (request : Request) (leaf : ℕ) → Uses all request leaf → length request.message ≤ 16777216

@@ -12,8 +12,8 @@ use Rattle.aggregator_node.specs.Logs as logs
 use Rattle.aggregator_node.proofs.Keeping.{kept}
 use Rattle.trustee_node.proofs.Prefixes.{prefix-then}
 use Rattle.aggregator_node.specs.Ports.{Place, ServedClients}
-use Rattle.aggregator_node.specs.Posts.{Connection, Post, Works}
-use Rattle.aggregator_node.specs.Posts as posts
+use Rattle.aggregator_node.specs.Connections.{Connection, WorkerParts, Works}
+use Rattle.aggregator_node.specs.Connections as connections
 use Rattle.aggregator_node.proofs.Gathering.{works-go}
 use Rattle.aggregator_node.proofs.Serving.{serves-go}
 use Rattle.coalition_map.specs.Coalitions.{PlanNumbers}
@@ -96,12 +96,12 @@ module _ (request : Request) (leaf : ℕ) (desk : DeskState) (reference : Refere
       served-leased mid new others rest end serves with
   served-leased old new requests replies end (clients.full at) with = absurd with
 
-  pub worked-leased : (old new : Post) (served : List Connection) (works : Works desk reference old served new) → WorkedWith request leaf works → Has new.pass.log
-  worked-leased old new served (posts.left at port leaves) with = absurd with
-  worked-leased old new served (posts.next at mid last one others link works) (inl with) =
+  pub worked-leased : (old new : WorkerParts) (served : List Connection) (works : Works desk reference old served new) → WorkedWith request leaf works → Has new.pass.log
+  worked-leased old new served (connections.left at port leaves) with = absurd with
+  worked-leased old new served (connections.next at mid last one others link works) (inl with) =
       later desk.plan mid.pass.log new.pass.log _ leaf (works-go desk reference mid new others works).steps.begins
       (served-leased _ _ one.requests one.served.frames one.served.ended link.serves with)
-  worked-leased old new served (posts.next at mid last one others link works) (inr with) = worked-leased mid new others works with
+  worked-leased old new served (connections.next at mid last one others link works) (inr with) = worked-leased mid new others works with
 
 -- a request of the ports that were served
 pub used-leased : {desk : DeskState} {asked : ℕ} {old new : TableSeen} {places_old places_new : List Place} {totals : Totals}

@@ -4,8 +4,8 @@ use Rattle.laws_signing.specs.Requests.{IsAnswer, IsWell}
 use Rattle.aggregator_node.specs.Clients.{Answers, IsSigned, ReferenceState, Request, Serves, Stand}
 use Rattle.aggregator_node.specs.Clients as clients
 use Rattle.aggregator_node.specs.Ports.{Place, PortRun, ServedClients}
-use Rattle.aggregator_node.specs.Posts.{Connection, Post, Works}
-use Rattle.aggregator_node.specs.Posts as posts
+use Rattle.aggregator_node.specs.Connections.{Connection, WorkerParts, Works}
+use Rattle.aggregator_node.specs.Connections as connections
 use Rattle.aggregator_session.specs.Desks.{DeskState}
 use Rattle.aggregator_session.specs.Tables.{TableSeen}
 use Rattle.lms_verify.specs.UndividedKey.{UndividedKey}
@@ -38,9 +38,10 @@ module _ (words : AggregateWords) (d : Dealing) (key : UndividedKey) {desk : Des
     EachServed (clients.full old) = Unit {0}
 
     -- the same of each request of all connections of a worker
-    abbrev pub EachWorked : {old new : Post} {served : List Connection} → Works desk reference old served new → Type 0
-    EachWorked (posts.left old port leaves) = Unit {0}
-    EachWorked (posts.next old mid new one others link works) = EachServed link.serves × EachWorked works
+    abbrev pub EachWorked : {old new : WorkerParts} {served : List Connection}
+        → Works desk reference old served new → Type 0
+    EachWorked (connections.left old port leaves) = Unit {0}
+    EachWorked (connections.next old mid new one others link works) = EachServed link.serves × EachWorked works
 
 -- Every request at all ports that were served has such an answer, where all is well for it.
 abbrev pub AllAnswered : AggregateWords → Dealing → UndividedKey → {desk : DeskState} {asked : ℕ} {old new : TableSeen}

@@ -8,8 +8,8 @@ use Rattle.aggregator_node.specs.Clients as clients
 use Rattle.aggregator_node.specs.Logs.{Shows}
 use Rattle.aggregator_node.specs.Logs as logs
 use Rattle.aggregator_node.specs.Ports.{PortRun, Place, ServedClients, requests_in}
-use Rattle.aggregator_node.specs.Posts.{Connection, Post, Works}
-use Rattle.aggregator_node.specs.Posts as posts
+use Rattle.aggregator_node.specs.Connections.{Connection, WorkerParts, Works}
+use Rattle.aggregator_node.specs.Connections as connections
 use Rattle.coalition_map.specs.Coalitions.{PlanNumbers}
 use Rattle.leaf_table.specs.Entries.{map_of}
 use Rattle.leaf_table.specs.Leasing.{WasLeasedFor}
@@ -74,9 +74,10 @@ module _ (request : Request) (leaf : ℕ) {desk : DeskState} {reference : Refere
   ServedWith (clients.full old) = ⊥
 
   -- the same of one of the requests of all connections of a worker
-  abbrev pub WorkedWith : {old new : Post} {served : List Connection} → Works desk reference old served new → Type 0
-  WorkedWith (posts.left old port leaves) = ⊥
-  WorkedWith (posts.next old mid new one others link works) = ServedWith link.serves ⊎ WorkedWith works
+  abbrev pub WorkedWith : {old new : WorkerParts} {served : List Connection}
+      → Works desk reference old served new → Type 0
+  WorkedWith (connections.left old port leaves) = ⊥
+  WorkedWith (connections.next old mid new one others link works) = ServedWith link.serves ⊎ WorkedWith works
 
 -- One of the requests at all ports that were served, and the leaf that it came to.
 pub record Uses {desk : DeskState} {asked : ℕ} {old new : TableSeen} {places_old places_new : List Place}

@@ -4,13 +4,14 @@
 ghost use Rattle.std.specs.Prelude.{◌≤◌, [], false};
 
 use crate::dealings::{count_up, deal_count, digest_of, head_of};
+use coalition_map::Plan;
 use dealer::Dealt;
 use disk_trait::{DiskFault, Faults, MemDisk, Pages};
 use lms_bytes::bytes::put;
 use lms_bytes::{MessageId, Val, digit};
 use mask_prf::{chain_mask, check_tag, random_mask, randomizer};
 use reference_value::{
-    Cells, Paged, RefFault, Whole, build_leaf, join_chains, join_randomizer, leaf_bytes,
+    Cells, Paged, RefFault, Whole, build_leaf, join_chains, join_randomizer, leaf_bytes, rank,
 };
 use share_files::Share;
 use std::alloc::{AllocError, Global};
@@ -297,5 +298,32 @@ fn a_read_that_fails_is_a_fault(rt: HostRuntime) -> Result<(), Fail> {
     let (joined, disk) = join_pages(&rt, &case, disk);
     assert!(rt; joined == Err(RefFault));
     assert!(rt; disk.faults() == 1);
+    Ok(())
+}
+
+/// The places of five trustees among the members of a leaf, where one that is no member has 9.
+fn ranks_of(plan: &Plan, leaf: u32) -> [usize; 5] {
+    let mut ranks = [9; 5];
+    if leaf < 1 << plan.h() {
+        for t in 0..5 {
+            if plan.is_member(leaf, t as u8 + 1) {
+                ranks[t] = rank(plan, leaf, t as u8 + 1);
+            }
+        }
+    }
+    ranks
+}
+
+#[test]
+fn members_are_placed_in_the_order_of_their_numbers(rt: HostRuntime) -> Result<(), Fail> {
+    let plan = Plan::new(5, 3, 5)?;
+    // Three of five have ten coalitions: leaf 0 is of trustees 1, 2 and 3, leaf 4 of 1, 3 and 5, leaf 19 of the last.
+    for (leaf, want) in [
+        (0, [0, 1, 2, 9, 9]),
+        (4, [0, 9, 1, 9, 2]),
+        (19, [9, 9, 0, 1, 2]),
+    ] {
+        assert!(rt; ranks_of(&plan, leaf) == want, "leaf {leaf}");
+    }
     Ok(())
 }

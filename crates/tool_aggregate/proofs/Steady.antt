@@ -4,7 +4,7 @@ use Rattle.std.proofs.Common.{◌≡◌, ◌∙◌, ℕ, List, [], ◌∷◌, Al
 use Rattle.std.proofs.lemmas.List.Elements.{All-cons, All-head, All-nil, All-tail}
 use Rattle.aggregator_node.specs.Clients.{IsExact}
 use Rattle.aggregator_node.specs.Ports.{IsPortRun, Place, PortRun, requests_in}
-use Rattle.aggregator_node.specs.Posts.{with_status}
+use Rattle.aggregator_node.specs.Connections.{with_status}
 use Rattle.leaf_table.specs.declared.lease.Lease.{Lease}
 use Rattle.leaf_table.specs.declared.table.TableName.{TableName}
 use Rattle.share_files.specs.Reference.{leaves_length}

@@ -3,7 +3,7 @@
 ghost use Rattle.aggregator_session.specs.Desks.{DeskState};
 ghost use Rattle.std.specs.Prelude.{◌≡◌, IsTrue};
 ghost use Rattle.aggregator_node.specs.Ports.{requests_in};
-ghost use Rattle.aggregator_node.specs.Posts.{with_status};
+ghost use Rattle.aggregator_node.specs.Connections.{with_status};
 ghost use Rattle.share_files.specs.declared.reference.RefHeader.{RefHeader};
 ghost use Rattle.tool_base.specs.Ending.{Ending};
 ghost use Rattle.tool_base.specs.World.{from_to};

@@ -256,5 +256,5 @@ module _ (words : SignWords) (a d : StoreState) (net : NetRun) where
 
   pub run_signed : (e : StoreState) (touched : List (List ℕ)) (signature : Signature) (end : Ending) → IsNew (from_to a d) words.out → Keeps touched a d → IsNetBack net.before net.after
       → EndsNaming words (from_to a d) net (Ok signature) touched → IsBack d e → WriteEnds (from_to d e) words.out signature.leaf signature.bytes end → BlameRun words (from_to a e) net end
-  run_signed e touched signature end is_new keeps ports ends back written =
-      run_written e touched signature is_new keeps ports back (signed_beside (Ok signature) touched signature ends refl) end written
+  run_signed e touched signature end is_new keeps ports ends back wrote =
+      run_written e touched signature is_new keeps ports back (signed_beside (Ok signature) touched signature ends refl) end wrote

@@ -2,7 +2,7 @@
 use Rattle.aggregator_session.specs.Desks.{DeskState}
 use Rattle.std.proofs.Common.{◌≡◌, ◌∙◌, ℕ, List, Some, IsTrue, ap}
 use Rattle.aggregator_node.specs.Ports.{requests_in}
-use Rattle.aggregator_node.specs.Posts.{with_status}
+use Rattle.aggregator_node.specs.Connections.{with_status}
 use Rattle.share_files.specs.declared.reference.RefHeader.{RefHeader}
 use Rattle.tool_aggregate.specs.Desks.{IsDesk}
 use Rattle.tool_aggregate.specs.Serving.{ServedTable}

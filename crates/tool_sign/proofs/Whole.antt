@@ -372,5 +372,5 @@ module _ (words : SignWords) (a d : StoreState) (net : NetRun) where
   pub run_signed : (e : StoreState) (touched : List (List ℕ)) (signature : Signature) (answer : Result Signature Ending) (end : Ending) → IsNew (from_to a d) words.out → Keeps touched a d
       → IsNetBack net.before net.after → SessionEnds session (from_to a d) (source (from_to a d)) net answer touched → answer ≡ Ok signature → IsBack d e
       → WriteEnds (from_to d e) words.out signature.leaf signature.bytes end → SigningRun words (from_to a e) net end
-  run_signed e touched signature answer end is_new keeps ports ends is back written =
-      run_written e touched signature is_new keeps ports back (signed-by answer touched signature ends is) end written
+  run_signed e touched signature answer end is_new keeps ports ends is back wrote =
+      run_written e touched signature is_new keeps ports back (signed-by answer touched signature ends is) end wrote

@@ -39,6 +39,14 @@ worker_state state told answers worker = record {
   failed = worker.failed;
 }
 
+-- a worker that has served one more connection, after which its pass is worn where this says so
+abbrev pub counted : {P T C L E N : Type 0} → Worker P T C L E N → Served → Bool → Worker P T C L E N
+counted worker served worn = record worker {
+  connections = worker.connections + 1;
+  frames = min (worker.frames + served.frames) (2 ^ 32 - 1);
+  worn = worn;
+}
+
 -- a port gave no link: no further one is to come, or accepting failed where this says so
 pub record NoLink (old new : PortState) (failed : Bool) : Type 0 where
   pub links : SameLinks old new

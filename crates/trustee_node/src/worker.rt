@@ -1,6 +1,7 @@
 //! Workers, which serve one link after the other.
 
-ghost use Rattle.std.specs.Prelude.{◌≡◌, ◌≤◌, ◌<◌, ℕ, true, false, All, None, IfSome, length, slice_index_or};
+ghost use Rattle.std.specs.Prelude.{◌≡◌, ◌≤◌, ◌<◌, ◌-◌, ◌^◌, ℕ, true, false, All, None, IfSome, length};
+ghost use Rattle.std.specs.Prelude.{slice_index_or};
 ghost use Rattle.std.specs.Option.{option_map};
 ghost use Rattle.approval_book.specs.Approved.{ids_of};
 ghost use Rattle.stream_io.specs.Net.{Accepts, PortOnward};
@@ -8,7 +9,8 @@ ghost use Rattle.stream_io.specs.Store.{RisesWhere};
 ghost use Rattle.trustee_node.specs.Connections.{clock_state};
 ghost use Rattle.trustee_node.specs.Starting.{fresh_worker};
 ghost use Rattle.trustee_node.specs.Turns.{IsIdle};
-ghost use Rattle.trustee_node.specs.Workers.{NoLink, ServesLink, WorkEnds, Worked, worker_state};
+ghost use Rattle.trustee_node.specs.Workers.{NoLink, ServesLink, WorkEnds, Worked, counted, worker_state};
+ghost use Rattle.trustee_node.specs.declared.served.ServedEnd.TheVariants.{Worn};
 
 use crate::connection::serve_connection;
 use crate::served::{Served, ServedEnd};
@@ -49,6 +51,19 @@ impl<P: Port, T: Kept, X> Worker<P, T, X> {
         self.frames = 0;
         self.worn = false;
         self.failed = false;
+    }
+
+    /// Counts a connection that was served. It says whether the pass has no more turns since, as `worn` does.
+    pub fn count(&mut self, served: Served) -> bool
+        requires { self.old.connections < 2 ^ 32 - 1 }
+        ensures counted { self.new ≡ counted self.old served result }
+        ensures worn { result ≡ true → served.ended ≡ Worn }
+        ensures more { served.ended ≡ Worn → result ≡ true }
+    {
+        self.connections += 1;
+        self.frames = self.frames.saturating_add(served.frames);
+        self.worn = served.ended == ServedEnd::Worn;
+        self.worn
     }
 }
 
@@ -138,10 +153,7 @@ fn work<D: Disk, C: Clock, P: Port>(
             &mut worker.port,
             link,
         );
-        worker.connections += 1;
-        worker.frames = worker.frames.saturating_add(served.frames);
-        if served.ended == ServedEnd::Worn {
-            worker.worn = true;
+        if worker.count(served) {
             return;
         }
     }

@@ -1,7 +1,7 @@
 use Rattle.aggregator_session.specs.Desks.{desk_state}
-use Rattle.std.proofs.Common.{true, true≢false, refl, sym, ap, ◌∙◌, subst, arith, rules}
+use Rattle.std.proofs.Common.{true≢false, refl, sym, ap, ◌∙◌, subst, arith}
 use Rattle.aggregator_node.specs.Ports.{reference_state}
-use Rattle.aggregator_node.specs.Workers.{IsReady, worker_state}
+use Rattle.aggregator_node.specs.Workers.{IsReady, Worked, worker_state}
 use Rattle.aggregator_node.proofs.Working.{Working, accepted-as, ends-none, link-worn, worked-all, worked-refused, working-more, working-none}
 use Rattle.aggregator_node.proofs.worker.work.Goals as goal
 
@@ -24,16 +24,18 @@ loop-preserved g c =
     let v = c.loop.invariant in
     let a = c.in-Some.ensures in
     let e = c.serve_link-served.ensures in
+    let is = c.count.ensures.counted in
     record {
-      working = working-more (desk_state c.args.desk.now) (state c.args.worker.now) (state c.loop.worker) (g.P.Port.state c.next_link.new.port) _
+      working = subst (λ worker. Working (desk_state c.args.desk.now) (state c.args.worker.now) (state worker)) (sym is)
+          (working-more (desk_state c.args.desk.now) (state c.args.worker.now) (state c.loop.worker) (g.P.Port.state c.next_link.new.port) _
           (reference_state g.X.Cells g.X.Faults c.serve_link-served.new.cells)
-          (g.P.Link.Stream.talk c.in-Some.link) (g.P.Link.Faults.steady c.in-Some.link) c.serve_link-served.result c.saturating_add-worker.result c.loop.worker.worn c.next_link.new.failed
+          (g.P.Link.Stream.talk c.in-Some.link) (g.P.Link.Faults.steady c.in-Some.link) c.serve_link-served.result _ c.count.result c.next_link.new.failed
           v.working (accepted-as _ _ _ _ _ _ e.takes a.link) a.onward (a.cause.same (λ is. absurd (true≢false (sym is ∙ a.sound)))) e.served
-          (record { told = e.cells.told; steady = e.cells.steady; leaves = e.cells.leaves }) c.saturating_add-worker.ensures;
-      ready = e.ready;
-      count = (let n = v.count in omega (arith, n));
-      sound = a.sound;
-      fresh = v.fresh;
+          (record { told = e.cells.told; steady = e.cells.steady; leaves = e.cells.leaves }) refl);
+      ready = subst (λ worker. IsReady g.X.Cells c.args.lock.now c.args.desk.now worker.pass worker.own) (sym is) e.ready;
+      count = (let n = v.count in let one = ap (λ worker. worker.connections) is in omega (arith, n, one));
+      sound = ap (λ worker. worker.failed) is ∙ a.sound;
+      fresh = ap (λ worker. worker.worn) is ∙ cc;
     }
 
 pub returns-in_default-clause-worked : goal.returns-in_default-clause-worked
@@ -50,20 +52,22 @@ returns-in_default-clause-ends g c =
     let w = c.loop.worker in
     ends-none c.args.connections (state (record w { port = c.next_link.new.port; failed = c.next_link.new.failed })) (g.P.Port.state w.port) c.next_link.new.failed refl (c.in_default.ensures.none refl)
 
-pub returns-then-eq-clause-worked : goal.returns-then-eq-clause-worked
-returns-then-eq-clause-worked g c =
+pub returns-then-count-clause-worked : goal.returns-then-count-clause-worked
+returns-then-count-clause-worked g c =
     let desk = desk_state c.args.desk.now in
     let state = worker_state g.P.Port.state g.X.Cells g.X.Faults in
     let v = c.loop.invariant in
     let a = c.in-Some.ensures in
     let e = c.serve_link-served.ensures in
-    worked-all desk (state c.args.worker.now) _
+    let is = c.count.ensures.counted in
+    subst (λ worker. Worked desk (state c.args.worker.now) (state worker)) (sym is)
+    (worked-all desk (state c.args.worker.now) _
     (working-more desk (state c.args.worker.now) (state c.loop.worker) (g.P.Port.state c.next_link.new.port) _
     (reference_state g.X.Cells g.X.Faults c.serve_link-served.new.cells)
-    (g.P.Link.Stream.talk c.in-Some.link) (g.P.Link.Faults.steady c.in-Some.link) c.serve_link-served.result c.saturating_add-worker.result true c.next_link.new.failed
+    (g.P.Link.Stream.talk c.in-Some.link) (g.P.Link.Faults.steady c.in-Some.link) c.serve_link-served.result _ c.count.result c.next_link.new.failed
     v.working (accepted-as _ _ _ _ _ _ e.takes a.link) a.onward (a.cause.same (λ is. absurd (true≢false (sym is ∙ a.sound)))) e.served
-    (record { told = e.cells.told; steady = e.cells.steady; leaves = e.cells.leaves }) c.saturating_add-worker.ensures)
-    a.sound (λ _. link-worn desk _ _ _ _ _ _ e.served (search rules))
+    (record { told = e.cells.told; steady = e.cells.steady; leaves = e.cells.leaves }) refl)
+    a.sound (λ worn. link-worn desk _ _ _ _ _ _ e.served (c.count.ensures.worn worn)))
 
 pub returns-clause-worked : goal.returns-clause-worked
 returns-clause-worked g c =

@@ -1,4 +1,4 @@
-use Rattle.std.proofs.Common.{true, true≢false, refl, sym, ap, ◌∙◌, subst, arith, rules}
+use Rattle.std.proofs.Common.{true≢false, refl, sym, ap, ◌∙◌, subst, arith}
 use Rattle.std.specs.Option.{option_map}
 use Rattle.approval_book.specs.Approved.{ids_of}
 use Rattle.trustee_node.specs.Connections.{clock_state}
@@ -26,17 +26,19 @@ loop-preserved g c =
     let v = c.loop.invariant in
     let a = c.in-Some.ensures in
     let e = c.serve_link-served.ensures in
+    let is = c.count.ensures.counted in
     record {
-      worked = worked-more c.args.share.now (option_map (λ b. ids_of b.now) c.args.book) (state c.args.worker.now) (state c.loop.worker)
+      worked = subst (λ worker. Worked c.args.share.now (option_map (λ b. ids_of b.now) c.args.book) (state c.args.worker.now) (state worker)) (sym is)
+          (worked-more c.args.share.now (option_map (λ b. ids_of b.now) c.args.book) (state c.args.worker.now) (state c.loop.worker)
           (g.P.Port.state c.next_link.new.port) (g.P.Port.state c.serve_link-served.new.port) c.serve_link-served.new.pass
           (clock_state g.C.Clock.told g.C.Clock.answers c.serve_link-served.new.clock)
-          (g.P.Link.Stream.talk c.in-Some.link) (g.P.Link.Faults.steady c.in-Some.link) (g.P.Link.Sink.room c.in-Some.link) c.serve_link-served.result c.saturating_add-worker.result c.loop.worker.worn c.next_link.new.failed
+          (g.P.Link.Stream.talk c.in-Some.link) (g.P.Link.Faults.steady c.in-Some.link) (g.P.Link.Sink.room c.in-Some.link) c.serve_link-served.result _ c.count.result c.next_link.new.failed
           v.worked v.sound e.takes a.link a.onward (a.cause.same (λ is. absurd (true≢false (sym is ∙ a.sound)))) e.served e.onward e.clock
-          c.saturating_add-worker.ensures (λ is. absurd (true≢false (sym is ∙ v.fresh))) a.sound;
-      pass = e.pass;
-      count = (let n = v.count in omega (arith, n));
-      sound = a.sound;
-      fresh = v.fresh;
+          refl c.count.ensures.worn a.sound);
+      pass = subst (λ worker. IsIdle c.args.lock.now c.args.share.now worker.pass) (sym is) e.pass;
+      count = (let n = v.count in let one = ap (λ worker. worker.connections) is in omega (arith, n, one));
+      sound = ap (λ worker. worker.failed) is ∙ a.sound;
+      fresh = ap (λ worker. worker.worn) is ∙ cc;
     }
 
 pub returns-in_default-clause-worked : goal.returns-in_default-clause-worked
@@ -53,15 +55,16 @@ returns-in_default-clause-ends g c =
     let w = c.loop.worker in
     ends-none c.args.connections (state (record w { port = c.next_link.new.port; failed = c.next_link.new.failed })) (g.P.Port.state w.port) c.next_link.new.failed refl (c.in_default.ensures.none refl)
 
-pub returns-then-eq-clause-worked : goal.returns-then-eq-clause-worked
-returns-then-eq-clause-worked g c =
+pub returns-then-count-clause-worked : goal.returns-then-count-clause-worked
+returns-then-count-clause-worked g c =
     let state = worker_state g.P.Port.state g.C.Clock.told g.C.Clock.answers in
     let v = c.loop.invariant in
     let a = c.in-Some.ensures in
     let e = c.serve_link-served.ensures in
-    worked-more c.args.share.now (option_map (λ b. ids_of b.now) c.args.book) (state c.args.worker.now) (state c.loop.worker)
+    subst (λ worker. Worked c.args.share.now (option_map (λ b. ids_of b.now) c.args.book) (state c.args.worker.now) (state worker)) (sym c.count.ensures.counted)
+    (worked-more c.args.share.now (option_map (λ b. ids_of b.now) c.args.book) (state c.args.worker.now) (state c.loop.worker)
     (g.P.Port.state c.next_link.new.port) (g.P.Port.state c.serve_link-served.new.port) c.serve_link-served.new.pass
     (clock_state g.C.Clock.told g.C.Clock.answers c.serve_link-served.new.clock)
-    (g.P.Link.Stream.talk c.in-Some.link) (g.P.Link.Faults.steady c.in-Some.link) (g.P.Link.Sink.room c.in-Some.link) c.serve_link-served.result c.saturating_add-worker.result true c.next_link.new.failed
+    (g.P.Link.Stream.talk c.in-Some.link) (g.P.Link.Faults.steady c.in-Some.link) (g.P.Link.Sink.room c.in-Some.link) c.serve_link-served.result _ c.count.result c.next_link.new.failed
     v.worked v.sound e.takes a.link a.onward (a.cause.same (λ is. absurd (true≢false (sym is ∙ a.sound)))) e.served e.onward e.clock
-    c.saturating_add-worker.ensures (λ _. search rules) a.sound
+    refl c.count.ensures.worn a.sound)

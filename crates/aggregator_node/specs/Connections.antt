@@ -14,7 +14,7 @@ use Rattle.trustee_node.specs.declared.served.Served.{Served}
 use Rattle.turn_lock.specs.Pass.{Seen}
 
 -- where a worker stands: what its pass has seen, its port, and the count of faults of the reference that it reads
-pub record Post : Type 0 where
+pub record WorkerParts : Type 0 where
   pub pass : Seen Lease TableName
   pub port : PortState
   pub faults : ℕ
@@ -29,7 +29,7 @@ pub record Connection : Type 0 where
   pub served : Served
 
 -- A link was accepted, served and hung up. The members of its requests were dialled from the same port.
-pub record ServesLink (desk : DeskState) (reference : ReferenceState) (old new : Post) (one : Connection)
+pub record ServesLink (desk : DeskState) (reference : ReferenceState) (old new : WorkerParts) (one : Connection)
     : Type 0 where
   pub steady : Bool
   pub begun : PortState
@@ -50,11 +50,13 @@ pub record Leaves (old new : PortState) : Type 0 where
   pub onward : PortOnward old new
 
 -- A worker's connections, one after the other, from where it stood to where it stands.
-pub data Works (desk : DeskState) (reference : ReferenceState) : Post → List Connection → Post → Type 0 where
-  left : (old : Post) (port : PortState) → Leaves old.port port
+pub data Works (desk : DeskState) (reference : ReferenceState)
+    : WorkerParts → List Connection → WorkerParts → Type 0 where
+  left : (old : WorkerParts) (port : PortState) → Leaves old.port port
       → Works desk reference old [] (record old { port = port })
-  next : (old mid new : Post) (one : Connection) (others : List Connection) → ServesLink desk reference old mid one
-      → Works desk reference mid others new → Works desk reference old (one ∷ others) new
+  next : (old mid new : WorkerParts) (one : Connection) (others : List Connection)
+      → ServesLink desk reference old mid one → Works desk reference mid others new
+      → Works desk reference old (one ∷ others) new
 
 -- all requests of these connections
 abbrev pub requests_of : List Connection → List Request
