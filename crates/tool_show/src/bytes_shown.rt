@@ -1,13 +1,11 @@
 //! What bytes hold.
 
-ghost use Rattle.std.specs.Prelude.{◌≡◌, if◌then◌else◌, is_some, Bool, IfErr, IfOk, Some, string_bytes};
-ghost use Rattle.share_files.specs.FaultNumbers.{file_fault_number};
+ghost use Rattle.std.specs.Prelude.{◌≡◌, if◌then◌else◌, is_some, ℕ, IfErr, IfOk, List, Some, string_bytes};
+ghost use Rattle.share_files.specs.Reference.{HasReferenceLayout, reference_fault};
 ghost use Rattle.tool_show.specs.SlotKinds.{slot_kind};
 ghost use Rattle.tool_show.specs.Keys.{IsFaultOf};
-ghost use Rattle.tool_show.specs.Kinds.{IsCommitments, IsReference, IsShare, IsSlots, IsTree, commits_fault, key_kind};
-ghost use Rattle.tool_show.specs.Kinds.{kind_of};
+ghost use Rattle.tool_show.specs.Kinds.{IsSlots, commits_fault, key_kind, kind_of};
 ghost use Rattle.tool_show.specs.Shown.{HasCommitsHead, IsShown};
-ghost use Rattle.tool_show.specs.declared.bytes_shown.ShowFault.TheVariants.{Unreadable};
 
 use crate::any_key::AnyKey;
 use crate::lines::{header_line, share_line, tree_line};
@@ -39,73 +37,53 @@ impl From<AllocError> for ShowFault {
     }
 }
 
-/// What these bytes hold, as lines of text. Where `leaves` is true, each slot of a file of slots that is not free has a
-/// line.
+impl From<FileFault> for ShowFault {
+    ghost use Rattle.share_files.specs.FaultNumbers.{file_fault_number};
+    ghost use Rattle.tool_show.specs.declared.bytes_shown.ShowFault.TheVariants.{Unreadable};
+
+    ghost from_gives = { λ fault shown. shown ≡ Unreadable (file_fault_number fault) };
+
+    fn from(fault: FileFault) -> Self {
+        ShowFault::Unreadable {
+            fault: fault.number(),
+        }
+    }
+}
+
+/// What these bytes hold, as lines of text: of a share all but its key, of a tree the root alone, of a reference and of
+/// a commitment file the head. Where `leaves` is true, each slot of a file of slots that is not free has a line.
 #[tactic(auto, unfolding(crate::specs::Kinds::kind_of))]
 pub(crate) fn show_bytes(alloc: Global, bytes: Vec<u8>, leaves: bool) -> Result<String, ShowFault>
     ensures shown { IfOk result (λ text. IsShown bytes.items leaves (string_bytes text)) }
     ensures refused { IfErr result (IsFaultOf bytes.items) }
 {
     if bytes.starts_with(b"TLSH") {
-        return show_share(alloc, &bytes);
+        let share = read_share(&bytes)?;
+        return Ok(share_line(alloc, &share)?);
     }
     if bytes.starts_with(b"TLTR") {
-        return show_tree(alloc, &bytes);
+        let tree = read_tree(&bytes)?;
+        return Ok(tree_line(alloc, &tree)?);
     }
     if bytes.starts_with(b"TLRF") {
-        return show_reference(alloc, &bytes);
+        let header = read_reference_head(&bytes)?;
+        return Ok(header_line(alloc, "reference", &header, bytes.len())?);
     }
     if bytes.starts_with(b"TLCM") {
-        return show_commitments(alloc, &bytes);
+        let header = read_commits_head(&bytes)?;
+        return Ok(header_line(alloc, "commitments", &header, bytes.len())?);
     }
     show_unmarked(alloc, bytes, leaves)
 }
 
-/// What a share holds, but for its key.
-fn show_share(alloc: Global, bytes: &[u8]) -> Result<String, ShowFault>
-    requires { kind_of bytes.now ≡ Some IsShare }
-    ensures shown { (leaves : Bool) → IfOk result (λ text. IsShown bytes.now leaves (string_bytes text)) }
-    ensures refused { IfErr result (IsFaultOf bytes.now) }
-{
-    match read_share(bytes) {
-        Ok(share) => Ok(share_line(alloc, &share)?),
-        Err(fault) => Err(unreadable(&fault)),
-    }
-}
-
-/// What a tree file holds, of its nodes the root alone.
-fn show_tree(alloc: Global, bytes: &[u8]) -> Result<String, ShowFault>
-    requires { kind_of bytes.now ≡ Some IsTree }
-    ensures shown { (leaves : Bool) → IfOk result (λ text. IsShown bytes.now leaves (string_bytes text)) }
-    ensures refused { IfErr result (IsFaultOf bytes.now) }
-{
-    match read_tree(bytes) {
-        Ok(tree) => Ok(tree_line(alloc, &tree)?),
-        Err(fault) => Err(unreadable(&fault)),
-    }
-}
-
-/// What the head of a reference says.
-fn show_reference(alloc: Global, bytes: &[u8]) -> Result<String, ShowFault>
-    requires { kind_of bytes.now ≡ Some IsReference }
-    ensures shown { (leaves : Bool) → IfOk result (λ text. IsShown bytes.now leaves (string_bytes text)) }
-    ensures refused { IfErr result (IsFaultOf bytes.now) }
+/// Reads a reference that is all of `bytes` for its head.
+fn read_reference_head(bytes: &[u8]) -> Result<RefHeader, FileFault>
+    ensures layout { IfOk result (λ header. (leaves : List ℕ) × HasReferenceLayout header bytes.now leaves) }
+    ensures refused { IfErr result (λ fault. reference_fault bytes.now ≡ Some fault) }
 {
     match read_reference(bytes) {
-        Ok(view) => Ok(header_line(alloc, "reference", &view.header, bytes.len())?),
-        Err(fault) => Err(unreadable(&fault)),
-    }
-}
-
-/// What the head of a commitment file says.
-fn show_commitments(alloc: Global, bytes: &[u8]) -> Result<String, ShowFault>
-    requires { kind_of bytes.now ≡ Some IsCommitments }
-    ensures shown { (leaves : Bool) → IfOk result (λ text. IsShown bytes.now leaves (string_bytes text)) }
-    ensures refused { IfErr result (IsFaultOf bytes.now) }
-{
-    match read_commits_head(bytes) {
-        Ok(header) => Ok(header_line(alloc, "commitments", &header, bytes.len())?),
-        Err(fault) => Err(unreadable(&fault)),
+        Ok(view) => Ok(view.header),
+        Err(fault) => Err(fault),
     }
 }
 
@@ -141,14 +119,5 @@ fn show_unmarked(alloc: Global, bytes: Vec<u8>, leaves: bool) -> Result<String, 
         },
         Err(ListingFault::NotLoaded { fault }) => Err(ShowFault::NotLoaded { fault }),
         Err(ListingFault::NoMemory) => Err(ShowFault::NoMemory),
-    }
-}
-
-/// The fault of a file of a dealing.
-fn unreadable(fault: &FileFault) -> ShowFault
-    ensures { result ≡ Unreadable (file_fault_number fault.now) }
-{
-    ShowFault::Unreadable {
-        fault: fault.number(),
     }
 }
