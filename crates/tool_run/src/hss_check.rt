@@ -6,7 +6,7 @@ ghost use Rattle.tool_base.specs.Grammars.{FailsGrammar};
 ghost use Rattle.tool_run.specs.HssCheck.{HssCheckEnds, IsHssKeyRead, hss_key_file_fault};
 ghost use Rattle.tool_base.specs.World.{InAnyRun, IsUnchanged, from_to};
 
-use crate::reading::read_two;
+use crate::verify::{VerifyingKey, verify_under};
 use hss_levels::{HssKey, hss_verify, read_hss_key};
 use std::alloc::Global;
 use stream_io::Store;
@@ -24,13 +24,19 @@ pub(crate) fn hss_check_files<S: Store>(
         (ending result) [] }
     ensures unchanged { IsUnchanged (S.state store.old) (S.state store.new) }
 {
-    let public = match read_hss_key_file(alloc, store, key) {
-        Ok(public) => public,
-        Err(end) => return end,
-    };
-    match read_two(alloc, store, message, signature) {
-        Ok((text, bytes)) => Ending::Checked(hss_verify(&public, &text, &bytes)),
-        Err(end) => end,
+    let read = read_hss_key_file(alloc, store, key);
+    verify_under(alloc, store, read, message, signature)
+}
+
+impl VerifyingKey for HssKey {
+    ghost use Rattle.hss_levels.specs.Verdict.{IsHssVerdict};
+    ghost use Rattle.tool_base.specs.Ending.{Checked};
+    ghost use Rattle.tool_run.specs.Steps.{Tells};
+
+    ghost tells = { λ key message signature. Tells Checked (IsHssVerdict key message signature) };
+
+    fn tell(&self, message: &[u8], signature: &[u8]) -> Ending {
+        Ending::Checked(hss_verify(self, message, signature))
     }
 }
 
