@@ -51,12 +51,13 @@ impl Run {
     }
 }
 
-/// How many threads build leaves: as many as there are processors.
+/// How many threads build leaves: four for each processor, since no two processors are equally fast and one that is
+/// done takes over a thread of another; one where there is one.
 pub(crate) fn thread_count<R: Threads>(rt: &R) -> usize
     ensures { 0 < result }
 {
     match thread::available_parallelism(rt) {
-        Ok(count) => count.get(),
-        Err(_) => 1,
+        Ok(count) if count.get() > 1 => count.get().saturating_mul(4),
+        _ => 1,
     }
 }
