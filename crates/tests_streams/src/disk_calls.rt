@@ -15,7 +15,7 @@ pub(crate) fn read_text<P: Pages>(pages: &mut P, at: u64, text: &str) -> Result<
 }
 
 /// Whether a call of a disk ends as its step says.
-fn is_done<D: Disk>(disk: &mut D, step: &str) -> bool {
+pub(crate) fn is_done<D: Disk>(disk: &mut D, step: &str) -> bool {
     let (call, rest) = first_word(step);
     let (number, text) = first_number(rest);
     match call {

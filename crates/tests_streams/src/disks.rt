@@ -1,7 +1,8 @@
 //! Tests of disks: what is printed nowhere and no contract says, such as that a call succeeds, what a file is asked
 //! for, and what a crash leaves.
 
-use crate::disk_calls::{crashed, plays};
+use crate::disk_calls::{crashed, is_done, plays};
+use crate::scripts::{first_number, first_word};
 use disk_trait::{Disk, MemDisk};
 use memory::NoMemory;
 use std::alloc::Global;
@@ -9,55 +10,42 @@ use std::cell::Cell;
 use std::fs::{File, Metadata, OpenFile, OpenOptions, remove_file};
 use std::io;
 use std::io::ErrorKind;
-use std::ops::Range;
 use std::os::unix::fs::FileExt;
 use std::process::Abort;
 use std::test::Fail;
 use stream_host::{FileDisk, HostFile};
 use stream_memory::MemFile;
 
-/// Writes `abcdef`, makes it stable, and writes `XYZ` at 4.
-const TWICE: &str = "write 0 abcdef, sync, write 4 XYZ";
-
-/// Does the calls of a script on a disk in memory.
-fn plays_in(rt: &impl Abort, disk: &mut MemDisk, script: &str) {
-    plays(rt, disk, script);
-}
-
 /// Takes what may be sent to another thread.
 fn sends<T: Send>(_: &T) {}
 
-#[test]
-fn memory_reads_what_was_written(rt: HostRuntime) -> Result<(), NoMemory> {
-    let mut disk = MemDisk::new(rt.alloc(), 8, usize::MAX)?;
-    sends(&disk);
-    plays_in(&rt, &mut disk, TWICE);
-    plays_in(&rt, &mut disk, "length 7, read 4 XYZ, faults 0");
-    // past the end, beyond it, and past the room
-    plays_in(
-        &rt,
-        &mut disk,
-        "read! 5 ..., write! 8 a, write! 6 abc, faults 3",
-    );
-    assert!(rt; disk.bytes() == b"abcdXYZ".as_slice() && disk.capacity() == 8);
-    Ok(())
+/// Whether a call of a disk in memory ends as its step says: one of any disk, `bytes abc` and `room 8`, which compare
+/// what it holds and may hold, `fail 2` and `stop 2`, which set calls to fail, and `steady` or `steady!`.
+fn is_done_in(disk: &mut MemDisk, step: &str) -> bool {
+    let (call, rest) = first_word(step);
+    let number = first_number(rest).0;
+    match call {
+        "bytes" => disk.bytes() == rest.as_bytes(),
+        "room" => disk.capacity() as u64 == number,
+        "steady" => disk.is_steady(),
+        "steady!" => !disk.is_steady(),
+        "fail" => {
+            disk.fail_once(number);
+            true
+        }
+        "stop" => {
+            disk.stop_at(number);
+            true
+        }
+        _ => is_done(disk, step),
+    }
 }
 
-#[test]
-fn a_pick_is_one_image(rt: HostRuntime) -> Result<(), NoMemory> {
-    let images = [
-        (0, "abcdef", "write! 7 !"),
-        (1, "abcdXYZ", "write 7 !"),
-        (5, "abcda;t", "write 7 !"),
-    ];
-    for (pick, want, step) in images {
-        let mut disk = MemDisk::new(rt.alloc(), 8, usize::MAX)?;
-        plays_in(&rt, &mut disk, TWICE);
-        let mut image = crashed(disk, rt.alloc(), pick)?;
-        assert!(rt; image.bytes() == want.as_bytes(), "pick {pick}");
-        plays_in(&rt, &mut image, step);
+/// Does the calls of a script on a disk in memory.
+fn plays_in(rt: &impl Abort, disk: &mut MemDisk, script: &str) {
+    for step in script.split(", ") {
+        assert!(rt; is_done_in(disk, step), "{step} of {script}");
     }
-    Ok(())
 }
 
 /// A disk of the bytes `abc`, which has room for no more.
@@ -65,47 +53,73 @@ fn full_disk(alloc: Global, calls: usize) -> Result<MemDisk, NoMemory> {
     MemDisk::of_bytes(alloc, b"abc", 3, calls)
 }
 
-/// Whether of four writes just those of these numbers fail.
-fn fails_just(disk: &mut MemDisk, numbers: Range<u64>) -> bool {
-    for number in 0..4 {
-        if disk.write_at(1, b"x").is_err() != numbers.contains(&number) {
-            return false;
-        }
-    }
-    true
+/// An empty disk with room for eight bytes.
+fn empty_disk(alloc: Global) -> Result<MemDisk, NoMemory> {
+    MemDisk::new(alloc, 8, usize::MAX)
 }
 
 #[test]
-fn listed_calls_fail(rt: HostRuntime) -> Result<(), NoMemory> {
-    for call in 0..4 {
-        let mut disk = full_disk(rt.alloc(), usize::MAX)?;
-        assert!(rt; disk.is_steady());
-        disk.fail_once(9);
-        disk.fail_once(call);
-        assert!(rt; !disk.is_steady());
-        assert!(rt; fails_just(&mut disk, call..call + 1), "call {call}");
-    }
+fn memory_reads_what_was_written(rt: HostRuntime) -> Result<(), NoMemory> {
+    let mut disk = empty_disk(rt.alloc())?;
+    sends(&disk);
+    // a read past the end, a write beyond it, and one past the room
+    plays_in(
+        &rt,
+        &mut disk,
+        "write 0 abcdef, sync, write 4 XYZ, length 7, read 4 XYZ, faults 0, \
+         read! 5 ..., write! 8 a, write! 6 abc, faults 3, bytes abcdXYZ, room 8",
+    );
+    Ok(())
+}
+
+/// Plays a script on a disk, has it crash by this pick, and plays another on what is left.
+fn crashes(
+    rt: &impl Abort,
+    alloc: Global,
+    mut disk: MemDisk,
+    script: &str,
+    pick: u64,
+    left: &str,
+) -> Result<(), NoMemory> {
+    plays_in(rt, &mut disk, script);
+    plays_in(rt, &mut crashed(disk, alloc, pick)?, left);
     Ok(())
 }
 
 #[test]
-fn a_disk_stops_where_it_is_set_to(rt: HostRuntime) -> Result<(), NoMemory> {
-    for (call, bytes) in [(0, "abc"), (1, "axc"), (2, "axc"), (3, "axc")] {
-        let mut disk = full_disk(rt.alloc(), usize::MAX)?;
-        disk.stop_at(call);
-        assert!(rt; !disk.is_steady());
-        assert!(rt; fails_just(&mut disk, call..4), "call {call}");
-        assert!(rt; disk.bytes() == bytes.as_bytes(), "call {call}");
+fn a_pick_is_one_image(rt: HostRuntime) -> Result<(), NoMemory> {
+    let script = "write 0 abcdef, sync, write 4 XYZ";
+    for (pick, left) in [
+        (0, "bytes abcdef, write! 7 !"),
+        (1, "bytes abcdXYZ, write 7 !"),
+        (5, "bytes abcda;t, write 7 !"),
+    ] {
+        let disk = empty_disk(rt.alloc())?;
+        crashes(&rt, rt.alloc(), disk, script, pick, left)?;
     }
-    Ok(())
+    let disk = full_disk(rt.alloc(), 1)?;
+    // a write that failed has named its range
+    let script = "sync, write! 2 x, sync!, bytes abc";
+    crashes(&rt, rt.alloc(), disk, script, 5, "bytes aba")
 }
 
+/// Of four writes each, those that are set to fail.
+const FAILING: [&str; 8] = [
+    "steady, fail 9, fail 0, steady!, write! 1 x, write 1 x, write 1 x, write 1 x",
+    "steady, fail 9, fail 1, steady!, write 1 x, write! 1 x, write 1 x, write 1 x",
+    "steady, fail 9, fail 2, steady!, write 1 x, write 1 x, write! 1 x, write 1 x",
+    "steady, fail 9, fail 3, steady!, write 1 x, write 1 x, write 1 x, write! 1 x",
+    "stop 0, steady!, write! 1 x, write! 1 x, write! 1 x, write! 1 x, bytes abc",
+    "stop 1, steady!, write 1 x, write! 1 x, write! 1 x, write! 1 x, bytes axc",
+    "stop 2, steady!, write 1 x, write 1 x, write! 1 x, write! 1 x, bytes axc",
+    "stop 3, steady!, write 1 x, write 1 x, write 1 x, write! 1 x, bytes axc",
+];
+
 #[test]
-fn a_failed_write_has_named_its_range(rt: HostRuntime) -> Result<(), NoMemory> {
-    let mut disk = full_disk(rt.alloc(), 1)?;
-    plays_in(&rt, &mut disk, "sync, write! 2 x, sync!");
-    assert!(rt; disk.bytes() == b"abc".as_slice());
-    assert!(rt; crashed(disk, rt.alloc(), 5)?.bytes() == b"aba".as_slice());
+fn listed_calls_fail_and_a_disk_stops_where_it_is_set_to(rt: HostRuntime) -> Result<(), NoMemory> {
+    for script in FAILING {
+        plays_in(&rt, &mut full_disk(rt.alloc(), usize::MAX)?, script);
+    }
     Ok(())
 }
 
@@ -116,6 +130,11 @@ fn open(rt: &HostRuntime, name: &str) -> io::Result<File> {
     how.open(rt, name)
 }
 
+/// Does the calls of a script on a disk over a file of the machine.
+fn plays_at(rt: &impl Abort, disk: &mut FileDisk<HostFile<File>>, script: &str) {
+    plays(rt, disk, script);
+}
+
 #[test]
 fn a_file_is_a_disk(rt: HostRuntime) -> Result<(), Fail> {
     let name = "a_file_is_a_disk.bin";
@@ -123,12 +142,15 @@ fn a_file_is_a_disk(rt: HostRuntime) -> Result<(), Fail> {
     file.set_len(0)?;
     let mut disk = FileDisk::locked(file)?;
     sends(&disk);
-    plays(&rt, &mut disk, TWICE);
-    plays(&rt, &mut disk, "sync, length 7, read 4 XYZ");
+    plays_at(
+        &rt,
+        &mut disk,
+        "write 0 abcdef, sync, write 4 XYZ, sync, length 7, read 4 XYZ",
+    );
     assert!(rt; FileDisk::locked(open(&rt, name)?).is_err(), "locked twice");
 
     let mut pages = FileDisk::unlocked(open(&rt, name)?);
-    plays(&rt, &mut pages, "read 4 XYZ, read! 5 ..., faults 1");
+    plays_at(&rt, &mut pages, "read 4 XYZ, read! 5 ..., faults 1");
     remove_file(&rt, name)?;
     Ok(())
 }
@@ -148,15 +170,22 @@ struct Record {
 }
 
 impl Record {
-    fn of_length(length: usize) -> Record {
+    fn of_length(before: u64, length: usize) -> Record {
         Record {
             bytes: Cell::new([b'.'; 8]),
             length: Cell::new(length),
             syncs: Cell::new((0, 0)),
             sync_fails: Cell::new(false),
-            before: 0,
+            before,
             is_interrupted: Cell::new(false),
         }
+    }
+
+    /// Whether there were so many calls of `sync_all` and of `sync_data`, which are then forgotten.
+    fn has_synced(&self, numbers: &str) -> bool {
+        let (all, data) = self.syncs.replace((0, 0));
+        let (want, rest) = first_number(numbers);
+        u64::from(all) == want && u64::from(data) == first_number(rest).0
     }
 
     /// Where an offset lies among the bytes.
@@ -235,99 +264,95 @@ impl OpenFile for FakeFile<'_> {
     }
 }
 
-/// A disk over a fake file.
-fn disk_over(record: &Record) -> FileDisk<HostFile<FakeFile<'_>>> {
-    FileDisk::unlocked(FakeFile(record))
+/// Whether a call of a disk over a fake file ends as its step says: one of any disk, `holds abc.....`, which compares
+/// all the bytes of the file, `signal`, which interrupts its next call, `break` and `mend`, after which syncs fail or
+/// succeed, and `synced 1 0`, which compares how many calls there were of `sync_all` and of `sync_data`, and forgets
+/// them.
+fn is_done_over<D: Disk>(record: &Record, disk: &mut D, step: &str) -> bool {
+    let (call, rest) = first_word(step);
+    match call {
+        "holds" => rest.as_bytes() == record.bytes.get().as_slice(),
+        "signal" => !record.is_interrupted.replace(true),
+        "break" => !record.sync_fails.replace(true),
+        "mend" => record.sync_fails.replace(false),
+        "synced" => record.has_synced(rest),
+        _ => is_done(disk, step),
+    }
 }
 
 /// Does the calls of a script on a disk over a fake file.
-fn plays_over(rt: &impl Abort, disk: &mut FileDisk<HostFile<FakeFile<'_>>>, script: &str) {
-    plays(rt, disk, script);
-}
-
-#[test]
-fn short_reads_and_writes_go_on(rt: HostRuntime) {
-    let record = Record::of_length(0);
-    let mut disk = disk_over(&record);
-    plays_over(&rt, &mut disk, "write 0 abcdef, read 2 cde");
-    assert!(rt; record.bytes.get() == *b"abcdef..");
-    plays_over(&rt, &mut disk, "read! 4 ..., write! 6 xyz, faults 2");
-}
-
-#[test]
-fn a_call_of_a_file_is_made_again_after_a_signal(rt: HostRuntime) {
-    let record = Record::of_length(0);
-    let mut disk = disk_over(&record);
-    for step in ["write 0 abc", "read 0 abc", "faults 0"] {
-        record.is_interrupted.set(true);
-        plays_over(&rt, &mut disk, step);
+fn plays_over<D: Disk>(rt: &impl Abort, record: &Record, disk: &mut D, script: &str) {
+    for step in script.split(", ") {
+        assert!(rt; is_done_over(record, disk, step), "{step} of {script}");
     }
 }
 
-#[test]
-fn offsets_are_passed_on_whole(rt: HostRuntime) {
-    let mut record = Record::of_length(2);
-    record.before = 20_000_000_000;
-    let mut disk = disk_over(&record);
-    plays_over(&rt, &mut disk, "write 20000000001 abc, length 20000000004");
-    plays_over(&rt, &mut disk, "read 20000000001 abc, read! 1 a, faults 1");
-    assert!(rt; record.bytes.get() == *b".abc....");
+/// Does the calls of a script on a disk over a fake file of that length, which begins at this place.
+fn plays_fake(rt: &impl Abort, before: u64, length: usize, script: &str) {
+    let record = Record::of_length(before, length);
+    plays_over(
+        rt,
+        &record,
+        &mut FileDisk::unlocked(FakeFile(&record)),
+        script,
+    );
 }
 
+/// Places, lengths, and what is done on a disk over such a file.
+const FAKES: [(u64, usize, &str); 6] = [
+    // Short reads and writes go on.
+    (
+        0,
+        0,
+        "write 0 abcdef, read 2 cde, holds abcdef.., read! 4 ..., write! 6 xyz, faults 2",
+    ),
+    // A call of a file is made again after a signal.
+    (
+        0,
+        0,
+        "signal, write 0 abc, signal, read 0 abc, signal, faults 0",
+    ),
+    // Offsets are passed on whole.
+    (
+        20_000_000_000,
+        2,
+        "write 20000000001 abc, length 20000000004, read 20000000001 abc, read! 1 a, faults 1, \
+         holds .abc....",
+    ),
+    // A sync is of all after growth.
+    (
+        0,
+        2,
+        "length 2, write 0 a, sync, synced 1 0, write 1 b, sync, synced 0 1, \
+         write 2 c, sync, synced 1 0, write 2 d, sync, synced 0 1, write! 7, sync, synced 0 1, \
+         write 3 e, sync, synced 1 0, write! 8 x, sync, synced 0 1, write 4 f, sync, synced 1 0, \
+         write! 5 ghij, sync, synced 1 0, faults 3",
+    ),
+    // A failed sync is never forgotten: no later one asks the file.
+    (
+        0,
+        2,
+        "faults 0, break, sync!, mend, synced 1 0, sync!, write 0 abc, sync!, faults 3, synced 0 0",
+    ),
+    (
+        0,
+        2,
+        "sync, break, sync!, mend, synced 1 1, sync!, write 0 abc, sync!, faults 3, synced 0 0",
+    ),
+];
+
 #[test]
-fn a_sync_is_of_all_after_growth(rt: HostRuntime) {
-    let record = Record::of_length(2);
-    let mut disk = disk_over(&record);
-    plays_over(&rt, &mut disk, "length 2");
-    // a write, and the calls of `sync_all` and `sync_data` that one sync then makes
-    let writes = [
-        ("write 0 a", (1, 0)),
-        ("write 1 b", (0, 1)),
-        ("write 2 c", (1, 0)),
-        ("write 2 d", (0, 1)),
-        ("write! 7", (0, 1)),
-        ("write 3 e", (1, 0)),
-        ("write! 8 x", (0, 1)),
-        ("write 4 f", (1, 0)),
-        ("write! 5 ghij", (1, 0)),
-    ];
-    for (write, want) in writes {
-        record.syncs.set((0, 0));
-        plays_over(&rt, &mut disk, write);
-        plays_over(&rt, &mut disk, "sync");
-        assert!(rt; record.syncs.get() == want, "{write}");
+fn a_disk_asks_a_file_for_what_it_has_to(rt: HostRuntime) {
+    for (before, length, script) in FAKES {
+        plays_fake(&rt, before, length, script);
     }
-    plays_over(&rt, &mut disk, "faults 3");
 }
 
-#[test]
-fn a_failed_sync_is_never_forgotten(rt: HostRuntime) {
-    for before in ["faults 0", "sync"] {
-        let record = Record::of_length(2);
-        let mut disk = disk_over(&record);
-        plays_over(&rt, &mut disk, before);
-        record.sync_fails.set(true);
-        plays_over(&rt, &mut disk, "sync!");
-        record.sync_fails.set(false);
-        let asked = record.syncs.get();
-        plays_over(&rt, &mut disk, "sync!, write 0 abc, sync!, faults 3");
-        assert!(rt; record.syncs.get() == asked);
-    }
-}
-
-/// A disk in memory after a script, and the disk below a file in memory after the same.
-fn played(
-    rt: &impl Abort,
-    alloc: Global,
-    script: &str,
-    most: usize,
-) -> Result<(MemDisk, MemDisk), NoMemory> {
-    let mut plain = MemDisk::new(alloc, 16, usize::MAX)?;
-    let below = MemDisk::new(alloc, 16, usize::MAX)?;
-    let mut disk = FileDisk::over(MemFile::new(below, most));
-    plays(rt, &mut plain, script);
+/// The disk below a file in memory, after a script on a disk over it.
+fn below(rt: &impl Abort, disk: MemDisk, most: usize, script: &str) -> MemDisk {
+    let mut disk = FileDisk::over(MemFile::new(disk, most));
     plays(rt, &mut disk, script);
-    Ok((plain, disk.into_file().into_disk()))
+    disk.into_file().into_disk()
 }
 
 /// Whether two disks leave the same by this pick.
@@ -351,7 +376,10 @@ fn a_disk_over_the_least_of_files_is_a_disk(rt: HostRuntime) -> Result<(), NoMem
     ];
     for script in scripts {
         for (most, pick) in [(1, 0), (1, 5), (4, 0), (4, 1), (16, 7)] {
-            let (plain, below) = played(&rt, rt.alloc(), script, most)?;
+            let mut plain = MemDisk::new(rt.alloc(), 16, usize::MAX)?;
+            plays_in(&rt, &mut plain, script);
+            let raw = MemDisk::new(rt.alloc(), 16, usize::MAX)?;
+            let below = below(&rt, raw, most, script);
             assert!(rt;
                 leave_the_same(plain, below, rt.alloc(), pick)?,
                 "{script}, {most}, {pick}"
@@ -363,15 +391,10 @@ fn a_disk_over_the_least_of_files_is_a_disk(rt: HostRuntime) -> Result<(), NoMem
 
 #[test]
 fn a_disk_forgets_no_failed_sync_of_a_file(rt: HostRuntime) -> Result<(), NoMemory> {
-    let mut below = MemDisk::new(rt.alloc(), 16, usize::MAX)?;
-    below.fail_once(4);
-    let mut disk = FileDisk::over(MemFile::new(below, 2));
-    plays(
-        &rt,
-        &mut disk,
-        "write 0 abc, sync, write 0 x, sync!, sync!, faults 2",
-    );
-    let below = disk.into_file().into_disk();
+    let mut disk = MemDisk::new(rt.alloc(), 16, usize::MAX)?;
+    disk.fail_once(4);
+    let script = "write 0 abc, sync, write 0 x, sync!, sync!, faults 2";
+    let below = below(&rt, disk, 2, script);
     assert!(rt; crashed(below, rt.alloc(), 0)?.bytes() == b"abc".as_slice());
     Ok(())
 }

@@ -5,6 +5,7 @@ use std::fs::{Metadata, OpenFile, OpenOptions};
 use std::io::{Empty, ErrorKind, Read, Seek, SeekFrom, Write};
 use std::os::unix::fs::FileExt;
 use std::rt::Files;
+use std::sync::Arc;
 use std::sync::atomic::{AtomicU8, AtomicUsize, Ordering};
 use std::{array, io};
 use stream_host::Lockable;
@@ -103,14 +104,11 @@ impl Record {
     /// The letter of a name.
     fn letter(&self, path: &str) -> u8 {
         let [file, part, folder] = NAMES[self.names.min(4)];
-        if path == file {
-            b'a'
-        } else if path == part {
-            b'n'
-        } else if path == folder {
-            b'i'
-        } else {
-            b'?'
+        match (path == file, path == part, path == folder) {
+            (true, _, _) => b'a',
+            (_, true, _) => b'n',
+            (_, _, true) => b'i',
+            _ => b'?',
         }
     }
 
@@ -122,22 +120,22 @@ impl Record {
 
 /// A fake file system.
 #[derive(Clone, Copy)]
-pub struct FakeFiles<'a>(pub &'a Record);
+pub struct FakeFiles<'a>(pub &'a Arc<Record>);
 
 /// A fake file, which reads and writes one byte at a time.
 #[derive(Drop)]
-pub struct FakeFile<'a> {
-    record: &'a Record,
+pub struct FakeFile {
+    record: Arc<Record>,
     what: u8,
     place: usize,
 }
 
-impl<'a> Files for FakeFiles<'a> {
-    type File = FakeFile<'a>;
+impl Files for FakeFiles<'_> {
+    type File = FakeFile;
 
     type Dir = Empty;
 
-    fn open_file(&self, how: &OpenOptions, path: &str) -> io::Result<FakeFile<'a>> {
+    fn open_file(&self, how: &OpenOptions, path: &str) -> io::Result<FakeFile> {
         let verb = if how.asks_create_new() {
             b'c'
         } else if how.asks_write() {
@@ -148,7 +146,7 @@ impl<'a> Files for FakeFiles<'a> {
         let what = self.0.letter(path);
         self.0.call(verb, what, b' ')?;
         Ok(FakeFile {
-            record: self.0,
+            record: Arc::try_clone(self.0)?,
             what,
             place: 0,
         })
@@ -195,7 +193,7 @@ impl<'a> Files for FakeFiles<'a> {
     }
 }
 
-impl OpenFile for FakeFile<'_> {
+impl OpenFile for FakeFile {
     fn metadata(&self) -> io::Result<Metadata> {
         self.record.call(b'm', self.what, b' ')?;
         Ok(Metadata::of_file(3))
@@ -214,13 +212,13 @@ impl OpenFile for FakeFile<'_> {
     }
 }
 
-impl Lockable for FakeFile<'_> {
+impl Lockable for FakeFile {
     fn lock_alone(&self) -> io::Result<()> {
         self.record.call(b'k', self.what, b' ')
     }
 }
 
-impl Read for FakeFile<'_> {
+impl Read for FakeFile {
     fn read(&mut self, buf: &mut [u8]) -> io::Result<usize> {
         let got = self.read_at(buf, self.place as u64)?;
         self.place = self.place.saturating_add(got);
@@ -228,7 +226,7 @@ impl Read for FakeFile<'_> {
     }
 }
 
-impl Write for FakeFile<'_> {
+impl Write for FakeFile {
     fn write(&mut self, buf: &[u8]) -> io::Result<usize> {
         self.write_at(buf, 0)
     }
@@ -238,13 +236,13 @@ impl Write for FakeFile<'_> {
     }
 }
 
-impl Seek for FakeFile<'_> {
+impl Seek for FakeFile {
     fn seek(&mut self, _to: SeekFrom) -> io::Result<u64> {
         Err(io::Error::from(ErrorKind::NotSeekable))
     }
 }
 
-impl FileExt for FakeFile<'_> {
+impl FileExt for FakeFile {
     fn read_at(&self, buf: &mut [u8], offset: u64) -> io::Result<usize> {
         let bytes = b"xyz";
         let at = usize::try_from(offset).unwrap_or(usize::MAX);

@@ -237,22 +237,25 @@ const WRITES: [Row; 8] = [
     ),
 ];
 
+/// Bytes that are lost when a link is hung up.
+const LOST: (&[Step], &[Ask]) = (
+    &[Read(Ok(2)), Write(Err(ConnectionReset))],
+    &[Reads(1, Ok(1)), Writes(10, Ok(10))],
+);
+
 #[test]
 fn a_link_makes_few_calls_of_the_system(rt: HostRuntime) -> Result<(), Fail> {
     for (row, (steps, asks, faults)) in READS.iter().chain(WRITES.iter()).enumerate() {
+        let counts = (*faults, u64::from(*faults != 0));
         assert!(rt;
-            asks_the_system(rt.alloc(), steps, asks, (*faults, u64::from(*faults != 0)))?,
+            asks_the_system(rt.alloc(), steps, asks, counts)?,
             "row {row}"
         );
     }
-    Ok(())
-}
-
-#[test]
-fn bytes_that_are_lost_when_a_link_is_hung_up_are_a_fault(rt: HostRuntime) -> Result<(), Fail> {
-    let steps = &[Read(Ok(2)), Write(Err(ConnectionReset))];
-    let asks = [Reads(1, Ok(1)), Writes(10, Ok(10))];
-    assert!(rt; asks_the_system(rt.alloc(), steps, &asks, (0, 1))?);
+    assert!(rt;
+        asks_the_system(rt.alloc(), LOST.0, LOST.1, (0, 1))?,
+        "lost bytes"
+    );
     Ok(())
 }
 

@@ -2,7 +2,7 @@
 
 use crate::disk_calls::read_text;
 use crate::ends::{end_of_call, end_of_new};
-use crate::store_calls::store_faults;
+use crate::store_calls::{store_faults, write_stable};
 use disk_trait::{Disk, Faults, Pages};
 use std::alloc::Global;
 use std::os::unix::fs::{MetadataExt, symlink};
@@ -48,35 +48,32 @@ fn mode(rt: &HostRuntime, name: &str) -> io::Result<u32> {
     Ok(fs::metadata(rt, name)?.mode() & 0o777)
 }
 
-/// Whether a store of files takes a name as new once, with these permissions. The file is removed.
-fn is_taken_once(
-    rt: &HostRuntime,
-    store: &mut FileStore<HostRuntime>,
-    name: &str,
-    readers: Readers,
-    want: u32,
-) -> io::Result<bool> {
-    let is_taken = takes_once(store, rt.alloc(), name, readers);
-    let found = mode(rt, name)?;
-    fs::remove_file(rt, name)?;
-    Ok(is_taken && found == want)
+/// Names, and who may read them.
+const NEW: [(&str, Readers); 2] = [
+    ("stream_host.own", Readers::OwnerAlone),
+    ("./stream_host.all", Readers::Anyone),
+];
+
+/// Takes each of these names as new once, with the permissions of its readers, and removes the file.
+fn take_each<S: Store>(abort: &impl Abort, rt: &HostRuntime, store: &mut S) -> io::Result<()> {
+    let any = mode(rt, "stream_host.any")?;
+    for (name, readers) in NEW {
+        let want = match readers {
+            Readers::OwnerAlone => 0o600,
+            Readers::Anyone => any,
+        };
+        assert!(abort; takes_once(store, rt.alloc(), name, readers), "{name}");
+        assert_eq!(abort; mode(rt, name)?, want, "{name}");
+        fs::remove_file(rt, name)?;
+    }
+    assert!(abort; lacks(store, "stream_host.own.new"));
+    Ok(())
 }
 
 #[test]
 fn a_store_of_files_takes_a_new_file_once(rt: HostRuntime) -> io::Result<()> {
     fs::write(&rt, "stream_host.any", "")?;
-    let any = mode(&rt, "stream_host.any")?;
-    let own = "stream_host.own";
-    let mut store = FileStore::new(rt);
-    assert!(rt;
-        is_taken_once(&rt, &mut store, own, Readers::OwnerAlone, 0o600)?,
-        "own"
-    );
-    assert!(rt;
-        is_taken_once(&rt, &mut store, "./stream_host.all", Readers::Anyone, any)?,
-        "all"
-    );
-    assert!(rt; lacks(&mut store, "stream_host.own.new"));
+    over_files(&rt, rt, Case::New)?;
     fs::remove_file(&rt, "stream_host.any")
 }
 
@@ -108,7 +105,7 @@ fn what_stands_at_a_name_takes_it(rt: HostRuntime) -> io::Result<()> {
     let link = "stream_host.link";
     symlink(&rt, "stream_host.none", link)?;
     fs::write(&rt, "stream_host.left.new", "left")?;
-    make_taken(&rt, &mut FileStore::new(rt), rt.alloc());
+    over_files(&rt, rt, Case::Taken)?;
     fs::remove_file(&rt, "stream_host.left.new")?;
     fs::remove_file(&rt, link)
 }
@@ -138,11 +135,45 @@ fn read_each<S: Store>(rt: &impl Abort, store: &mut S, alloc: Global) {
     }
 }
 
+/// What is done with a store of files.
+#[derive(Clone, Copy)]
+enum Case {
+    New,
+    Taken,
+    Reads,
+}
+
+/// Does that with a store.
+fn run_over<S: Store>(
+    abort: &impl Abort,
+    rt: &HostRuntime,
+    store: &mut S,
+    case: Case,
+) -> io::Result<()> {
+    match case {
+        Case::New => take_each(abort, rt, store),
+        Case::Taken => {
+            make_taken(abort, store, rt.alloc());
+            Ok(())
+        }
+        Case::Reads => {
+            read_each(abort, store, rt.alloc());
+            Ok(())
+        }
+    }
+}
+
+/// Does that with a store of the machine's files. The tests share it, since what costs a proof is a call over these
+/// very types.
+fn over_files(abort: &impl Abort, rt: HostRuntime, case: Case) -> io::Result<()> {
+    run_over(abort, &rt, &mut FileStore::new(rt), case)
+}
+
 #[test]
 fn a_store_of_files_reads_them(rt: HostRuntime) -> io::Result<()> {
     let name = "stream_host.test";
     fs::write(&rt, name, "first")?;
-    read_each(&rt, &mut FileStore::new(rt), rt.alloc());
+    over_files(&rt, rt, Case::Reads)?;
     fs::remove_file(&rt, name)
 }
 
@@ -159,9 +190,24 @@ where
     (taken, end_of_new(store.new_disk(alloc, name, 3)))
 }
 
-/// Whether three bytes are written to a disk and made stable.
-fn is_written<D: Disk>(disk: &mut D) -> bool {
-    disk.write_at(0, b"abc").is_ok() && disk.sync().is_ok()
+/// Makes a disk of a name, which nobody else then has, and writes three bytes to it.
+fn made<S: Store>(
+    abort: &impl Abort,
+    rt: &HostRuntime,
+    store: &mut S,
+    name: &str,
+) -> Result<S::Disk, Fail>
+where
+    S::Disk: Drop,
+{
+    let mut disk = store.new_disk(rt.alloc(), name, 3)?;
+    assert_eq!(abort; mode(rt, name)?, 0o600);
+    assert_eq!(abort;
+        ends_while_out(store, rt.alloc(), name),
+        ("failed", "exists")
+    );
+    assert!(abort; write_stable(&mut disk, 0, b"abc").is_ok());
+    Ok(disk)
 }
 
 /// The length of the disk of a name, which is taken and given back.
@@ -186,22 +232,24 @@ where
     Ok(is_shown)
 }
 
+/// Takes and shows the disk of three bytes that a store got back.
+fn has_back<S: Store>(rt: &impl Abort, alloc: Global, store: &mut S, name: &str) -> Result<(), Fail>
+where
+    S::View: Drop,
+{
+    assert_eq!(rt; length_of(store, name)?, 3);
+    assert!(rt; shows_twice(store, alloc, name)?);
+    assert_eq!(rt; store_faults(store), (1, 0));
+    Ok(())
+}
+
 #[test]
 fn a_disk_of_a_file_is_had_once_at_a_time(rt: HostRuntime) -> Result<(), Fail> {
     let name = "stream_host.disk";
     let mut store = FileStore::new(rt);
-    let mut disk = store.new_disk(rt.alloc(), name, 3)?;
-    assert_eq!(rt; mode(&rt, name)?, 0o600);
-    assert_eq!(rt;
-        ends_while_out(&mut store, rt.alloc(), name),
-        ("failed", "exists")
-    );
-    assert!(rt; is_written(&mut disk));
+    let disk = made(&rt, &rt, &mut store, name)?;
     store.return_disk(name, disk);
-
-    assert_eq!(rt; length_of(&mut store, name)?, 3);
-    assert!(rt; shows_twice(&mut store, rt.alloc(), name)?);
-    assert_eq!(rt; store_faults(&store), (1, 0));
+    has_back(&rt, rt.alloc(), &mut store, name)?;
     fs::remove_file(&rt, name)?;
     Ok(())
 }

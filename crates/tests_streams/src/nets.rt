@@ -37,13 +37,18 @@ fn add_place(
     Ok(())
 }
 
+/// Does the calls of a script at a port in memory.
+fn meets_in(rt: &impl Abort, port: &mut MemPort, script: &str) {
+    meets(rt, port, script);
+}
+
 #[test]
 fn a_port_in_memory_accepts_its_links_in_order(rt: HostRuntime) -> Result<(), NoMemory> {
     let mut script = script(rt.alloc(), &["hello", "all 1"])?;
     script.failing.push(1)?;
     let place = Some(String::from_str(rt.alloc(), "here")?);
     let mut port = MemPort::new(rt.alloc(), place, script)?;
-    meets(
+    meets_in(
         &rt,
         &mut port,
         "serve he; faults 0 0; accept failed; faults 1 1; serve! al; faults 2 1; \
@@ -70,7 +75,7 @@ fn dialling_port(alloc: Global) -> Result<MemPort, NoMemory> {
 #[test]
 fn a_port_in_memory_dials_the_first_of_a_place(rt: HostRuntime) -> Result<(), NoMemory> {
     let mut port = dialling_port(rt.alloc())?;
-    meets(
+    meets_in(
         &rt,
         &mut port,
         "accept end; ask a fi; ask a se; ask! b; ask! a; faults 2 0; ask b ot",
@@ -161,9 +166,23 @@ fn makes<N: Net>(net: &mut N, alloc: Global, place: Option<&str>, count: u32) ->
     }
 }
 
-/// Whether a net counts so many faults, and as many of its ports.
-fn counts_both<N: Net>(net: &N, faults: u64) -> bool {
-    net.faults() == faults && net.port_faults() == faults
+/// Places, how many ports are made there, whether they are, and how many faults the net and its ports then count.
+const MADE: [(Option<&str>, u32, bool, u64); 4] = [
+    (Some("here"), 2, true, 0),
+    (None, 1, false, 1),
+    (Some("there"), 1, false, 2),
+    (None, 1, true, 2),
+];
+
+/// Makes these ports at a net.
+fn make_each<N: Net>(rt: &impl Abort, alloc: Global, net: &mut N) {
+    for (place, count, is_made, faults) in MADE {
+        assert!(rt; makes(net, alloc, place, count) == is_made, "{place:?}");
+        assert!(rt;
+            net.faults() == faults && net.port_faults() == faults,
+            "{place:?}"
+        );
+    }
 }
 
 #[test]
@@ -171,16 +190,7 @@ fn a_net_fails_where_it_is_listed_and_at_other_places(rt: HostRuntime) -> Result
     let mut failing = Vec::new(rt.alloc());
     failing.push(1)?;
     let mut net = MemNet::new(one_place(rt.alloc())?, Vec::new(rt.alloc()), failing);
-    let rows = [
-        (Some("here"), 2, true, 0),
-        (None, 1, false, 1),
-        (Some("there"), 1, false, 2),
-        (None, 1, true, 2),
-    ];
-    for (place, count, is_made, faults) in rows {
-        assert!(rt; makes(&mut net, rt.alloc(), place, count) == is_made);
-        assert!(rt; counts_both(&net, faults));
-    }
+    make_each(&rt, rt.alloc(), &mut net);
     assert!(rt; matches!(net.kept(2), Some(_)) && counts(net.kept(2)) == (None, 0, 0));
     Ok(())
 }

@@ -6,6 +6,7 @@ use std::cell::Cell;
 use std::fmt::Display;
 use std::io;
 use std::io::ErrorKind;
+use std::process::Abort;
 use stream_host::StdoutSink;
 use stream_io::Sink;
 
@@ -43,29 +44,33 @@ impl Print for FakeOutput<'_> {
     }
 }
 
+/// Writes `abc` to a sink that takes no more.
+fn fill<K: Sink>(rt: &impl Abort, sink: &mut K) {
+    assert!(rt; takes(sink, b"abc"));
+    assert_eq!(rt; sink.faults(), 0);
+    assert!(rt; !takes(sink, b"d"));
+    assert_eq!(rt; sink.faults(), 1);
+}
+
 #[test]
 fn an_output_is_tried_again_after_a_signal(rt: HostRuntime) {
     let taken = Cell::new(0);
-    let mut out = StdoutSink::new(FakeOutput {
+    let output = FakeOutput {
         taken: &taken,
         calls: Cell::new(0),
-    });
-    assert!(rt; takes(&mut out, b"abc"));
+    };
+    fill(&rt, &mut StdoutSink::new(output));
     assert_eq!(rt; taken.get(), b'c');
-    assert_eq!(rt; out.faults(), 0);
-    assert!(rt; !takes(&mut out, b"d"));
-    assert_eq!(rt; out.faults(), 1);
 }
 
-/// Whether a sink takes a piece without bytes.
-fn takes_nothing<K: Sink>(sink: &mut K) -> bool {
-    sink.write(b"") == Ok(0)
+/// Writes a line to a sink, and a piece without bytes.
+fn say<K: Sink>(rt: &impl Abort, sink: &mut K) {
+    assert!(rt; takes(sink, b"hello\n"));
+    assert!(rt; sink.write(b"") == Ok(0));
+    assert_eq!(rt; sink.faults(), 0);
 }
 
 #[test]
 fn standard_output_takes_all_bytes(rt: HostRuntime) {
-    let mut out = StdoutSink::new(rt);
-    assert!(rt; takes(&mut out, b"hello\n"));
-    assert!(rt; takes_nothing(&mut out));
-    assert_eq!(rt; out.faults(), 0);
+    say(&rt, &mut StdoutSink::new(rt));
 }

@@ -103,7 +103,7 @@ fn write_new<S: Store>(
 }
 
 /// Writes bytes at a place, and makes them stable.
-fn write_stable<D: Disk>(disk: &mut D, at: u64, bytes: &[u8]) -> Result<(), DiskFault>
+pub(crate) fn write_stable<D: Disk>(disk: &mut D, at: u64, bytes: &[u8]) -> Result<(), DiskFault>
     ensures told { D.told disk.new ≡ D.told disk.old }
     ensures honest { D.honest disk.new ≡ D.honest disk.old }
     ensures steady { D.steady disk.new ≡ D.steady disk.old }

@@ -6,6 +6,7 @@ use crate::talks::is_talk;
 use disk_trait::Faults;
 use memory::NoMemory;
 use std::alloc::Global;
+use std::process::Abort;
 use std::thread;
 use std::thread::Threads;
 use stream_io::{Accepted, Port, read_whole, write_whole};
@@ -27,6 +28,12 @@ fn port(alloc: Global) -> Result<MemPort, NoMemory> {
     MemPort::new(alloc, Some(String::from_str(alloc, "here")?), script)
 }
 
+/// Does the calls of a script on a link that waits. The tests share it, since what costs a proof is a call over these
+/// very types.
+fn says(rt: &impl Abort, link: &mut WaitingLink<'_, MemLink>, script: &str) {
+    talks(rt, link, script);
+}
+
 #[test]
 fn a_link_gives_no_more_before_the_bell_was_rung(rt: HostRuntime) -> Result<(), NoMemory> {
     let bell = Bell::new(3);
@@ -36,11 +43,11 @@ fn a_link_gives_no_more_before_the_bell_was_rung(rt: HostRuntime) -> Result<(), 
         rings: 2,
     };
     let mut link = WaitingLink::new(whole_link(rt.alloc(), "hello")?, Some(hold), None);
-    talks(&rt, &mut link, "read he; read!");
+    says(&rt, &mut link, "read he; read!");
     bell.ring();
-    talks(&rt, &mut link, "read!; write 1 a");
+    says(&rt, &mut link, "read!; write 1 a");
     bell.ring();
-    talks(&rt, &mut link, "read llo; read; faults 2");
+    says(&rt, &mut link, "read llo; read; faults 2");
     let (link, vain) = link.end();
     assert!(rt; link.faults() == 0 && vain == 2);
     Ok(())
@@ -60,11 +67,11 @@ fn a_link_takes_no_byte_before_another_was_written_to(rt: HostRuntime) -> Result
     };
     let mut one = WaitingLink::new(whole_link(rt.alloc(), "hello")?, Some(hold), None);
     let mut other = WaitingLink::new(whole_link(rt.alloc(), "")?, None, Some(ring));
-    talks(&rt, &mut one, "read hello; write! a");
-    talks(&rt, &mut other, "write 2 ab");
-    talks(&rt, &mut one, "write! a");
-    talks(&rt, &mut other, "write 2 cd; faults 0");
-    talks(&rt, &mut one, "write 1 a; faults 2");
+    says(&rt, &mut one, "read hello; write! a");
+    says(&rt, &mut other, "write 2 ab");
+    says(&rt, &mut one, "write! a");
+    says(&rt, &mut other, "write 2 cd; faults 0");
+    says(&rt, &mut one, "write 1 a; faults 2");
     assert!(rt; one.link().conversation().written() == b"a".as_slice());
     Ok(())
 }
@@ -113,6 +120,14 @@ fn a_port_waits_until_another_has_answered(rt: HostRuntime) -> Result<(), NoMemo
     Ok(())
 }
 
+/// Serves a port whose link waits in vain, which is a fault of the port, and dials once the bell was rung.
+fn serve_in_vain<P: Port>(rt: &impl Abort, port: &mut P, bell: &Bell) {
+    serve(port);
+    meets(rt, port, "faults 1 0");
+    bell.ring();
+    meets(rt, port, "ask b other; ask! b; faults 2 0");
+}
+
 #[test]
 fn a_wait_in_vain_is_a_fault_of_the_port(rt: HostRuntime) -> Result<(), NoMemory> {
     let bell = Bell::new(3);
@@ -122,10 +137,7 @@ fn a_wait_in_vain_is_a_fault_of_the_port(rt: HostRuntime) -> Result<(), NoMemory
         rings: 1,
     };
     let mut port = WaitingPort::new(port(rt.alloc())?, Some(hold), None);
-    serve(&mut port);
-    meets(&rt, &mut port, "faults 1 0");
+    serve_in_vain(&rt, &mut port, &bell);
     assert!(rt; matches!(port.kept().talk(0), Some(talk) if talk.faults() == 1));
-    bell.ring();
-    meets(&rt, &mut port, "ask b other; ask! b; faults 2 0");
     Ok(())
 }
