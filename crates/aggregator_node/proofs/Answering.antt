@@ -19,8 +19,8 @@ use Rattle.share_files.specs.Reference.{leaves_length}
 use Rattle.stream_io.specs.Net.{PortState}
 use Rattle.stream_io.specs.Talk.{OnlyWrote, Talk, WrotePart}
 use Rattle.stream_io.specs.declared.failed.Failed.{Failed}
-use Rattle.trustee_node.specs.declared.served.ServedEnd.{ServedEnd}
-use Rattle.trustee_node.specs.declared.served.ServedEnd.TheVariants.{WriteFailed}
+use Rattle.node_workers.specs.declared.served.ServedEnd.{ServedEnd}
+use Rattle.node_workers.specs.declared.served.ServedEnd.TheVariants.{WriteFailed}
 
 -- what is said of an answer is said of its signature
 pub accepted_as : (key : PublicKey) (message : List ℕ) (result : Result Signed SignFault) → IfOk result (λ signed. AcceptsAt key message signed.bytes.items signed.leaf)

@@ -17,10 +17,10 @@ use Rattle.aggregator_node.specs.Connections.{Connection}
 use Rattle.leaf_table.specs.declared.lease.Lease.{Lease}
 use Rattle.leaf_table.specs.declared.table.TableName.{TableName}
 use Rattle.stream_io.specs.Net.{PortOnward, PortState}
-use Rattle.trustee_node.proofs.Prefixes.{prefix-same, prefix-then}
-use Rattle.trustee_node.specs.Ports.{PortEnds, failed, full, none_waits}
-use Rattle.trustee_node.specs.declared.totals.Totals.{Totals}
-use Rattle.trustee_node.proofs.Gathering.{begins-left, begins-right}
+use Rattle.node_workers.proofs.Prefixes.{prefix-same, prefix-then}
+use Rattle.node_workers.specs.Ports.{PortEnds, failed, full, none_waits}
+use Rattle.node_workers.specs.declared.totals.Totals.{Totals}
+use Rattle.node_workers.proofs.Logs.{begins-left, begins-right}
 use Rattle.turn_lock.specs.Lock.{Lock}
 use Rattle.turn_lock.specs.Pass.{Joins, Seen, first_pass}
 

@@ -22,7 +22,7 @@ use Rattle.aggregator_session.specs.Signing as sessions
 use Rattle.aggregator_session.specs.Tables.{Entered, TableSeen}
 use Rattle.lms_bytes.specs.declared.message.MessageId.{MessageId}
 use Rattle.stream_io.specs.Net.{PortState}
-use Rattle.trustee_node.proofs.Prefixes.{prefix-is, prefix-then}
+use Rattle.node_workers.proofs.Prefixes.{prefix-is, prefix-then}
 use Rattle.turn_lock.specs.Pass.{SamePass, Seen}
 
 -- a pass went onward, and drew no more tickets than these

@@ -18,9 +18,9 @@ use Rattle.round_frames.specs.declared.fault.FrameFault.{FrameFault}
 use Rattle.round_frames.specs.declared.fault.FrameFault.TheVariants as frame
 use Rattle.session_core.specs.declared.faults.SessionFault.TheVariants as session
 use Rattle.stream_io.specs.declared.failed.Failed.{Failed}
-use Rattle.trustee_node.specs.Connections.{end_by}
-use Rattle.trustee_node.specs.declared.served.ServedEnd.{ServedEnd}
-use Rattle.trustee_node.specs.declared.served.ServedEnd.TheVariants.{Frame, Full, Worn, WriteFailed}
+use Rattle.node_workers.specs.Ends.{end_by}
+use Rattle.node_workers.specs.declared.served.ServedEnd.{ServedEnd}
+use Rattle.node_workers.specs.declared.served.ServedEnd.TheVariants.{Frame, Full, Worn, WriteFailed}
 
 signature-size : (params : Params) (bytes : List ℕ) (q : ℕ) (c y path : List ℕ) → HasLayout params bytes q c y path → length bytes ≡ signature_length params
 signature-size params bytes q c y path has =

@@ -11,10 +11,10 @@ use Rattle.leaf_table.specs.declared.lease.Lease.{Lease}
 use Rattle.leaf_table.specs.declared.table.TableName.{TableName}
 use Rattle.round_frames.specs.declared.fault.FrameFault.TheVariants.{ReadFault}
 use Rattle.stream_io.specs.Net.{IsNewPort, NetState, PortState}
-use Rattle.trustee_node.specs.Connections.{IsLinkFault}
-use Rattle.trustee_node.specs.declared.served.ServedEnd.{ServedEnd}
-use Rattle.trustee_node.specs.declared.served.ServedEnd.TheVariants.{Closed, Frame, Full, Worn, WriteFailed}
-use Rattle.trustee_node.specs.declared.totals.Totals.{Totals}
+use Rattle.node_workers.specs.Ends.{IsLinkFault}
+use Rattle.node_workers.specs.declared.served.ServedEnd.{ServedEnd}
+use Rattle.node_workers.specs.declared.served.ServedEnd.TheVariants.{Closed, Frame, Full, Worn, WriteFailed}
+use Rattle.node_workers.specs.declared.totals.Totals.{Totals}
 
 which-fault : (ended : ServedEnd) → IsLinkFault ended → (ended ≡ Frame ReadFault) ⊎ (ended ≡ WriteFailed)
 which-fault Closed failed = absurd failed

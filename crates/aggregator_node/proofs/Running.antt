@@ -15,10 +15,10 @@ use Rattle.aggregator_session.specs.declared.desk.Desk.{Desk}
 use Rattle.disk_trait.specs.declared.faults.Faults as faults
 use Rattle.reference_value.specs.declared.cells.Cells as cells
 use Rattle.stream_io.specs.Net.{PortState}
-use Rattle.trustee_node.specs.Starting.{fresh_workers}
-use Rattle.trustee_node.specs.declared.totals.Totals.{Totals}
-use Rattle.trustee_node.specs.declared.worker.Worker.{Worker}
-use Rattle.trustee_node.proofs.PortStanding.{written-whole}
+use Rattle.node_workers.specs.Starting.{fresh_workers}
+use Rattle.node_workers.specs.declared.totals.Totals.{Totals}
+use Rattle.node_workers.specs.declared.worker.Worker.{Worker}
+use Rattle.node_workers.proofs.Lists.{written-whole}
 use Rattle.turn_lock.specs.Lock.{Lock}
 use Rattle.turn_lock.specs.Pass.{Seen, first_pass}
 

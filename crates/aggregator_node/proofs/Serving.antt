@@ -13,10 +13,10 @@ use Rattle.round_frames.specs.declared.fault.FrameFault.{FrameFault}
 use Rattle.round_frames.specs.declared.fault.FrameFault.TheVariants as frame
 use Rattle.session_core.specs.declared.faults.SessionFault.TheVariants as session
 use Rattle.stream_io.specs.Net.{PortOnward, PortState}
-use Rattle.trustee_node.proofs.Onward.{onward-same, onward-then}
-use Rattle.trustee_node.specs.Connections.{end_by}
-use Rattle.trustee_node.specs.declared.served.ServedEnd.{ServedEnd}
-use Rattle.trustee_node.specs.declared.served.ServedEnd.TheVariants.{Worn}
+use Rattle.node_workers.proofs.Onward.{onward-same, onward-then}
+use Rattle.node_workers.specs.Ends.{end_by}
+use Rattle.node_workers.specs.declared.served.ServedEnd.{ServedEnd}
+use Rattle.node_workers.specs.declared.served.ServedEnd.TheVariants.{Worn}
 
 -- a port at which no link was accepted
 pub record Dialled (old new : PortState) : Type 0 where

@@ -26,7 +26,7 @@ use Rattle.lms_bytes.specs.declared.message.MessageId.{MessageId}
 use Rattle.stream_io.specs.Net.{PortState}
 use Rattle.turn_lock.specs.Pass.{Seen}
 use Rattle.aggregator_node.proofs.Turning.{burns-on, settles-on}
-use Rattle.trustee_node.proofs.Prefixes.{prefix-is, prefix-then}
+use Rattle.node_workers.proofs.Prefixes.{prefix-is, prefix-then}
 
 -- with no doubt nothing is settled
 settled-same : (before settled : TableState) → SettlesTo before settled → before.doubt ≡ None → settled.entries ≡ before.entries

@@ -9,7 +9,7 @@ use Rattle.aggregator_node.specs.Ports.{Place, places_of, reference_state}
 use Rattle.disk_trait.specs.declared.faults.Faults as faults
 use Rattle.reference_value.specs.declared.cells.Cells as cells
 use Rattle.stream_io.specs.Net.{PortState}
-use Rattle.trustee_node.proofs.PortStanding.{same-front, same-last}
+use Rattle.node_workers.proofs.Lists.{same-front, same-last}
 
 -- one more of each of two lists
 zip-push : {A B : Type 0} (xs : List A) (ys : List B) (x : A) (y : B) → length xs ≡ length ys → zip (xs ++ x ∷ []) (ys ++ y ∷ []) ≡ zip xs ys ++ (x, y) ∷ []

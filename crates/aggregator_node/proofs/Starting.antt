@@ -9,8 +9,8 @@ use Rattle.leaf_table.specs.declared.lease.Lease.{Lease}
 use Rattle.leaf_table.specs.declared.table.TableName.{TableName}
 use Rattle.reference_value.specs.declared.cells.Cells as cells
 use Rattle.stream_io.specs.Net.{PortState}
-use Rattle.trustee_node.specs.Starting.{fresh_worker, fresh_workers}
-use Rattle.trustee_node.specs.declared.worker.Worker.{Worker}
+use Rattle.node_workers.specs.Starting.{fresh_worker, fresh_workers}
+use Rattle.node_workers.specs.declared.worker.Worker.{Worker}
 use Rattle.turn_lock.specs.Pass.{Seen}
 
 module _ {P T X L : Type 0} (state : P → PortState) (c : cells.Ghosts X) (f : faults.Ghosts X) (pass : Seen Lease TableName) where

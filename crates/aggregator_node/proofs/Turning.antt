@@ -17,8 +17,8 @@ use Rattle.leaf_table.specs.declared.table.TableName.{TableName}
 use Rattle.leaf_table.proofs.Held.{holds}
 use Rattle.aggregator_session.specs.Tables.{TableSeen, name_of}
 use Rattle.lms_bytes.specs.declared.message.MessageId.{MessageId}
-use Rattle.trustee_node.proofs.Onward.{same-then}
-use Rattle.trustee_node.proofs.Prefixes.{prefix-is, prefix-then}
+use Rattle.node_workers.proofs.Onward.{same-then}
+use Rattle.node_workers.proofs.Prefixes.{prefix-is, prefix-then}
 use Rattle.turn_lock.specs.Lock.{Lock}
 use Rattle.turn_lock.specs.Pass.{DrawsOne, Gives, IsWornOut, SameDone, SameDrawn, SamePass, Seen, Takes}
 

@@ -8,13 +8,13 @@ use Rattle.aggregator_node.specs.Connections.{Connection, Leaves, WorkerParts, S
 use Rattle.aggregator_node.specs.Connections.{frames_of}
 use Rattle.aggregator_node.specs.Workers.{HasServedLink, WorkEnds, Worked, WorkerState, accept_failed, no_further}
 use Rattle.aggregator_node.proofs.Serving.{serves-few, serves-port, serves-told, serves-worn}
-use Rattle.trustee_node.proofs.Onward.{onward-same, onward-then}
+use Rattle.node_workers.proofs.Onward.{onward-same, onward-then}
 use Rattle.stream_io.specs.Net.{Accepts, PortOnward, PortState, SameLinks}
 use Rattle.stream_io.specs.Store.{RisesWhere}
 use Rattle.stream_io.specs.Talk.{Talk}
-use Rattle.trustee_node.specs.Workers.{NoLink}
-use Rattle.trustee_node.specs.declared.served.Served.{Served}
-use Rattle.trustee_node.specs.declared.served.ServedEnd.TheVariants.{Worn}
+use Rattle.node_workers.specs.Workers.{NoLink}
+use Rattle.node_workers.specs.declared.served.Served.{Served}
+use Rattle.node_workers.specs.declared.served.ServedEnd.TheVariants.{Worn}
 
 -- a link was accepted with the room that its talk tells
 pub accepted-as : (old new : PortState) (link : Talk) (steady : Bool) (room wide : ℕ) → wide ≡ room → Accepts old link steady room new → Accepts old link steady wide new

@@ -29,10 +29,10 @@ use Rattle.share_files.specs.Reference.{leaves_length}
 use Rattle.stream_io.specs.Net.{PortState}
 use Rattle.stream_io.specs.Store.{RisesWhere}
 use Rattle.stream_io.specs.Talk.{OnlyRead, OnlyWrote, Talk, WrotePart}
-use Rattle.trustee_node.specs.Connections.{end_by}
-use Rattle.trustee_node.specs.declared.served.Served.{Served}
-use Rattle.trustee_node.specs.declared.served.ServedEnd.{ServedEnd}
-use Rattle.trustee_node.specs.declared.served.ServedEnd.TheVariants.{Frame, Full, Worn, WriteFailed}
+use Rattle.node_workers.specs.Ends.{end_by}
+use Rattle.node_workers.specs.declared.served.Served.{Served}
+use Rattle.node_workers.specs.declared.served.ServedEnd.{ServedEnd}
+use Rattle.node_workers.specs.declared.served.ServedEnd.TheVariants.{Frame, Full, Worn, WriteFailed}
 use Rattle.turn_lock.specs.Pass.{Seen}
 
 -- where a connection stands: what the pass has seen, the port of its sessions, the count of faults of the cells that

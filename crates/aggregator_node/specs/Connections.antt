@@ -10,7 +10,7 @@ use Rattle.leaf_table.specs.declared.table.TableName.{TableName}
 use Rattle.aggregator_session.specs.Signing.{Signature}
 use Rattle.stream_io.specs.Net.{Accepts, KeepsTalk, PortOnward, PortState, SameLinks}
 use Rattle.stream_io.specs.Talk.{Ended, Talk}
-use Rattle.trustee_node.specs.declared.served.Served.{Served}
+use Rattle.node_workers.specs.declared.served.Served.{Served}
 use Rattle.turn_lock.specs.Pass.{Seen}
 
 -- where a worker stands: what its pass has seen, its port, and the count of faults of the reference that it reads

@@ -4,7 +4,7 @@ use Rattle.aggregator_node.specs.Clients.{longest_reply}
 use Rattle.aggregator_node.specs.Ports.{Place, PortRun}
 use Rattle.aggregator_node.specs.Connections.{Connection}
 use Rattle.lms_bytes.specs.declared.params.Params.{Params}
-use Rattle.trustee_node.specs.Connections.{IsLinkFault}
+use Rattle.node_workers.specs.Ends.{IsLinkFault}
 
 -- a link of this room takes all replies of a connection, 65,536 of the longest
 abbrev pub TakesAll : Params → ℕ → Type 0

@@ -13,8 +13,8 @@ use Rattle.reference_value.specs.declared.cells.Cells as cells
 use Rattle.stream_io.specs.Net.{HangsUp, PortOnward, PortState}
 use Rattle.stream_io.specs.Store.{RisesWhere}
 use Rattle.stream_io.specs.Talk.{Talk}
-use Rattle.trustee_node.specs.declared.served.Served.{Served}
-use Rattle.trustee_node.specs.declared.worker.Worker.{Worker}
+use Rattle.node_workers.specs.declared.served.Served.{Served}
+use Rattle.node_workers.specs.declared.worker.Worker.{Worker}
 use Rattle.turn_lock.specs.Lock.{Lock}
 use Rattle.turn_lock.specs.Pass.{Seen}
 

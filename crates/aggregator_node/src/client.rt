@@ -18,13 +18,13 @@ use crate::sign::sign_one;
 use aggregator_session::{Desk, SignFault, Signed};
 use disk_trait::{Disk, Faults};
 use leaf_table::Table;
+use node_workers::{Served, ServedEnd, end_by};
 use reference_value::Cells;
 use round_frames::{FrameFault, next_request, write_failure, write_signature};
 use session_core::SessionFault;
 use std::alloc::Global;
 use std::sync::Wait;
 use stream_io::{Failed, Port, Sink, Source, Stream};
-use trustee_node::{Served, ServedEnd, end_by};
 use turn_lock::{Pass, TurnLock};
 
 /// The most frames of one connection.

@@ -5,14 +5,14 @@ ghost use Rattle.std.specs.Prelude.{◌≡◌, ◌≤◌, ◌<◌, ◌+◌, ◌+
 ghost use Rattle.aggregator_node.specs.Gathered.{AreDone, Gathered, IsDone};
 ghost use Rattle.aggregator_node.specs.Ports.{Place, places_of};
 ghost use Rattle.aggregator_node.specs.Workers.{worker_state};
-ghost use Rattle.trustee_node.specs.Turns.{IsFree};
+ghost use Rattle.node_workers.specs.Workers.{IsFree};
 ghost use Rattle.turn_lock.specs.Pass.{first_pass};
 
 use disk_trait::{Disk, Faults};
 use leaf_table::Table;
+use node_workers::{Totals, Worker};
 use reference_value::Cells;
 use stream_io::Port;
-use trustee_node::{Totals, Worker};
 use turn_lock::{Pass, TurnLock};
 
 /// Joins the passes of workers that are done, adds their numbers, and puts their ports and cells into the room that

@@ -10,13 +10,13 @@ use crate::serve_client;
 use aggregator_session::Desk;
 use disk_trait::{Disk, Faults};
 use leaf_table::Table;
+use node_workers::{Served, Worker, next_link};
 use reference_value::Cells;
 use std::alloc::Global;
 use std::sync::Wait;
 use std::thread;
 use std::thread::Threads;
 use stream_io::{Port, Sink, Stream};
-use trustee_node::{Served, Worker, next_link};
 use turn_lock::{Pass, TurnLock};
 
 /// Serves one link after the other by each worker, all beside each other, until each has served `connections`, there is

@@ -17,8 +17,8 @@ use Rattle.leaf_table.specs.declared.table.TableName.{TableName}
 use Rattle.aggregator_session.specs.Signing.{Signature, signed_with}
 use Rattle.aggregator_session.specs.Tables.{TableSeen}
 use Rattle.lms_bytes.specs.declared.message.MessageId.{MessageId}
-use Rattle.trustee_node.specs.declared.served.ServedEnd.{ServedEnd}
-use Rattle.trustee_node.specs.declared.totals.Totals.{Totals}
+use Rattle.node_workers.specs.declared.served.ServedEnd.{ServedEnd}
+use Rattle.node_workers.specs.declared.totals.Totals.{Totals}
 use Rattle.turn_lock.specs.Pass.{Seen}
 
 -- nothing is in an empty list, and one thing in a list of one

@@ -20,7 +20,7 @@ use Rattle.hss_levels.proofs.Sets.{same-key}
 use Rattle.laws_signing.proofs.Tasks.{id-length, public-is, same-nodes, same-plan, tree-is}
 use Rattle.tool_base.specs.World.{StoreRun}
 use Rattle.tool_desk.specs.Files.{key_name, reference_name, tree_name}
-use Rattle.tool_desk.specs.Members.{members_placed}
+use Rattle.tool_sign.specs.Members.{members_placed}
 use Rattle.tool_desk.specs.Tree.{tree_bytes}
 use Rattle.tool_words.specs.Words.{AggregateWords}
 

@@ -5,7 +5,7 @@ use Rattle.std.proofs.lemmas.List.Elements.{All-map}
 use Rattle.std.specs.Prelude.{string_bytes}
 use Rattle.aggregator_session.specs.Addresses.{place_of}
 use Rattle.aggregator_session.specs.declared.desk.Address.{Address}
-use Rattle.tool_desk.specs.Members.{Placed, address}
+use Rattle.tool_sign.specs.Members.{Placed, address}
 
 abbrev number : Address → ℕ
 number one = one.member

@@ -30,7 +30,7 @@ use Rattle.tool_base.specs.Ending as ending
 use Rattle.tool_base.specs.Ending.{Ending}
 use Rattle.tool_base.specs.World.{StoreRun, file_limit}
 use Rattle.tool_desk.specs.Files.{reference_name}
-use Rattle.tool_desk.specs.Members.{members_placed}
+use Rattle.tool_sign.specs.Members.{members_placed}
 use Rattle.tool_base.specs.Loads.{FailsToLoad, damaged, device, no_memory, other_file}
 use Rattle.tool_sign.specs.Ports.{NetRun, SignedOver, Signing, answer_of, sign_of}
 use Rattle.tool_sign.specs.Signs.{SignedTable, TableEnds}

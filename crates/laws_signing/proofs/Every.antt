@@ -27,7 +27,7 @@ use Rattle.tool_aggregate.specs.Desks.{ReadsReference}
 use Rattle.tool_aggregate.specs.Serving.{ServedTable}
 use Rattle.tool_sign.specs.Ports.{NetRun}
 use Rattle.tool_words.specs.Words.{AggregateWords}
-use Rattle.trustee_node.specs.declared.served.ServedEnd.{ServedEnd}
+use Rattle.node_workers.specs.declared.served.ServedEnd.{ServedEnd}
 use Rattle.turn_lock.specs.Pass.{Seen}
 
 -- a request without status 16 did not meet a worn pass

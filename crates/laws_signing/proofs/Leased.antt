@@ -10,7 +10,7 @@ use Rattle.aggregator_node.specs.Clients as clients
 use Rattle.aggregator_node.specs.Logs.{LeaseShows, Shows}
 use Rattle.aggregator_node.specs.Logs as logs
 use Rattle.aggregator_node.proofs.Keeping.{kept}
-use Rattle.trustee_node.proofs.Prefixes.{prefix-then}
+use Rattle.node_workers.proofs.Prefixes.{prefix-then}
 use Rattle.aggregator_node.specs.Ports.{Place, ServedClients}
 use Rattle.aggregator_node.specs.Connections.{Connection, WorkerParts, Works}
 use Rattle.aggregator_node.specs.Connections as connections
@@ -28,8 +28,8 @@ use Rattle.aggregator_session.specs.Tables.{TableSeen}
 use Rattle.lms_bytes.specs.MessageId.{message_id, message_id_bytes}
 use Rattle.lms_bytes.specs.declared.message.MessageId.{MessageId}
 use Rattle.laws_signing.proofs.Leaves.{lease-own}
-use Rattle.trustee_node.specs.declared.served.ServedEnd.{ServedEnd}
-use Rattle.trustee_node.specs.declared.totals.Totals.{Totals}
+use Rattle.node_workers.specs.declared.served.ServedEnd.{ServedEnd}
+use Rattle.node_workers.specs.declared.totals.Totals.{Totals}
 use Rattle.turn_lock.specs.Pass.{Seen}
 
 -- in a beginning of the log the leaf is leased for this message

@@ -29,7 +29,7 @@ use Rattle.tool_base.specs.World.{StoreRun, file_limit}
 use Rattle.tool_desk.specs.Files.{FailsKeyFiles, IsOfKey, IsOfOtherKey, key_name, reference_name, tree_name}
 use Rattle.tool_desk.specs.Files as files
 use Rattle.tool_desk.specs.Key.{key_file_fault}
-use Rattle.tool_desk.specs.Members.{IsCoalition, members_placed}
+use Rattle.tool_sign.specs.Members.{IsCoalition, members_placed}
 use Rattle.tool_desk.specs.Tree.{tree_bytes, tree_file_fault}
 use Rattle.tool_desk.specs.declared.files.KeyFiles.{KeyFiles}
 use Rattle.tool_sign.specs.Ports.{NetRun}

@@ -15,7 +15,7 @@ use Rattle.stream_io.specs.Net.{PortState}
 use Rattle.stream_io.specs.Store.{has_name}
 use Rattle.tool_base.specs.World.{StoreRun}
 use Rattle.tool_desk.specs.Files.{key_name, reference_name, tree_name}
-use Rattle.tool_desk.specs.Members.{members_placed}
+use Rattle.tool_sign.specs.Members.{members_placed}
 use Rattle.tool_sign.specs.Ports.{NetRun}
 use Rattle.tool_sign.specs.Tables.{IsTable, table_header}
 use Rattle.tool_sign.specs.Tasks.{message_limit}

@@ -26,7 +26,7 @@ use Rattle.stream_io.specs.Talk.{Talk}
 use Rattle.tool_base.specs.World.{StoreRun}
 use Rattle.tool_aggregate.specs.Desks.{IsDesk, ReadsReference}
 use Rattle.tool_desk.specs.Files.{key_name, reference_name, tree_name}
-use Rattle.tool_desk.specs.Members.{members_placed}
+use Rattle.tool_sign.specs.Members.{members_placed}
 use Rattle.tool_sign.specs.Tasks.{message_limit}
 use Rattle.tool_words.specs.Words.{AggregateWords}
 use Rattle.turn_lock.specs.Pass.{Seen}

@@ -23,7 +23,7 @@ use Rattle.tool_base.specs.Ending.{Ending}
 use Rattle.tool_base.specs.World.{Outside, StoreRun}
 use Rattle.tool_base.specs.declared.unsigned.Unsigned.TheVariants.{Missing}
 use Rattle.tool_desk.specs.Files.{key_name, reference_name, tree_name}
-use Rattle.tool_desk.specs.Members.{members_placed}
+use Rattle.tool_sign.specs.Members.{members_placed}
 use Rattle.tool_sign.specs.Lost.{longest_asks}
 use Rattle.tool_sign.specs.Ports.{NetRun}
 use Rattle.tool_sign.specs.Sign.{SigningRun}

@@ -1,7 +1,7 @@
 //! Tests of what no contract says: what the clocks give.
 
 use std::alloc::Global;
-use tool_base::{Clocks, MemClocks, SystemClocks};
+use tool_trustee::{Clocks, MemClocks, SystemClocks};
 use trustee_core::Clock;
 
 /// The first two answers of the second of two clocks.

@@ -11,7 +11,8 @@ use opening_journal::Journal;
 use share_files::{Share, read_share};
 use slot_file::prepare;
 use std::alloc::Global;
-use tool_base::{Clocks, MemClocks, header_of};
+use tool_base::header_of;
+use tool_trustee::{Clocks, MemClocks};
 use trustee_core::Trustee;
 use trustee_node::{Totals, serve_ports};
 

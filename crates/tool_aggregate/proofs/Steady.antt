@@ -27,7 +27,7 @@ use Rattle.tool_sign.specs.Ports.{NetRun}
 use Rattle.tool_desk.specs.Views.{FailsReferences}
 use Rattle.tool_desk.specs.Views as views
 use Rattle.tool_words.specs.Words.{AggregateWords}
-use Rattle.trustee_node.specs.Ports.{PortEnds, failed, full, none_waits}
+use Rattle.node_workers.specs.Ports.{PortEnds, failed, full, none_waits}
 
 -- a steady port never fails to accept
 accepted-by : (asked done : ℕ) (before after : PortState) → PortEnds asked done before after → before.accept_count ≡ 0 → IsTrue after.steady → after.accept_count ≡ 0

@@ -8,7 +8,7 @@ use Rattle.tool_base.specs.Ending as ending
 use Rattle.tool_base.specs.Ending.{Ending}
 use Rattle.tool_base.specs.World.{StoreRun}
 use Rattle.tool_desk.specs.Files.{AreKeyFiles, AreOfOneKey, FailsKeyFiles, reference_name}
-use Rattle.tool_desk.specs.Members.{address, placed}
+use Rattle.tool_sign.specs.Members.{address, placed}
 use Rattle.tool_desk.specs.Reference.{IsReferenceViewed}
 use Rattle.tool_desk.specs.declared.files.KeyFiles.{KeyFiles}
 use Rattle.tool_base.specs.Loads.{ReadsAs}

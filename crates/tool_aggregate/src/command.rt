@@ -13,7 +13,8 @@ use std::sync::Wait;
 use std::thread::Threads;
 use stream_io::{Net, Store};
 use tool_base::Ending;
-use tool_desk::{KeyFiles, addresses_of, end_cells, read_key_and_tree, view_cells};
+use tool_desk::{KeyFiles, end_cells, read_key_and_tree, view_cells};
+use tool_sign::addresses_of;
 use tool_words::AggregateWords;
 
 /// Signs for clients: reads the files of a dealing, with a view of the reference for each worker, and serves clients

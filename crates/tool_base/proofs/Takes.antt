@@ -2,9 +2,6 @@
 use Rattle.std.proofs.Common.{◌≡◌, ◌≢◌, ◌⊎◌, ◌+◌, ◌-◌, ◌^◌, ◌≤◌, min, ℕ, Bool, true, false, List, Some, None, if◌then◌else◌, IsTrue, inl, inr, refl, sym, ap, ◌∙◌, subst, arith}
 use Rattle.std.specs.Str.{bytes_eq}
 use Rattle.disk_trait.specs.Faults.{Rose}
-use Rattle.opening_journal.specs.declared.faults.JournalLoad.{JournalLoad}
-use Rattle.opening_journal.specs.declared.faults.JournalLoad.TheVariants as journal
-use Rattle.opening_journal.specs.Loading as journals
 use Rattle.slot_file.specs.declared.faults.CacheLoad.{CacheLoad}
 use Rattle.slot_file.specs.declared.faults.CacheLoad.TheVariants as cache
 use Rattle.slot_file.specs.Loading as caches
@@ -18,7 +15,7 @@ use Rattle.tool_base.specs.Ending.{Ending}
 use Rattle.tool_base.specs.Touched.{Keeps}
 use Rattle.tool_base.specs.World.{IsUnchanged, from_to}
 use Rattle.tool_base.specs.Disks.{DeviceFails, Stays}
-use Rattle.tool_base.specs.Loads.{FailsToLoad, IsDamagedFile, IsOtherFile, ReadsAs, damaged, device, end_of_journal, end_of_slots, no_memory, other_file}
+use Rattle.tool_base.specs.Loads.{FailsToLoad, IsDamagedFile, IsOtherFile, ReadsAs, damaged, device, end_of_slots, no_memory, other_file}
 use Rattle.tool_base.proofs.Outs.{IsBackAs, Round, back_as, out_same, round, taken_out}
 
 -- why slots are not loaded, by their fault
@@ -27,12 +24,6 @@ slots_other header count file fault (caches.other_file f is) = is
 
 slots_damaged : (header : Header) (count : ℕ) (file : List ℕ) (slot a b : ℕ) → caches.LoadRefused header count file (cache.Damaged slot a b) → IsFirstDamaged header.version count file slot a b
 slots_damaged header count file slot a b (caches.damaged s x y opens first) = first
-
-journal_other : (header : Header) (count : ℕ) (file : List ℕ) (fault : LoadFault) → journals.LoadRefused header count file (journal.Slots fault) → load_fault header count file ≡ Some fault
-journal_other header count file fault (journals.other_file f is) = is
-
-journal_damaged : (header : Header) (count : ℕ) (file : List ℕ) (leaf a b : ℕ) → journals.LoadRefused header count file (journal.Damaged leaf a b) → IsFirstDamaged 2 count file leaf a b
-journal_damaged header count file leaf a b (journals.damaged s x y opens first) = first
 
 module _ (a b c : StoreState) (name : List ℕ) (disk now : PagesState) (taken : Taken a name disk b) (goes : StoreOnward a b)
     (step : Returned b name now c) (comes : StoreOnward b c) (told_is : now.told ≡ disk.told) (honest_is : now.honest ≡ disk.honest) (steady_is : now.steady ≡ disk.steady) where
@@ -68,21 +59,6 @@ module _ (a b c : StoreState) (name : List ℕ) (disk now : PagesState) (taken :
     slots_not_loaded (cache.Damaged slot x y) refused succeeds cause =
         damaged (reads_as (IsDamagedFile header count) (λ told. record { slot = slot; a = x; b = y; first = slots_damaged header count disk.reads slot x y (refused told) }))
     slots_not_loaded cache.Device refused succeeds cause = device (device_fails (cause.failed refl) (λ steady told. succeeds steady told refl))
-
-    pub journal_not_loaded : header.version ≡ 2 → (fault : JournalLoad) → (IsTrue disk.told → journals.LoadRefused header count disk.reads fault)
-        → (IsTrue disk.steady → IsTrue disk.told → fault ≢ journal.Device) → RisesAt disk.count now.count fault journal.Device
-        → FailsToLoad header count (from_to a c) name (end_of_journal fault)
-    journal_not_loaded version (journal.Slots fault) refused succeeds cause =
-        other_file fault (reads_as (IsOtherFile header count fault) (λ told. record { fault_is = journal_other header count disk.reads fault (refused told) }))
-    journal_not_loaded version journal.NoMemory refused succeeds cause = no_memory
-    journal_not_loaded version (journal.Damaged leaf x y) refused succeeds cause =
-        damaged (reads_as (IsDamagedFile header count) (λ told. record {
-          slot = leaf;
-          a = x;
-          b = y;
-          first = rw version (journal_damaged header count disk.reads leaf x y (refused told));
-        }))
-    journal_not_loaded version journal.Device refused succeeds cause = device (device_fails (cause.failed refl) (λ steady told. succeeds steady told refl))
 
 -- a disk that was taken where nothing but counts had changed
 pub taken_unchanged : (first a b : StoreState) (name : List ℕ) (disk : PagesState) → IsUnchanged first a → Taken a name disk b → Taken first name disk b

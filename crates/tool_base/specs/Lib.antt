@@ -6,7 +6,6 @@ pub mod OutputOf
 pub mod Outputs
 pub mod Reads
 pub mod Touched
-pub mod Undealt
 pub mod World
 pub mod Disks
 pub mod Headers

@@ -1,7 +1,5 @@
 -- Files of slots that could not be loaded.
 use Rattle.std.specs.Prelude.{◌≡◌, ℕ, List, Some, IsTrue}
-use Rattle.opening_journal.specs.declared.faults.JournalLoad.{JournalLoad}
-use Rattle.opening_journal.specs.declared.faults.JournalLoad.TheVariants as journal
 use Rattle.slot_file.specs.declared.faults.CacheLoad.{CacheLoad}
 use Rattle.slot_file.specs.declared.faults.CacheLoad.TheVariants as cache
 use Rattle.slot_file.specs.Copies.{IsFirstDamaged}
@@ -49,12 +47,6 @@ pub data FailsToLoad (header : Header) (count : ℕ) (store : StoreRun) (name : 
   no_memory : FailsToLoad header count store name ending.NoMemory
 
 -- the end of each fault of loading
-abbrev pub end_of_journal : JournalLoad → Ending
-end_of_journal (journal.Slots fault) = ending.NotLoaded (load_fault_number fault)
-end_of_journal (journal.Damaged leaf a b) = ending.NotLoaded 6
-end_of_journal journal.Device = ending.DeviceFailed
-end_of_journal journal.NoMemory = ending.NoMemory
-
 abbrev pub end_of_slots : CacheLoad → Ending
 end_of_slots (cache.Slots fault) = ending.NotLoaded (load_fault_number fault)
 end_of_slots cache.NoMemory = ending.NoMemory

@@ -6,11 +6,9 @@ ghost use Rattle.hss_levels.specs.declared.verification.HssVerdict.TheVariants a
 ghost use Rattle.lms_verify.specs.declared.verification.Verdict.TheVariants as verdict;
 ghost use Rattle.tool_base.specs.Ending as spec;
 ghost use Rattle.tool_base.specs.Endings.{ending};
-ghost use Rattle.tool_base.specs.Undealt.{end_of_fault};
 
 use crate::undealt::Undealt;
 use crate::unsigned::Unsigned;
-use dealer::DealFault;
 use drill_schedule::Summary;
 use hss_levels::{HssFault, HssVerdict};
 use lms_bytes::Val;
@@ -261,17 +259,4 @@ fn exists_line(alloc: Global, name: &str) -> Result<String, AllocError>
     ensures { IfOk result (λ line. string_bytes line ≡ line_of (spec.Exists name.now)) }
 {
     format!(in alloc; "error 15 exists {name}\n")
-}
-
-/// The end for a fault of a dealing.
-pub fn end_of_fault(fault: DealFault) -> Ending
-    ensures { ending result ≡ end_of_fault fault }
-{
-    match fault {
-        DealFault::TooHigh { h } => Ending::NotDealt(Undealt::Height { h }),
-        DealFault::TooWide => Ending::NotDealt(Undealt::Width),
-        DealFault::BadEntropy { got, want } => Ending::NotDealt(Undealt::Entropy { got, want }),
-        DealFault::SameKeys { t, u } => Ending::NotDealt(Undealt::Keys { t, u }),
-        DealFault::NoMemory => Ending::NoMemory,
-    }
 }

@@ -1,8 +1,7 @@
-//! What the commands of the tool share: how a call ends, files that are read and written, disks that go out and come
-//! back, and clocks.
+//! What the commands of the tool share: how a call ends, files that are read and written, and disks that go out and
+//! come back.
 #![tactic(auto)]
 
-mod clocks;
 mod ending;
 mod headers;
 mod loads;
@@ -12,10 +11,9 @@ mod shares;
 mod undealt;
 mod unsigned;
 
-pub use clocks::{Clocks, MemClock, MemClocks, SystemClock, SystemClocks};
-pub use ending::{Ending, end_of_fault};
+pub use ending::Ending;
 pub use headers::header_of;
-pub use loads::{DAMAGED, end_of_journal, end_of_slots, load_fault_number};
+pub use loads::{DAMAGED, end_of_slots, load_fault_number};
 pub use outputs::{Output, test_all_new, test_new, write_all};
 pub use reading::{read_file, unreadable};
 pub use shares::read_share_file;

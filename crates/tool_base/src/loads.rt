@@ -2,10 +2,9 @@
 
 ghost use Rattle.std.specs.Prelude.{◌≡◌};
 ghost use Rattle.tool_base.specs.Endings.{ending};
-ghost use Rattle.tool_base.specs.Loads.{end_of_journal, end_of_slots, load_fault_number};
+ghost use Rattle.tool_base.specs.Loads.{end_of_slots, load_fault_number};
 
 use crate::Ending;
-use opening_journal::JournalLoad;
 use slot_file::{CacheLoad, LoadFault};
 
 /// The number that users see of a damaged slot.
@@ -24,21 +23,7 @@ pub fn load_fault_number(fault: LoadFault) -> u8
     }
 }
 
-/// The end where a journal or a leaf table is not loaded.
-pub fn end_of_journal(fault: JournalLoad) -> Ending
-    ensures { ending result ≡ end_of_journal fault }
-{
-    match fault {
-        JournalLoad::Slots(fault) => Ending::NotLoaded {
-            fault: load_fault_number(fault),
-        },
-        JournalLoad::Damaged { .. } => Ending::NotLoaded { fault: DAMAGED },
-        JournalLoad::Device => Ending::DeviceFailed,
-        JournalLoad::NoMemory => Ending::NoMemory,
-    }
-}
-
-/// The end where a book is not loaded.
+/// The end where a leaf table or a book is not loaded.
 pub fn end_of_slots(fault: CacheLoad) -> Ending
     ensures { ending result ≡ end_of_slots fault }
 {

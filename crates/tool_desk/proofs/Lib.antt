@@ -1,7 +1,6 @@
 pub mod Grammars
 pub mod Heads
 pub mod Keys
-pub mod Placing
 pub mod Viewing
 pub mod Outs
 pub mod Taking

@@ -1,7 +1,6 @@
 pub mod Files
 pub mod Heads
 pub mod Key
-pub mod Members
 pub mod Reference
 pub mod Tree
 pub mod Views

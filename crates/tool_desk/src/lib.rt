@@ -1,15 +1,13 @@
-//! What an aggregator signs with, read from the files of a dealing, and the trustees that it asks.
+//! What an aggregator signs with, read from the files of a dealing.
 #![tactic(auto)]
 
 mod files;
-mod members;
 mod reading;
 mod reference;
 mod tree;
 mod views;
 
 pub use files::{KeyFiles, file_name, read_key_and_tree, test_same_key};
-pub use members::{addresses_of, members_of, test_members};
 pub use reading::{read_key_file, read_tree_file};
 pub use reference::view_reference;
 pub use tree::DealtTree;

@@ -22,7 +22,7 @@ use Rattle.tool_base.specs.Ending.{Ending}
 use Rattle.tool_run.specs.Naming.{named_files}
 use Rattle.tool_run.specs.Steps.{Writes, all_new, given}
 use Rattle.tool_base.specs.Outputs.{AreDifferent, Output}
-use Rattle.tool_base.specs.Undealt.{end_of_fault}
+use Rattle.tool_run.specs.Undealt.{end_of_fault}
 use Rattle.tool_base.specs.World.{StoreRun}
 use Rattle.tool_base.specs.declared.undealt.Undealt.TheVariants.{Commitments}
 use Rattle.tool_words.specs.Words.{DealWords}

@@ -9,7 +9,7 @@ use Rattle.tool_run.proofs.Stepping.{two_given}
 use Rattle.std.proofs.lemmas.List.Elements.{All-cons, All-nil}
 use Rattle.tool_base.specs.Ending.{Ending, Rehearsed}
 use Rattle.tool_base.specs.Outputs.{AreDifferent, Output}
-use Rattle.tool_base.specs.Undealt.{end_of_fault}
+use Rattle.tool_run.specs.Undealt.{end_of_fault}
 use Rattle.tool_base.specs.World.{StoreRun}
 
 pub rehearsal_refused : (entropy : List ℕ) (fault : DealFault) → ((fault ≡ NoMemory) × CanRehearse entropy) ⊎ RehearsalFault entropy fault

@@ -20,7 +20,7 @@ use Rattle.stream_io.specs.declared.store.Readers.TheVariants.{Anyone, OwnerAlon
 use Rattle.tool_base.specs.Ending as ending
 use Rattle.tool_base.specs.Ending.{Ending}
 use Rattle.tool_base.specs.Outputs.{IsNew, Output}
-use Rattle.tool_base.specs.Undealt.{end_of_fault}
+use Rattle.tool_run.specs.Undealt.{end_of_fault}
 use Rattle.tool_desk.specs.Files.{key_name, reference_name, tree_name}
 use Rattle.tool_words.specs.Words.{DealWords}
 use Rattle.tool_base.specs.World.{StoreRun, Bytes, IsRead}

@@ -1,13 +1,10 @@
-pub mod Accepting
 pub mod Deal
 pub mod Drill
 pub mod HssCheck
-pub mod Losing
 pub mod Naming
 pub mod Rehearse
 pub mod ToolRun
-pub mod Serving
-pub mod Steady
 pub mod Steps
 pub mod Verify
-pub mod Witness
+pub mod Worlds
+pub mod Undealt

@@ -9,7 +9,7 @@ use Rattle.stream_io.specs.declared.store.Readers.TheVariants.{Anyone}
 use Rattle.tool_base.specs.Ending as ending
 use Rattle.tool_base.specs.Ending.{Ending, Rehearsed}
 use Rattle.tool_base.specs.Outputs.{IsNew, Output}
-use Rattle.tool_base.specs.Undealt.{end_of_fault}
+use Rattle.tool_run.specs.Undealt.{end_of_fault}
 use Rattle.tool_base.specs.World.{StoreRun}
 use Rattle.tool_run.specs.Steps.{AreRead, NewThen, StepThen, TextThen, Writes}
 

@@ -16,6 +16,7 @@ ghost use Rattle.tool_base.specs.Outputs.{EndsWith};
 ghost use Rattle.tool_words.specs.Rows.{deal_words};
 ghost use Rattle.tool_base.specs.World.{InAnyRun, IsBack, IsUnchanged, from_to};
 
+use crate::undealt::end_of_fault;
 use coalition_map::{Plan, PlanFault};
 use dealer::{CommittedFault, DealingFiles, Dealt, deal_beside, deal_committed_beside};
 use lms_bytes::Params;
@@ -23,9 +24,7 @@ use memory::NoMemory;
 use std::alloc::{AllocError, Global};
 use std::thread::Threads;
 use stream_io::{Readers, Store};
-use tool_base::{
-    Ending, FILE_LIMIT, Output, Undealt, end_of_fault, read_file, test_all_new, write_all,
-};
+use tool_base::{Ending, FILE_LIMIT, Output, Undealt, read_file, test_all_new, write_all};
 use tool_words::DealWords;
 
 /// Deals a key, and writes its files. The leaves are built by as many threads as there are processors.

@@ -4,12 +4,12 @@
 mod deal;
 mod drilling;
 mod hss_check;
-pub mod laws;
 mod reading;
 mod rehearse;
 mod tool;
+mod undealt;
 mod verify;
-pub mod witness;
 
 pub use tool::run_tool;
-pub use tool_base::{Clocks, FILE_LIMIT, MemClock, MemClocks, SystemClock, SystemClocks};
+pub use tool_base::FILE_LIMIT;
+pub use tool_trustee::{Clocks, MemClock, MemClocks, SystemClock, SystemClocks};

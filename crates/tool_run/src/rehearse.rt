@@ -11,11 +11,12 @@ ghost use Rattle.tool_run.specs.Rehearse.{IsBegun, IsNotRehearsed, IsRehearsedTo
 ghost use Rattle.tool_base.specs.World.{InAnyRun, IsBack, IsUnchanged, from_to};
 
 use crate::reading::read_two;
+use crate::undealt::end_of_fault;
 use dealer::{Rehearsed, public_file, rehearse};
 use memory::NoMemory;
 use std::alloc::Global;
 use stream_io::{Readers, Store};
-use tool_base::{Ending, Output, end_of_fault, test_new, write_all};
+use tool_base::{Ending, Output, test_new, write_all};
 
 /// Deals a key and signs a message with its first leaf in memory, and writes the public key and the signature.
 pub(crate) fn rehearse_files<S: Store>(

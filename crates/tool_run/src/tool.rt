@@ -17,13 +17,13 @@ use std::sync::Wait;
 use std::thread::Threads;
 use stream_io::{Failed, Net, Sink, Store, write_whole};
 use tool_aggregate::aggregate;
-use tool_base::{Clocks, Ending};
+use tool_base::Ending;
 use tool_blame::blame;
 use tool_journals::{approve_message, enrol_file, migrate_journal};
 use tool_levels::hss_sign;
 use tool_show::show_file;
 use tool_sign::sign;
-use tool_trustee::serve_trustee;
+use tool_trustee::{Clocks, serve_trustee};
 use tool_words::{Command, command_of};
 
 /// Does what the words ask for, and answers the status. The words begin with the command.

@@ -12,3 +12,4 @@ pub mod Tables
 pub mod Views
 pub mod Whole
 pub mod Writes
+mod Placing

@@ -12,3 +12,4 @@ pub mod Sign
 pub mod Causes
 pub mod Dealt
 pub mod Lost
+pub mod Members

@@ -10,7 +10,7 @@ use Rattle.tool_base.specs.Reads.{FailsUpTo}
 use Rattle.tool_base.specs.World.{Bytes, IsReadUpTo, StoreRun}
 use Rattle.tool_base.specs.declared.unsigned.Unsigned.TheVariants.{NotACoalition}
 use Rattle.tool_desk.specs.Files.{AreKeyFiles, AreOfOneKey, FailsKeyFiles, IsOfOtherKey, reference_name}
-use Rattle.tool_desk.specs.Members.{IsCoalition, address, members_placed, placed}
+use Rattle.tool_sign.specs.Members.{IsCoalition, address, members_placed, placed}
 use Rattle.tool_desk.specs.Reference.{FailsReference, IsReferenceViewed}
 use Rattle.tool_desk.specs.declared.files.KeyFiles.{KeyFiles}
 use Rattle.tool_base.specs.Loads.{ReadsAs}

@@ -11,6 +11,7 @@ ghost use Rattle.tool_sign.specs.Signs.{answer_in};
 ghost use Rattle.tool_sign.specs.Sources.{session_words, source_of};
 ghost use Rattle.tool_sign.specs.Tasks.{GoesWith, LacksTask, desk_of};
 
+use crate::members::{addresses_of, members_of, test_members};
 use crate::session::sign_with_table;
 use aggregator_session::{Address, Desk, Ended, Signed};
 use coalition_map::Members;
@@ -22,10 +23,7 @@ use share_files::RefHeader;
 use std::alloc::Global;
 use stream_io::{Net, Store};
 use tool_base::{Ending, read_file};
-use tool_desk::{
-    KeyFiles, addresses_of, members_of, read_key_and_tree, test_members, test_same_key,
-    view_reference,
-};
+use tool_desk::{KeyFiles, read_key_and_tree, test_same_key, view_reference};
 use tool_words::Places;
 
 /// How long a message may be that is signed, in bytes.

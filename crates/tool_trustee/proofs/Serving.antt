@@ -14,8 +14,9 @@ use Rattle.tool_base.specs.World.{TimeState}
 use Rattle.tool_words.specs.Words.{TrusteeWords}
 use Rattle.trustee_node.specs.Connections.{ClockState, clock_state}
 use Rattle.opening_journal.specs.declared.entry.Entry.{Entry}
-use Rattle.trustee_node.specs.Ports.{IsPortRun, PortEnds, PortRun, ServedPorts, failed, full, none_waits, ports_run}
-use Rattle.trustee_node.specs.declared.totals.Totals.{Totals}
+use Rattle.trustee_node.specs.Ports.{IsPortRun, PortRun, ServedPorts, ports_run}
+use Rattle.node_workers.specs.Ports.{PortEnds, failed, full, none_waits}
+use Rattle.node_workers.specs.declared.totals.Totals.{Totals}
 use Rattle.tool_trustee.specs.Nets.{HasAccepted, IsNewClock, NetServiceEnds, Service, ServiceEnds, no_memory, served}
 
 or_false : (a b : Bool) → (a || b) ≡ false → (a ≡ false) × (b ≡ false)

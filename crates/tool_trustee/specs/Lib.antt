@@ -1,4 +1,5 @@
 pub mod Journals
+pub mod Loads
 pub mod Lives
 pub mod Nets
 pub mod Services

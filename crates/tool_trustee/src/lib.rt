@@ -1,9 +1,12 @@
-//! Commands that serve: a trustee over the ports of a net.
+//! Commands that serve: a trustee over the ports of a net, and its clocks.
 #![tactic(auto)]
 
+mod clocks;
 pub mod laws;
+mod loads;
 mod nets;
 mod trustee;
 
+pub use clocks::{Clocks, MemClock, MemClocks, SystemClock, SystemClocks};
 pub use nets::end_of_service;
 pub use trustee::serve_trustee;

@@ -11,6 +11,7 @@ ghost use Rattle.tool_words.specs.Rows.{trustee_words};
 ghost use Rattle.trustee_core.specs.Trustee.{share_of};
 ghost use Rattle.trustee_node.specs.Trustees.{trustee_state};
 
+use crate::clocks::Clocks;
 use approval_book::Approved;
 use disk_trait::Disk;
 use memory::NoMemory;
@@ -19,7 +20,7 @@ use std::alloc::Global;
 use std::sync::Wait;
 use std::thread::Threads;
 use stream_io::{CallFault, Net, Port};
-use tool_base::{Clocks, Ending};
+use tool_base::Ending;
 use tool_words::TrusteeWords;
 use trustee_core::Trustee;
 use trustee_node::{Totals, serve_ports};

@@ -11,6 +11,8 @@ ghost use Rattle.tool_words.specs.Rows.{trustee_words};
 ghost use Rattle.trustee_core.specs.Trustee.{share_of};
 ghost use Rattle.trustee_node.specs.Trustees.{trustee_state};
 
+use crate::clocks::Clocks;
+use crate::loads::end_of_journal;
 use crate::nets::serve_net;
 use approval_book::Book;
 use opening_journal::Journal;
@@ -19,7 +21,7 @@ use std::alloc::Global;
 use std::sync::Wait;
 use std::thread::Threads;
 use stream_io::{CallFault, Net, Store};
-use tool_base::{Clocks, Ending, end_of_journal, end_of_slots, header_of, read_share_file};
+use tool_base::{Ending, end_of_slots, header_of, read_share_file};
 use tool_words::TrusteeWords;
 use trustee_core::Trustee;
 

@@ -16,11 +16,12 @@ use Rattle.round_frames.specs.declared.fault.FrameFault.TheVariants.{ReadFault, 
 use Rattle.share_files.specs.declared.share.Share.{Share}
 use Rattle.stream_io.specs.Store.{RisesWhere}
 use Rattle.stream_io.specs.Talk.{Talk, Took, WrotePart}
-use Rattle.trustee_node.specs.Connections.{EndsBy, FaultBehind, HasWritten, HaveMoments, IsDated, IsLinkFault, LeftBehind, ReadsAsks, WroteButLast, end_by, read_none, read_one}
+use Rattle.trustee_node.specs.Connections.{EndsBy, FaultBehind, HasWritten, HaveMoments, IsDated, LeftBehind, ReadsAsks, WroteButLast, read_none, read_one}
+use Rattle.node_workers.specs.Ends.{IsLinkFault, end_by}
 use Rattle.trustee_node.specs.Replies.{outcome_in, replies, reply_bytes}
 use Rattle.trustee_node.specs.Turns.{Turn, is_code, is_worn, with_code}
-use Rattle.trustee_node.specs.declared.served.ServedEnd.{ServedEnd}
-use Rattle.trustee_node.specs.declared.served.ServedEnd.TheVariants.{Frame}
+use Rattle.node_workers.specs.declared.served.ServedEnd.{ServedEnd}
+use Rattle.node_workers.specs.declared.served.ServedEnd.TheVariants.{Frame}
 use Rattle.trustee_node.specs.declared.turn.Answer.{Answer}
 use Rattle.trustee_node.specs.declared.turn.Answer.TheVariants as answer
 use Rattle.trustee_node.proofs.Serving.{with_code-append}

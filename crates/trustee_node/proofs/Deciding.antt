@@ -15,7 +15,7 @@ use Rattle.share_files.specs.declared.share.Share.{Share}
 use Rattle.trustee_core.specs.Decisions.{Answer, Decides, FailsTest, HasTag, IsForLeaf, Refused, answer_of, bad_check, first, foreign_key, no_such_leaf, not_member, second, tested, too_long}
 use Rattle.trustee_core.specs.declared.refusal.Refusal.{Refusal}
 use Rattle.trustee_node.specs.Turns.{Answers, InTurn, ReachesJournal, device, is_code, step, torn}
-use Rattle.trustee_node.proofs.Prefixes.{prefix-is}
+use Rattle.node_workers.proofs.Prefixes.{prefix-is}
 
 -- what a decision met, in entries that go on from those before, and what it added to them
 pub record Met (share : Share) (ids : Option (List (List ℕ))) (before : JournalState) (ask : Ask) (moment : ℕ) (answer : BookAnswer) (after : JournalState) : Type 0 where

@@ -3,8 +3,6 @@ use Rattle.std.proofs.Common.{◌≡◌, ◌+◌, ◌^◌, ◌≤◌, ◌<◌, �
 use Rattle.std.specs.Prelude.{Contains, count_by}
 use Rattle.std.proofs.lemmas.List.{length-map}
 use Rattle.std.proofs.lemmas.List.Elements.{All-contains}
-use mathlib.Core.Logic.{dite}
-use native.Mathlib.Decide.{dec_le}
 use Rattle.opening_journal.specs.declared.entry.Entry.{Entry}
 use Rattle.share_files.specs.declared.share.Share.{Share}
 use Rattle.trustee_core.specs.declared.kept.TrusteeName.{TrusteeName}
@@ -17,7 +15,8 @@ use Rattle.trustee_node.specs.Turns.{HasSteadyDisk, IsAsked, IsNoteOf, NotedBy, 
 use Rattle.trustee_node.specs.Gathered.{Gathered}
 use Rattle.trustee_node.specs.Ports.{AllComeFrom, ComesFrom, IsPortRun, PortRun, PortsRun, ServedPorts, is_asked, turns_in, was_in_doubt, was_there}
 use Rattle.trustee_node.specs.Trustees.{TrusteeState}
-use Rattle.trustee_node.specs.declared.totals.Totals.{Totals}
+use Rattle.node_workers.proofs.Logs.{small-ticket}
+use Rattle.node_workers.specs.declared.totals.Totals.{Totals}
 use Rattle.turn_lock.specs.Lock.{Lock}
 use Rattle.turn_lock.specs.Pass.{IsWhole, Seen, first_pass}
 
@@ -37,14 +36,6 @@ pub record ClosedBy (lock : Lock Note TrusteeName) (pass : Seen Note TrusteeName
   pub number : new.faults ≡ pass.floor
   pub name : Some new.name ≡ pass.name
   pub whole : IsWhole lock pass
-
--- who drew so few tickets drew no worn one
-pub small-ticket : {E N : Type 0} (lock : Lock E N) (pass : Seen E N) (most : ℕ) → IsWhole lock pass → lock.first_ticket ≡ 0 → pass.draws ≤ most → most ≤ 2 ^ 60
-    → pass.greatest < 2 ^ 62
-small-ticket lock pass most whole start few bound =
-    dite (dec_le 1 pass.draws)
-    (λ drawn. let is = whole.tickets drawn in omega (arith, is, start, few, bound))
-    (λ never. let zero : pass.draws ≡ 0 = omega arith in let is = whole.no_ticket zero in omega (arith, is))
 
 -- each note of the last log was in the first one, or is of the turns
 module _ (lock : Lock Note TrusteeName) (old new : TrusteeState) (pass : Seen Note TrusteeName) (turns : List Turn)

@@ -1,5 +1,5 @@
 -- Passes that are joined.
-use Rattle.std.proofs.Common.{◌≡◌, ◌+◌, ◌-◌, ◌*◌, ◌^◌, ◌≤◌, ◌<◌, ◌⊎◌, ℕ, Bool, true, false, true≢false, max, min, cond, nat_lt, List, [], ◌∷◌, ◌++◌, Option, All, length, inl, inr, refl, sym, ap, ◌∙◌, subst, arith, append-nil, length-append}
+use Rattle.std.proofs.Common.{◌≡◌, ◌+◌, ◌-◌, ◌*◌, ◌^◌, ◌≤◌, ◌<◌, ℕ, true, false, true≢false, max, min, List, [], ◌∷◌, ◌++◌, Option, All, length, refl, sym, ap, ◌∙◌, subst, arith, append-nil, length-append}
 use Rattle.std.proofs.lemmas.List.{map-append}
 use Rattle.std.proofs.lemmas.List.Elements.{All-cons, All-head, All-nil, All-push, All-tail}
 use Rattle.std.proofs.lemmas.Grind.{flat_map-append}
@@ -16,31 +16,14 @@ use Rattle.trustee_node.specs.Connections.{ClockState}
 use Rattle.trustee_node.specs.Workers.{Connection, IsConnection, WorkEnds, WorkerState, Worked, accept_failed, frames_of, no_further, pass_worn, served_all, turns_of}
 use Rattle.trustee_core.proofs.NoteLists.{entries-append}
 use Rattle.trustee_node.proofs.Noting.{entries-prefix, noted-join}
-use Rattle.trustee_node.proofs.Standing.{begins-length}
 use Rattle.trustee_node.proofs.Serving.{served-then, with_code-append}
 use Rattle.trustee_node.specs.Gathered.{Gathered, IsDone}
-use Rattle.trustee_node.specs.Ports.{IsPortRun, PortEnds, PortRun, failed, full, none_waits, ports_run, turns_in}
-use Rattle.trustee_node.specs.declared.totals.Totals.{Totals}
+use Rattle.trustee_node.specs.Ports.{IsPortRun, PortRun, ports_run, turns_in}
+use Rattle.node_workers.specs.Ports.{PortEnds, failed, full, none_waits}
+use Rattle.node_workers.proofs.Logs.{begins-left, begins-right}
+use Rattle.node_workers.specs.declared.totals.Totals.{Totals}
 use Rattle.turn_lock.specs.Lock.{Lock}
-use Rattle.turn_lock.specs.Pass.{Joins, Seen, first_pass, longer_of}
-use Rattle.turn_lock.proofs.Prefixes.{prefix_all, prefix_whole}
-
--- each of two logs that met begins the longer one
-pub begins-left : {A : Type 0} (xs ys : List A) → IsPrefix xs ys ⊎ IsPrefix ys xs → IsPrefix xs (longer_of xs ys)
-begins-left xs ys one =
-    let Is : Bool → Type 0 = λ b. (nat_lt (length xs) (length ys) ≡ b) → IsPrefix xs (cond b ys xs) in
-    let all = elim (nat_lt (length xs) (length ys)) as Is [
-      | true ↦ λ is. elim one [ inl p ↦ p | inr q ↦ absurd (let le = begins-length ys xs q in let lt : length xs < length ys = grind (arith, is) in omega arith) ]
-      | false ↦ λ is. prefix_all xs xs refl
-    ] in all refl
-
-pub begins-right : {A : Type 0} (xs ys : List A) → IsPrefix xs ys ⊎ IsPrefix ys xs → IsPrefix ys (longer_of xs ys)
-begins-right xs ys one =
-    let Is : Bool → Type 0 = λ b. (nat_lt (length xs) (length ys) ≡ b) → IsPrefix ys (cond b ys xs) in
-    let all = elim (nat_lt (length xs) (length ys)) as Is [
-      | true ↦ λ is. prefix_all ys ys refl
-      | false ↦ λ is. elim one [ inl p ↦ prefix_all ys xs (sym (prefix_whole xs ys p (let le : length ys ≤ length xs = grind (arith, is) in omega arith))) | inr q ↦ q ]
-    ] in all refl
+use Rattle.turn_lock.specs.Pass.{Joins, Seen, first_pass}
 
 -- the turns of connections
 few-turns : (share : Share) (port : PortState) (served : List Connection) → All (IsConnection share port) served → length (turns_of served) ≤ 65536 * length served

@@ -6,9 +6,7 @@ mod Heads
 mod Lengths
 mod Masks
 mod Noting
-pub mod Onward
 pub mod Opening
-pub mod Prefixes
 pub mod Serving
 pub mod Standing
 mod Turning

@@ -11,7 +11,7 @@ use Rattle.lms_bytes.specs.declared.ask.Second.{Second}
 use Rattle.lms_bytes.specs.declared.params.Params.{Params}
 use Rattle.stream_io.specs.Talk.{Talk, WrotePart}
 use Rattle.trustee_core.specs.Grants.{masks_of}
-use Rattle.trustee_node.proofs.Prefixes.{prefix-same, prefix-more, prefix-then}
+use Rattle.node_workers.proofs.Prefixes.{prefix-same, prefix-more, prefix-then}
 
 pub joined-more : (f : ℕ → List ℕ) (i : ℕ) → joined f (i + 1) ≡ joined f i ++ f i
 unfolding joined

@@ -15,7 +15,7 @@ use Rattle.trustee_core.specs.declared.note.Note.TheVariants.{Made, Doubted}
 use Rattle.trustee_core.proofs.NoteLists.{entries-append}
 use Rattle.turn_lock.specs.Pass.{Seen}
 use Rattle.trustee_node.specs.Turns.{IsAsked, IsNoteOf, NotedBy, Turn, asked_by, asked_doubted, asked_made, turned_out}
-use Rattle.trustee_node.proofs.Prefixes.{prefix-same, prefix-then}
+use Rattle.node_workers.proofs.Prefixes.{prefix-same, prefix-then}
 
 pub entries-prefix : (xs ys : List Note) → IsPrefix xs ys → IsPrefix (entries_in xs) (entries_in ys)
 entries-prefix xs ys p = (entries_in p.0, sym (entries-append xs p.0) ∙ ap entries_in p.1)

@@ -17,7 +17,7 @@ use Rattle.trustee_core.proofs.Living.{opening-of}
 use Rattle.trustee_core.proofs.Stepping.{Fits, Steps, fits-later, granted-fits, steps-loaded, steps-none, steps-then}
 use Rattle.trustee_node.specs.Places.{IsLegal, Runs, StandUnder, run, stopped, granted_by, granted_in, if_granted}
 use Rattle.trustee_node.specs.Turns.{Answers, InTurn, NoTurn, Outcome, ServedTurns, Turn, device, ended, next, step, torn, worn}
-use Rattle.trustee_node.proofs.Prefixes.{prefix-then}
+use Rattle.node_workers.proofs.Prefixes.{prefix-then}
 use Rattle.trustee_node.proofs.Standing.{served-begins}
 
 abbrev Follows : List Entry → Entry → Type 0

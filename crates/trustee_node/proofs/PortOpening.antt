@@ -13,11 +13,11 @@ use Rattle.trustee_node.specs.Places.{StandUnder, granted_by, granted_in, if_gra
 use Rattle.trustee_node.specs.Turns.{InTurn, NoTurn, Outcome, Turn}
 use Rattle.trustee_node.specs.Workers.{turns_of}
 use Rattle.trustee_node.proofs.Opening.{one-opening}
-use Rattle.trustee_node.proofs.Prefixes.{prefix-same}
+use Rattle.node_workers.proofs.Prefixes.{prefix-same}
 use Rattle.trustee_node.proofs.Standing.{served-begins}
 use Rattle.trustee_node.specs.Ports.{IsPortRun, PortRun, PortsRun, ServedPorts, turns_in}
 use Rattle.trustee_node.specs.Trustees.{TrusteeState}
-use Rattle.trustee_node.specs.declared.totals.Totals.{Totals}
+use Rattle.node_workers.specs.declared.totals.Totals.{Totals}
 
 -- what was granted in turns after turns
 granted-one : (outcome : Outcome) (ask : Ask) (asks more : List Ask) → if_granted outcome ask (asks ++ more) ≡ if_granted outcome ask asks ++ more

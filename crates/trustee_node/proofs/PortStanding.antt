@@ -1,36 +1,14 @@
 -- Workers that stand to ports and clocks.
-use Rattle.std.proofs.Common.{◌≡◌, ◌+◌, ◌<◌, ℕ, List, [], ◌∷◌, ◌++◌, All, length, take, drop, get_or, refl, sym, ap, ◌∙◌, subst, arith, length-append}
-use Rattle.std.proofs.lemmas.List.{append_cancel_left, get_or_append_left, get_or-take, length-take-le, take_at, take_more}
-use Rattle.std.proofs.Math.Seq.{get_or-append_seam, take-append_seam, take-length}
+use Rattle.std.proofs.Common.{◌≡◌, ◌+◌, ◌<◌, ℕ, List, [], ◌∷◌, ◌++◌, All, length, take, get_or, refl, sym, ap, ◌∙◌, subst, arith, length-append}
+use Rattle.std.proofs.lemmas.List.{get_or_append_left, get_or-take, length-take-le, take_more}
+use Rattle.std.proofs.Math.Seq.{get_or-append_seam, take-length}
 use Rattle.std.proofs.lemmas.List.Elements.{All-nil, All-push}
 use Rattle.stream_io.specs.Net.{PortState}
 use Rattle.trustee_node.specs.Connections.{ClockState}
+use Rattle.node_workers.proofs.Lists.{same-front, same-last}
 use Rattle.trustee_node.specs.Gathered.{StandTo, none, one}
 
-pub none-of : {A : Type 0} (xs : List A) → length xs ≡ 0 → xs ≡ []
-none-of [] is = refl
-none-of (x ∷ xs) is = absurd (omega (arith, is))
-
 module _ {W : Type 0} where
-  -- a list of which a slice was written that is all of it
-  pub written-whole : (items slice news : List W) (len : ℕ) → slice ≡ items → length news ≡ length slice → len ≡ length items → take len (news ++ drop (length news) items) ≡ news
-  written-whole items slice news len value size count =
-      let same : len ≡ length news = omega (arith, count, size, ap length value) in
-      ap (λ (k : ℕ). take k (news ++ drop (length news) items)) same ∙ take-append_seam news (drop (length news) items)
-
-  -- of two lists that one worker ends, those before it and the worker agree
-  pub same-front : (xs ys : List W) (x y : W) → xs ++ x ∷ [] ≡ ys ++ y ∷ [] → xs ≡ ys
-  same-front xs ys x y is =
-      let sizes = ap length is in
-      let size : length ys ≡ length xs = omega (arith, sizes, length-append xs (x ∷ []), length-append ys (y ∷ [])) in
-      sym (take_at xs (x ∷ []) (length xs) refl) ∙ ap (take (length xs)) is ∙ take_at ys (y ∷ []) (length xs) size
-
-  pub same-last : (xs ys : List W) (x y : W) → xs ++ x ∷ [] ≡ ys ++ y ∷ [] → x ≡ y
-  same-last xs ys x y is =
-      let front = same-front xs ys x y is in
-      let whole : xs ++ x ∷ [] ≡ xs ++ y ∷ [] = is ∙ ap (λ (l : List W). l ++ y ∷ []) (sym front) in
-      let ends : x ∷ [] ≡ y ∷ [] = append_cancel_left xs (x ∷ []) (y ∷ []) whole in cc
-
   module _ (Is : PortState → ClockState → W → Type 0) where
     -- the last worker, and those before it
     pub record Split (ports : List PortState) (clocks : List ClockState) (workers : List W) (worker : W) : Type 0 where

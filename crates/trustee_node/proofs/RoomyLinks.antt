@@ -5,12 +5,12 @@ use Rattle.std.proofs.lemmas.List.Elements.{All-nil, All-cons, All-head, All-tai
 use Rattle.opening_journal.specs.declared.entry.Entry.{Entry}
 use Rattle.share_files.specs.declared.share.Share.{Share}
 use Rattle.stream_io.specs.Net.{IsNewPort, NetState, PortState}
-use Rattle.trustee_node.specs.Connections.{IsLinkFault}
+use Rattle.node_workers.specs.Ends.{IsLinkFault}
 use Rattle.trustee_node.specs.Ports.{HasRoomyLinks, IsPortRun, NoLinkFails, PortRun, PortsRun, ServedPorts, TakesAll}
 use Rattle.trustee_node.specs.Replies.{longest_reply}
 use Rattle.trustee_node.specs.Trustees.{TrusteeState}
 use Rattle.trustee_node.specs.Workers.{Connection, IsConnection}
-use Rattle.trustee_node.specs.declared.totals.Totals.{Totals}
+use Rattle.node_workers.specs.declared.totals.Totals.{Totals}
 
 module _ (share : Share) where
   sound-one : (port : PortState) (one : Connection) → HasRoomyLinks share.params port → IsConnection share port one → IsLinkFault one.served.ended → ⊥

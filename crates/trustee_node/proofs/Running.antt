@@ -10,11 +10,12 @@ use Rattle.trustee_node.specs.Connections.{ClockState, clock_state}
 use Rattle.trustee_node.specs.Workers.{WorkEnds, WorkerState, Worked, worker_state}
 use Rattle.trustee_node.specs.Gathered.{AreBegun, AreDone, Gathered, IsBegun, IsDone}
 use Rattle.trustee_node.specs.Ports.{PortRun, ports_run}
-use Rattle.trustee_node.specs.Starting.{fresh_workers}
-use Rattle.trustee_node.specs.declared.totals.Totals.{Totals}
-use Rattle.trustee_node.specs.declared.worker.Worker.{Worker}
+use Rattle.node_workers.specs.Starting.{fresh_workers}
+use Rattle.node_workers.specs.declared.totals.Totals.{Totals}
+use Rattle.node_workers.specs.declared.worker.Worker.{Worker}
 use Rattle.trustee_node.proofs.Starting.{begun-of}
-use Rattle.trustee_node.proofs.PortStanding.{stand-all, stand-then, written-whole}
+use Rattle.trustee_node.proofs.PortStanding.{stand-all, stand-then}
+use Rattle.node_workers.proofs.Lists.{written-whole}
 use Rattle.turn_lock.specs.Lock.{Lock}
 use Rattle.turn_lock.specs.Pass.{Seen, first_pass}
 

@@ -12,8 +12,8 @@ use Rattle.turn_lock.specs.Lock.{Lock}
 use Rattle.turn_lock.specs.Pass.{SamePass, Seen}
 use Rattle.trustee_node.specs.Turns.{Draws, Faults, HasSteadyDisk, IsIdle, ServedTurns, Serves, TellsDisk, Turn, added_by, ended, is_code, next, with_code}
 use Rattle.trustee_node.proofs.Noting.{noted-none, noted-then}
-use Rattle.trustee_node.proofs.Onward.{same-then}
-use Rattle.trustee_node.proofs.Prefixes.{prefix-same, prefix-then}
+use Rattle.node_workers.proofs.Onward.{same-then}
+use Rattle.node_workers.proofs.Prefixes.{prefix-same, prefix-then}
 
 -- a pass that was idle and is idle again
 pub idle-again : (lock : Lock Note TrusteeName) (share : Share) (old new : Seen Note TrusteeName) → IsIdle lock share old → SamePass old new → new.in_turn ≡ false → IsIdle lock share new

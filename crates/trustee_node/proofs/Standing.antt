@@ -6,10 +6,8 @@ use Rattle.opening_journal.specs.declared.entry.Entry.{Entry}
 use Rattle.share_files.specs.declared.share.Share.{Share}
 use Rattle.trustee_node.specs.Places.{StandInLog}
 use Rattle.trustee_node.specs.Turns.{ServedTurns, Turn, ended, next}
-use Rattle.trustee_node.proofs.Prefixes.{prefix-more, prefix-then}
-
-pub begins-length : {A : Type 0} (xs ys : List A) → IsPrefix xs ys → length xs ≤ length ys
-begins-length xs ys p = let e : length xs + length p.0 ≡ length ys = sym (length-append xs p.0) ∙ ap length p.1 in omega (arith, e)
+use Rattle.node_workers.proofs.Logs.{begins-length}
+use Rattle.node_workers.proofs.Prefixes.{prefix-more, prefix-then}
 
 take-begins : {A : Type 0} (xs ys : List A) → IsPrefix xs ys → take (length xs) ys ≡ xs
 take-begins xs ys p = ap (take (length xs)) (sym p.1) ∙ take-append_seam xs p.0

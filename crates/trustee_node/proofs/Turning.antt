@@ -31,8 +31,8 @@ use Rattle.trustee_node.specs.Turns.{HasSteadyDisk, InTurn, IsNoteOf, NoTurn, Ou
 use Rattle.trustee_node.proofs.Deciding.{book-met}
 use Rattle.trustee_node.proofs.Noting.{entries-prefix, note-of}
 use Rattle.trustee_core.proofs.NoteLists.{entries-append}
-use Rattle.trustee_node.proofs.Prefixes.{prefix-is, prefix-same, prefix-then}
-use Rattle.trustee_node.proofs.Onward.{same-then}
+use Rattle.node_workers.proofs.Prefixes.{prefix-is, prefix-same, prefix-then}
+use Rattle.node_workers.proofs.Onward.{same-then}
 
 module _ {D : Type 0} {p : pages.Ghosts D} {f : counting.Ghosts D} where
   -- what a trustee under a lock is called

@@ -13,12 +13,13 @@ use Rattle.trustee_core.specs.declared.note.Note.{Note}
 use Rattle.turn_lock.specs.Pass.{Seen}
 use Rattle.trustee_node.specs.Connections.{ClockState, EndsBy, HaveMoments, IsDated}
 use Rattle.trustee_node.specs.Turns.{Serves, Turn, with_code}
-use Rattle.trustee_node.specs.Workers.{Connection, IsConnection, NoLink, ServesLink, WorkEnds, WorkerState, Worked, accept_failed, no_further, turns_of}
-use Rattle.trustee_node.specs.declared.served.Served.{Served}
-use Rattle.trustee_node.specs.declared.served.ServedEnd.{ServedEnd}
-use Rattle.trustee_node.specs.declared.served.ServedEnd.TheVariants.{Worn}
+use Rattle.trustee_node.specs.Workers.{Connection, IsConnection, ServesLink, WorkEnds, WorkerState, Worked, accept_failed, no_further, turns_of}
+use Rattle.node_workers.specs.Workers.{NoLink}
+use Rattle.node_workers.specs.declared.served.Served.{Served}
+use Rattle.node_workers.specs.declared.served.ServedEnd.{ServedEnd}
+use Rattle.node_workers.specs.declared.served.ServedEnd.TheVariants.{Worn}
 use Rattle.trustee_node.proofs.Conversing.{dated-none}
-use Rattle.trustee_node.proofs.Onward.{onward-same, onward-then}
+use Rattle.node_workers.proofs.Onward.{onward-same, onward-then}
 use Rattle.trustee_node.proofs.Serving.{serves-none, serves-then, with_code-append}
 
 moments-then : (answers : ℕ → ℕ) (from : ℕ) (turns more : List Turn) → HaveMoments answers from turns → HaveMoments answers (from + length turns) more → HaveMoments answers from (turns ++ more)

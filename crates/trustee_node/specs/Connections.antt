@@ -6,7 +6,7 @@ use Rattle.lms_bytes.specs.declared.params.Params.{Params}
 use Rattle.round_frames.specs.Asks.{asks}
 use Rattle.round_frames.specs.Frames.{frame_of}
 use Rattle.round_frames.specs.declared.fault.FrameFault.{FrameFault}
-use Rattle.round_frames.specs.declared.fault.FrameFault.TheVariants.{End, Cut, Magic, Kind, TooLong, Shape}
+use Rattle.round_frames.specs.declared.fault.FrameFault.TheVariants.{End}
 use Rattle.round_frames.specs.declared.fault.FrameFault.TheVariants.{ReadFault, NoMemory}
 use Rattle.share_files.specs.declared.share.Share.{Share}
 use Rattle.stream_io.specs.Store.{RisesWhere}
@@ -16,9 +16,10 @@ use Rattle.trustee_core.specs.declared.note.Note.{Note}
 use Rattle.turn_lock.specs.Pass.{Seen}
 use Rattle.trustee_node.specs.Replies.{longest_reply, replies, reply_bytes}
 use Rattle.trustee_node.specs.Turns.{Serves, Turn, with_code}
-use Rattle.trustee_node.specs.declared.served.Served.{Served}
-use Rattle.trustee_node.specs.declared.served.ServedEnd.{ServedEnd}
-use Rattle.trustee_node.specs.declared.served.ServedEnd.TheVariants.{Closed, Frame, WriteFailed, Worn, Full}
+use Rattle.node_workers.specs.Ends.{IsLinkFault}
+use Rattle.node_workers.specs.declared.served.Served.{Served}
+use Rattle.node_workers.specs.declared.served.ServedEnd.{ServedEnd}
+use Rattle.node_workers.specs.declared.served.ServedEnd.TheVariants.{Closed, Frame, WriteFailed, Worn, Full}
 
 -- the bytes begin with the asks of these turns, one frame after the other, and this is what stands behind them
 pub data ReadsAsks (params : Params) : List ℕ → List Turn → List ℕ → Type 0 where
@@ -75,14 +76,6 @@ EndsBy WriteFailed frames turns = (frames + 1 ≡ length turns) × (with_code 11
 EndsBy Worn frames turns = (frames ≡ length turns) × (with_code 11 turns ≡ 1)
 EndsBy Full frames turns = (frames ≡ length turns) × (length turns ≡ 65536) × (with_code 11 turns ≡ 0)
 
--- the link failed, in a read or in a write
-abbrev pub IsLinkFault : ServedEnd → Type 0
-IsLinkFault Closed = ⊥
-IsLinkFault (Frame fault) = fault ≡ ReadFault
-IsLinkFault WriteFailed = ⊤
-IsLinkFault Worn = ⊥
-IsLinkFault Full = ⊥
-
 -- over a steady link with this room no read fails, and a write only where the replies take more
 abbrev pub FailsForRoom : Share → Bool → ℕ → ServedEnd → List Turn → Type 0
 FailsForRoom share steady room ended turns =
@@ -133,14 +126,3 @@ pub record Conversation (share : Share) (ids : Option (List (List ℕ))) (old ne
   pub fails : FailsForRoom share link.steady link.talk.room served.ended turns
   pub told : talk.told ≡ link.talk.told
   pub place : talk.place ≡ link.talk.place
-
--- the end of a connection whose next frame has this fault
-abbrev pub end_by : FrameFault → ServedEnd
-end_by End = Closed
-end_by Cut = Frame Cut
-end_by Magic = Frame Magic
-end_by (Kind got) = Frame (Kind got)
-end_by (TooLong got) = Frame (TooLong got)
-end_by Shape = Frame Shape
-end_by ReadFault = Frame ReadFault
-end_by NoMemory = Frame NoMemory

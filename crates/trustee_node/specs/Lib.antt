@@ -3,7 +3,6 @@ pub mod Places
 pub mod Replies
 pub mod Connections
 pub mod Workers
-pub mod Starting
 pub mod Trustees
 pub mod Ports
 pub mod Gathered

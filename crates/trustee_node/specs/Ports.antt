@@ -2,18 +2,19 @@
 use Rattle.std.specs.Prelude.{◌≡◌, ◌≤◌, ◌<◌, ◌+◌, ◌-◌, ◌*◌, ◌^◌, ◌++◌, ℕ, Bool, List, All, length, map, min}
 use Rattle.std.specs.Prelude.{count_by, Contains, Option, Some, IsTrue}
 use Rattle.std.specs.List.{flat_map, sum_by}
-use Rattle.disk_trait.specs.Faults.{Rose}
 use Rattle.lms_bytes.specs.declared.params.Params.{Params}
 use Rattle.opening_journal.specs.declared.entry.Entry.{Entry}
 use Rattle.share_files.specs.declared.share.Share.{Share}
 use Rattle.stream_io.specs.Net.{PortOnward, PortState}
 use Rattle.trustee_core.specs.declared.note.Note.TheVariants.{Doubted}
-use Rattle.trustee_node.specs.Connections.{ClockState, HaveMoments, IsLinkFault}
+use Rattle.trustee_node.specs.Connections.{ClockState, HaveMoments}
+use Rattle.node_workers.specs.Ends.{IsLinkFault}
 use Rattle.trustee_node.specs.Replies.{longest_reply}
 use Rattle.trustee_node.specs.Turns.{IsAsked, ServedTurns, Turn, added_by, with_code}
 use Rattle.trustee_node.specs.Workers.{Connection, IsConnection, frames_of, turns_of}
 use Rattle.trustee_node.specs.Trustees.{TrusteeState}
-use Rattle.trustee_node.specs.declared.totals.Totals.{Totals}
+use Rattle.node_workers.specs.Ports.{PortEnds}
+use Rattle.node_workers.specs.declared.totals.Totals.{Totals}
 
 -- a port before and after, the clock by which its asks were dated, and the connections that were served at it
 pub record PortRun : Type 0 where
@@ -21,13 +22,6 @@ pub record PortRun : Type 0 where
   pub after : PortState
   pub clock : ClockState
   pub served : List Connection
-
--- why a port was left: it had as many connections as it was to have, no further link waits, or accepting failed
-pub data PortEnds (asked served : ℕ) (before after : PortState) : Type 0 where
-  full : served ≡ asked → after.accept_count ≡ before.accept_count → PortEnds asked served before after
-  none_waits : (IsTrue before.told → after.waiting ≡ 0) → after.accept_count ≡ before.accept_count
-      → PortEnds asked served before after
-  failed : Rose before.accept_count after.accept_count → (IsTrue after.steady → ⊥) → PortEnds asked served before after
 
 -- A port was served: its connections had their turns one after the other, between these two logs, each was of a link
 -- that waited, and the port's talks grew by just theirs, as they ended

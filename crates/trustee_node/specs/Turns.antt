@@ -92,10 +92,6 @@ TellsDisk name = IsSomeAnd name (λ name. IsTrue name.told)
 abbrev pub HasSteadyDisk : Option TrusteeName → Type 0
 HasSteadyDisk name = IsSomeAnd name (λ name. IsTrue name.steady × IsTrue name.told)
 
--- the pass is of this lock, and holds no turn
-abbrev pub IsFree : {E N : Type 0} → Lock E N → Seen E N → Type 0
-IsFree lock pass = (pass.lock ≡ lock) × (pass.in_turn ≡ false)
-
 -- the pass is of this lock, round the trustee of this share, and holds no turn
 abbrev pub IsIdle : Lock Note TrusteeName → Share → Seen Note TrusteeName → Type 0
 IsIdle lock share pass =

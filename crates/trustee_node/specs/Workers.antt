@@ -3,18 +3,19 @@ use Rattle.std.specs.Prelude.{◌≡◌, ◌≤◌, ◌+◌, ◌-◌, ◌*◌, �
 use Rattle.std.specs.Prelude.{Option, None, IsTrue}
 use Rattle.std.specs.List.{flat_map, sum_by}
 use Rattle.share_files.specs.declared.share.Share.{Share}
-use Rattle.stream_io.specs.Net.{HangsUp, IsNewLink, PortOnward, PortState, SameLinks}
+use Rattle.stream_io.specs.Net.{HangsUp, IsNewLink, PortOnward, PortState}
 use Rattle.stream_io.specs.Store.{RisesWhere}
 use Rattle.stream_io.specs.Talk.{Ended, Talk}
 use Rattle.trustee_core.specs.declared.kept.TrusteeName.{TrusteeName}
 use Rattle.trustee_core.specs.declared.note.Note.{Note}
 use Rattle.turn_lock.specs.Pass.{Seen}
 use Rattle.trustee_node.specs.Connections.{ClockState, Conversation, EndsBy, FailsForRoom, HasRead, HasWritten}
-use Rattle.trustee_node.specs.Connections.{IsDated, IsLinkFault, LinkState, ServerState, clock_state}
+use Rattle.trustee_node.specs.Connections.{IsDated, LinkState, ServerState, clock_state}
+use Rattle.node_workers.specs.Ends.{IsLinkFault}
 use Rattle.trustee_node.specs.Replies.{longest_reply, replies}
 use Rattle.trustee_node.specs.Turns.{Serves, Turn, with_code}
-use Rattle.trustee_node.specs.declared.served.Served.{Served}
-use Rattle.trustee_node.specs.declared.worker.Worker.{Worker}
+use Rattle.node_workers.specs.declared.served.Served.{Served}
+use Rattle.node_workers.specs.declared.worker.Worker.{Worker}
 
 -- a worker in one state: its port, its pass and its clock, and what it did
 pub record WorkerState : Type 0 where
@@ -38,20 +39,6 @@ worker_state state told answers worker = record {
   worn = worker.worn;
   failed = worker.failed;
 }
-
--- a worker that has served one more connection, after which its pass is worn where this says so
-abbrev pub counted : {P T C L E N : Type 0} → Worker P T C L E N → Served → Bool → Worker P T C L E N
-counted worker served worn = record worker {
-  connections = worker.connections + 1;
-  frames = min (worker.frames + served.frames) (2 ^ 32 - 1);
-  worn = worn;
-}
-
--- a port gave no link: no further one is to come, or accepting failed where this says so
-pub record NoLink (old new : PortState) (failed : Bool) : Type 0 where
-  pub links : SameLinks old new
-  pub none_waits : failed ≡ false → IsTrue new.told → new.waiting ≡ 0
-  pub unsteady : failed ≡ true → IsTrue new.steady → ⊥
 
 -- a link was served, and then hung up at its port
 pub record ServesLink (share : Share) (ids : Option (List (List ℕ))) (old new : ServerState) (link : LinkState)

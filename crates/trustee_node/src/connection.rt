@@ -7,10 +7,10 @@ ghost use Rattle.trustee_node.specs.Connections.{Conversation, clock_state};
 ghost use Rattle.trustee_node.specs.Turns.{IsIdle};
 
 use crate::reply::write_reply;
-use crate::served::{Served, ServedEnd, end_by};
 use crate::turn::decide_in_turn;
 use approval_book::Approved;
 use disk_trait::{Disk, Faults};
+use node_workers::{Served, ServedEnd, end_by};
 use round_frames::{FrameFault, next_ask};
 use share_files::Share;
 use std::sync::Wait;

@@ -8,12 +8,11 @@ ghost use Rattle.trustee_node.specs.Connections.{ClockState};
 ghost use Rattle.trustee_node.specs.Workers.{worker_state};
 ghost use Rattle.trustee_node.specs.Gathered.{AreDone, Gathered, IsDone};
 ghost use Rattle.trustee_node.specs.Ports.{ports_run};
-ghost use Rattle.trustee_node.specs.Turns.{IsFree};
+ghost use Rattle.node_workers.specs.Workers.{IsFree};
 ghost use Rattle.turn_lock.specs.Pass.{first_pass};
 
-use crate::Worker;
-use crate::totals::Totals;
 use disk_trait::Disk;
+use node_workers::{Totals, Worker};
 use stream_io::Port;
 use trustee_core::{Clock, Trustee};
 use turn_lock::{Pass, TurnLock};

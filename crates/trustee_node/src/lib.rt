@@ -7,16 +7,11 @@ mod gather;
 pub mod laws;
 pub mod port_laws;
 mod reply;
-mod served;
 mod service;
-mod start;
-mod totals;
 mod turn;
 mod worker;
 
 pub use connection::serve_connection;
-pub use served::{Served, ServedEnd, end_by};
+pub use node_workers::{Served, ServedEnd, Totals, Worker};
 pub use service::serve_ports;
-pub use start::make_workers;
-pub use totals::Totals;
-pub use worker::{Worker, next_link, serve};
+pub use worker::serve;

@@ -9,12 +9,11 @@ ghost use Rattle.trustee_node.specs.Ports.{ServedPorts, ports_run};
 ghost use Rattle.trustee_node.specs.Trustees.{trustee_state};
 
 use crate::gather::gather;
-use crate::start::make_workers;
-use crate::totals::Totals;
-use crate::{Worker, serve};
+use crate::serve;
 use approval_book::Approved;
 use disk_trait::Disk;
 use memory::NoMemory;
+use node_workers::{Totals, Worker, make_workers};
 use share_files::Share;
 use std::alloc::Global;
 use std::sync::Wait;

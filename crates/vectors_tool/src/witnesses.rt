@@ -1,5 +1,7 @@
 //! Runs for which the premises of laws hold together. Each is the witness of a law, and a line says whether it is one.
 
+mod steady;
+
 use crate::scene::{Files, LINE, file, made, net_at_here, read_files, run, store_of, words_of};
 use laws_signing::witness::{Peer, lost_steadily, served_steadily, well_signed};
 use memory::NoMemory;
@@ -7,8 +9,8 @@ use std::alloc::Global;
 use std::io;
 use std::sync::Wait;
 use std::thread::Threads;
+use steady::ran_steadily;
 use stream_memory::MemStore;
-use tool_run::witness::ran_steadily;
 use tool_words::{Command, command_of};
 
 /// The words of `sign` here.

@@ -15,8 +15,8 @@ use std::sync::Wait;
 use std::thread::Threads;
 use stream_io::{Net, Store};
 use stream_memory::{MemNet, MemStore};
-use tool_base::{Clocks, Ending, MemClocks};
-use tool_trustee::serve_trustee;
+use tool_base::Ending;
+use tool_trustee::{Clocks, MemClocks, serve_trustee};
 use tool_words::TrusteeWords;
 
 /// Room for 65,536 of the longest replies of any parameter set: each has at most 99 bytes beside 8,480 of masks.

@@ -3,7 +3,7 @@ use Rattle.aggregator_node.specs.Clients.{ended, full, longest_reply, more}
 use Rattle.reference_value.proofs.Staying.{stays-then}
 use Rattle.aggregator_node.proofs.Answering.{answers_told, same_cells}
 use Rattle.aggregator_node.proofs.Replying.{one-more, room-left}
-use Rattle.trustee_node.specs.declared.served.ServedEnd.{ServedEnd}
+use Rattle.node_workers.specs.declared.served.ServedEnd.{ServedEnd}
 use Rattle.aggregator_node.proofs.client.serve_client.Goals as goal
 
 pub returns-in-Some-clause-serves : goal.returns-in-Some-clause-serves

@@ -3,7 +3,7 @@ use Rattle.std.proofs.Common.{◌≡◌, ◌+◌, ◌*◌, ◌≤◌, ℕ, List}
 use Rattle.aggregator_node.specs.Clients.{HasServed, ReferenceState, Request, Serves, Stand, longest_reply}
 use Rattle.aggregator_node.specs.Turns.{IsIdle}
 use Rattle.reference_value.specs.Stay.{CellsStay}
-use Rattle.trustee_node.specs.declared.served.ServedEnd.{ServedEnd}
+use Rattle.node_workers.specs.declared.served.ServedEnd.{ServedEnd}
 use Rattle.aggregator_node.proofs.client.serve_client.Given as goal
 
 -- whatever comes of the connection from where it stands comes of it from its start, with the replies so far

@@ -3,7 +3,7 @@ use Rattle.std.proofs.lemmas.List.Elements.{All-pop}
 use Rattle.aggregator_node.specs.Ports.{places_of}
 use Rattle.aggregator_node.specs.Workers.{worker_state}
 use Rattle.aggregator_node.proofs.Joining.{hand-all, hand-more, hand-one}
-use Rattle.trustee_node.proofs.PortStanding.{none-of}
+use Rattle.node_workers.proofs.Lists.{none-of}
 use Rattle.turn_lock.specs.Pass.{Seen}
 use Rattle.aggregator_node.proofs.gather.gather.Goals as goal
 

@@ -6,7 +6,7 @@ use Rattle.aggregator_node.proofs.Running.{done-of, idle-after, joined-all, read
 use Rattle.aggregator_node.proofs.Standing.{places-many}
 use Rattle.aggregator_node.proofs.Starting.{begun-of}
 use Rattle.aggregator_session.specs.Desks.{ReadsFor, desk_state}
-use Rattle.trustee_node.proofs.Starting.{fresh-own}
+use Rattle.node_workers.proofs.Starting.{fresh-own}
 use Rattle.turn_lock.specs.Pass.{first_pass}
 use Rattle.aggregator_session.specs.Tables.{name_of, table_seen}
 use Rattle.aggregator_node.proofs.service.serve_clients.Goals as goal

@@ -12,7 +12,7 @@ use Rattle.tool_aggregate.specs.Desks.{no_key_files, no_references}
 use Rattle.tool_aggregate.specs.Desks as desks
 use Rattle.tool_aggregate.proofs.Whole.{all_read, ends_in, keeps_in}
 use Rattle.tool_desk.specs.Files.{reference_name}
-use Rattle.tool_desk.specs.Members.{address, placed}
+use Rattle.tool_sign.specs.Members.{address, placed}
 use Rattle.tool_base.proofs.Outs.{keeps_unchanged}
 use Rattle.tool_sign.proofs.Whole.{keeps_on}
 use Rattle.tool_sign.specs.Ports.{over_net}

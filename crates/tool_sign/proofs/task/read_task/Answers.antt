@@ -1,6 +1,6 @@
 use Rattle.std.proofs.Common.{sym, ap, ◌∙◌, subst}
 use Rattle.std.proofs.lemmas.Result.{err_from_is_err_and}
-use Rattle.tool_desk.specs.Members.{IsCoalition, members_placed, placed}
+use Rattle.tool_sign.specs.Members.{IsCoalition, members_placed, placed}
 use Rattle.tool_sign.specs.Tasks.{no_coalition, no_memory, no_message, other_key}
 use Rattle.tool_sign.proofs.task.read_task.Goals as goal
 

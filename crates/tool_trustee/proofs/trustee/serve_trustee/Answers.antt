@@ -11,7 +11,8 @@ use Rattle.tool_base.specs.World.{IsUnchanged, Outside, from_to}
 use Rattle.tool_base.specs.Disks.{Stays}
 use Rattle.tool_base.specs.Loads.{FailsToLoad}
 use Rattle.tool_base.proofs.Outs.{out_here, taken_out}
-use Rattle.tool_base.proofs.Takes.{back, journal_not_loaded, round_rise, round_stays, stays, taken_unchanged, whole}
+use Rattle.tool_base.proofs.Takes.{back, round_rise, round_stays, stays, taken_unchanged, whole}
+use Rattle.tool_trustee.proofs.Loading.{journal_not_loaded}
 use Rattle.tool_trustee.specs.Journals.{IsJournal}
 use Rattle.tool_trustee.specs.Trustee.{IsTrustee, handed_of}
 use Rattle.tool_trustee.proofs.Asked.{no_doubts}

@@ -1,7 +1,8 @@
 use Rattle.std.proofs.Common.{◌≡◌, ◌≤◌, ◌+◌, ◌++◌, ℕ, [], ◌∷◌, length, Err, refl, sym, ap, subst, ◌∙◌, arith, append-nil, true≢false}
-use Rattle.trustee_node.specs.Connections.{IsLinkFault, ServerState, clock_state, read_none}
+use Rattle.trustee_node.specs.Connections.{ServerState, clock_state, read_none}
+use Rattle.node_workers.specs.Ends.{IsLinkFault}
 use Rattle.trustee_node.specs.Replies.{outcome_in, reply_bytes}
-use Rattle.trustee_node.specs.declared.served.ServedEnd.TheVariants.{WriteFailed, Worn, Full}
+use Rattle.node_workers.specs.declared.served.ServedEnd.TheVariants.{WriteFailed, Worn, Full}
 use Rattle.trustee_node.proofs.Asking.{heard-more, replied-more}
 use Rattle.trustee_node.proofs.Conversing.{cause-ended, dated-none, ends-ended, failed-cause, fault-read, fresh-is, left-ended, length-more, link-fault, quiet-cause, read-end, room-short, worn-few, worn-is, worn-more, worn-most, written-ended, written-part}
 use Rattle.trustee_node.proofs.Serving.{serves-none}

@@ -2,7 +2,7 @@ use Rattle.std.proofs.Common.{◌≡◌, false, [], ◌∷◌, ◌++◌, List, S
 use Rattle.std.proofs.lemmas.List.Elements.{All-pop}
 use Rattle.trustee_node.specs.Workers.{worker_state}
 use Rattle.trustee_node.proofs.Joining.{hand-all, hand-more, hand-one}
-use Rattle.trustee_node.proofs.PortStanding.{none-of}
+use Rattle.node_workers.proofs.Lists.{none-of}
 use Rattle.turn_lock.specs.Pass.{Seen}
 use Rattle.trustee_node.proofs.gather.gather.Goals as goal
 

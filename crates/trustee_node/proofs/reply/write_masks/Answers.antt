@@ -5,7 +5,7 @@ use Rattle.stream_io.proofs.Pieces.{part-front, wrote-same, wrote-then}
 use Rattle.stream_io.specs.Talk.{WrotePart}
 use Rattle.trustee_core.specs.Grants.{ask_of, mask_of}
 use Rattle.trustee_node.proofs.Masks.{gathered-all, gathered-on, gathered-part, joined-begins, part-of, room-all, room-on, room-there, some-masks}
-use Rattle.trustee_node.proofs.Prefixes.{prefix-in}
+use Rattle.node_workers.proofs.Prefixes.{prefix-in}
 use Rattle.trustee_node.proofs.reply.write_masks.Goals as goal
 
 pub batches-init : goal.batches-init

@@ -13,7 +13,7 @@ use Rattle.trustee_core.proofs.NotesHeld.{entries-held}
 use Rattle.trustee_core.specs.declared.kept.TrusteeName.{TrusteeName}
 use Rattle.trustee_node.specs.Turns.{HasSteadyDisk, TellsDisk}
 use Rattle.trustee_node.proofs.Heads.{sizes-c, sizes-digest}
-use Rattle.trustee_node.proofs.Onward.{same-then}
+use Rattle.node_workers.proofs.Onward.{same-then}
 use Rattle.trustee_node.proofs.Serving.{idle-again}
 use Rattle.trustee_node.proofs.Turning.{leaves, name_of, not-turned, noted-of, sure, took-gave, turned}
 use Rattle.trustee_node.proofs.turn.decide_in_turn.Goals as goal

@@ -1,0 +1,7 @@
+mod Accepting
+mod Finding
+mod Found
+mod Losing
+mod Offering
+mod Serving
+mod Steady

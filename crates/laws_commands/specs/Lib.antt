@@ -1,0 +1,4 @@
+pub mod Accepting
+pub mod Losing
+pub mod Serving
+pub mod Steady

@@ -1,0 +1,4 @@
+pub mod Ends
+pub mod Ports
+pub mod Starting
+pub mod Workers

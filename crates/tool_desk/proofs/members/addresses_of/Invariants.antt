@@ -1,7 +1,0 @@
-use Rattle.std.proofs.Common.{◌≡◌, map, option_map, take}
-use Rattle.tool_desk.specs.Members.{address, placed}
-use Rattle.tool_desk.proofs.members.addresses_of.Given as goal
-
--- the addresses so far
-abbrev pub invariant-places : goal.invariant-places
-invariant-places l = map address l.addresses.items ≡ placed (map (option_map (λ place. place.now)) (take l.i l.places))

@@ -1,0 +1,121 @@
+//! Runs drills whose outcomes another implementation found, and prints their lines. Of the first one it also prints
+//! what its disks hold at the end; and it runs the largest drill that there may be, twice.
+use disk_trait::MemDisk;
+use drill::{Drilled, run_drill};
+use memory::NoMemory;
+use slot_file::{Header, LoadFault, Slot, Slots};
+use std::io;
+
+/// Numbers, with how many sessions and events. One stands twice: a drill comes to the same each time.
+const DRILLS: [(u64, u32, u32); 6] = [
+    (7, 40, 0),
+    (7, 20, 400),
+    (7, 20, 400),
+    (1, 0, 50),
+    (2, 12, 300),
+    (4, 36, 900),
+];
+
+/// How many leaves the key of a drill has.
+const LEAVES: u32 = 32;
+
+/// How many slots of a file hold one body, and how many hold both.
+#[derive(Clone, Copy)]
+struct Count {
+    half: u32,
+    full: u32,
+}
+
+/// The slots on a disk, whatever key they are of.
+fn slots_on(disk: MemDisk, version: u8, number: u8) -> Option<Slots<MemDisk>> {
+    let header = Header {
+        version,
+        number,
+        lms: 5,
+        ots: 3,
+        id: [0; 16],
+    };
+    match Slots::load(disk, &header, LEAVES) {
+        Ok(slots) => Some(slots),
+        Err((disk, fault)) => match fault {
+            LoadFault::Foreign { kept } => Slots::load(disk, &kept, LEAVES).ok(),
+            _ => None,
+        },
+    }
+}
+
+/// What a disk holds, where it is a file of slots of that version.
+fn counted(disk: MemDisk, version: u8, number: u8) -> Option<Count> {
+    let mut slots = slots_on(disk, version, number)?;
+    let mut count = Count { half: 0, full: 0 };
+    for slot in 0..LEAVES {
+        if slot >= slots.count() {
+            return None;
+        }
+        match slots.look(slot).ok()? {
+            Slot::Half(_) => count.half = count.half.saturating_add(1),
+            Slot::Full(..) => count.full = count.full.saturating_add(1),
+            Slot::Free | Slot::Damaged { .. } => {}
+        }
+    }
+    Some(count)
+}
+
+/// Prints what the disks of a drill hold: of each journal how many leaves are opened and how many are only bound, and
+/// of the table how many are leased and how many are burnt.
+fn print_disks(rt: HostRuntime, drilled: Drilled) -> io::Result<()> {
+    let mut number = 1;
+    for disk in drilled.journals {
+        match counted(disk, 2, number) {
+            Some(count) => println!(rt;
+                "journal {number}: {} opened, {} bound",
+                count.full, count.half
+            )?,
+            None => println!(rt; "journal {number}: none")?,
+        }
+        number = number.saturating_add(1);
+    }
+    match counted(drilled.table, 1, 0) {
+        Some(count) => println!(rt; "table: {} leased, {} burnt", count.half, count.full),
+        None => println!(rt; "table: none"),
+    }
+}
+
+/// Runs the largest drill that there may be twice, and prints how many of its sessions signed, how many were refused,
+/// and whether both runs came to the same.
+fn print_largest(rt: HostRuntime) -> io::Result<()> {
+    let first = run_drill(rt.alloc(), 9, 10_000, 100_000);
+    let second = run_drill(rt.alloc(), 9, 10_000, 100_000);
+    let (Ok(first), Ok(second)) = (first, second) else {
+        return println!(rt; "out of memory");
+    };
+    let (first, second) = (first.summary, second.summary);
+    let again = if first == second {
+        "the same again"
+    } else {
+        "otherwise again"
+    };
+    println!(rt;
+        "signed {} refused {}, {again}",
+        first.signed, first.refused
+    )
+}
+
+/// Runs all drills, and prints what came of them.
+pub(crate) fn print_runs(rt: HostRuntime) -> io::Result<()> {
+    let alloc = rt.alloc();
+    for (index, (number, sessions, events)) in DRILLS.into_iter().enumerate() {
+        if sessions <= 10_000 && events <= 100_000 {
+            match run_drill(alloc, number, sessions, events) {
+                Ok(drilled) => {
+                    println!(rt; "{}", drilled.summary)?;
+                    if index == 0 {
+                        print_disks(rt, drilled)?;
+                    }
+                }
+                Err(NoMemory) => println!(rt; "out of memory")?,
+            }
+        }
+    }
+    print_largest(rt)
+}
