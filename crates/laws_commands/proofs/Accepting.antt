@@ -21,8 +21,8 @@ use Rattle.tool_base.specs.Outputs.{Output}
 use Rattle.tool_base.specs.Reads.{FailsToRead, failed, no_memory, too_long}
 use Rattle.tool_base.specs.World.{Bytes, Failed, IsRead, TooLong, file_limit, from_to}
 use Rattle.laws_commands.specs.Accepting.{IsAcceptable}
-use Rattle.tool_run.specs.Steps.{given, refused, verdict_told}
-use Rattle.tool_run.specs.Verify.{VerifyEnds}
+use Rattle.tool_keys.specs.Steps.{given, refused, verdict_told}
+use Rattle.tool_keys.specs.Verify.{VerifyEnds}
 
 -- under a key with the same parts the same is accepted
 same-accepts : (a b : PublicKey) (text bytes : List ℕ) (leaf : ℕ) → SameKey a b → AcceptsAt a text bytes leaf → AcceptsAt b text bytes leaf

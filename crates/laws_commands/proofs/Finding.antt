@@ -38,13 +38,13 @@ use Rattle.tool_levels.specs.HssSign as levels
 use Rattle.tool_levels.specs.Lower.{FailsLower}
 use Rattle.tool_levels.specs.Lower as lowers
 use Rattle.laws_commands.proofs.Found.{AreThere, Found, IsThere, UpTo, grammar-found, keys-found, lacks-found, last-found, list-1, list-2, list-3, list-4, load-found, new-found, nothing, other-found, reference-found, session-all, session-found, signature-found, table-found, unwritten-found, up-to-here, up-to-later, upto-found, whole}
-use Rattle.tool_run.specs.Deal.{DealEnds}
-use Rattle.tool_run.specs.HssCheck.{HssCheckEnds}
-use Rattle.tool_run.specs.Rehearse.{RehearseEnds}
+use Rattle.tool_keys.specs.Deal.{DealEnds}
+use Rattle.tool_keys.specs.HssCheck.{HssCheckEnds}
+use Rattle.tool_keys.specs.Rehearse.{RehearseEnds}
 use Rattle.laws_commands.specs.Steady.{before_table, book_of, names_found, names_needed, up_to}
-use Rattle.tool_run.specs.Steps as steps
+use Rattle.tool_keys.specs.Steps as steps
 use Rattle.tool_run.specs.ToolRun.{CommandRun}
-use Rattle.tool_run.specs.Verify.{VerifyEnds}
+use Rattle.tool_keys.specs.Verify.{VerifyEnds}
 use Rattle.tool_show.specs.Show.{ShowEnds}
 use Rattle.tool_show.specs.Show as show
 use Rattle.tool_sign.specs.Ports.{NetRun, Signing}

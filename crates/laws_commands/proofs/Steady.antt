@@ -17,7 +17,7 @@ use Rattle.tool_base.specs.Ending.{Ending, line_of, status_of}
 use Rattle.tool_base.specs.Grammars.{FailsGrammar}
 use Rattle.tool_base.specs.Outputs.{IsNotNew, IsNotWritten, Output}
 use Rattle.tool_base.specs.Reads.{FailsUpTo}
-use Rattle.tool_run.specs.Undealt.{end_of_fault}
+use Rattle.tool_keys.specs.Undealt.{end_of_fault}
 use Rattle.tool_base.specs.declared.unsigned.Unsigned.TheVariants as unsigned
 use Rattle.tool_base.specs.World.{Outside, OutputRun, StoreRun, World, from_to}
 use Rattle.tool_blame.proofs.Steady.{blame-steady}
@@ -38,12 +38,12 @@ use Rattle.tool_journals.specs.Migrate.{CopyEnds, MigrateEnds}
 use Rattle.tool_journals.specs.Migrate as migrate
 use Rattle.tool_journals.specs.Taking.{IsNotTaken, no_memory_to_take, take_failed}
 use Rattle.tool_levels.proofs.Steady.{levels-steady}
-use Rattle.tool_run.specs.Deal.{DealEnds, IsNotDealt}
-use Rattle.tool_run.specs.Deal as deal
+use Rattle.tool_keys.specs.Deal.{DealEnds, IsNotDealt}
+use Rattle.tool_keys.specs.Deal as deal
 use Rattle.tool_run.specs.Drill.{DrillEnds, drilled, no_memory}
-use Rattle.tool_run.specs.HssCheck.{HssCheckEnds}
-use Rattle.tool_run.specs.Rehearse.{IsNotRehearsed, RehearseEnds}
-use Rattle.tool_run.specs.Rehearse as rehearse
+use Rattle.tool_keys.specs.HssCheck.{HssCheckEnds}
+use Rattle.tool_keys.specs.Rehearse.{IsNotRehearsed, RehearseEnds}
+use Rattle.tool_keys.specs.Rehearse as rehearse
 use Rattle.laws_commands.proofs.Finding.{command-found}
 use Rattle.laws_commands.proofs.Offering.{command-offered}
 use Rattle.laws_commands.proofs.Losing.{command-loses}
@@ -52,9 +52,9 @@ use Rattle.laws_commands.specs.Serving.{ServesAll}
 use Rattle.tool_run.specs.Worlds.{IsSteadyWorld}
 use Rattle.laws_commands.specs.Steady.{HasCauses, IsUnoffered, Lacks, book_of, names_found, names_read, no_file, one_file, place_of}
 use Rattle.tool_run.specs.ToolRun.{CommandRun, IsAnswered, IsPrinted, ToolRun, WordsRun}
-use Rattle.tool_run.specs.Verify.{VerifyEnds}
-use Rattle.tool_run.specs.Steps.{Tells, TextThen, Writes}
-use Rattle.tool_run.specs.Steps as steps
+use Rattle.tool_keys.specs.Verify.{VerifyEnds}
+use Rattle.tool_keys.specs.Steps.{Tells, TextThen, Writes}
+use Rattle.tool_keys.specs.Steps as steps
 use Rattle.tool_show.specs.Show.{IsNotShown, ShowEnds}
 use Rattle.tool_show.specs.Show as show
 use Rattle.tool_trustee.specs.Trustee.{TrusteeEnds, store_of}

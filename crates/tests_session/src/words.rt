@@ -1,8 +1,7 @@
 //! Tests of what no contract says: that `clap` splits the words of a command.
 
 use std::alloc::{AllocError, Global};
-use tool_split::split_words;
-use tool_words::{Command, command_of};
+use tool_words::{Command, command_of, split_words};
 
 /// The words of a line.
 fn words_of(alloc: Global, line: &str) -> Result<Vec<String>, AllocError> {

@@ -1,10 +1,10 @@
 -- What a command does of the outside.
-use Rattle.std.proofs.Common.{◌≡◌, ◌∙◌, [], None, refl}
+use Rattle.std.proofs.Common.{◌≡◌, [], None, refl}
 use Rattle.stream_io.specs.Net.{NetState}
 use Rattle.stream_io.specs.Store.{StoreState}
 use Rattle.tool_base.specs.Ending as ending
-use Rattle.tool_base.specs.World.{IsBack, IsUnchanged, TimeState}
-use Rattle.tool_base.proofs.Runs.{unchanged_none, onward_on}
+use Rattle.tool_base.specs.World.{TimeState}
+use Rattle.tool_base.proofs.Runs.{unchanged_none}
 use Rattle.tool_base.proofs.Writing.{ends_untouched}
 use Rattle.tool_run.specs.ToolRun.{WordsRun}
 
@@ -14,12 +14,4 @@ pub usage_run : (a : StoreState) (net : NetState) (time : TimeState)
 usage_run a net time = record {
   run = ends_untouched a a (unchanged_none a) (λ end written. (end ≡ ending.Usage) × (written ≡ [])) ending.Usage (refl, refl);
   net = refl;
-}
-
--- a part of a run in which nothing was changed, and what came of the rest
-pub back_after : (a b c : StoreState) → IsUnchanged a b → IsBack b c → IsBack a c
-back_after a b c unchanged back = record {
-  onward = onward_on a b c unchanged.onward back.onward;
-  out = λ told name. back.out (rw unchanged.onward.told told) name ∙ rw unchanged.same.names.out refl;
-  views = λ told. back.views (rw unchanged.onward.told told) ∙ unchanged.same.loans.views;
 }

@@ -1,10 +1,3 @@
-pub mod Deal
 pub mod Drill
-pub mod HssCheck
-pub mod Naming
-pub mod Rehearse
 pub mod ToolRun
-pub mod Steps
-pub mod Verify
 pub mod Worlds
-pub mod Undealt

@@ -4,7 +4,7 @@ use Rattle.std.specs.Prelude.{if◌then◌else◌}
 use Rattle.disk_trait.specs.Faults.{Rose}
 use Rattle.stream_io.specs.Talk.{WrotePart}
 use Rattle.tool_base.specs.Ending.{Ending, Usage, NoMemory, status_of, line_of}
-use Rattle.tool_run.specs.Deal.{DealEnds}
+use Rattle.tool_keys.specs.Deal.{DealEnds}
 use Rattle.tool_base.specs.Outputs.{EndsWith}
 use Rattle.tool_base.specs.Touched.{EndsTouching}
 use Rattle.tool_blame.specs.Blame.{BlameRun}
@@ -14,9 +14,9 @@ use Rattle.tool_journals.specs.Enrol.{EnrolEnds}
 use Rattle.tool_journals.specs.Migrate.{MigrateEnds}
 use Rattle.tool_levels.specs.HssSign.{HssSigningRun}
 use Rattle.tool_run.specs.Drill.{DrillEnds}
-use Rattle.tool_run.specs.HssCheck.{HssCheckEnds}
-use Rattle.tool_run.specs.Rehearse.{RehearseEnds}
-use Rattle.tool_run.specs.Verify.{VerifyEnds}
+use Rattle.tool_keys.specs.HssCheck.{HssCheckEnds}
+use Rattle.tool_keys.specs.Rehearse.{RehearseEnds}
+use Rattle.tool_keys.specs.Verify.{VerifyEnds}
 use Rattle.tool_show.specs.Show.{ShowEnds}
 use Rattle.tool_trustee.specs.Trustee.{TrusteeRun}
 use Rattle.tool_sign.specs.Ports.{over_net}

@@ -1,14 +1,8 @@
 //! The tool: what its words ask for, what it reads and writes, and the status that it ends with.
 #![tactic(auto)]
 
-mod deal;
 mod drilling;
-mod hss_check;
-mod reading;
-mod rehearse;
 mod tool;
-mod undealt;
-mod verify;
 
 pub use tool::run_tool;
 pub use tool_base::FILE_LIMIT;

@@ -9,6 +9,7 @@ mod hss_sign_words;
 mod numbers;
 mod places;
 mod sign_words;
+mod split;
 mod trustee_words;
 mod words;
 
@@ -19,5 +20,6 @@ pub use drill_words::DrillWords;
 pub use hss_sign_words::HssSignWords;
 pub use places::Places;
 pub use sign_words::SignWords;
+pub use split::split_words;
 pub use trustee_words::TrusteeWords;
 pub use words::command_of;

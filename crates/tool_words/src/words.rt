@@ -15,9 +15,9 @@ use crate::hss_sign_words::HssSignWords;
 use crate::numbers::{number_of, number_within};
 use crate::places::Places;
 use crate::sign_words::SignWords;
+use crate::split::split_words;
 use crate::trustee_words::TrusteeWords;
 use std::alloc::Global;
-use tool_split::split_words;
 
 /// The command that the words are, if they are one. The rule of the words decides, and `clap` splits them: a word of
 /// its split is taken where it is the word of the rule. Numbers and address words are read from those that were given.

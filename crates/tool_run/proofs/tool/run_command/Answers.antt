@@ -3,8 +3,8 @@ use Rattle.tool_base.specs.World.{from_to}
 use Rattle.tool_base.proofs.Writing.{ends_untouched}
 use Rattle.tool_base.proofs.Runs.{unchanged_none}
 use Rattle.tool_run.specs.Drill.{DrillEnds}
-use Rattle.tool_run.specs.HssCheck.{HssCheckEnds}
-use Rattle.tool_run.specs.Verify.{VerifyEnds}
+use Rattle.tool_keys.specs.HssCheck.{HssCheckEnds}
+use Rattle.tool_keys.specs.Verify.{VerifyEnds}
 use Rattle.tool_show.specs.Show.{ShowEnds}
 use Rattle.tool_run.proofs.tool.run_command.Goals as goal
 

@@ -1,0 +1,7 @@
+pub mod Dealing
+pub mod Names
+pub mod Naming
+pub mod Plans
+pub mod Rehearsing
+pub mod Running
+pub mod Stepping

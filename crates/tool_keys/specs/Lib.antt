@@ -1,0 +1,7 @@
+pub mod Deal
+pub mod HssCheck
+pub mod Naming
+pub mod Rehearse
+pub mod Steps
+pub mod Undealt
+pub mod Verify

@@ -1,0 +1,296 @@
+//! The command `deal`.
+
+ghost use Rattle.std.specs.Prelude.{◌≡◌, ◌<◌, ◌≤◌, [], ◌++◌, List, ℕ, length, map, min, option_map, string_bytes};
+ghost use Rattle.std.specs.Prelude.{IfOk, IfErr, OnOk};
+ghost use Rattle.coalition_map.specs.Coalitions.{IsPlan};
+ghost use Rattle.dealer.specs.Dealt.{IsDealt};
+ghost use Rattle.dealer.specs.Files.{AreFiles};
+ghost use Rattle.dealer.specs.Entropy.{dealing_of};
+ghost use Rattle.tool_base.specs.Ending as spec;
+ghost use Rattle.tool_keys.specs.Naming.{named_files, named_shares};
+ghost use Rattle.tool_keys.specs.Deal.{AreAsked, DealEnds, IsDealableBy, IsDealtTo, IsNotDealt, IsReady, IsSet};
+ghost use Rattle.tool_keys.specs.Deal.{asked_commits, commits_outputs, plan_of};
+ghost use Rattle.tool_base.specs.Endings.{ending};
+ghost use Rattle.tool_base.specs.OutputOf.{output_of};
+ghost use Rattle.tool_base.specs.Outputs.{EndsWith};
+ghost use Rattle.tool_words.specs.Rows.{deal_words};
+ghost use Rattle.tool_base.specs.World.{InAnyRun, IsBack, IsUnchanged, from_to};
+
+use crate::undealt::end_of_fault;
+use coalition_map::{Plan, PlanFault};
+use dealer::{CommittedFault, DealingFiles, Dealt, deal_beside, deal_committed_beside};
+use lms_bytes::Params;
+use memory::NoMemory;
+use std::alloc::{AllocError, Global};
+use std::thread::Threads;
+use stream_io::{Readers, Store};
+use tool_base::{Ending, FILE_LIMIT, Output, Undealt, read_file, test_all_new, write_all};
+use tool_words::DealWords;
+
+/// Deals a key, and writes its files. The leaves are built by as many threads as there are processors.
+pub fn deal_files<R: Threads + Sync, S: Store>(
+    rt: &R,
+    alloc: Global,
+    store: &mut S,
+    words: &DealWords,
+) -> Ending
+    ensures ended { let run = from_to (S.state store.old) (S.state store.new) in
+        EndsWith (DealEnds run (deal_words words.now)) run (ending result) }
+    ensures back { IsBack (S.state store.old) (S.state store.new) }
+{
+    match try_deal(rt, alloc, store, words) {
+        Ok(done) => done,
+        Err(end) => end,
+    }
+}
+
+/// Deals a key as the words ask, and writes its files. It answers the end once all are written.
+fn try_deal<R: Threads + Sync, S: Store>(
+    rt: &R,
+    alloc: Global,
+    store: &mut S,
+    words: &DealWords,
+) -> Result<Ending, Ending>
+    ensures dealt { let run = from_to (S.state store.old) (S.state store.new) in
+        IfOk result (λ done. EndsWith (DealEnds run (deal_words words.now)) run (ending done)) }
+    ensures refused { let run = from_to (S.state store.old) (S.state store.new) in
+        IfErr result (λ end. EndsWith (DealEnds run (deal_words words.now)) run (ending end)) }
+    ensures back { IsBack (S.state store.old) (S.state store.new) }
+{
+    let (outputs, done) = new_outputs(rt, alloc, store, words)?;
+    write_all(alloc, store, &outputs)?;
+    Ok(done)
+}
+
+/// Reads the entropy, deals, and tests the names of the outputs. It answers these and the end once all are written.
+fn new_outputs<R: Threads + Sync, S: Store>(
+    rt: &R,
+    alloc: Global,
+    store: &mut S,
+    words: &DealWords,
+) -> Result<(Vec<Output>, Ending), Ending>
+    ensures ready { InAnyRun S.state store.old store.new (λ run. IfOk result (λ dealt.
+        IsReady run (deal_words words.now) (map output_of dealt.0.items) (ending dealt.1))) }
+    ensures refused { InAnyRun S.state store.old store.new (λ run.
+        IfErr result (λ end. DealEnds run (deal_words words.now) (ending end) [])) }
+    ensures unchanged { IsUnchanged (S.state store.old) (S.state store.new) }
+{
+    let entropy = read_file(alloc, store, words.entropy, FILE_LIMIT)?;
+    let (outputs, done) = dealt_outputs(rt, alloc, words, &entropy)?;
+    test_all_new(alloc, store, &outputs)?;
+    Ok((outputs, done))
+}
+
+/// The files of the dealing that the words ask for, and the end once they are written.
+fn dealt_outputs<R: Threads + Sync>(
+    rt: &R,
+    alloc: Global,
+    words: &DealWords,
+    entropy: &[u8],
+) -> Result<(Vec<Output>, Ending), Ending>
+    ensures dealt { IfOk result (λ dealt.
+        IsDealtTo (deal_words words.now) entropy.now (map output_of dealt.0.items) (ending dealt.1)) }
+    ensures refused { IfErr result (λ end. IsNotDealt (deal_words words.now) entropy.now (ending end)) }
+{
+    let params = set_of(words)?;
+    let plan = plan_of(words, &params)?;
+    let (files, commits) = dealt_files(rt, alloc, words, &params, &plan, entropy)?;
+    let outputs = name_files(alloc, words.prefix, files, commits)?;
+    let done = Ending::Dealt {
+        leaves: params.leaves(),
+        coalitions: plan.count(),
+    };
+    Ok((outputs, done))
+}
+
+/// The files of the dealing of this set, plan and entropy, and its commitment file where the words ask for it.
+fn dealt_files<R: Threads + Sync>(
+    rt: &R,
+    alloc: Global,
+    words: &DealWords,
+    params: &Params,
+    plan: &Plan,
+    entropy: &[u8],
+) -> Result<(DealingFiles, Option<Vec<u8>>), Ending>
+    requires { AreAsked (deal_words words.now) params.now plan.now }
+    ensures files { IfOk result (λ both. AreFiles (dealing_of params.now plan.now entropy.now) both.0) }
+    ensures commits { IfOk result (λ both. option_map (λ file. file.items) both.1
+        ≡ asked_commits words.now.commit (dealing_of params.now plan.now entropy.now)) }
+    ensures dealt { OnOk result (IsDealableBy (deal_words words.now) params.now plan.now entropy.now) }
+    ensures refused { IfErr result (λ end. IsNotDealt (deal_words words.now) entropy.now (ending end)) }
+{
+    let (dealt, commits) = deal_as_asked(rt, alloc, words, params, plan, entropy)?;
+    match dealt.into_files(alloc) {
+        Ok(files) => Ok((files, commits)),
+        Err(NoMemory) => Err(Ending::NoMemory),
+    }
+}
+
+/// The dealing of this set, plan and entropy, and its commitment file where the words ask for it.
+fn deal_as_asked<R: Threads + Sync>(
+    rt: &R,
+    alloc: Global,
+    words: &DealWords,
+    params: &Params,
+    plan: &Plan,
+    entropy: &[u8],
+) -> Result<(Dealt, Option<Vec<u8>>), Ending>
+    requires { AreAsked (deal_words words.now) params.now plan.now }
+    ensures dealing { IfOk result (λ both. IsDealt (dealing_of params.now plan.now entropy.now) both.0) }
+    ensures commits { IfOk result (λ both. option_map (λ file. file.items) both.1
+        ≡ asked_commits words.now.commit (dealing_of params.now plan.now entropy.now)) }
+    ensures dealt { OnOk result (IsDealableBy (deal_words words.now) params.now plan.now entropy.now) }
+    ensures shares { IfOk result (λ both. 0 < length both.0.shares.items) }
+    ensures refused { IfErr result (λ end. IsNotDealt (deal_words words.now) entropy.now (ending end)) }
+{
+    if words.commit {
+        match deal_committed_beside(rt, alloc, params, plan, entropy) {
+            Ok((dealt, commits)) => Ok((dealt, Some(commits))),
+            Err(CommittedFault::Deal(fault)) => Err(end_of_fault(fault)),
+            Err(CommittedFault::TooLarge { bytes }) => {
+                Err(Ending::NotDealt(Undealt::Commitments { bytes }))
+            }
+        }
+    } else {
+        match deal_beside(rt, alloc, params, plan, entropy) {
+            Ok(dealt) => Ok((dealt, None)),
+            Err(fault) => Err(end_of_fault(fault)),
+        }
+    }
+}
+
+/// The files with their names.
+fn name_files(
+    alloc: Global,
+    prefix: &str,
+    files: DealingFiles,
+    commits: Option<Vec<u8>>,
+) -> Result<Vec<Output>, Ending>
+    requires { length files.shares.items ≤ 12 }
+    ensures named { IfOk result (λ outputs. map output_of outputs.items
+        ≡ named_files prefix.now files (option_map (λ file. file.items) commits)) }
+    ensures refused { IfErr result (λ end. ending end ≡ spec.NoMemory) }
+{
+    match named_outputs(alloc, prefix, files, commits) {
+        Ok(outputs) => Ok(outputs),
+        Err(AllocError) => Err(Ending::NoMemory),
+    }
+}
+
+/// The files with their names.
+fn named_outputs(
+    alloc: Global,
+    prefix: &str,
+    files: DealingFiles,
+    commits: Option<Vec<u8>>,
+) -> Result<Vec<Output>, AllocError>
+    requires { length files.shares.items ≤ 12 }
+    ensures { IfOk result (λ outputs. map output_of outputs.items
+        ≡ named_files prefix.now files (option_map (λ file. file.items) commits)) }
+{
+    let mut outputs = Vec::new(alloc);
+    outputs.push(named(
+        format!(in alloc; "{prefix}.pub")?,
+        files.public,
+        Readers::Anyone,
+    ))?;
+    outputs.push(named(
+        format!(in alloc; "{prefix}.tree")?,
+        files.tree,
+        Readers::Anyone,
+    ))?;
+    outputs.push(named(
+        format!(in alloc; "{prefix}.ref")?,
+        files.reference,
+        Readers::Anyone,
+    ))?;
+    push_shares(alloc, prefix, files.shares, &mut outputs)?;
+    push_commits(alloc, prefix, commits, &mut outputs)?;
+    Ok(outputs)
+}
+
+/// Adds the shares with their names, that of trustee 1 first. A share is its trustee's secret.
+fn push_shares(
+    alloc: Global,
+    prefix: &str,
+    shares: Vec<Vec<u8>>,
+    outputs: &mut Vec<Output>,
+) -> Result<(), AllocError>
+    requires { length shares.items ≤ 12 }
+    ensures { OnOk result (map output_of outputs.new.items
+        ≡ map output_of outputs.old.items ++ named_shares prefix.now 1 (map (λ share. share.items) shares.items)) }
+{
+    let mut t: u8 = 1;
+    'shares: for share in shares {
+        outputs.push(named(
+            format!(in alloc; "{prefix}.share{t}")?,
+            share,
+            Readers::OwnerAlone,
+        ))?;
+        t += 1;
+    }
+    Ok(())
+}
+
+/// Adds the commitment file with its name, where there is one.
+fn push_commits(
+    alloc: Global,
+    prefix: &str,
+    commits: Option<Vec<u8>>,
+    outputs: &mut Vec<Output>,
+) -> Result<(), AllocError>
+    ensures { OnOk result (map output_of outputs.new.items
+        ≡ map output_of outputs.old.items ++ commits_outputs prefix.now (option_map (λ file. file.items) commits)) }
+{
+    if let Some(file) = commits {
+        outputs.push(named(format!(in alloc; "{prefix}.commit")?, file, Readers::Anyone))?;
+    }
+    Ok(())
+}
+
+/// A file under a name.
+fn named(name: String, bytes: Vec<u8>, readers: Readers) -> Output
+    ensures { output_of result ≡ record { name = string_bytes name; bytes = bytes.items; readers = readers } }
+{
+    Output {
+        name,
+        bytes,
+        readers,
+    }
+}
+
+/// The parameter set of the words.
+fn set_of(words: &DealWords) -> Result<Params, Ending>
+    ensures set { IfOk result (IsSet (deal_words words.now)) }
+    ensures refused { IfErr result (λ end. (entropy : List ℕ)
+        → IsNotDealt (deal_words words.now) entropy (ending end)) }
+{
+    match Params::of_codes(words.lms, words.ots) {
+        Ok(params) => Ok(params),
+        Err(_) => Err(Ending::NotDealt(Undealt::Code)),
+    }
+}
+
+/// The plan of the words.
+fn plan_of(words: &DealWords, params: &Params) -> Result<Plan, Ending>
+    requires set { IsSet (deal_words words.now) params.now }
+    ensures plan { IfOk result (λ plan. plan ≡ plan_of (deal_words words.now) params.now) }
+    ensures sound { IfOk result IsPlan }
+    ensures refused { IfErr result (λ end. (entropy : List ℕ)
+        → IsNotDealt (deal_words words.now) entropy (ending end)) }
+{
+    match Plan::new(byte_of(words.n), byte_of(words.k), params.h) {
+        Ok(plan) => Ok(plan),
+        Err(PlanFault::BadThreshold) => Err(Ending::NotDealt(Undealt::Threshold)),
+        Err(PlanFault::TooManyCoalitions { count }) => {
+            Err(Ending::NotDealt(Undealt::Coalitions { count }))
+        }
+    }
+}
+
+/// The number as a byte; a number that is no byte is the greatest one, which no plan has.
+fn byte_of(number: u32) -> u8
+    ensures { result ≡ min number 255 }
+{
+    u8::try_from(number).unwrap_or(u8::MAX)
+}
