@@ -15,7 +15,7 @@ use Rattle.aggregator_session.specs.declared.sign.Signed.{Signed}
 use Rattle.lms_bytes.specs.declared.public_key.PublicKey.{PublicKey}
 use Rattle.lms_verify.specs.Accepts.{AcceptsAt}
 use Rattle.session_core.specs.declared.faults.SessionFault.TheVariants.{Reference}
-use Rattle.share_files.specs.Reference.{leaves_length}
+use Rattle.mask_prf.specs.Lengths.{leaves_length}
 use Rattle.stream_io.specs.Net.{PortState}
 use Rattle.stream_io.specs.Talk.{OnlyWrote, Talk, WrotePart}
 use Rattle.stream_io.specs.declared.failed.Failed.{Failed}

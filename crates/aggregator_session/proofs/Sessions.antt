@@ -14,7 +14,7 @@ use Rattle.lms_verify.specs.Accepts.{LeadsTo}
 use Rattle.session_core.specs.Replies.{same_message}
 use Rattle.session_core.specs.declared.faults.KeptValue.TheVariants.{Message, Digest}
 use Rattle.std.specs.Str.{bytes_eq}
-use Rattle.share_files.specs.Reference.{leaves_length}
+use Rattle.mask_prf.specs.Lengths.{leaves_length}
 use Rattle.aggregator_session.specs.Tasks.{IsExact}
 use Rattle.disk_trait.specs.declared.faults.Faults as faults
 use Rattle.reference_value.specs.Kinds.{StayAs}

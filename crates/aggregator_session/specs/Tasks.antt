@@ -13,7 +13,7 @@ use Rattle.lms_bytes.specs.declared.public_key.PublicKey.{PublicKey}
 use Rattle.reference_value.specs.declared.cells.Cells as cells
 use Rattle.session_core.specs.State.{State}
 use Rattle.session_core.specs.Verdicts.{digest_of}
-use Rattle.share_files.specs.Reference.{leaves_length}
+use Rattle.mask_prf.specs.Lengths.{leaves_length}
 use Rattle.stream_io.specs.Net.{PortOnward, PortState}
 use Rattle.stream_io.specs.Talk.{Ended, Talk}
 

@@ -11,7 +11,7 @@ use Rattle.ots_chain.specs.MessageHash.{message_digest}
 use Rattle.reference_value.specs.Dealing.{sum_of_masks}
 use Rattle.reference_value.specs.Joins.{joined_chains}
 use Rattle.reference_value.specs.Places.{randomizer_in}
-use Rattle.share_files.specs.Reference.{leaves_length}
+use Rattle.mask_prf.specs.Lengths.{leaves_length}
 use Rattle.dealer.specs.declared.dealing.Dealt.{Dealt}
 use Rattle.dealer.specs.declared.masks.Keys.{Keys}
 

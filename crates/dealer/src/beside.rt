@@ -4,7 +4,7 @@ ghost use Rattle.std.specs.Prelude.{◌≡◌, ◌+◌, ◌*◌, ◌^◌, ◌<�
 ghost use Rattle.std.specs.Thread.{IsSync};
 ghost use Rattle.ots_chain.specs.LeafKey.{seed_leaf_key};
 ghost use Rattle.reference_value.specs.Dealing.{reference};
-ghost use Rattle.share_files.specs.Reference.{leaf_length, leaves_length};
+ghost use Rattle.mask_prf.specs.Lengths.{leaf_length, leaves_length};
 ghost use Rattle.dealer.specs.Dealt.{IsDealt, leaf_keys_of};
 ghost use Rattle.dealer.specs.Entropy.{dealing_of};
 ghost use Rattle.dealer.specs.Faults.{IsDealable};

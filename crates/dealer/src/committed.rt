@@ -3,8 +3,8 @@
 ghost use Rattle.std.specs.Prelude.{◌≡◌, ◌+◌, ◌*◌, ◌^◌, ◌<◌, ◌≤◌, Err, IfErr, IfOk, OnOk, length, take};
 ghost use Rattle.coalition_map.specs.Coalitions.{IsPlan};
 ghost use Rattle.reference_value.specs.Dealing.{reference};
-ghost use Rattle.share_files.specs.Commits.{commits_head_of, commits_length, leaf_commits_length};
-ghost use Rattle.share_files.specs.Reference.{leaf_length};
+ghost use Rattle.share_files.specs.Commits.{commits_head_of, commits_length};
+ghost use Rattle.mask_prf.specs.Lengths.{leaf_commits_length, leaf_length};
 ghost use Rattle.dealer.specs.Committed.{DealsCommitted, FailsCommitted, commits_file};
 ghost use Rattle.dealer.specs.Dealt.{IsDealt};
 ghost use Rattle.dealer.specs.Entropy.{dealing_of};

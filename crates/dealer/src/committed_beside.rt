@@ -3,8 +3,7 @@
 ghost use Rattle.std.specs.Prelude.{◌≡◌, ◌+◌, ◌*◌, ◌^◌, ◌<◌, ◌≤◌, IfOk, length};
 ghost use Rattle.std.specs.Thread.{IsSync};
 ghost use Rattle.reference_value.specs.Dealing.{reference};
-ghost use Rattle.share_files.specs.Commits.{leaf_commits_length};
-ghost use Rattle.share_files.specs.Reference.{leaf_length};
+ghost use Rattle.mask_prf.specs.Lengths.{leaf_commits_length, leaf_length};
 ghost use Rattle.dealer.specs.Committed.{commits_file};
 ghost use Rattle.dealer.specs.Dealt.{IsDealt};
 ghost use Rattle.dealer.specs.Entropy.{dealing_of};

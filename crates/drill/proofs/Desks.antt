@@ -5,7 +5,7 @@ use Rattle.std.specs.List.{range_with_len}
 use Rattle.coalition_map.specs.Coalitions.{IsPlan, PlanNumbers, count_of, subsets}
 use Rattle.lms_bytes.specs.declared.params.Params.{Params}
 use Rattle.reference_value.proofs.Reference.{length-reference}
-use Rattle.share_files.specs.Reference.{leaves_length}
+use Rattle.mask_prf.specs.Lengths.{leaves_length}
 use Rattle.share_files.specs.declared.share.Share.{Share}
 use Rattle.dealer.specs.Dealt.{IsDealt}
 use Rattle.dealer.specs.Entropy.{dealing_of, id_in, seed_in, trustee_key}

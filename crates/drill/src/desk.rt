@@ -1,7 +1,7 @@
 //! What the aggregator of a drill signs with.
 
 ghost use Rattle.std.specs.Prelude.{◌≡◌, All, length};
-ghost use Rattle.share_files.specs.Reference.{leaves_length};
+ghost use Rattle.mask_prf.specs.Lengths.{leaves_length};
 ghost use Rattle.share_files.specs.declared.share.Share.{Share};
 
 use coalition_map::Plan;

@@ -32,7 +32,7 @@ use Rattle.reference_value.specs.Dealing.{Dealing}
 use Rattle.reference_value.proofs.Reference.{length-reference}
 use Rattle.session_core.specs.State.{State, started}
 use Rattle.session_core.specs.declared.faults.SessionFault.TheVariants.{Reference}
-use Rattle.share_files.specs.Reference.{leaves_length}
+use Rattle.mask_prf.specs.Lengths.{leaves_length}
 use Rattle.share_files.specs.declared.reference.RefHeader.{RefHeader}
 use Rattle.laws_signing.specs.Answering.{AllGave}
 use Rattle.laws_signing.proofs.Sessions.{IsReady, session-goes}

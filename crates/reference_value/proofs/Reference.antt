@@ -13,7 +13,7 @@ use Rattle.lms_bytes.specs.Bytes.{bytes_at, joined}
 use Rattle.mask_prf.proofs.Lengths.{length-check_tag_of}
 use Rattle.reference_value.specs.Dealing.{Dealing, cell, cells, check_tag, key_of, leaf_part, leaf_randomizer, masked_randomizer, members_of, reference, tags}
 use Rattle.reference_value.specs.Places.{cell_in, leaf_place, cell_place, randomizer_in, tag_in, tag_place}
-use Rattle.share_files.specs.Reference.{leaf_length, leaves_length}
+use Rattle.mask_prf.specs.Lengths.{leaf_length, leaves_length}
 use Rattle.lms_bytes.proofs.Joined.{AllOfLength, joined-at, length-joined, part-left, row-fits}
 use Rattle.reference_value.proofs.Members.{cell_of, chain_of, length-cell_of, length-chain_of, length-random_of, length-tags_of, random_of, tag-room, tags_of}
 

@@ -7,7 +7,7 @@ use Rattle.lms_bytes.specs.Bytes.{bytes_at, joined}
 use Rattle.lms_bytes.specs.declared.params.Params.{Params}
 use Rattle.reference_value.specs.Dealing.{Dealing, chain_mask, members_of, random_mask}
 use Rattle.reference_value.specs.Places.{rank_place}
-use Rattle.share_files.specs.Commits.{leaf_commits_length}
+use Rattle.mask_prf.specs.Lengths.{leaf_commits_length}
 
 -- SHA-256 of a mask, of the mask of each of these trustees
 abbrev pub commitments_to : (ℕ → List ℕ) → List ℕ → List ℕ

@@ -4,7 +4,7 @@ use Rattle.coalition_map.specs.Coalitions.{PlanNumbers, leaf_members}
 use Rattle.coalition_map.specs.Members.{below}
 use Rattle.lms_bytes.specs.Bytes.{bytes_at}
 use Rattle.lms_bytes.specs.declared.params.Params.{Params}
-use Rattle.share_files.specs.Reference.{leaf_length}
+use Rattle.mask_prf.specs.Lengths.{leaf_length}
 
 -- where leaf q begins
 abbrev pub leaf_place : Params → PlanNumbers → ℕ → ℕ

@@ -6,7 +6,7 @@ ghost use Rattle.disk_trait.specs.Faults.{HasCause};
 ghost use Rattle.lms_bytes.specs.declared.params.Params.{Params};
 ghost use Rattle.reference_value.specs.Kinds.{StayAs};
 ghost use Rattle.reference_value.specs.Places.{cell_in, randomizer_in, tag_in};
-ghost use Rattle.share_files.specs.Reference.{leaves_length};
+ghost use Rattle.mask_prf.specs.Lengths.{leaves_length};
 
 use disk_trait::Faults;
 use lms_bytes::Val;

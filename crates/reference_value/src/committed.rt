@@ -6,17 +6,15 @@ ghost use Rattle.reference_value.specs.Commitments.{commitments_to, leaf_commitm
 ghost use Rattle.reference_value.specs.Committing.{AreMembers, cell_commits, mask_with, masked_cell, masked_row};
 ghost use Rattle.reference_value.specs.Committing.{member_mask, member_tag, row_commits};
 ghost use Rattle.reference_value.specs.Dealing.{dealing_from, leaf_part, masked, value_of_seed};
-ghost use Rattle.share_files.specs.Commits.{leaf_commits_length};
-ghost use Rattle.share_files.specs.Reference.{leaf_length};
+ghost use Rattle.mask_prf.specs.Lengths.{leaf_commits_length, leaf_length};
 ghost use Rattle.std.specs.List.{concat};
 
 use crate::leaf::{mask_value, write_chain};
 use coalition_map::{Members, Plan};
 use lms_bytes::bytes::put;
 use lms_bytes::{KeyId, Params, Val};
-use mask_prf::{MacKey, randomizer};
+use mask_prf::{COMMITMENT, MacKey, TAG, chain_bytes, chain_commits_bytes, randomizer};
 use sha2::{Digest, Sha256};
-use share_files::{COMMITMENT, TAG, chain_bytes, chain_commits_bytes};
 
 /// Which value of a leaf a mask is for.
 #[derive(Clone, Copy)]

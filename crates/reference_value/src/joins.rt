@@ -6,7 +6,7 @@ ghost use Rattle.lms_bytes.specs.Bytes.{xor};
 ghost use Rattle.reference_value.specs.Joins.{joined_chains};
 ghost use Rattle.reference_value.specs.Places.{randomizer_in};
 ghost use Rattle.reference_value.specs.Stay.{CellsStay};
-ghost use Rattle.share_files.specs.Reference.{leaves_length};
+ghost use Rattle.mask_prf.specs.Lengths.{leaves_length};
 
 use crate::cells::{Cells, RefFault};
 use lms_bytes::bytes::{part, put};

@@ -11,7 +11,7 @@ ghost use Rattle.reference_value.specs.Dealing.{reference, sum_of_masks};
 ghost use Rattle.reference_value.specs.Joins.{joined_chains};
 ghost use Rattle.reference_value.specs.Pads.{AreValues, ExactlyOne, JoinTo};
 ghost use Rattle.reference_value.specs.Places.{cell_in, randomizer_in, tag_in};
-ghost use Rattle.share_files.specs.Reference.{leaf_length, leaves_length};
+ghost use Rattle.mask_prf.specs.Lengths.{leaf_length, leaves_length};
 
 /// Whatever the cells, the masks of the other members and the `p` values of `n` bytes, exactly one list of `p` masks of
 /// a member joins the cells to these values. So without a member's masks the cells fit every list of values. This is a

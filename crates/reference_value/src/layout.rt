@@ -3,11 +3,11 @@
 ghost use Rattle.std.specs.Prelude.{◌≡◌, ◌+◌, ◌*◌, ◌<◌, ◌≤◌, ◌^◌, Contains};
 ghost use Rattle.coalition_map.specs.Coalitions.{leaf_members};
 ghost use Rattle.reference_value.specs.Places.{cell_place, leaf_place, rank_of, tag_place};
-ghost use Rattle.share_files.specs.Reference.{leaf_length, leaves_length};
+ghost use Rattle.mask_prf.specs.Lengths.{leaf_length, leaves_length};
 
 use coalition_map::Plan;
 use lms_bytes::Params;
-use share_files::{TAG, chain_bytes, leaf_bytes};
+use mask_prf::{TAG, chain_bytes, leaf_bytes};
 
 /// How many members of leaf `q` come before its member `t`.
 pub fn rank(plan: &Plan, q: u32, t: u8) -> usize

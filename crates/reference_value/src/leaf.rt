@@ -5,14 +5,13 @@ ghost use Rattle.lms_bytes.specs.Bytes.{bytes_at, joined, xor};
 ghost use Rattle.mask_prf.specs.Masks.{chain_mask_of, check_tag_of, random_mask_of};
 ghost use Rattle.reference_value.specs.Dealing.{dealing_from, leaf_part, values_of_seed};
 ghost use Rattle.reference_value.specs.Masking.{masked_at, masked_chain};
-ghost use Rattle.share_files.specs.Reference.{leaf_length};
+ghost use Rattle.mask_prf.specs.Lengths.{leaf_length};
 
 use coalition_map::{Members, Plan};
 use lms_bytes::bytes::{part, put};
 use lms_bytes::{KeyId, Params, Val};
-use mask_prf::{MacKey, randomizer};
+use mask_prf::{MacKey, TAG, chain_bytes, randomizer};
 use ots_chain::{chain, secret};
-use share_files::{TAG, chain_bytes};
 
 /// Writes the values of a chain, from no step to all.
 pub(crate) fn write_chain(params: &Params, id: &KeyId, q: u32, i: u16, seed: &Val, out: &mut [u8])

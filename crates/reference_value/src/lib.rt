@@ -15,6 +15,6 @@ pub use committed::build_committed_leaf;
 pub use joins::{join_chains, join_randomizer};
 pub use layout::rank;
 pub use leaf::build_leaf;
+pub use mask_prf::leaf_bytes;
 pub use paged::{Paged, read_behind_header};
-pub use share_files::leaf_bytes;
 pub use whole::Whole;

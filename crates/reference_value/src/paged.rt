@@ -12,7 +12,7 @@ use crate::layout::Layout;
 use coalition_map::Plan;
 use disk_trait::{DiskFault, Faults, Pages};
 use lms_bytes::{Params, Val};
-use share_files::HEAD;
+use mask_prf::HEAD;
 
 /// The leaves of a reference on pages, behind a header. Each value is one read.
 #[derive(Drop)]

@@ -1,7 +1,7 @@
 //! A reference in memory.
 
 ghost use Rattle.std.specs.Prelude.{◌≡◌, ◌<◌, true, length};
-ghost use Rattle.share_files.specs.Reference.{leaves_length};
+ghost use Rattle.mask_prf.specs.Lengths.{leaves_length};
 
 use crate::cells::{Cells, RefFault};
 use crate::layout::Layout;

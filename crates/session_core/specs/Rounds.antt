@@ -14,7 +14,7 @@ use Rattle.session_core.specs.State.{State, turned}
 use Rattle.session_core.specs.Verdicts.{FinishFails, JoinFails, Turned, digest_of, joined_bytes, joined_c}
 use Rattle.session_core.specs.declared.faults.SessionFault.{SessionFault}
 use Rattle.session_core.specs.declared.faults.SessionFault.TheVariants.{Reference}
-use Rattle.share_files.specs.Reference.{leaves_length}
+use Rattle.mask_prf.specs.Lengths.{leaves_length}
 
 -- cells that give a session what they have whenever they are asked: steady ones that tell all leaves of its plan
 pub record GiveAll {C : Type 0} (c : cells.Ghosts C) (f : faults.Ghosts C) (own : C) (s : State) : Type 0 where

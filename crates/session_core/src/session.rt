@@ -11,7 +11,7 @@ ghost use Rattle.session_core.specs.Replies.{IsWhole, answers, is_whole, names_a
 ghost use Rattle.session_core.specs.Replies.{step_of, with_delivery};
 ghost use Rattle.session_core.specs.State.{IsSeat, IsSession, SameAsk, asked_c, round_of, seats_of, started};
 ghost use Rattle.session_core.specs.State.{body_length, body_room, masks_length};
-ghost use Rattle.share_files.specs.Reference.{leaves_length};
+ghost use Rattle.mask_prf.specs.Lengths.{leaves_length};
 
 use crate::seat::{Seat, empty_seats, keep_first, place_of};
 use crate::step::Step;

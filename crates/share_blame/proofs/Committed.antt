@@ -16,7 +16,7 @@ use Rattle.reference_value.specs.Places.{rank_place}
 use Rattle.reference_value.specs.Dealing.{Dealing, chain_mask, members_of, random_mask}
 use Rattle.reference_value.proofs.Members.{tag-room}
 use Rattle.reference_value.proofs.Reference.{joined-inside, length-members_of, part-second}
-use Rattle.share_files.specs.Commits.{all_commits_length, leaf_commits_length}
+use Rattle.mask_prf.specs.Lengths.{all_commits_length, leaf_commits_length}
 
 length-commitments_to : (mask : ℕ → List ℕ) (ts : List ℕ) → length (commitments_to mask ts) ≡ 32 * length ts
 length-commitments_to mask [] = refl

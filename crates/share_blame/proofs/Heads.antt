@@ -4,7 +4,8 @@ use Rattle.std.proofs.lemmas.Bool.{and_parts, eq-eqb, eqb-true, false_from_ne_tr
 use Rattle.std.proofs.lemmas.Slice.Eq.{bytes_eq-Decides}
 use Rattle.std.specs.Str.{bytes_eq}
 use Rattle.lms_bytes.specs.declared.params.Params.{Params}
-use Rattle.share_files.specs.Commits.{commits_head, commits_head_fault, commits_length, commits_magic, leaf_commits_length}
+use Rattle.share_files.specs.Commits.{commits_head, commits_head_fault, commits_length, commits_magic}
+use Rattle.mask_prf.specs.Lengths.{leaf_commits_length}
 use Rattle.share_files.specs.Head.{short_fault}
 use Rattle.share_files.specs.declared.faults.FileFault.{FileFault}
 use Rattle.share_files.specs.declared.faults.FileFault.TheVariants.{Length, OtherKey, Plan}

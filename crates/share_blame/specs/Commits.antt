@@ -7,7 +7,7 @@ use Rattle.disk_trait.specs.declared.disk.Pages as pages
 use Rattle.disk_trait.specs.declared.faults.Faults as faults
 use Rattle.lms_bytes.specs.declared.params.Params.{Params}
 use Rattle.session_core.specs.State.{IsSession, State}
-use Rattle.share_files.specs.Commits.{all_commits_length}
+use Rattle.mask_prf.specs.Lengths.{all_commits_length}
 use Rattle.share_blame.specs.declared.commits.Commits.{Commits}
 
 -- the pages that commitments are read from

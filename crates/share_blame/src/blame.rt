@@ -6,7 +6,7 @@ ghost use Rattle.disk_trait.specs.Faults.{HasCause};
 ghost use Rattle.lms_bytes.specs.Digits.{digit_of};
 ghost use Rattle.reference_value.specs.Commitments.{cell_commitment_in};
 ghost use Rattle.sha2.specs.Sha256.{sha256};
-ghost use Rattle.share_files.specs.Commits.{all_commits_length};
+ghost use Rattle.mask_prf.specs.Lengths.{all_commits_length};
 ghost use Rattle.share_blame.specs.Blamed.{AreBlamed, ChainsDiffer, FirstDiffers, IsBlamed, SecondDiffers};
 ghost use Rattle.share_blame.specs.Commits.{AreOf, AreOfSession, Looks, leaves_on, pages_of, plan_of, set_of};
 

@@ -11,7 +11,7 @@ ghost use Rattle.session_core.specs.State.{IsSession, State};
 ghost use Rattle.session_core.specs.Verdicts.{digest_of};
 ghost use Rattle.share_blame.specs.Blamed.{IsBlamed};
 ghost use Rattle.share_blame.specs.Liars.{EndsAstray, GaveOther, IsNamed, IsOver, LiedAlone, NamedAlone};
-ghost use Rattle.share_files.specs.Commits.{all_commits_length};
+ghost use Rattle.mask_prf.specs.Lengths.{all_commits_length};
 
 /// The commitments of a dealing are found at their places.
 pub fn commitments_at_places()

@@ -4,7 +4,7 @@ ghost use Rattle.std.specs.Prelude.{◌≡◌, ◌+◌, ◌*◌, ◌<◌, ◌≤
 ghost use Rattle.coalition_map.specs.Coalitions.{IsPlan, leaf_members};
 ghost use Rattle.reference_value.specs.Commitments.{cell_commits_place, leaf_commits_place};
 ghost use Rattle.reference_value.specs.Places.{rank_place};
-ghost use Rattle.share_files.specs.Commits.{all_commits_length, leaf_commits_length};
+ghost use Rattle.mask_prf.specs.Lengths.{all_commits_length, leaf_commits_length};
 
 use coalition_map::Plan;
 use lms_bytes::Params;

@@ -5,8 +5,9 @@ use Rattle.std.proofs.lemmas.List.{take_all, take_at}
 use Rattle.lms_bytes.specs.Bytes.{bytes_at}
 use Rattle.lms_bytes.specs.declared.params.Params.{Params}
 use Rattle.share_files.specs.Head.{lms_at, ots_at}
-use Rattle.share_files.specs.Commits.{commits_length_of, leaf_commits_length}
-use Rattle.share_files.specs.Reference.{HasReferenceLayout, leaf_length, length_of, plan_head, reference_head, reference_length}
+use Rattle.share_files.specs.Commits.{commits_length_of}
+use Rattle.mask_prf.specs.Lengths.{leaf_commits_length, leaf_length}
+use Rattle.share_files.specs.Reference.{HasReferenceLayout, length_of, plan_head, reference_head, reference_length}
 use Rattle.share_files.specs.declared.reference.RefHeader.{RefHeader}
 use Rattle.share_files.proofs.Dealt.{chain_count-ots, height_of-lms, node_length-lms, width_of-ots}
 use Rattle.share_files.proofs.HeadParts.{HeadLies, head_lies, head_lies-any}

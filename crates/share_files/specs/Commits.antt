@@ -2,6 +2,7 @@
 use Rattle.std.specs.Prelude.{ℕ, ◌+◌, ◌*◌, ◌^◌, List, [], ◌∷◌, slice_index, Option, codes}
 use Rattle.coalition_map.specs.Coalitions.{PlanNumbers}
 use Rattle.lms_bytes.specs.declared.params.Params.{Params}
+use Rattle.mask_prf.specs.Lengths.{all_commits_length, leaf_commits_size}
 use Rattle.share_files.specs.Head.{first_fault, length_fault, lms_at, ots_at}
 use Rattle.share_files.specs.Reference.{plan_head, plan_head_fault, plan_head_of}
 use Rattle.share_files.specs.Sets.{chain_count, height_of, width_of}
@@ -17,18 +18,6 @@ commits_head_of params plan id = plan_head_of commits_magic params plan id
 
 abbrev pub commits_head : RefHeader → List ℕ
 commits_head header = plan_head commits_magic header
-
--- this project's profile: 32 bytes for each of k members, for the mask of the randomizer, and for the masks of p
--- chains, 2^w each
-abbrev pub leaf_commits_size : ℕ → ℕ → ℕ → ℕ
-leaf_commits_size k w p = 32 * k + 32 * k * 2 ^ w * p
-
-abbrev pub leaf_commits_length : Params → ℕ → ℕ
-leaf_commits_length params k = leaf_commits_size k params.w params.p
-
--- the bytes of all leaves
-abbrev pub all_commits_length : Params → PlanNumbers → ℕ
-all_commits_length params plan = leaf_commits_length params plan.k * 2 ^ params.h
 
 -- how long the commitment file is
 abbrev pub commits_length : Params → PlanNumbers → ℕ

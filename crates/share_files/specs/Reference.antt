@@ -2,6 +2,7 @@
 use Rattle.std.specs.Prelude.{◌≡◌, ℕ, ◌+◌, ◌*◌, ◌^◌, List, [], ◌∷◌, ◌++◌, length, take, slice_index, Option, codes}
 use Rattle.coalition_map.specs.Coalitions.{PlanNumbers}
 use Rattle.lms_bytes.specs.declared.params.Params.{Params}
+use Rattle.mask_prf.specs.Lengths.{leaf_size, leaves_length}
 use Rattle.share_files.specs.Head.{head_bytes, first_fault, short_fault, head_fault, plan_fault, zero_fault}
 use Rattle.share_files.specs.Head.{length_fault, lms_at, ots_at}
 use Rattle.share_files.specs.Sets.{CanBeDealt, chain_count, height_of, node_length, width_of}
@@ -24,17 +25,6 @@ reference_head_of params plan id = plan_head_of reference_magic params plan id
 
 abbrev pub reference_head : RefHeader → List ℕ
 reference_head header = plan_head reference_magic header
-
--- this project's profile: the masked randomizer, a check tag for each of k members, and the cells of p chains, 2^w each
-abbrev pub leaf_size : ℕ → ℕ → ℕ → ℕ → ℕ
-leaf_size n k w p = n + 32 * k + n * 2 ^ w * p
-
-abbrev pub leaf_length : Params → ℕ → ℕ
-leaf_length params k = leaf_size params.n k params.w params.p
-
--- the bytes of all leaves
-abbrev pub leaves_length : Params → PlanNumbers → ℕ
-leaves_length params plan = leaf_length params plan.k * 2 ^ params.h
 
 -- how long the reference file is
 abbrev pub reference_length : RefHeader → ℕ

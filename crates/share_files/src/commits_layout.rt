@@ -2,7 +2,7 @@
 
 ghost use Rattle.std.specs.Prelude.{◌≡◌, ◌+◌, ◌*◌, ◌^◌, None, Some, OnOk, IfOk, IfErr, IsOkAnd};
 ghost use Rattle.share_files.specs.Commits.{commits_head, commits_head_fault, commits_length, commits_length_of};
-ghost use Rattle.share_files.specs.Commits.{leaf_commits_length};
+ghost use Rattle.mask_prf.specs.Lengths.{leaf_commits_length};
 ghost use Rattle.share_files.specs.Reference.{SameHeader};
 ghost use Rattle.share_files.specs.Sets.{CanBeDealt};
 ghost use Rattle.share_files.specs.declared.reference.RefHeader.{RefHeader};
@@ -11,8 +11,8 @@ use crate::faults::FileFault;
 use crate::head::check_length;
 use crate::plan_head::{read_plan_head, write_plan_head};
 use crate::reference::RefHeader;
-use crate::sizes::{HEAD, leaf_commits_bytes};
 use lms_bytes::Params;
+use mask_prf::{HEAD, leaf_commits_bytes};
 
 /// What a commitment file begins with.
 const COMMITS_MAGIC: &[u8; 4] = b"TLCM";

@@ -9,16 +9,15 @@ mod reference;
 mod reference_layout;
 mod share;
 mod share_layout;
-mod sizes;
 mod tree_file;
 
 pub use commits_layout::{length_of_commits, read_commits_header, write_commits_head};
 pub use faults::FileFault;
+pub use mask_prf::{
+    COMMITMENT, HEAD, TAG, chain_bytes, chain_commits_bytes, leaf_bytes, leaf_commits_bytes,
+};
 pub use reference::{RefHeader, RefView};
 pub use reference_layout::{read_ref_header, read_reference, write_ref_head};
 pub use share::Share;
 pub use share_layout::{read_share, write_share};
-pub use sizes::{
-    COMMITMENT, HEAD, TAG, chain_bytes, chain_commits_bytes, leaf_bytes, leaf_commits_bytes,
-};
 pub use tree_file::{TreeView, read_tree, write_tree_head};

@@ -1,7 +1,8 @@
 //! How reference files are read and written.
 
 ghost use Rattle.std.specs.Prelude.{◌≡◌, ℕ, List, ◌+◌, ◌*◌, ◌^◌, None, Some, OnOk, IfOk, IfErr, IsOkAnd};
-ghost use Rattle.share_files.specs.Reference.{HasReferenceLayout, SameHeader, leaf_length, length_of, reference_fault};
+ghost use Rattle.share_files.specs.Reference.{HasReferenceLayout, SameHeader, length_of, reference_fault};
+ghost use Rattle.mask_prf.specs.Lengths.{leaf_length};
 ghost use Rattle.share_files.specs.Reference.{reference_head, reference_head_fault, reference_length};
 ghost use Rattle.share_files.specs.Sets.{CanBeDealt};
 ghost use Rattle.share_files.specs.declared.reference.RefHeader.{RefHeader};
@@ -10,9 +11,9 @@ use crate::faults::FileFault;
 use crate::head::{check_front, check_length};
 use crate::plan_head::{read_plan_head, write_plan_head};
 use crate::reference::{RefHeader, RefView};
-use crate::sizes::{HEAD, leaf_bytes};
 use lms_bytes::Params;
 use lms_bytes::bytes::part;
+use mask_prf::{HEAD, leaf_bytes};
 
 /// What a reference file begins with.
 const REFERENCE_MAGIC: &[u8; 4] = b"TLRF";

@@ -8,9 +8,9 @@ ghost use Rattle.share_files.specs.declared.share.Share.{Share};
 use crate::faults::FileFault;
 use crate::head::{check_front, check_length, read_head, read_plan, write_head};
 use crate::share::Share;
-use crate::sizes::HEAD;
 use coalition_map::Plan;
 use lms_bytes::bytes::{part, put};
+use mask_prf::HEAD;
 
 /// The length of a share file in bytes.
 const SHARE: usize = 64;

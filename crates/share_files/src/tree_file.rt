@@ -6,9 +6,9 @@ ghost use Rattle.share_files.specs.TreeFile.{HasTreeLayout, SameTree, tree_fault
 
 use crate::faults::FileFault;
 use crate::head::{check_front, check_length, check_zero, read_head, write_head};
-use crate::sizes::HEAD;
 use lms_bytes::bytes::part;
 use lms_bytes::{KeyId, Params};
+use mask_prf::HEAD;
 
 /// What a tree file begins with.
 const TREE_MAGIC: &[u8; 4] = b"TLTR";

@@ -1,7 +1,7 @@
 //! The dealing of a key, as another implementation made it, and a blank one.
 
 ghost use Rattle.std.specs.Prelude.{◌≡◌, IfOk, IfSome, length};
-ghost use Rattle.share_files.specs.Reference.{leaves_length};
+ghost use Rattle.mask_prf.specs.Lengths.{leaves_length};
 
 use coalition_map::Plan;
 use lms_bytes::bytes::put;

@@ -3,7 +3,7 @@
 ghost use Rattle.std.specs.Prelude.{◌≡◌, Contains, IfSome, None, length};
 ghost use Rattle.coalition_map.specs.Coalitions.{leaf_members};
 ghost use Rattle.lms_bytes.specs.MessageId.{message_id};
-ghost use Rattle.share_files.specs.Reference.{leaves_length};
+ghost use Rattle.mask_prf.specs.Lengths.{leaves_length};
 
 use crate::dealing::{
     ID, MESSAGE, blank_leaves, blank_tree, key_from, key_of, leaves_of, masks_of, params_of, plan,

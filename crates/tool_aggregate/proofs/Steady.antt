@@ -7,7 +7,7 @@ use Rattle.aggregator_node.specs.Ports.{IsPortRun, Place, PortRun, requests_in}
 use Rattle.aggregator_node.specs.Connections.{with_status}
 use Rattle.leaf_table.specs.declared.lease.Lease.{Lease}
 use Rattle.leaf_table.specs.declared.table.TableName.{TableName}
-use Rattle.share_files.specs.Reference.{leaves_length}
+use Rattle.mask_prf.specs.Lengths.{leaves_length}
 use Rattle.share_files.specs.declared.reference.RefHeader.{RefHeader}
 use Rattle.stream_io.specs.Net.{IsNewPort, NetState, PortState}
 use Rattle.tool_base.specs.Ending as ending

@@ -10,7 +10,8 @@ use Rattle.lms_bytes.specs.declared.params.Params.{Params}
 use Rattle.lms_bytes.specs.declared.public_key.PublicKey.{PublicKey}
 use Rattle.lms_bytes.proofs.Layouts.{codes_accepted, key_lies}
 use Rattle.share_files.specs.Head.{head_fault, length_fault, lms_at, ots_at, plan_fault, short_fault, zero_fault}
-use Rattle.share_files.specs.Reference.{leaves_length, length_of, reference_fault, reference_head, plan_head_fault, reference_head_fault, reference_head_of, reference_magic}
+use Rattle.share_files.specs.Reference.{length_of, reference_fault, reference_head, plan_head_fault, reference_head_fault, reference_head_of, reference_magic}
+use Rattle.mask_prf.specs.Lengths.{leaves_length}
 use Rattle.share_files.specs.Sets.{CanBeDealt}
 use Rattle.share_files.specs.TreeFile.{HasTreeLayout, tree_fault, tree_head, tree_length, tree_magic}
 use Rattle.share_files.specs.declared.reference.RefHeader.{RefHeader}

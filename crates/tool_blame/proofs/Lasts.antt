@@ -13,7 +13,7 @@ use Rattle.session_core.specs.State.{State}
 use Rattle.session_core.specs.declared.faults.SessionFault.{SessionFault}
 use Rattle.share_blame.specs.Commits.{AreOf}
 use Rattle.share_blame.specs.declared.commits.Commits.{Commits}
-use Rattle.share_files.specs.Commits.{all_commits_length}
+use Rattle.mask_prf.specs.Lengths.{all_commits_length}
 use Rattle.share_files.specs.declared.reference.RefHeader.{RefHeader}
 use Rattle.slot_file.specs.declared.header.Header.{Header}
 use Rattle.stream_io.specs.Net.{PortState}

@@ -5,7 +5,7 @@ use Rattle.aggregator_session.specs.Runs.{CellsRead}
 use Rattle.share_blame.specs.Loads.{commits_fault}
 use Rattle.share_blame.specs.declared.faults.CommitsFault.{CommitsFault}
 use Rattle.share_blame.specs.declared.faults.CommitsFault.TheVariants.{Device, File}
-use Rattle.share_files.specs.Commits.{all_commits_length}
+use Rattle.mask_prf.specs.Lengths.{all_commits_length}
 use Rattle.share_files.specs.FaultNumbers.{file_fault_number}
 use Rattle.share_files.specs.declared.faults.FileFault.{FileFault}
 use Rattle.share_files.specs.declared.reference.RefHeader.{RefHeader}

@@ -3,7 +3,7 @@
 ghost use Rattle.std.specs.Prelude.{◌≡◌, IfErr, IfSome, IsTrue, is_some, length};
 ghost use Rattle.share_blame.specs.Commits.{AreOf, PagesStay, leaves_on, pages_of};
 ghost use Rattle.session_core.specs.Verdicts.{digest_of};
-ghost use Rattle.share_files.specs.Commits.{all_commits_length};
+ghost use Rattle.mask_prf.specs.Lengths.{all_commits_length};
 ghost use Rattle.tool_base.specs.Ending.{status_of};
 ghost use Rattle.tool_base.specs.Endings.{ending};
 ghost use Rattle.tool_blame.specs.Names.{NamesEnd, TellsEnd};

@@ -17,7 +17,7 @@ use Rattle.lms_bytes.specs.declared.params.Params.{Params}
 use Rattle.lms_verify.specs.Accepts.{AcceptsAt}
 use Rattle.reference_value.specs.declared.cells.Cells as cells
 use Rattle.session_core.specs.declared.faults.SessionFault.TheVariants.{Reference}
-use Rattle.share_files.specs.Reference.{leaves_length}
+use Rattle.mask_prf.specs.Lengths.{leaves_length}
 use Rattle.stream_io.specs.Net.{IsNewPort, NetState, PortState, SameNet}
 use Rattle.stream_io.specs.Store.{RisesWhere}
 use Rattle.tool_base.specs.Ending as ending

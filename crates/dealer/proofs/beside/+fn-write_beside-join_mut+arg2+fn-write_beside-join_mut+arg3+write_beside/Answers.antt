@@ -2,7 +2,7 @@ use Rattle.std.proofs.Common.{rules, arith, ◌≡◌, ◌+◌, ◌*◌, ◌∙�
 use Rattle.std.proofs.Math.Nat.{mul-add}
 use Rattle.std.proofs.iter.Serving.{serving}
 use Rattle.reference_value.specs.Dealing.{leaf_part}
-use Rattle.share_files.specs.Reference.{leaf_length}
+use Rattle.mask_prf.specs.Lengths.{leaf_length}
 use Rattle.dealer.specs.Secrets.{dealing_with}
 use Rattle.dealer.proofs.Joins.{runs-written}
 use Rattle.dealer.proofs.beside.+fn-write_beside-join_mut+arg2+fn-write_beside-join_mut+arg3+write_beside.Goals as goal

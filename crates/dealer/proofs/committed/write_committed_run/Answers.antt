@@ -1,8 +1,7 @@
 use Rattle.std.proofs.Common.{◌≡◌, ◌+◌, ◌*◌, ◌∙◌, length, refl, arith, mul-zero}
 use Rattle.reference_value.specs.Commitments.{leaf_commitments}
 use Rattle.reference_value.specs.Dealing.{leaf_part}
-use Rattle.share_files.specs.Commits.{leaf_commits_length}
-use Rattle.share_files.specs.Reference.{leaf_length}
+use Rattle.mask_prf.specs.Lengths.{leaf_commits_length, leaf_length}
 use Rattle.lms_bytes.proofs.Joined.{front-more, joined-none, row-fits}
 use Rattle.reference_value.proofs.Parts.{put-part}
 use Rattle.dealer.specs.Secrets.{dealing_with}

@@ -3,8 +3,7 @@ use Rattle.std.proofs.Math.Nat.{mul-add}
 use Rattle.std.proofs.iter.Serving.{serving}
 use Rattle.reference_value.specs.Commitments.{leaf_commitments}
 use Rattle.reference_value.specs.Dealing.{leaf_part}
-use Rattle.share_files.specs.Commits.{leaf_commits_length}
-use Rattle.share_files.specs.Reference.{leaf_length}
+use Rattle.mask_prf.specs.Lengths.{leaf_commits_length, leaf_length}
 use Rattle.dealer.specs.Secrets.{dealing_with}
 use Rattle.dealer.proofs.Joins.{runs-written}
 use Rattle.dealer.proofs.committed_beside.+fn-write_committed_beside-join_mut+arg2+fn-write_committed_beside-join_mut+arg3+write_committed_beside.Goals as goal

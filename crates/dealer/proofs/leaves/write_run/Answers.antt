@@ -1,6 +1,6 @@
 use Rattle.std.proofs.Common.{◌≡◌, ◌+◌, ◌*◌, ◌∙◌, length, refl, arith, mul-zero}
 use Rattle.reference_value.specs.Dealing.{leaf_part}
-use Rattle.share_files.specs.Reference.{leaf_length}
+use Rattle.mask_prf.specs.Lengths.{leaf_length}
 use Rattle.lms_bytes.proofs.Joined.{front-more, joined-none, row-fits}
 use Rattle.reference_value.proofs.Parts.{put-part}
 use Rattle.dealer.specs.Secrets.{dealing_with}

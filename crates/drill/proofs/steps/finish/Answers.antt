@@ -1,5 +1,5 @@
 use Rattle.std.proofs.Common.{List, ℕ, length, refl, sym, ap, subst, ◌∙◌}
-use Rattle.share_files.specs.Reference.{leaves_length}
+use Rattle.mask_prf.specs.Lengths.{leaves_length}
 use Rattle.session_core.specs.Dealing.{IsAnswered}
 use Rattle.session_core.specs.Verdicts.{digest_of}
 use Rattle.drill.specs.Courses.{GoesTo, steps_in}

@@ -1,5 +1,5 @@
 use Rattle.std.proofs.Common.{refl, sym, ap, ◌∙◌, length, List, ℕ}
-use Rattle.share_files.specs.Reference.{leaves_length}
+use Rattle.mask_prf.specs.Lengths.{leaves_length}
 use Rattle.drill.proofs.Stepping.{turn-goes}
 use Rattle.drill.proofs.Turning.{first-masks-kept, no-fault, of-dealing}
 use Rattle.drill.proofs.steps.turn.Goals as goal

@@ -15,3 +15,10 @@ returns-clause-rest c =
     let two = deeper _ _ (4 + length c.to_be_bytes-2.result) end c.put-2.ensures.after (omega arith) in
     let one = deeper _ _ (0 + length c.to_be_bytes.result) end c.put.ensures.after (omega arith) in
     four ∙ (three ∙ (two ∙ one))
+
+pub returns-clause-bytes : goal.returns-clause-bytes
+returns-clause-bytes c =
+    let one = rw c.to_be_bytes.ensures at c.put.ensures.front in
+    let two = rw (c.to_be_bytes-2.ensures, one) at c.put-2.ensures.front in
+    let three = rw (c.args.key.now.id_length, two) at c.put-3.ensures.front in
+    rw (c.bytes.ensures.bytes, c.args.key.now.root_length, three) at c.put-4.ensures.front

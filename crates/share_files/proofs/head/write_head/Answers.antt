@@ -1,4 +1,4 @@
-use Rattle.std.proofs.Common.{◌+◌, ◌∙◌, ap, length, arith}
+use Rattle.std.proofs.Common.{◌+◌, ◌∙◌, ap, length, append_assoc, arith}
 use Rattle.lms_bytes.proofs.Parts.{deeper}
 use Rattle.share_files.proofs.head.write_head.Goals as goal
 
@@ -16,3 +16,13 @@ returns-clause-rest c =
     let two = deeper c.put-2.new.out c.put.new.out 5 32 c.put-2.ensures.after (omega arith) in
     let one = deeper _ _ (0 + length c.args.magic.now) 32 c.put.ensures.after (omega arith) in
     six ∙ (five ∙ (four ∙ (three ∙ (two ∙ one))))
+
+pub returns-clause-head : goal.returns-clause-head
+returns-clause-head c =
+    let one = rw c.told-magic at c.put.ensures.front in
+    let two = rw one at c.put-2.ensures.front in
+    let three = rw (c.told-own, two) at c.put-3.ensures.front in
+    let four = rw (c.to_be_bytes.ensures, three) at c.put-4.ensures.front in
+    let five = rw (c.to_be_bytes-2.ensures, four) at c.put-5.ensures.front in
+    let six = rw (c.told-id, five) at c.put-6.ensures.front in
+    six ∙ simp append_assoc

@@ -4,6 +4,7 @@ use Rattle.share_files.proofs.FirstFault.{contradiction}
 use Rattle.share_files.proofs.HeadParts.{head_passes}
 use Rattle.share_files.proofs.References.{plan_lies}
 use Rattle.share_files.proofs.Shares.{plan_passes, same_plan}
+use Rattle.share_files.proofs.TreeFiles.{zero_passes}
 use Rattle.share_files.proofs.plan_head.read_plan_head.Goals as goal
 
 pub returns-in_err-found-clause-read : goal.returns-in_err-found-clause-read
@@ -32,3 +33,8 @@ returns-clause-read c = λ header dealt parts.
       plan = c.in_ok-plan.ensures.plan ∙ same_plan header.plan header.params c.in_ok-found.found.params c.args.head.now l.own6_at l.own7_at header.height lms;
       id = c.in_ok-found.ensures.id ∙ l.id_at;
     }
+
+pub returns-in_err-check_zero-clause-read : goal.returns-in_err-check_zero-clause-read
+returns-in_err-check_zero-clause-read c = λ header dealt parts.
+    let l = plan_lies c.args.magic.now header c.args.head.now c.told-magic parts in
+    contradiction _ _ (zero_passes 5 c.args.head.now l.own5_at) c.in_err-check_zero.ensures.refused

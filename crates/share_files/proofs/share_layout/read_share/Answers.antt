@@ -1,12 +1,19 @@
-use Rattle.std.proofs.Common.{◌∙◌, [], ◌∷◌}
+use Rattle.std.proofs.Common.{◌≡◌, ◌∙◌, ℕ, ◌≤◌, List, [], ◌∷◌, length, None, false, nat_lt, refl, arith}
+use Rattle.std.proofs.lemmas.Bool.Decides.{nat_tests}
 use Rattle.std.specs.Prelude.{codes}
 use Rattle.std.proofs.lemmas.Result.{err_from_is_err_and}
-use Rattle.share_files.specs.Head.{head_bytes}
+use Rattle.share_files.specs.Head.{head_bytes, short_fault}
 use Rattle.share_files.specs.Share.{share_fault}
 use Rattle.share_files.proofs.FirstFault.{contradiction, first_fault-end, first_fault-passed, first_fault-failed}
 use Rattle.share_files.proofs.HeadParts.{head_and_rest, head_passes}
 use Rattle.share_files.proofs.Shares.{key_at, member_passes, plan_passes, same_plan, share_lies}
+use Rattle.share_files.proofs.TreeFiles.{length_passes}
 use Rattle.share_files.proofs.share_layout.read_share.Goals as goal
+
+short_passes : (want : ℕ) (bytes : List ℕ) → want ≤ length bytes → short_fault want bytes ≡ None
+short_passes want bytes h =
+    let test : nat_lt (length bytes) want ≡ false = grind (arith, nat_tests) in
+    rw test refl
 
 pub returns-in_err-check_front-clause-refused : goal.returns-in_err-check_front-clause-refused
 unfolding share_fault
@@ -91,3 +98,13 @@ returns-clause-faultless c =
     ∙ (first_fault-passed _ _ c.in_ok-plan.ensures.faultless
     ∙ (first_fault-passed _ _ c.in_ok-member.ensures.faultless
     ∙ (first_fault-passed _ _ c.in_ok-check_length.ensures.faultless ∙ first_fault-end))))
+
+pub returns-in_err-check_front-clause-read : goal.returns-in_err-check_front-clause-read
+returns-in_err-check_front-clause-read c = λ share dealt parts.
+    let l = share_lies share c.args.bytes.now parts in
+    contradiction _ _ (short_passes 64 c.args.bytes.now (omega (arith, l.size, share.key_length))) c.in_err-check_front.ensures.refused
+
+pub returns-in_err-check_length-clause-read : goal.returns-in_err-check_length-clause-read
+returns-in_err-check_length-clause-read c = λ share dealt parts.
+    let l = share_lies share c.args.bytes.now parts in
+    contradiction _ _ (length_passes (length c.args.bytes.now) 64 (omega (arith, l.size, share.key_length))) c.in_err-check_length.ensures.refused

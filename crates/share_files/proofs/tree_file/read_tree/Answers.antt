@@ -1,12 +1,18 @@
-use Rattle.std.proofs.Common.{◌∙◌, ◌-◌, [], ◌∷◌, length, arith}
+use Rattle.std.proofs.Common.{◌≡◌, ◌∙◌, ℕ, ◌-◌, ◌≤◌, List, [], ◌∷◌, length, None, false, nat_lt, refl, arith}
+use Rattle.std.proofs.lemmas.Bool.Decides.{nat_tests}
 use Rattle.std.specs.Prelude.{codes}
 use Rattle.std.proofs.lemmas.Result.{err_from_is_err_and}
-use Rattle.share_files.specs.Head.{head_bytes}
+use Rattle.share_files.specs.Head.{head_bytes, short_fault}
 use Rattle.share_files.specs.TreeFile.{tree_fault}
 use Rattle.share_files.proofs.FirstFault.{contradiction, first_fault-end, first_fault-passed, first_fault-failed}
 use Rattle.share_files.proofs.HeadParts.{head_and_rest, head_passes}
-use Rattle.share_files.proofs.TreeFiles.{rest_at, rest_length, tree_lies, want_is}
+use Rattle.share_files.proofs.TreeFiles.{rest_at, rest_length, tree_length_passes, tree_lies, want_is}
 use Rattle.share_files.proofs.tree_file.read_tree.Goals as goal
+
+short_passes : (want : ℕ) (bytes : List ℕ) → want ≤ length bytes → short_fault want bytes ≡ None
+short_passes want bytes h =
+    let test : nat_lt (length bytes) want ≡ false = grind (arith, nat_tests) in
+    rw test refl
 
 pub returns-in_err-check_front-clause-refused : goal.returns-in_err-check_front-clause-refused
 unfolding tree_fault
@@ -98,3 +104,14 @@ returns-clause-faultless c =
     ∙ (first_fault-passed _ _ c.in_ok-check_zero-2.ensures.faultless
     ∙ (first_fault-passed _ _ c.in_ok-check_zero-3.ensures.faultless
     ∙ (first_fault-passed _ _ (rw want at c.in_ok-check_length.ensures.faultless) ∙ first_fault-end)))))
+
+pub returns-in_err-check_front-clause-read : goal.returns-in_err-check_front-clause-read
+returns-in_err-check_front-clause-read c = λ params id nodes l.
+    let lies = tree_lies params c.args.bytes.now id nodes l in
+    contradiction _ _ (short_passes 32 c.args.bytes.now (omega (arith, lies.size))) c.in_err-check_front.ensures.refused
+
+pub returns-in_err-check_length-clause-read : goal.returns-in_err-check_length-clause-read
+returns-in_err-check_length-clause-read c = λ params id nodes l.
+    let lies = tree_lies params c.args.bytes.now id nodes l in
+    let want = want_is c.in_ok-head.head.params c.args.bytes.now c.tree_length.result c.in_ok-head.ensures.codes.0 c.tree_length.ensures in
+    contradiction _ _ (tree_length_passes params c.args.bytes.now id nodes l) (rw (want, lies.lms_is) at c.in_err-check_length.ensures.refused)

@@ -1,5 +1,5 @@
 use Rattle.std.proofs.Common.{◌^◌}
-use Rattle.share_files.specs.Reference.{leaf_length}
+use Rattle.mask_prf.specs.Lengths.{leaf_length}
 use Rattle.lms_bytes.proofs.Joined.{row-fits}
 use Rattle.reference_value.proofs.layout.Layout.leaf.Goals as goal
 

@@ -1,5 +1,5 @@
 use Rattle.std.proofs.Common.{◌^◌, arith}
-use Rattle.share_files.specs.Commits.{leaf_commits_length}
+use Rattle.mask_prf.specs.Lengths.{leaf_commits_length}
 use Rattle.lms_bytes.proofs.Joined.{row-fits}
 use Rattle.share_blame.proofs.Bounds.{leaves_small}
 use Rattle.share_blame.proofs.places.Places.leaf.Goals as goal

@@ -1,12 +1,11 @@
-//! How long the parts of the files are, in bytes.
+//! How long the masked values of a leaf are, and the commitments to their masks, in bytes.
 
 ghost use Rattle.std.specs.Prelude.{◌≡◌, ◌*◌, ◌≤◌, ◌^◌};
-ghost use Rattle.share_files.specs.Commits.{leaf_commits_length};
-ghost use Rattle.share_files.specs.Reference.{leaf_length};
+ghost use Rattle.mask_prf.specs.Lengths.{leaf_commits_length, leaf_length};
 
 use lms_bytes::Params;
 
-/// The length of a head.
+/// The length of the head that comes before them in a file.
 pub const HEAD: usize = 32;
 
 /// The length of a check tag.
