@@ -12,9 +12,3 @@ pub(crate) fn file(rt: HostRuntime, name: &str) -> Option<Vec<u8>> {
         .read_all(rt.alloc(), name, FILE_LIMIT)
         .ok()
 }
-
-/// The file of a session with this suffix.
-pub(crate) fn file_of(rt: HostRuntime, session: &str, suffix: &str) -> Option<Vec<u8>> {
-    let name = format!(in rt.alloc(); "{session}.{suffix}").ok()?;
-    file(rt, name.as_str())
-}

@@ -2,14 +2,13 @@
 //! last of these answers in neither session before the other session has dialled it as well. Both clients are given
 //! signatures that are accepted, by different leaves: no turn of the table is held through a session.
 
-ghost use Rattle.std.specs.Prelude.{◌≤◌, length};
+ghost use Rattle.std.specs.Prelude.{◌≡◌, ◌≤◌, IfSome, length, vec_len};
 
 mod ports;
 mod scene;
 
 use crate::files::file;
 use aggregator_node::serve_clients;
-use aggregator_session::Desk;
 use coalition_map::Members;
 use disk_trait::MemDisk;
 use leaf_table::{Lease, Table};
@@ -73,6 +72,21 @@ fn signed_leaf<W: Wait>(
     }
 }
 
+/// The ports of both workers, at which one client each waits.
+fn ports_of<'a, W: Wait>(
+    alloc: Global,
+    meeting: &'a Meeting<'a, W>,
+) -> Option<Vec<MeetingPort<'a, W>>>
+    ensures { IfSome result (λ ports. vec_len ports ≡ 2) }
+{
+    let first = MeetingPort::new(meeting, request(alloc, FIRST)?);
+    let second = MeetingPort::new(meeting, request(alloc, SECOND)?);
+    let mut ports = Vec::new(alloc);
+    ports.push(first).ok()?;
+    ports.push(second).ok()?;
+    Some(ports)
+}
+
 /// Serves both clients.
 fn serve_both<'a, R: Threads + Wait + Sync>(
     rt: &R,
@@ -80,29 +94,18 @@ fn serve_both<'a, R: Threads + Wait + Sync>(
     scene: &Scene,
     meeting: &'a Meeting<'a, R>,
 ) -> Option<Met> {
-    let (mut ports, mut cells) = (Vec::new(alloc), Vec::new(alloc));
-    ports
-        .push(MeetingPort::new(meeting, request(alloc, FIRST)?))
-        .ok()?;
-    ports
-        .push(MeetingPort::new(meeting, request(alloc, SECOND)?))
-        .ok()?;
+    let mut ports = ports_of(alloc, meeting)?;
+    let mut cells = Vec::new(alloc);
     cells.push(scene.cells(alloc)?).ok()?;
     cells.push(scene.cells(alloc)?).ok()?;
-    let desk = Desk {
-        key: &scene.dealt.public,
-        plan: &scene.plan,
-        tree: &scene.dealt.tree,
-        addresses: &scene.addresses,
-    };
     let table = scene.table(alloc)?;
+    let desk = scene.desk();
     let (table, served) = serve_clients(rt, alloc, &desk, table, &mut cells, &mut ports, 1);
     served.ok()?;
+    let first = signed_leaf(alloc, desk.key, ports.get(0), FIRST);
+    let second = signed_leaf(alloc, desk.key, ports.get(1), SECOND);
     Some(Met {
-        signed: [
-            signed_leaf(alloc, desk.key, ports.get(0), FIRST),
-            signed_leaf(alloc, desk.key, ports.get(1), SECOND),
-        ],
+        signed: [first, second],
         table,
     })
 }

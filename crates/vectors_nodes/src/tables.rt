@@ -11,7 +11,7 @@ use slot_file::{Header, prepare};
 use std::alloc::Global;
 
 /// How many leaves the keys here have.
-pub(crate) const LEAVES: u32 = 32;
+const LEAVES: u32 = 32;
 
 /// The header of a key's table.
 fn header(key: &PublicKey) -> Header
@@ -26,28 +26,12 @@ fn header(key: &PublicKey) -> Header
     }
 }
 
-/// A disk with a fresh table for the leaves of a key.
-pub(crate) fn fresh(alloc: Global, key: &PublicKey) -> Option<MemDisk> {
-    let mut disk = MemDisk::new(alloc, 128 * (LEAVES as usize + 1), usize::MAX).ok()?;
-    prepare(&mut disk, &header(key), LEAVES).ok()?;
-    Some(disk)
-}
-
-/// The table of a key on this disk, if it loads.
-pub(crate) fn load(
-    alloc: Global,
-    key: &PublicKey,
-    plan: &Plan,
-    disk: MemDisk,
-) -> Option<Table<MemDisk>>
-    ensures { IfSome result (λ table. plan_of table ≡ plan.now) }
-{
-    Table::load(alloc, disk, &header(key), plan).ok()
-}
-
 /// A fresh table for the leaves of a key.
 pub(crate) fn table_of(alloc: Global, key: &PublicKey, plan: &Plan) -> Option<Table<MemDisk>>
     ensures { IfSome result (λ table. plan_of table ≡ plan.now) }
 {
-    load(alloc, key, plan, fresh(alloc, key)?)
+    let header = header(key);
+    let mut disk = MemDisk::new(alloc, 128 * (LEAVES as usize + 1), usize::MAX).ok()?;
+    prepare(&mut disk, &header, LEAVES).ok()?;
+    Table::load(alloc, disk, &header, plan).ok()
 }

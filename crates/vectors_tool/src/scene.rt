@@ -1,14 +1,14 @@
-//! What all commands are given beside their words, their runs in memory, and how what they printed is shown.
+//! What all commands are given beside their words, and their runs in memory.
 
 use memory::NoMemory;
 use std::alloc::{AllocError, Global};
 use std::io::{self, ErrorKind};
 use std::sync::Wait;
 use std::thread::Threads;
-use stream_host::{FileStore, StdoutSink};
-use stream_io::{Readers, Store, write_whole};
-use stream_memory::{KeptPort, MemNet, MemSink, MemStore, PortScript};
-use tool_run::{MemClocks, run_tool};
+use stream_host::FileStore;
+use stream_io::{Net, Sink, Store};
+use stream_memory::{MemNet, MemSink, MemStore, PortScript};
+use tool_run::{Clocks, MemClocks, run_tool};
 
 /// Files, each a name and its bytes.
 pub(crate) type Files = Vec<(String, Vec<u8>)>;
@@ -22,32 +22,11 @@ const START: u64 = 1000;
 /// Room for any lines of the tool that are printed here.
 pub(crate) const LINE: usize = 1000;
 
-/// More conversations than a port here has.
-pub(crate) const TALKS: usize = 32;
-
-/// A step of these words: with what is named beside them, or else as another one.
-macro_rules! step {
-    ($words:literal $(, $field:ident: $value:expr)*) => {
-        Step {
-            words: $words,
-            $($field: $value,)*
-            ..PLAIN
-        }
-    };
-    ($words:literal, ..$other:expr) => {
-        Step {
-            words: $words,
-            ..$other
-        }
-    };
-}
-
-pub(crate) use step;
-
-/// The words of a text.
+/// The words of a text. Two quotation marks are a word with nothing in it.
 pub(crate) fn words_of(alloc: Global, text: &str) -> Result<Vec<String>, AllocError> {
     let mut words = Vec::new(alloc);
     for word in text.split(' ') {
+        let word = if word == "\"\"" { "" } else { word };
         words.push(String::from_str(alloc, word)?)?;
     }
     Ok(words)
@@ -86,20 +65,24 @@ pub(crate) fn file<'a>(store: &'a MemStore, name: &str) -> &'a [u8] {
     store.bytes(name).unwrap_or_default()
 }
 
-/// Who may read a file of a store, in a word.
-pub(crate) fn reader(store: &MemStore, name: &str) -> &'static str {
-    match store.readers(name) {
-        Some(Readers::Anyone) => "anyone",
-        Some(Readers::OwnerAlone) => "owner",
-        None => "nobody",
-    }
-}
-
 /// A net that offers the place `here`, with these ports.
 pub(crate) fn net_at_here(alloc: Global, ports: Vec<PortScript>) -> Result<MemNet, NoMemory> {
     let mut places = Vec::new(alloc);
     places.push(String::from_str(alloc, "here")?)?;
     Ok(MemNet::new(places, ports, Vec::new(alloc)))
+}
+
+/// Runs the command of these words over what it is given, and gives its status.
+pub(crate) fn run_over<R: Threads + Wait + Sync, S: Store, N: Net, T: Clocks, O: Sink>(
+    rt: &R,
+    alloc: Global,
+    words: &[String],
+    store: &mut S,
+    net: &mut N,
+    time: &mut T,
+    out: &mut O,
+) -> u8 {
+    run_tool(rt, alloc, words, store, net, time, out)
 }
 
 /// Runs the command of these words, with so much room for its output. It gives what the command printed, and its
@@ -114,35 +97,7 @@ pub(crate) fn run<R: Threads + Wait + Sync>(
 ) -> io::Result<(MemSink, u8)> {
     let words = words_of(alloc, text)?;
     let mut out = made(MemSink::new(alloc, room, 7, Vec::new(alloc)))?;
-    let status = run_tool(
-        rt,
-        alloc,
-        words.as_slice(),
-        store,
-        net,
-        &mut MemClocks::new(START),
-        &mut out,
-    );
+    let mut time = MemClocks::new(START);
+    let status = run_over(rt, alloc, &words, store, net, &mut time, &mut out);
     Ok((out, status))
-}
-
-/// Prints what a command printed, and its status.
-pub(crate) fn print_ran(rt: HostRuntime, line: &[u8], status: u8) -> io::Result<()> {
-    let _ = write_whole(&mut StdoutSink::new(rt), line);
-    print!(rt; "[status {status}]")
-}
-
-/// What the peer who was dialled at a place was sent over a port, none where nobody was.
-pub(crate) fn asked<'a>(port: Option<&'a KeptPort>, place: &str) -> &'a [u8] {
-    let Some(port) = port else {
-        return &[];
-    };
-    for index in 0..TALKS {
-        if let Some(talk) = port.talk(index) {
-            if talk.place() == Some(place) {
-                return talk.written();
-            }
-        }
-    }
-    &[]
 }

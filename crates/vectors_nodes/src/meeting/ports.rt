@@ -107,7 +107,7 @@ impl<'a, W: Wait> MeetingLink<'a, W> {
         }
         let meeting = self.meeting;
         match replies(meeting.waits, meeting.alloc, share, &self.written) {
-            Some((_, given)) if self.place <= given.len() => {
+            Some(given) if self.place <= given.len() => {
                 self.given = given;
                 true
             }

@@ -4,7 +4,7 @@ ghost use Rattle.std.specs.Prelude.{◌≡◌, IfSome};
 ghost use Rattle.leaf_table.specs.Table.{plan_of};
 
 use crate::tables::table_of;
-use aggregator_session::Address;
+use aggregator_session::{Address, Desk};
 use coalition_map::Plan;
 use dealer::{Dealt, deal};
 use disk_trait::MemDisk;
@@ -47,6 +47,20 @@ impl Scene {
         bytes.extend_from_slice(&self.dealt.reference).ok()?;
         let disk = MemDisk::of_bytes(alloc, &bytes, bytes.len(), usize::MAX).ok()?;
         Some(Paged::new(&self.dealt.public.params, &self.plan, disk))
+    }
+
+    /// What the aggregator signs with.
+    pub(crate) fn desk(&self) -> Desk<'_>
+        ensures key { result.key.now ≡ self.now.dealt.public }
+        ensures plan { result.plan.now ≡ self.now.plan }
+        ensures tree { result.tree.now ≡ self.now.dealt.tree }
+    {
+        Desk {
+            key: &self.dealt.public,
+            plan: &self.plan,
+            tree: &self.dealt.tree,
+            addresses: &self.addresses,
+        }
     }
 
     /// A fresh table for the leaves of the key.

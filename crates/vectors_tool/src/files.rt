@@ -1,0 +1,208 @@
+//! Files that are made of parts, and stores that are made of files.
+//!
+//! A part is the name of a file, or `NAME:FROM:TO` for the bytes between two places of it, `hex:DIGITS` for these
+//! bytes, `add:BYTE` for one, `long:NUMBER` for a number of four bytes, the greatest first, or `count:LENGTH:MODULUS`
+//! for so many bytes that count up from 0 and begin again at the modulus. Others change what stands before them:
+//! `cut:LENGTH` leaves so many bytes, `set:PLACE:BYTE` puts a byte at a place, and `flip:PLACE` changes its lowest bit.
+
+use crate::scene::made;
+use crate::world::World;
+use disk_trait::MemDisk;
+use memory::NoMemory;
+use std::alloc::{AllocError, Global};
+use std::io::{self, ErrorKind};
+use std::mem;
+use stream_io::Store;
+use stream_memory::MemStore;
+
+/// The bytes between two places of a file, or all where no place is named.
+fn part_of<'a>(world: &'a World, name: &str, from: &str, to: &str) -> Option<&'a [u8]> {
+    let bytes = world.bytes(name);
+    if from.is_empty() && to.is_empty() {
+        return Some(bytes);
+    }
+    bytes.get(from.parse().ok()?..to.parse().ok()?)
+}
+
+/// Adds bytes of a file. Where they are not there, the line is wrong.
+fn add_file(
+    world: &mut World,
+    bytes: &mut Vec<u8>,
+    name: &str,
+    from: &str,
+    to: &str,
+) -> io::Result<()> {
+    world.load(name)?;
+    match part_of(world, name, from, to) {
+        Some(part) => bytes.extend_from_slice(part)?,
+        None => world.wrong = true,
+    }
+    Ok(())
+}
+
+/// Adds bytes that count up from 0 and begin again at a modulus.
+fn add_counted(bytes: &mut Vec<u8>, length: usize, modulus: usize) -> Result<(), AllocError> {
+    for index in 0..length {
+        bytes.push((index % modulus.clamp(1, 256)) as u8)?;
+    }
+    Ok(())
+}
+
+/// Adds the bytes of these digits. Where they are no digits of bytes, the line is wrong.
+fn add_hex(world: &mut World, bytes: &mut Vec<u8>, digits: &str) -> io::Result<()> {
+    match hex::decode(world.rt.alloc(), digits) {
+        Ok(decoded) => bytes.extend_from_slice(&decoded)?,
+        Err(_) => world.wrong = true,
+    }
+    Ok(())
+}
+
+/// Changes the byte at a place. Where there is none, the line is wrong.
+fn set_byte(world: &mut World, bytes: &mut Vec<u8>, place: usize, kept: u8, flipped: u8) {
+    match bytes.get_mut(place) {
+        Some(byte) => *byte = *byte & kept ^ flipped,
+        None => world.wrong = true,
+    }
+}
+
+/// The byte that a number is.
+fn byte_of(number: usize) -> u8 {
+    (number % 256) as u8
+}
+
+/// Adds a part that is not changed by those before it.
+fn add(world: &mut World, bytes: &mut Vec<u8>, part: (&str, &str, &str)) -> io::Result<()> {
+    let (verb, first, second) = part;
+    match verb {
+        "add" => Ok(bytes.push(byte_of(world.number(first)))?),
+        "hex" => add_hex(world, bytes, first),
+        "long" => {
+            let number = (world.number(first) % (1 << 32)) as u32;
+            Ok(bytes.extend_from_slice(&number.to_be_bytes())?)
+        }
+        "count" => {
+            let length = world.number(first);
+            Ok(add_counted(bytes, length, world.number(second))?)
+        }
+        _ => add_file(world, bytes, verb, first, second),
+    }
+}
+
+/// Adds a part, or changes what is there.
+fn add_part(world: &mut World, bytes: &mut Vec<u8>, part: &str) -> io::Result<()> {
+    let mut words = part.split(':');
+    let verb = words.next().unwrap_or_default();
+    let first = words.next().unwrap_or_default();
+    let second = words.next().unwrap_or_default();
+    match verb {
+        "cut" => bytes.truncate(world.number(first)),
+        "set" => {
+            let place = world.number(first);
+            let byte = byte_of(world.number(second));
+            set_byte(world, bytes, place, 0, byte)
+        }
+        "flip" => {
+            let place = world.number(first);
+            set_byte(world, bytes, place, 255, 1)
+        }
+        _ => return add(world, bytes, (verb, first, second)),
+    }
+    Ok(())
+}
+
+/// Makes a file of parts.
+pub(crate) fn make_file(world: &mut World, rest: &str) -> io::Result<()> {
+    let (name, parts) = rest.split_once(' ').unwrap_or((rest, ""));
+    let mut bytes = Vec::new(world.rt.alloc());
+    for part in parts.split_whitespace() {
+        add_part(world, &mut bytes, part)?;
+    }
+    world.put(name, bytes)
+}
+
+/// Keeps a file of the store. Where it is not there, the line is wrong.
+pub(crate) fn keep(world: &mut World, name: &str) -> io::Result<()> {
+    match world.store.bytes(name) {
+        Some(bytes) => {
+            let bytes = Vec::from_slice(world.rt.alloc(), bytes)?;
+            world.put(name, bytes)
+        }
+        None => {
+            world.wrong = true;
+            Ok(())
+        }
+    }
+}
+
+/// A word without the number of a call behind it, and that number.
+pub(crate) fn with_call<'a>(world: &mut World, word: &'a str) -> (&'a str, Option<u64>) {
+    match word.split_once('!') {
+        Some((name, call)) => (name, Some(world.number(call) as u64)),
+        None => (word, None),
+    }
+}
+
+/// The calls that fail: one or none.
+pub(crate) fn calls_of(alloc: Global, call: Option<u64>) -> Result<Vec<u64>, AllocError> {
+    let mut calls = Vec::new(alloc);
+    if let Some(call) = call {
+        calls.push(call)?;
+    }
+    Ok(calls)
+}
+
+/// A disk of these bytes, with no room for more, whose call of that number fails, if there is one.
+fn disk_of(alloc: Global, bytes: &[u8], call: Option<u64>) -> Result<MemDisk, NoMemory> {
+    let mut disk = MemDisk::of_bytes(alloc, bytes, bytes.len(), usize::MAX)?;
+    if let Some(call) = call {
+        disk.fail_once(call);
+    }
+    Ok(disk)
+}
+
+/// Puts a disk into the store that is made next.
+fn push_disk(world: &mut World, name: &str, disk: MemDisk) -> io::Result<()> {
+    let name = String::from_str(world.rt.alloc(), name)?;
+    Ok(world.disks.push((name, disk))?)
+}
+
+/// Puts a disk that stops at a call into the store that is made next.
+fn add_stopping(world: &mut World, name: &str, call: &str) -> io::Result<()> {
+    let call = world.number(call) as u64;
+    world.load(name)?;
+    let mut disk = made(disk_of(world.rt.alloc(), world.bytes(name), None))?;
+    disk.stop_at(call);
+    push_disk(world, name, disk)
+}
+
+/// Puts the disk of a file into the store that is made next.
+pub(crate) fn add_disk(world: &mut World, word: &str) -> io::Result<()> {
+    if let Some((name, call)) = word.split_once("!!") {
+        return add_stopping(world, name, call);
+    }
+    let (name, call) = with_call(world, word);
+    world.load(name)?;
+    let disk = made(disk_of(world.rt.alloc(), world.bytes(name), call))?;
+    push_disk(world, name, disk)
+}
+
+/// Puts what a crash leaves of a disk of the store into the store that is made next, if it is there.
+pub(crate) fn crash_disk(world: &mut World, pick: u64, name: &str) -> io::Result<()> {
+    let Ok(disk) = world.store.take_disk(name) else {
+        return Ok(());
+    };
+    match disk.into_disk().crash(world.rt.alloc(), pick) {
+        Ok(image) => push_disk(world, name, image),
+        Err(_) => Err(io::Error::from(ErrorKind::OutOfMemory)),
+    }
+}
+
+/// Makes the store of the disks that were made for it.
+pub(crate) fn make_store(world: &mut World, rest: &str) -> io::Result<()> {
+    let alloc = world.rt.alloc();
+    let (_, call) = with_call(world, rest);
+    let calls = calls_of(alloc, call)?;
+    let disks = mem::replace(&mut world.disks, Vec::new(alloc));
+    world.store = made(MemStore::new(alloc, disks, calls))?;
+    Ok(())
+}

@@ -1,0 +1,125 @@
+//! Links in memory, and what went over them.
+
+use crate::files::{calls_of, with_call};
+use crate::scene::{made, net_at_here};
+use crate::world::World;
+use memory::NoMemory;
+use std::alloc::{AllocError, Global};
+use std::{io, mem};
+use stream_memory::{KeptPort, MemLink, MemNet, MemSink, MemSource, PortScript};
+
+/// More conversations than a port here has.
+pub(crate) const TALKS: usize = 32;
+
+/// How many bytes the reads of so many bytes give, one after the other: so many as these, again and again, or all
+/// where there are none of these.
+fn pieces_of(alloc: Global, length: usize, sizes: &[u8]) -> Result<Vec<usize>, AllocError> {
+    let mut pieces = Vec::new(alloc);
+    for index in 0..length {
+        if let Some(size) = sizes.get(index % sizes.len().max(1)) {
+            pieces.push(usize::from(*size))?;
+        }
+    }
+    Ok(pieces)
+}
+
+/// A link that gives these bytes in these pieces, with room for so many and for so many in one write. The call of one
+/// number fails, if there is one.
+fn link_of(
+    alloc: Global,
+    bytes: &[u8],
+    pieces: &[u8],
+    room: (usize, usize),
+    call: Option<u64>,
+) -> Result<MemLink, NoMemory> {
+    let sink = MemSink::new(alloc, room.0, room.1.max(1), Vec::new(alloc))?;
+    let pieces = pieces_of(alloc, bytes.len(), pieces)?;
+    let source = MemSource::new(Vec::from_slice(alloc, bytes)?, pieces, Vec::new(alloc));
+    MemLink::new(alloc, source, sink, calls_of(alloc, call)?, None)
+}
+
+/// A link that gives a file in pieces whose lengths are the bytes of another.
+fn file_link(
+    world: &mut World,
+    name: &str,
+    pieces: &str,
+    call: Option<u64>,
+) -> io::Result<MemLink> {
+    world.load(name)?;
+    world.load(pieces)?;
+    made(link_of(
+        world.rt.alloc(),
+        world.bytes(name),
+        world.bytes(pieces),
+        (world.rooms.0, world.rooms.1),
+        call,
+    ))
+}
+
+/// Adds a port to the next run.
+pub(crate) fn add_port(world: &mut World) -> io::Result<()> {
+    let port = PortScript::new(world.rt.alloc());
+    Ok(world.ports.push(port)?)
+}
+
+/// Has a call of the last port fail.
+pub(crate) fn deafen(world: &mut World, call: &str) -> io::Result<()> {
+    let call = world.number(call) as u64;
+    match world.ports.last_mut() {
+        Some(port) => port.failing.push(call)?,
+        None => world.wrong = true,
+    }
+    Ok(())
+}
+
+/// The net of the next run.
+pub(crate) fn take_net(world: &mut World) -> io::Result<MemNet> {
+    let alloc = world.rt.alloc();
+    let ports = mem::replace(&mut world.ports, Vec::new(alloc));
+    made(net_at_here(alloc, ports))
+}
+
+/// Has a link wait at the last port.
+pub(crate) fn wait(world: &mut World, rest: &str) -> io::Result<()> {
+    let (name, pieces) = rest.split_once(' ').unwrap_or((rest, "empty"));
+    let (name, call) = with_call(world, name);
+    let link = file_link(world, name, pieces, call)?;
+    match world.ports.last_mut() {
+        Some(port) => port.waiting.push(link)?,
+        None => world.wrong = true,
+    }
+    Ok(())
+}
+
+/// Has a link be dialled at a place from the last port.
+fn push_dialled(world: &mut World, place: &str, link: MemLink) -> io::Result<()> {
+    let entry = (String::from_str(world.rt.alloc(), place)?, link);
+    match world.ports.last_mut() {
+        Some(port) => port.dialled.push(entry)?,
+        None => world.wrong = true,
+    }
+    Ok(())
+}
+
+/// Has a link to a file be dialled from the last port.
+pub(crate) fn dial(world: &mut World, word: &str) -> io::Result<()> {
+    let (place, name) = word.split_once('=').unwrap_or((word, ""));
+    let (name, call) = with_call(world, name);
+    let link = file_link(world, name, "empty", call)?;
+    push_dialled(world, place, link)
+}
+
+/// What the peer who was dialled at a place was sent over a port, none where nobody was.
+pub(crate) fn asked<'a>(port: Option<&'a KeptPort>, place: &str) -> &'a [u8] {
+    let Some(port) = port else {
+        return &[];
+    };
+    for index in 0..TALKS {
+        if let Some(talk) = port.talk(index) {
+            if talk.place() == Some(place) {
+                return talk.written();
+            }
+        }
+    }
+    &[]
+}
