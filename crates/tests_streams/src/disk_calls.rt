@@ -1,48 +1,57 @@
-//! Calls of a disk as steps of a script.
+//! Calls of pages and of a disk as steps of a script.
 
-use crate::scripts::{first_number, first_word};
-use disk_trait::{Disk, DiskFault, MemDisk, Pages};
-use memory::NoMemory;
-use std::alloc::Global;
-use std::process::Abort;
+use crate::scripts::{begins, first_number, first_word, initial, word_if};
+use disk_trait::{Disk, DiskFault, Pages};
 
-/// Whether pages give this text of at most eight bytes from a place on, or that they fail.
-pub(crate) fn read_text<P: Pages>(pages: &mut P, at: u64, text: &str) -> Result<bool, DiskFault> {
+/// What reading eight bytes at most from a place on comes to, in a word: `ok` where they are this text.
+pub(crate) fn read<P: Pages>(pages: &mut P, at: u64, text: &str) -> &'static str {
     let mut room = [0; 8];
     let count = text.len().min(8);
-    pages.read_at(at, &mut room[..count])?;
-    Ok(&room[..count] == text.as_bytes())
+    match pages.read_at(at, &mut room[..count]) {
+        Ok(()) => word_if(begins(&room, count, text), "ok"),
+        Err(DiskFault) => "failed",
+    }
 }
 
-/// Whether a call of a disk ends as its step says.
-pub(crate) fn is_done<D: Disk>(disk: &mut D, step: &str) -> bool {
+/// What asking for the length comes to, in a word: `ok` where it is this.
+pub(crate) fn length<P: Pages>(pages: &mut P, want: u64) -> &'static str {
+    match pages.len() {
+        Ok(found) => word_if(found == want, "ok"),
+        Err(DiskFault) => "failed",
+    }
+}
+
+/// The word for what came of writing to a disk.
+pub(crate) fn word(done: Result<(), DiskFault>) -> &'static str {
+    match done {
+        Ok(()) => "ok",
+        Err(DiskFault) => "failed",
+    }
+}
+
+/// What a call of a disk comes to, in a word: `write 4 XYZ` writes at a place, `read 4 XYZ` compares what is there,
+/// `length 7` and `faults 3` compare a number, and `sync` makes stable.
+fn outcome<D: Disk>(disk: &mut D, step: &str) -> &'static str {
     let (call, rest) = first_word(step);
     let (number, text) = first_number(rest);
-    match call {
-        "write" => disk.write_at(number, text.as_bytes()).is_ok(),
-        "write!" => disk.write_at(number, text.as_bytes()).is_err(),
-        "read" => read_text(disk, number, text) == Ok(true),
-        "read!" => read_text(disk, number, text).is_err(),
-        "sync" => disk.sync().is_ok(),
-        "sync!" => disk.sync().is_err(),
-        "length" => disk.len() == Ok(number),
-        "faults" => disk.faults() == number,
-        _ => false,
+    match initial(call) {
+        b'w' => word(disk.write_at(number, text.as_bytes())),
+        b'r' => read(disk, number, text),
+        b's' => word(disk.sync()),
+        b'l' => length(disk, number),
+        b'f' => word_if(disk.faults() == number, "ok"),
+        _ => "unknown",
     }
 }
 
-/// Does the calls of a script on a disk: `write 4 XYZ` writes at a place, `read 4 XYZ` compares what is there,
-/// `length 7` and `faults 3` compare a number, and `sync` makes stable. A call with a `!` has to fail.
-pub(crate) fn plays<D: Disk>(rt: &impl Abort, disk: &mut D, script: &str) {
-    for step in script.split(", ") {
-        assert!(rt; is_done(disk, step), "{step}");
+/// Does the calls of a script on a disk, each behind the word that it has to come to, as `failed read 4 XYZ`. The
+/// first that comes to another one, or nothing.
+pub(crate) fn plays<D: Disk>(disk: &mut D, script: &'static str) -> &'static str {
+    for step in script.split("; ") {
+        let (want, call) = first_word(step);
+        if outcome(disk, call) != want {
+            return step;
+        }
     }
-}
-
-/// The image that a crash leaves by this pick.
-pub(crate) fn crashed(disk: MemDisk, alloc: Global, pick: u64) -> Result<MemDisk, NoMemory> {
-    match disk.crash(alloc, pick) {
-        Ok(image) => Ok(image),
-        Err(_fault) => Err(NoMemory),
-    }
+    ""
 }

@@ -1,20 +1,19 @@
-//! Files that are no files: what is asked of them is written down, and one call of them fails.
+//! Files that are no files: their calls are answered as they are listed.
 
-use std::alloc::Allocator;
+ghost use Rattle.std.specs.Prelude.{◌≤◌, IfOk};
+
+use std::alloc::{AllocError, Allocator, Global};
 use std::fs::{Metadata, OpenFile, OpenOptions};
+use std::io;
 use std::io::{Empty, ErrorKind, Read, Seek, SeekFrom, Write};
 use std::os::unix::fs::FileExt;
 use std::rt::Files;
 use std::sync::Arc;
-use std::sync::atomic::{AtomicU8, AtomicUsize, Ordering};
-use std::{array, io};
+use std::sync::atomic::{AtomicUsize, Ordering};
 use stream_host::Lockable;
 
-/// How many bytes a record has room for. What is asked beyond is lost.
-const ROOM: usize = 96;
-
-/// Names of a file, of that file while it is not whole, and of its folder.
-pub const NAMES: [[&'static str; 3]; 5] = [
+/// Names of a file, of that file while it is not whole, and of its folder: what stands before the last part.
+const NAMES: [[&'static str; 3]; 5] = [
     ["in/a", "in/a.new", "in"],
     ["b", "b.new", "."],
     ["a/b", "a/b.new", "a"],
@@ -22,112 +21,151 @@ pub const NAMES: [[&'static str; 3]; 5] = [
     ["/b", "/b.new", "/"],
 ];
 
-/// What a fake file system was asked, and how it answers. Each call is a word of three bytes: what was done (`m` to
-/// look, `c` to make, `o` to open for reading, `u` for writing too, `k` to lock, `r` to remove, `l` to link to, `s` to
-/// sync, `d` to sync data, `w` to write), to what (`a` the file, `n` the file under the name that it has until it is
-/// whole, `i` the folder), and a blank or the byte that was written.
-#[derive(Drop)]
-pub struct Record {
-    said: [AtomicU8; ROOM],
-    length: AtomicUsize,
-    /// Which of `NAMES` the names are.
-    pub names: usize,
-    /// What the file is, if anything stands there.
-    pub stands: Option<Stands>,
-    /// The first two bytes of the calls that fail.
-    pub fails: [u8; 2],
-    /// How they fail.
-    pub kind: ErrorKind,
-}
+/// How far the count of calls goes on where one is made that is not listed. No list is as long.
+const ASTRAY: usize = 10_000;
 
-/// What stands at a name.
-#[derive(Clone, Copy)]
-pub enum Stands {
-    /// A file with the bytes `xyz`.
-    File,
-    /// A folder.
-    Folder,
+/// What a fake file system is to be asked, and how many bytes of that it was asked. Each call is a word of four
+/// bytes: what is done (`m` to look, `c` to make, `o` to open for reading, `u` for writing too, `k` to lock, `r` to
+/// remove, `l` to link to, `s` to sync, `d` to sync data, `g` to read, `w` to write, a digit to write at that place),
+/// to what (`a` the file, `n` the file under the name that it has until it is whole, `i` the folder), the place that
+/// is read or the byte that is written, and a blank where that succeeds, `0` where no byte is moved, `d` where a folder
+/// stands there, or a letter that says how it fails.
+#[derive(Drop)]
+pub(crate) struct Record {
+    words: Vec<u8>,
+    asked: AtomicUsize,
+    // which of `NAMES` the names are
+    names: usize,
+    // how many bytes lie before the first of a file that somebody reads or writes
+    before: u64,
 }
 
 impl Record {
     /// A record of nothing so far.
-    pub fn new(stands: Option<Stands>, fails: [u8; 2], kind: ErrorKind) -> Record {
-        Record {
-            said: array::from_fn(|_| AtomicU8::new(0)),
-            length: AtomicUsize::new(0),
-            names: 0,
-            stands,
-            fails,
-            kind,
-        }
-    }
-
-    /// Writes a byte down.
-    fn say(&self, byte: u8) {
-        let at = self.length.fetch_add(1, Ordering::SeqCst);
-        if at < ROOM {
-            self.said[at].store(byte, Ordering::SeqCst);
-        }
+    pub(crate) fn new(
+        alloc: Global,
+        names: usize,
+        before: u64,
+        words: &str,
+    ) -> Result<Record, AllocError> {
+        Ok(Record {
+            words: Vec::from_slice(alloc, words.as_bytes())?,
+            asked: AtomicUsize::new(0),
+            names,
+            before,
+        })
     }
 
     /// Whether just this was asked.
-    pub fn has_said(&self, all: &str) -> bool {
-        let all = all.as_bytes();
-        let mut same = self.length.load(Ordering::SeqCst) == all.len() && all.len() <= ROOM;
-        for (i, byte) in all.iter().enumerate() {
-            same = same && i < ROOM && self.said[i].load(Ordering::SeqCst) == *byte;
-        }
-        same
+    pub(crate) fn is_done(&self) -> bool {
+        self.asked.load(Ordering::SeqCst) == self.words.len()
     }
 
-    /// Writes a call down, and answers it.
-    fn call(&self, verb: u8, what: u8, byte: u8) -> io::Result<()> {
-        self.say(verb);
-        self.say(what);
-        self.say(byte);
-        if self.fails == [verb, what] {
-            return Err(io::Error::from(self.kind));
+    /// The byte at a place of the list, or 0 behind it.
+    fn byte(&self, at: usize) -> u8 {
+        match self.words.get(at) {
+            Some(byte) => *byte,
+            None => 0,
         }
-        Ok(())
     }
 
-    /// What is told of a name.
-    fn look(&self, path: &str) -> io::Result<Metadata> {
-        self.call(b'm', self.letter(path), b' ')?;
-        match self.stands {
-            Some(Stands::File) => Ok(Metadata::of_file(3)),
-            Some(Stands::Folder) => Ok(Metadata::of_dir()),
-            None => Err(io::Error::from(ErrorKind::NotFound)),
+    /// The answer to a call: the letter that the list has for it, or one for a call that is not listed.
+    fn letter(&self, verb: u8, what: u8, byte: u8) -> u8 {
+        let at = self.asked.fetch_add(4, Ordering::SeqCst).min(ASTRAY);
+        if self.byte(at) == verb && self.byte(at + 1) == what && self.byte(at + 2) == byte {
+            return self.byte(at + 3);
+        }
+        self.asked.fetch_add(ASTRAY, Ordering::SeqCst);
+        b'?'
+    }
+
+    /// Makes a call.
+    fn call(&self, verb: u8, what: u8) -> io::Result<()> {
+        match self.letter(verb, what, b' ') {
+            b' ' => Ok(()),
+            letter => Err(io::Error::from(kind_of(letter))),
+        }
+    }
+
+    /// Makes a call that moves a byte, or none.
+    fn moves(&self, verb: u8, what: u8, byte: u8) -> io::Result<usize>
+        ensures { IfOk result (λ n. n ≤ 1) }
+    {
+        match self.letter(verb, what, byte) {
+            b' ' => Ok(1),
+            b'0' => Ok(0),
+            letter => Err(io::Error::from(kind_of(letter))),
+        }
+    }
+
+    /// What is told of a file.
+    fn look(&self, what: u8) -> io::Result<Metadata> {
+        match self.letter(b'm', what, b' ') {
+            b' ' => Ok(Metadata::of_file(self.before.saturating_add(3))),
+            b'd' => Ok(Metadata::of_dir()),
+            letter => Err(io::Error::from(kind_of(letter))),
         }
     }
 
     /// The letter of a name.
-    fn letter(&self, path: &str) -> u8 {
+    fn what(&self, path: &str) -> u8 {
         let [file, part, folder] = NAMES[self.names.min(4)];
-        match (path == file, path == part, path == folder) {
-            (true, _, _) => b'a',
-            (_, true, _) => b'n',
-            (_, _, true) => b'i',
-            _ => b'?',
+        if path == file {
+            b'a'
+        } else if path == part {
+            b'n'
+        } else if path == folder {
+            b'i'
+        } else {
+            b'?'
         }
     }
 
-    /// The file's name.
-    pub fn name(&self) -> &'static str {
-        NAMES[self.names.min(4)][0]
+    /// The digit of a place in a file.
+    fn digit(&self, offset: u64) -> u8 {
+        match offset.checked_sub(self.before) {
+            Some(place) => b'0'.saturating_add(place.min(9) as u8),
+            None => b'?',
+        }
+    }
+}
+
+/// How a call fails that is answered by this letter.
+fn kind_of(letter: u8) -> ErrorKind {
+    match letter {
+        b'e' => ErrorKind::AlreadyExists,
+        b'f' => ErrorKind::StorageFull,
+        b'i' => ErrorKind::Interrupted,
+        b'l' => ErrorKind::Unsupported,
+        b'm' => ErrorKind::OutOfMemory,
+        b'n' => ErrorKind::NotFound,
+        b'p' => ErrorKind::PermissionDenied,
+        b'w' => ErrorKind::WouldBlock,
+        _ => ErrorKind::Other,
     }
 }
 
 /// A fake file system.
 #[derive(Clone, Copy)]
-pub struct FakeFiles<'a>(pub &'a Arc<Record>);
+pub(crate) struct FakeFiles<'a>(pub(crate) &'a Arc<Record>);
 
-/// A fake file, which reads and writes one byte at a time.
+/// A fake file of the bytes `xyz`, which reads and writes one byte at a time. What is written is kept nowhere.
 #[derive(Drop)]
-pub struct FakeFile {
+pub(crate) struct FakeFile {
     record: Arc<Record>,
     what: u8,
-    place: usize,
+    place: u64,
+}
+
+impl FakeFile {
+    /// A file that nobody has read.
+    pub(crate) fn new(record: &Arc<Record>, what: u8) -> io::Result<FakeFile> {
+        Ok(FakeFile {
+            record: Arc::try_clone(record)?,
+            what,
+            place: 0,
+        })
+    }
 }
 
 impl Files for FakeFiles<'_> {
@@ -135,129 +173,149 @@ impl Files for FakeFiles<'_> {
 
     type Dir = Empty;
 
+    /// Makes a file or opens one.
     fn open_file(&self, how: &OpenOptions, path: &str) -> io::Result<FakeFile> {
-        let verb = if how.asks_create_new() {
-            b'c'
-        } else if how.asks_write() {
-            b'u'
-        } else {
-            b'o'
+        let verb = match (how.asks_create_new(), how.asks_write()) {
+            (true, _) => b'c',
+            (_, true) => b'u',
+            _ => b'o',
         };
-        let what = self.0.letter(path);
-        self.0.call(verb, what, b' ')?;
-        Ok(FakeFile {
-            record: Arc::try_clone(self.0)?,
-            what,
-            place: 0,
-        })
+        let what = self.0.what(path);
+        self.0.call(verb, what)?;
+        FakeFile::new(self.0, what)
     }
 
+    /// Looks at a name.
     fn metadata(&self, path: &str) -> io::Result<Metadata> {
-        self.0.look(path)
+        self.0.look(self.0.what(path))
     }
 
+    /// Looks at a name.
     fn symlink_metadata(&self, path: &str) -> io::Result<Metadata> {
-        self.0.look(path)
+        self.0.look(self.0.what(path))
     }
 
+    /// Removes a file.
     fn remove_file(&self, path: &str) -> io::Result<()> {
-        self.0.call(b'r', self.0.letter(path), b' ')
+        self.0.call(b'r', self.0.what(path))
     }
 
+    /// Links to a file.
     fn hard_link(&self, _original: &str, link: &str) -> io::Result<()> {
-        self.0.call(b'l', self.0.letter(link), b' ')
+        self.0.call(b'l', self.0.what(link))
     }
 
+    /// Fails.
     fn open_dir(&self, _path: &str) -> io::Result<Empty> {
         Err(io::Error::from(ErrorKind::Unsupported))
     }
 
+    /// Fails.
     fn copy(&self, _from: &str, _to: &str) -> io::Result<u64> {
         Err(io::Error::from(ErrorKind::Unsupported))
     }
 
+    /// Fails.
     fn rename(&self, _from: &str, _to: &str) -> io::Result<()> {
         Err(io::Error::from(ErrorKind::Unsupported))
     }
 
+    /// Fails.
     fn create_dir(&self, _path: &str) -> io::Result<()> {
         Err(io::Error::from(ErrorKind::Unsupported))
     }
 
+    /// Fails.
     fn remove_dir(&self, _path: &str) -> io::Result<()> {
         Err(io::Error::from(ErrorKind::Unsupported))
     }
 
+    /// Fails.
     fn remove_dir_all<B: Allocator>(&self, _alloc: B, _path: &str) -> io::Result<()> {
         Err(io::Error::from(ErrorKind::Unsupported))
     }
 }
 
 impl OpenFile for FakeFile {
+    /// Looks at the file.
     fn metadata(&self) -> io::Result<Metadata> {
-        self.record.call(b'm', self.what, b' ')?;
-        Ok(Metadata::of_file(3))
+        self.record.look(self.what)
     }
 
+    /// Fails.
     fn set_len(&self, _size: u64) -> io::Result<()> {
         Err(io::Error::from(ErrorKind::Unsupported))
     }
 
+    /// Syncs all.
     fn sync_all(&self) -> io::Result<()> {
-        self.record.call(b's', self.what, b' ')
+        self.record.call(b's', self.what)
     }
 
+    /// Syncs data.
     fn sync_data(&self) -> io::Result<()> {
-        self.record.call(b'd', self.what, b' ')
+        self.record.call(b'd', self.what)
     }
 }
 
 impl Lockable for FakeFile {
+    /// Locks the file.
     fn lock_alone(&self) -> io::Result<()> {
-        self.record.call(b'k', self.what, b' ')
+        self.record.call(b'k', self.what)
     }
 }
 
 impl Read for FakeFile {
+    /// Reads behind what was read.
     fn read(&mut self, buf: &mut [u8]) -> io::Result<usize> {
-        let got = self.read_at(buf, self.place as u64)?;
-        self.place = self.place.saturating_add(got);
+        let got = self.read_at(buf, self.place)?;
+        self.place = self.place.saturating_add(got as u64);
         Ok(got)
     }
 }
 
 impl Write for FakeFile {
+    /// Writes a byte.
     fn write(&mut self, buf: &[u8]) -> io::Result<usize> {
-        self.write_at(buf, 0)
+        match buf.first() {
+            Some(byte) => self.record.moves(b'w', self.what, *byte),
+            None => Ok(0),
+        }
     }
 
+    /// Does nothing.
     fn flush(&mut self) -> io::Result<()> {
         Ok(())
     }
 }
 
 impl Seek for FakeFile {
+    /// Fails.
     fn seek(&mut self, _to: SeekFrom) -> io::Result<u64> {
         Err(io::Error::from(ErrorKind::NotSeekable))
     }
 }
 
 impl FileExt for FakeFile {
+    /// Reads a byte of `xyz`.
     fn read_at(&self, buf: &mut [u8], offset: u64) -> io::Result<usize> {
-        let bytes = b"xyz";
-        let at = usize::try_from(offset).unwrap_or(usize::MAX);
-        if buf.is_empty() || at >= bytes.len() {
-            return Ok(0);
+        let digit = self.record.digit(offset);
+        match buf.first_mut() {
+            Some(byte) => {
+                *byte = b'x'.wrapping_add(digit.wrapping_sub(b'0'));
+                self.record.moves(b'g', self.what, digit)
+            }
+            None => Ok(0),
         }
-        buf[0] = bytes[at];
-        Ok(1)
     }
 
-    fn write_at(&self, buf: &[u8], _offset: u64) -> io::Result<usize> {
-        if buf.is_empty() {
-            return Ok(0);
+    /// Writes a byte at a place, whose digit is the word's first byte.
+    fn write_at(&self, buf: &[u8], offset: u64) -> io::Result<usize> {
+        match buf.first() {
+            Some(byte) => self
+                .record
+                .moves(self.record.digit(offset), self.what, *byte),
+            None => Ok(0),
         }
-        self.record.call(b'w', self.what, buf[0])?;
-        Ok(1)
     }
 }

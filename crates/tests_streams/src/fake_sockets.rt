@@ -1,99 +1,100 @@
 //! Sockets that are no sockets: their calls are answered as they are listed.
 
+ghost use Rattle.std.specs.Prelude.{◌≤◌, IfOk};
+
+use std::io;
 use std::io::{ErrorKind, Read, Write};
 use std::net::{Net, OpenListener, OpenStream, SocketAddr};
 use std::os::fd::{AsRawFd, RawFd};
 use std::sync::Arc;
-use std::sync::atomic::{AtomicBool, AtomicUsize, Ordering};
-use std::{array, io};
+use std::sync::atomic::{AtomicUsize, Ordering};
 
-/// A call of the system, and its answer.
-#[derive(Clone, Copy)]
-pub enum Step {
-    /// A read with room for so many bytes, which it gives, or one that fails.
-    Read(Result<usize, ErrorKind>),
-    /// A write of at least so many bytes, which are taken, or one that fails.
-    Write(Result<usize, ErrorKind>),
-    /// An accept that gives a connection, or fails.
-    Accept(Result<(), ErrorKind>),
-}
+/// A call of the system, and its answer: how many bytes a read gives, how many a write takes, of at least so many
+/// that there is room for or that are given, or that an accept gives a connection; or how it fails.
+pub(crate) type Step = (u8, Result<usize, ErrorKind>);
 
-/// The most calls of a wire.
-const MOST: usize = 8;
+/// The calls.
+pub(crate) const READ: u8 = b'r';
 
-/// The calls that fake sockets are to make, in their order, and whether they make them. The bytes of each direction
+pub(crate) const WRITE: u8 = b'w';
+
+pub(crate) const ACCEPT: u8 = b'a';
+
+/// How far the count of calls goes on where one is made that is not listed. No list is as long.
+const ASTRAY: usize = 1000;
+
+/// The calls that fake sockets are to make, in their order, and how many they have made. The bytes of each direction
 /// count up, from 0 to 250 and from 0 again.
 #[derive(Drop)]
-pub struct Wire {
-    steps: [Option<Step>; MOST],
-    next: AtomicUsize,
-    is_astray: AtomicBool,
+pub(crate) struct Wire {
+    steps: Vec<Step>,
+    made: AtomicUsize,
 }
 
 impl Wire {
     /// A wire on which nothing was done.
-    pub fn new(steps: &[Step]) -> Wire {
+    pub(crate) fn new(steps: Vec<Step>) -> Wire {
         Wire {
-            steps: array::from_fn(|at| steps.get(at).copied()),
-            next: AtomicUsize::new(0),
-            is_astray: AtomicBool::new(false),
+            steps,
+            made: AtomicUsize::new(0),
         }
     }
 
-    /// The answer to the next call, if there is one.
-    fn step(&self) -> Option<Step> {
-        let at = self.next.fetch_add(1, Ordering::SeqCst);
-        self.steps.get(at).copied().flatten()
+    /// Answers the next call, with room for so many bytes or with so many given.
+    fn answer(&self, call: u8, size: usize) -> io::Result<usize>
+        ensures { IfOk result (λ n. n ≤ size) }
+    {
+        match self.steps.get(self.made.fetch_add(1, Ordering::SeqCst)) {
+            Some((made, Ok(count))) if *made == call && *count <= size => Ok(*count),
+            Some((made, Err(kind))) if *made == call => Err(io::Error::from(*kind)),
+            _ => Err(self.stray()),
+        }
     }
 
     /// Notes a call that is none of those that were to be made, and answers it.
     fn stray(&self) -> io::Error {
-        self.is_astray.store(true, Ordering::SeqCst);
+        self.made.fetch_add(ASTRAY, Ordering::SeqCst);
         io::Error::from(ErrorKind::Other)
     }
 
     /// Whether just these calls were made.
-    pub fn is_done(&self) -> bool {
-        let made = self.next.load(Ordering::SeqCst);
-        made <= MOST
-            && self.steps[..made].iter().all(|step| step.is_some())
-            && self.steps[made..].iter().all(|step| step.is_none())
-            && !self.is_astray.load(Ordering::SeqCst)
+    pub(crate) fn is_done(&self) -> bool {
+        self.made.load(Ordering::SeqCst) == self.steps.len()
     }
 }
 
 /// The byte at a place of those that count up.
-pub fn byte_at(place: usize) -> u8 {
+fn byte_at(place: u64) -> u8 {
     (place % 251) as u8
 }
 
 /// Fills the room with the bytes from a place on.
-pub fn count_up(room: &mut [u8], place: usize) {
+pub(crate) fn count_up(room: &mut [u8], place: u64) {
     for i in 0..room.len() {
-        room[i] = byte_at(place.saturating_add(i));
+        room[i] = byte_at(place.saturating_add(i as u64));
     }
 }
 
-/// Whether these are the bytes from a place on.
-pub fn are_counted(bytes: &[u8], place: usize) -> bool {
-    for (i, byte) in bytes.iter().enumerate() {
-        if *byte != byte_at(place.saturating_add(i)) {
+/// Whether the first so many of these are the bytes from a place on.
+pub(crate) fn are_counted(bytes: &[u8], count: usize, place: u64) -> bool {
+    for i in 0..bytes.len().min(count) {
+        if bytes[i] != byte_at(place.saturating_add(i as u64)) {
             return false;
         }
     }
-    true
+    count <= bytes.len()
 }
 
 /// A net of fake sockets.
 #[derive(Clone, Copy)]
-pub struct FakeNet<'a>(pub &'a Arc<Wire>);
+pub(crate) struct FakeNet<'a>(pub(crate) &'a Arc<Wire>);
 
 /// A connection of it.
 #[derive(Drop)]
-pub struct FakeStream {
+pub(crate) struct FakeStream {
     wire: Arc<Wire>,
-    given: usize,
-    taken: usize,
+    given: u64,
+    taken: u64,
 }
 
 impl FakeStream {
@@ -109,17 +110,19 @@ impl FakeStream {
 
 /// A place at which connections are accepted.
 #[derive(Drop)]
-pub struct FakeListener(Arc<Wire>);
+pub(crate) struct FakeListener(Arc<Wire>);
 
 impl Net for FakeNet<'_> {
     type Stream = FakeStream;
 
     type Listener = FakeListener;
 
+    /// Listens at any place.
     fn bind(&self, _place: SocketAddr) -> io::Result<FakeListener> {
         Ok(FakeListener(Arc::try_clone(self.0)?))
     }
 
+    /// Connects to any place.
     fn connect(&self, _place: SocketAddr) -> io::Result<FakeStream> {
         FakeStream::new(self.0)
     }
@@ -128,47 +131,38 @@ impl Net for FakeNet<'_> {
 impl OpenListener for FakeListener {
     type Stream = FakeStream;
 
+    /// Answers an accept.
     fn accept(&self) -> io::Result<(FakeStream, SocketAddr)> {
-        match self.0.step() {
-            Some(Step::Accept(Ok(()))) => {
-                let stream = FakeStream::new(&self.0)?;
-                Ok((stream, SocketAddr::from(([127, 0, 0, 1], 1))))
-            }
-            Some(Step::Accept(Err(kind))) => Err(io::Error::from(kind)),
-            _ => Err(self.0.stray()),
-        }
+        self.0.answer(ACCEPT, 0)?;
+        Ok((
+            FakeStream::new(&self.0)?,
+            SocketAddr::from(([127, 0, 0, 1], 1)),
+        ))
     }
 }
 
 impl Read for FakeStream {
+    /// Answers a read.
     fn read(&mut self, room: &mut [u8]) -> io::Result<usize> {
-        match self.wire.step() {
-            Some(Step::Read(Ok(count))) if count <= room.len() => {
-                count_up(&mut room[..count], self.given);
-                self.given = self.given.saturating_add(count);
-                Ok(count)
-            }
-            Some(Step::Read(Err(kind))) => Err(io::Error::from(kind)),
-            _ => Err(self.wire.stray()),
-        }
+        let count = self.wire.answer(READ, room.len())?;
+        count_up(&mut room[..count], self.given);
+        self.given = self.given.saturating_add(count as u64);
+        Ok(count)
     }
 }
 
 impl Write for FakeStream {
+    /// Answers a write, unless other bytes are given than those that are next.
     fn write(&mut self, bytes: &[u8]) -> io::Result<usize> {
-        match self.wire.step() {
-            Some(Step::Write(Ok(count))) if count <= bytes.len() => {
-                if !are_counted(&bytes[..count], self.taken) {
-                    return Err(self.wire.stray());
-                }
-                self.taken = self.taken.saturating_add(count);
-                Ok(count)
-            }
-            Some(Step::Write(Err(kind))) => Err(io::Error::from(kind)),
-            _ => Err(self.wire.stray()),
+        let count = self.wire.answer(WRITE, bytes.len())?;
+        if !are_counted(bytes, bytes.len(), self.taken) {
+            return Err(self.wire.stray());
         }
+        self.taken = self.taken.saturating_add(count as u64);
+        Ok(count)
     }
 
+    /// Does nothing.
     fn flush(&mut self) -> io::Result<()> {
         Ok(())
     }
@@ -177,12 +171,14 @@ impl Write for FakeStream {
 impl OpenStream for FakeStream {}
 
 impl AsRawFd for FakeStream {
+    /// No descriptor.
     fn as_raw_fd(&self) -> RawFd {
         -1
     }
 }
 
 impl AsRawFd for FakeListener {
+    /// No descriptor.
     fn as_raw_fd(&self) -> RawFd {
         -1
     }

@@ -1,248 +1,230 @@
-//! Tests of the store of files over files that are no files: which calls succeed, and what the system is asked.
+//! Tests of the store of files and of disks over files that are no files: which calls succeed, and what the system is
+//! asked.
 
-ghost use Rattle.std.specs.Prelude.{◌≡◌};
-
-use crate::ends::{end_of_call, end_of_new, end_of_read};
-use crate::fake_files::{FakeFiles, NAMES, Record, Stands};
-use disk_trait::{Disk, Faults, Pages};
+use crate::disk_calls::plays;
+use crate::fake_files::{FakeFile, FakeFiles, Record};
+use crate::store_calls::stores;
 use std::alloc::{AllocError, Global};
-use std::io::ErrorKind;
-use std::io::ErrorKind::{
-    AlreadyExists, Other, OutOfMemory, PermissionDenied, StorageFull, Unsupported, WouldBlock,
-};
-use std::process::Abort;
+use std::io;
 use std::sync::Arc;
-use stream_host::FileStore;
-use stream_io::{CallFault, Readers, Store};
+use stream_host::{FileDisk, FileStore};
 
-/// Which call fails, how, what then comes of what was asked for, and all that the system was asked.
-type Row = ([u8; 2], ErrorKind, &'static str, &'static str);
+/// Which names the files have, what is done with a store of them, and all that the system is asked.
+type Row = (usize, &'static str, &'static str);
 
-/// A call of a store.
-#[derive(Clone, Copy)]
-enum Call {
-    WriteNew,
-    NewDisk,
-    TakeDisk,
-    View,
-    Has,
-    ReadAll,
-}
-
-/// What comes of a call for this name.
-fn end_of<S: Store>(store: &mut S, alloc: Global, call: Call, name: &str) -> &'static str
-where
-    S::Disk: Drop,
-    S::View: Drop,
-{
-    match call {
-        Call::WriteNew => end_of_new(store.write_new(alloc, name, b"xyz", Readers::Anyone)),
-        Call::NewDisk => end_of_new(store.new_disk(alloc, name, 9)),
-        Call::TakeDisk => end_of_call(store.take_disk(name)),
-        Call::View => end_of_call(store.view(alloc, name)),
-        Call::Has => end_of_call(store.has(name)),
-        Call::ReadAll => end_of_read(store.read_all(alloc, name, 3)),
-    }
-}
-
-/// Whether a call comes to this, and counts a fault where it failed and nowhere else.
-fn comes_to<S: Store>(store: &mut S, alloc: Global, call: Call, name: &str, end: &str) -> bool
-where
-    S::Disk: Drop,
-    S::View: Drop,
-{
-    end_of(store, alloc, call, name) == end && store.faults() == u64::from(end == "failed")
-}
-
-/// The same at a store over these files.
-fn ends(alloc: Global, record: &Arc<Record>, call: Call, end: &str) -> bool {
-    let mut store = FileStore::new(FakeFiles(record));
-    comes_to(&mut store, alloc, call, record.name(), end)
-}
-
-/// Whether a call comes to what the row says, and asked what it says.
-fn is_answered(
-    alloc: Global,
-    call: Call,
-    stands: Option<Stands>,
-    row: Row,
-) -> Result<bool, AllocError> {
-    let (fails, kind, end, said) = row;
-    let record = Arc::new(alloc, Record::new(stands, fails, kind))?;
-    Ok(ends(alloc, &record, call, end) && record.has_said(said))
-}
-
-const NEW_FILES: [Row; 14] = [
-    (*b"  ", Other, "done", "ma cn wnxwnywnzsn la rn oi si "),
-    (*b"ma", Other, "failed", "ma "),
-    (*b"ma", OutOfMemory, "memory", "ma "),
-    (*b"cn", AlreadyExists, "failed", "ma cn "),
-    (*b"cn", OutOfMemory, "memory", "ma cn "),
-    (*b"wn", StorageFull, "failed", "ma cn wnxrn "),
-    (*b"sn", Other, "failed", "ma cn wnxwnywnzsn rn "),
-    (*b"la", AlreadyExists, "exists", "ma cn wnxwnywnzsn la rn "),
-    (*b"la", Other, "failed", "ma cn wnxwnywnzsn la rn "),
+static ROWS: [Row; 40] = [
+    // A new file is whole and stable, or not there.
     (
-        *b"la",
-        Unsupported,
-        "done",
-        "ma cn wnxwnywnzsn la ca waxwaywazsa rn oi si ",
+        0,
+        "ok new in/a xyz; ok faults 0",
+        "ma ncn  wnx wny wnz sn  la  rn  oi  si  ",
+    ),
+    (0, "failed new in/a xyz; ok faults 1", "ma x"),
+    (0, "memory new in/a xyz; ok faults 0", "ma m"),
+    (0, "failed new in/a xyz; ok faults 1", "ma ncn e"),
+    (0, "memory new in/a xyz; ok faults 0", "ma ncn m"),
+    (0, "failed new in/a xyz; ok faults 1", "ma ncn  wnxfrn  "),
+    (
+        0,
+        "failed new in/a xyz; ok faults 1",
+        "ma ncn  wnx wny wnz sn xrn  ",
     ),
     (
-        *b"la",
-        PermissionDenied,
-        "done",
-        "ma cn wnxwnywnzsn la ca waxwaywazsa rn oi si ",
+        0,
+        "exists new in/a xyz; ok faults 0",
+        "ma ncn  wnx wny wnz sn  la ern  ",
     ),
-    (*b"rn", Other, "failed", "ma cn wnxwnywnzsn la rn ra "),
-    (*b"oi", Other, "failed", "ma cn wnxwnywnzsn la rn oi ra "),
-    (*b"si", Other, "failed", "ma cn wnxwnywnzsn la rn oi si ra "),
+    (
+        0,
+        "failed new in/a xyz; ok faults 1",
+        "ma ncn  wnx wny wnz sn  la xrn  ",
+    ),
+    (
+        0,
+        "ok new in/a xyz; ok faults 0",
+        "ma ncn  wnx wny wnz sn  la lca  wax way waz sa  rn  oi  si  ",
+    ),
+    (
+        0,
+        "ok new in/a xyz; ok faults 0",
+        "ma ncn  wnx wny wnz sn  la pca  wax way waz sa  rn  oi  si  ",
+    ),
+    (
+        0,
+        "failed new in/a xyz; ok faults 1",
+        "ma ncn  wnx wny wnz sn  la  rn xra  ",
+    ),
+    (
+        0,
+        "failed new in/a xyz; ok faults 1",
+        "ma ncn  wnx wny wnz sn  la  rn  oi xra  ",
+    ),
+    (
+        0,
+        "failed new in/a xyz; ok faults 1",
+        "ma ncn  wnx wny wnz sn  la  rn  oi  si xra  ",
+    ),
+    // The folder that is synced is what stands before the last part of a name.
+    (
+        1,
+        "ok new b xyz",
+        "ma ncn  wnx wny wnz sn  la  rn  oi  si  ",
+    ),
+    (
+        2,
+        "ok new a/b xyz",
+        "ma ncn  wnx wny wnz sn  la  rn  oi  si  ",
+    ),
+    (
+        3,
+        "ok new a/b/c xyz",
+        "ma ncn  wnx wny wnz sn  la  rn  oi  si  ",
+    ),
+    (
+        4,
+        "ok new /b xyz",
+        "ma ncn  wnx wny wnz sn  la  rn  oi  si  ",
+    ),
+    // A disk is locked, and a new one stable before. A disk and a view are of a regular file.
+    (0, "ok make in/a x; ok faults 0", "ca  ka  oi  si  0ax sa  "),
+    (0, "exists make in/a x; ok faults 0", "ca e"),
+    (0, "memory make in/a x; ok faults 0", "ca m"),
+    (0, "failed make in/a x; ok faults 1", "ca  ka wra  "),
+    (0, "failed make in/a x; ok faults 1", "ca  ka  oi xra  "),
+    (0, "failed make in/a x; ok faults 1", "ca  ka  oi  si xra  "),
+    (
+        0,
+        "ok write in/a 0 x; ok faults 0; ok disks 0",
+        "ma  ua  ma  ka  0ax sa  ",
+    ),
+    (0, "memory write in/a 0 x; ok faults 0", "ma m"),
+    (0, "memory write in/a 0 x; ok faults 0", "ma  ua m"),
+    (0, "failed write in/a 0 x; ok faults 1", "ma n"),
+    (0, "failed write in/a 0 x; ok faults 1", "ma d"),
+    (0, "failed write in/a 0 x; ok faults 1", "ma  ua  ma d"),
+    (0, "failed write in/a 0 x; ok faults 1", "ma  ua  ma  ka w"),
+    (
+        0,
+        "ok look in/a 3 xyz; ok faults 0; ok disks 0",
+        "ma  oa  ma  ga0 ga1 ga2 ma  ",
+    ),
+    (0, "memory look in/a 3 xyz; ok faults 0", "ma  oa m"),
+    (0, "failed look in/a 3 xyz; ok faults 1", "ma n"),
+    (0, "failed look in/a 3 xyz; ok faults 1", "ma d"),
+    // They bring their faults back.
+    (
+        0,
+        "failed write in/a 0 x; ok disks 1; failed look in/a 3 xyzz; ok disks 2; ok faults 0",
+        "ma  ua  ma  ka  0ax sa xma  oa  ma  ga0 ga1 ga2 ga30",
+    ),
+    // Want of memory is no fault.
+    (
+        0,
+        "yes has in/a; ok read in/a 3 xyz; ok faults 0",
+        "ma  oa  ma  ga0 ga1 ga2 ga30",
+    ),
+    (
+        0,
+        "yes has in/a; memory read in/a 3 xyz; ok faults 0",
+        "ma  oa m",
+    ),
+    (
+        0,
+        "memory has in/a; memory read in/a 3 xyz; ok faults 0",
+        "ma moa  ma m",
+    ),
+    (
+        0,
+        "failed has in/a; failed read in/a 3 xyz; ok faults 2",
+        "ma xoa  ma x",
+    ),
 ];
 
-/// Makes the calls of these rows.
-fn answers(
-    rt: &impl Abort,
-    alloc: Global,
-    call: Call,
-    stands: Option<Stands>,
-    rows: &[Row],
-) -> Result<(), AllocError> {
-    for row in rows {
-        assert!(rt;
-            is_answered(alloc, call, stands, *row)?,
-            "{} {}",
-            row.2,
-            row.3
-        );
+/// Does what a row says with a store: what went wrong, or nothing.
+fn wrong_of(alloc: Global, row: &Row) -> Result<&'static str, AllocError> {
+    let (names, script, words) = *row;
+    let record = Arc::new(alloc, Record::new(alloc, names, 0, words)?)?;
+    let wrong = stores(&mut FileStore::new(FakeFiles(&record)), alloc, script);
+    Ok(if wrong.is_empty() && !record.is_done() {
+        words
+    } else {
+        wrong
+    })
+}
+
+/// What a store asks of files that are made up.
+#[test]
+fn a_store_asks_files_for_what_it_has_to(rt: HostRuntime) -> Result<(), AllocError> {
+    for row in &ROWS {
+        let wrong = wrong_of(rt.alloc(), row)?;
+        assert!(rt; wrong.is_empty(), "{wrong} in {}", row.1);
     }
     Ok(())
 }
 
-#[test]
-fn a_new_file_is_whole_and_stable_or_not_there(rt: HostRuntime) -> Result<(), AllocError> {
-    answers(&rt, rt.alloc(), Call::WriteNew, None, &NEW_FILES)
+/// How many bytes lie before a file that somebody reads or writes, what is done on a disk over it, and what the file
+/// is asked.
+type Over = (u64, &'static str, &'static str);
+
+static OVER: [Over; 6] = [
+    // Short reads and writes go on, and a write that takes nothing fails.
+    (
+        0,
+        "ok write 0 abcdef; ok read 0 xyz; failed read 1 xyz; failed write 6 gh; ok faults 2",
+        "0aa 1ab 2ac 3ad 4ae 5af ga0 ga1 ga2 ga1 ga2 ga306ag 7ah0",
+    ),
+    // A call of a file is made again after a signal.
+    (
+        0,
+        "ok write 0 ab; ok read 0 xy; ok faults 0",
+        "0aai0aa 1abi1ab ga0iga0 ga1 ",
+    ),
+    // Offsets are passed on whole.
+    (
+        20_000_000_000,
+        "ok write 20000000001 abc; ok length 20000000003; ok read 20000000001 yz; failed read 1 a; ok faults 1",
+        "ma  1aa 2ab 3ac ma  ga1 ga2 ga?x",
+    ),
+    // A sync is of all after growth.
+    (
+        0,
+        "ok length 3; ok write 0 a; ok sync; ok write 1 b; ok sync; ok write 3 c; ok sync; \
+         ok write 3 d; ok sync; failed write 7; ok sync; ok write 4 e; ok sync; \
+         failed write 8 x; ok sync; ok write 5 f; ok sync; failed write 6 ghij; ok sync; ok faults 3",
+        "ma  0aa sa  1ab da  3ac sa  3ad da  ma  da  4ae sa  ma  da  5af sa  6ag 7ah0sa  ",
+    ),
+    // A failed sync is never forgotten: no later one asks the file.
+    (
+        0,
+        "ok faults 0; failed sync; failed sync; ok write 0 abc; failed sync; ok faults 3",
+        "sa x0aa 1ab 2ac ",
+    ),
+    (
+        0,
+        "ok sync; failed sync; failed sync; ok write 0 abc; failed sync; ok faults 3",
+        "sa  da x0aa 1ab 2ac ",
+    ),
+];
+
+/// Does what a row says with a disk over a file: what went wrong, or nothing.
+fn wrong_over(alloc: Global, row: &Over) -> io::Result<&'static str> {
+    let (before, script, words) = *row;
+    let record = Arc::new(alloc, Record::new(alloc, 0, before, words)?)?;
+    let file = FakeFile::new(&record, b'a')?;
+    let wrong = plays(&mut FileDisk::unlocked(file), script);
+    Ok(if wrong.is_empty() && !record.is_done() {
+        words
+    } else {
+        wrong
+    })
 }
 
-const NEW_DISKS: [Row; 6] = [
-    (*b"  ", Other, "done", "ca ka oi si "),
-    (*b"ca", AlreadyExists, "exists", "ca "),
-    (*b"ca", OutOfMemory, "memory", "ca "),
-    (*b"ka", WouldBlock, "failed", "ca ka ra "),
-    (*b"oi", Other, "failed", "ca ka oi ra "),
-    (*b"si", Other, "failed", "ca ka oi si ra "),
-];
-
+/// What a disk asks of a file that is made up.
 #[test]
-fn a_new_disk_is_locked_and_stable(rt: HostRuntime) -> Result<(), AllocError> {
-    answers(&rt, rt.alloc(), Call::NewDisk, None, &NEW_DISKS)
-}
-
-const TAKEN_DISKS: [Row; 4] = [
-    (*b"  ", Other, "done", "ma ua ma ka "),
-    (*b"ma", OutOfMemory, "memory", "ma "),
-    (*b"ua", OutOfMemory, "memory", "ma ua "),
-    (*b"ka", WouldBlock, "failed", "ma ua ma ka "),
-];
-
-const VIEWS: [Row; 2] = [
-    (*b"  ", Other, "done", "ma oa ma "),
-    (*b"oa", OutOfMemory, "memory", "ma oa "),
-];
-
-/// What is no regular file.
-const NO_FILE: [Row; 1] = [(*b"  ", Other, "failed", "ma ")];
-
-#[test]
-fn a_disk_and_a_view_are_of_a_regular_file(rt: HostRuntime) -> Result<(), AllocError> {
-    let file = Some(Stands::File);
-    answers(&rt, rt.alloc(), Call::TakeDisk, file, &TAKEN_DISKS)?;
-    answers(&rt, rt.alloc(), Call::View, file, &VIEWS)?;
-    for stands in [None, Some(Stands::Folder)] {
-        answers(&rt, rt.alloc(), Call::TakeDisk, stands, &NO_FILE)?;
-        answers(&rt, rt.alloc(), Call::View, stands, &NO_FILE)?;
+fn a_disk_asks_a_file_for_what_it_has_to(rt: HostRuntime) -> io::Result<()> {
+    for row in &OVER {
+        let wrong = wrong_over(rt.alloc(), row)?;
+        assert!(rt; wrong.is_empty(), "{wrong} of {}", row.1);
     }
     Ok(())
-}
-
-#[test]
-fn the_folder_of_a_name_is_what_stands_before_its_last_part(
-    rt: HostRuntime,
-) -> Result<(), AllocError> {
-    for names in 0..NAMES.len() {
-        let mut record = Record::new(None, *b"  ", Other);
-        record.names = names;
-        let record = Arc::new(rt.alloc(), record)?;
-        let is_done = ends(rt.alloc(), &record, Call::WriteNew, "done");
-        assert!(rt; is_done && record.has_said(NEW_FILES[0].3), "{names}");
-    }
-    Ok(())
-}
-
-/// Which call of a file that is there fails, how, and what then comes of asking whether it is there, and of reading it.
-const WANTS: [([u8; 2], ErrorKind, &'static str, &'static str); 4] = [
-    (*b"  ", Other, "done", "done"),
-    (*b"oa", OutOfMemory, "done", "memory"),
-    (*b"ma", OutOfMemory, "memory", "memory"),
-    (*b"ma", Other, "failed", "failed"),
-];
-
-#[test]
-fn want_of_memory_is_no_fault(rt: HostRuntime) -> Result<(), AllocError> {
-    for (fails, kind, has, read) in WANTS {
-        let record = Arc::new(rt.alloc(), Record::new(Some(Stands::File), fails, kind))?;
-        assert!(rt; ends(rt.alloc(), &record, Call::Has, has), "has: {has}");
-        assert!(rt;
-            ends(rt.alloc(), &record, Call::ReadAll, read),
-            "read: {read}"
-        );
-    }
-    Ok(())
-}
-
-/// Whether a disk whose sync fails once also fails at the next one.
-fn fails_twice<D: Disk>(disk: &mut D) -> bool
-    ensures told { D.told disk.new ≡ D.told disk.old }
-    ensures honest { D.honest disk.new ≡ D.honest disk.old }
-    ensures steady { D.steady disk.new ≡ D.steady disk.old }
-{
-    disk.write_at(0, b"x").is_ok() && disk.sync().is_err() && disk.sync().is_err()
-}
-
-/// Whether a view gives the three bytes of a fake file, and nothing behind them.
-fn gives_three<V: Pages>(view: &mut V) -> bool {
-    let mut out = [0; 3];
-    view.read_at(0, &mut out).is_ok() && out == *b"xyz" && view.read_at(1, &mut out).is_err()
-}
-
-/// Takes a disk that fails twice, and gives it back.
-fn bring_disk<S: Store>(rt: &impl Abort, store: &mut S) -> Result<(), CallFault> {
-    let mut disk = store.take_disk("in/a")?;
-    let has_failed = fails_twice(&mut disk);
-    store.return_disk("in/a", disk);
-    assert!(rt; has_failed);
-    assert_eq!(rt; store.disk_faults(), 2);
-    Ok(())
-}
-
-/// Looks at a view that fails once, and ends it.
-fn bring_view<S: Store>(rt: &impl Abort, alloc: Global, store: &mut S) -> Result<(), CallFault> {
-    let mut view = store.view(alloc, "in/a")?;
-    let is_given = gives_three(&mut view);
-    store.end_view(view);
-    assert!(rt; is_given);
-    assert_eq!(rt; store.disk_faults(), 3);
-    assert_eq!(rt; store.faults(), 0);
-    Ok(())
-}
-
-/// Brings a disk and a view of a store back, which have failed three times.
-fn bring_both<S: Store>(rt: &impl Abort, alloc: Global, store: &mut S) -> Result<(), CallFault> {
-    bring_disk(rt, store)?;
-    bring_view(rt, alloc, store)
-}
-
-#[test]
-fn disks_and_views_bring_their_faults_back(rt: HostRuntime) -> Result<(), CallFault> {
-    let record = Arc::new(rt.alloc(), Record::new(Some(Stands::File), *b"sa", Other))?;
-    bring_both(&rt, rt.alloc(), &mut FileStore::new(FakeFiles(&record)))
 }

@@ -7,8 +7,6 @@ mod disk_calls;
 #[cfg(test)]
 mod disks;
 #[cfg(test)]
-mod ends;
-#[cfg(test)]
 mod fake_files;
 #[cfg(test)]
 mod fake_sockets;
@@ -21,11 +19,13 @@ mod kept_files;
 #[cfg(test)]
 mod link_calls;
 #[cfg(test)]
-mod links;
-#[cfg(test)]
 mod nets;
 #[cfg(test)]
 mod outputs;
+#[cfg(test)]
+mod peers;
+#[cfg(test)]
+mod port_calls;
 #[cfg(test)]
 mod scripts;
 #[cfg(test)]
@@ -34,7 +34,5 @@ mod sockets;
 mod store_calls;
 #[cfg(test)]
 mod stores;
-#[cfg(test)]
-mod talks;
 #[cfg(test)]
 mod waits;

@@ -1,109 +1,313 @@
-//! Tests of what no contract says of ports and nets in memory: which link comes when, and which calls fail.
+//! Tests of what no contract says of links, ports and nets in memory: that calls succeed, which of them fail, which
+//! link comes when, and what is read in which piece.
 
-use crate::link_calls::{hang_up, link, meets};
-use crate::talks::is_talk;
-use disk_trait::Faults;
+use crate::peers::{PEER, Peer, Script, Talk, is_same, is_talk, port_script};
+use crate::port_calls::{Met, meet_all};
 use memory::NoMemory;
 use std::alloc::{AllocError, Global};
-use std::process::Abort;
-use stream_io::{CallFault, Net};
-use stream_memory::{KeptPort, MemLink, MemNet, MemPort, PortScript};
+use stream_memory::{Gate, KeptPort, MemNet, PortScript};
 
-/// A link that gives a text in pieces of two.
-fn plain_link(alloc: Global, text: &str) -> Result<MemLink, NoMemory> {
-    link(alloc, text, &[2, 2, 2, 2], None)
+/// What a port keeps: its place, its counts of faults and of those in accepting, and what has gone over its links.
+type Kept = (Option<&'static str>, u64, u64, &'static [Talk]);
+
+/// A net at one place: the scripts of its ports, the numbers of its calls that fail, what is done with it, and what
+/// its ports then keep.
+struct Row {
+    ports: &'static [Script],
+    failing: &'static [u64],
+    met: &'static [Met],
+    kept: &'static [Kept],
 }
 
-/// A script of a port at which links that give these texts wait.
-fn script(alloc: Global, waiting: &[&str]) -> Result<PortScript, NoMemory> {
-    let mut script = PortScript::new(alloc);
-    for text in waiting {
-        script.waiting.push(plain_link(alloc, text)?)?;
+/// One port at the place, which has these links to accept and of which no call fails: what is done, and how many of
+/// its links then have faults.
+macro_rules! accepting {
+    ($peers:expr, $script:expr, $faults:expr, $talks:expr) => {
+        Row {
+            ports: &[Script {
+                waiting: $peers,
+                dialled: &[],
+                failing: &[],
+            }],
+            failing: &[],
+            met: &[(("here", 1, "ok", $script), 1, 0)],
+            kept: &[(Some("here"), $faults, 0, $talks)],
+        }
+    };
+}
+
+static ROWS: [Row; 8] = [
+    // A sink takes so many bytes at once, and only as many as it has room for.
+    accepting!(
+        &[
+            Peer {
+                room: 5,
+                most: 64,
+                ..PEER
+            },
+            Peer {
+                room: 5,
+                most: 2,
+                ..PEER
+            },
+            Peer {
+                room: 3,
+                most: 64,
+                ..PEER
+            },
+            Peer {
+                room: 5,
+                most: 2,
+                failing: [&[], &[1], &[]],
+                ..PEER
+            },
+            Peer {
+                room: 5,
+                most: 2,
+                failing: [&[], &[0, 7], &[]],
+                ..PEER
+            },
+        ],
+        "link accept 0; ok write 0 5 hello; ok count 0 0; ok hang 0 0; \
+         link accept 0; ok send 0 hello; ok count 0 0; ok hang 0 0; \
+         link accept 0; failed send 0 hello; ok count 0 1; ok hang 0 0; \
+         link accept 0; failed send 0 hello; ok count 0 1; ok hang 0 0; \
+         link accept 0; failed send 0 hello; ok count 0 1; ok hang 0 0; ok faults 0 3 0",
+        3,
+        &[
+            (None, ["", "", "hello"], 0),
+            (None, ["", "", "hello"], 0),
+            (None, ["", "", "hel"], 1),
+            (None, ["", "", "he"], 1),
+            (None, ["", "", ""], 1),
+        ]
+    ),
+    // A source gives its bytes by pieces.
+    accepting!(
+        &[Peer {
+            text: "hello, all",
+            pieces: &[2, 0],
+            failing: [&[2], &[], &[]],
+            ..PEER
+        }],
+        "link accept 0; ok read 0 he; ok read 0 l; failed exact 0; ok count 0 1; ok exact 0 lo, ; \
+         ok exact 0 all; ok read 0; ok count 0 1; ok hang 0 0; ok faults 0 1 0",
+        1,
+        &[(None, ["hello, all", "", ""], 1)]
+    ),
+    // A link counts reads and writes together.
+    accepting!(
+        &[Peer {
+            text: "hello",
+            failing: [&[], &[], &[1, 3]],
+            ..PEER
+        }],
+        "link accept 0; ok read 0 he; failed write 0 0 first; ok write 0 3 first; failed read 0; \
+         ok count 0 2; ok read 0 ll; ok send 0 st; failed send 0 last; ok count 0 3; ok hang 0 0",
+        1,
+        &[(None, ["hell", "o", "firstlas"], 3)]
+    ),
+    // It holds what is behind its gate.
+    accepting!(
+        &[Peer {
+            text: "hello",
+            gate: Some(Gate {
+                place: 3,
+                written: 2
+            }),
+            ..PEER
+        }],
+        "link accept 0; ok read 0 he; ok read 0 ll; failed read 0; ok write 0 1 a; failed read 0; \
+         ok count 0 2; ok write 0 1 b; ok read 0 o; ok read 0; ok count 0 2; ok hang 0 0",
+        1,
+        &[(None, ["hello", "", "ab"], 2)]
+    ),
+    // A port accepts its links in order.
+    Row {
+        ports: &[Script {
+            waiting: &[
+                Peer {
+                    text: "hello",
+                    ..PEER
+                },
+                Peer {
+                    text: "all",
+                    failing: [&[], &[], &[1]],
+                    ..PEER
+                },
+            ],
+            dialled: &[],
+            failing: &[1],
+        }],
+        failing: &[],
+        met: &[(
+            (
+                "here",
+                1,
+                "ok",
+                "link accept 0; ok read 0 he; ok send 0 he; ok hang 0 0; ok faults 0 0 0; \
+                         failed accept 0; ok faults 0 1 1; link accept 0; ok read 0 al; failed send 0 al; \
+                         ok hang 0 0; ok faults 0 2 1; end accept 0; failed dial 0 here; ok faults 0 3 1",
+            ),
+            1,
+            1,
+        )],
+        kept: &[(
+            Some("here"),
+            3,
+            1,
+            &[(None, ["he", "llo", "he"], 0), (None, ["al", "l", ""], 1)],
+        )],
+    },
+    // It dials the first of a place. A link waits that nobody can accept where it listens at none.
+    Row {
+        ports: &[Script {
+            waiting: &[Peer {
+                text: "unheard",
+                ..PEER
+            }],
+            dialled: &[
+                (
+                    "a",
+                    Peer {
+                        text: "first",
+                        ..PEER
+                    },
+                ),
+                (
+                    "b",
+                    Peer {
+                        text: "other",
+                        ..PEER
+                    },
+                ),
+                (
+                    "a",
+                    Peer {
+                        text: "second",
+                        ..PEER
+                    },
+                ),
+            ],
+            failing: &[2],
+        }],
+        failing: &[],
+        met: &[(
+            (
+                "",
+                1,
+                "ok",
+                "end accept 0; link dial 0 a; ok read 0 fi; ok hang 0 0; \
+                         link dial 0 a; ok read 0 se; ok hang 0 0; failed dial 0 b; failed dial 0 a; \
+                         ok faults 0 2 0; link dial 0 b; ok read 0 ot; ok hang 0 0",
+            ),
+            1,
+            0,
+        )],
+        kept: &[(
+            None,
+            2,
+            0,
+            &[
+                (Some("a"), ["fi", "rst", ""], 0),
+                (Some("a"), ["se", "cond", ""], 0),
+                (Some("b"), ["ot", "her", ""], 0),
+            ],
+        )],
+    },
+    // A net keeps the ports of a place, of which the last has no script.
+    Row {
+        ports: &[
+            Script {
+                waiting: &[Peer {
+                    text: "hello",
+                    ..PEER
+                }],
+                dialled: &[],
+                failing: &[],
+            },
+            Script {
+                waiting: &[Peer {
+                    text: "all",
+                    ..PEER
+                }],
+                dialled: &[],
+                failing: &[0],
+            },
+        ],
+        failing: &[],
+        met: &[(
+            (
+                "here",
+                3,
+                "ok",
+                "failed accept 1; link accept 1; ok read 0 al; ok send 0 al; ok hang 1 0; \
+                         link accept 0; ok read 0 he; ok send 0 he; ok hang 0 0; end accept 2",
+            ),
+            1,
+            1,
+        )],
+        kept: &[
+            (Some("here"), 0, 0, &[(None, ["he", "llo", "he"], 0)]),
+            (Some("here"), 1, 1, &[(None, ["al", "l", "al"], 0)]),
+            (Some("here"), 0, 0, &[]),
+        ],
+    },
+    // It fails where that is listed, and at other places.
+    Row {
+        ports: &[],
+        failing: &[1],
+        met: &[
+            (("here", 2, "ok", "end accept 1"), 0, 0),
+            (("", 1, "failed", "made 0"), 1, 1),
+            (("there", 1, "failed", "made 0"), 2, 2),
+            (("", 1, "ok", "end accept 0"), 2, 2),
+        ],
+        kept: &[
+            (Some("here"), 0, 0, &[]),
+            (Some("here"), 0, 0, &[]),
+            (None, 0, 0, &[]),
+        ],
+    },
+];
+
+/// Whether a port keeps these talks, and no more.
+fn has_talks(port: &KeptPort, talks: &[Talk]) -> bool {
+    for (index, want) in talks.iter().enumerate() {
+        if !is_talk(port.talk(index), want) {
+            return false;
+        }
     }
-    Ok(script)
+    port.talk(talks.len()).is_none()
 }
 
-/// Adds a link to a place.
-fn add_place(
-    alloc: Global,
-    script: &mut PortScript,
-    place: &str,
-    text: &str,
-) -> Result<(), NoMemory> {
-    let link = plain_link(alloc, text)?;
-    script
-        .dialled
-        .push((String::from_str(alloc, place)?, link))?;
-    Ok(())
+/// Whether a port keeps this.
+fn is_kept(port: Option<&KeptPort>, want: &Kept) -> bool {
+    let Some(port) = port else {
+        return false;
+    };
+    let is_place = is_same(port.place(), want.0);
+    let is_counted = port.faults() == want.1 && port.accept_faults() == want.2;
+    is_place && is_counted && has_talks(port, want.3)
 }
 
-/// Does the calls of a script at a port in memory.
-fn meets_in(rt: &impl Abort, port: &mut MemPort, script: &str) {
-    meets(rt, port, script);
-}
-
-#[test]
-fn a_port_in_memory_accepts_its_links_in_order(rt: HostRuntime) -> Result<(), NoMemory> {
-    let mut script = script(rt.alloc(), &["hello", "all 1"])?;
-    script.failing.push(1)?;
-    let place = Some(String::from_str(rt.alloc(), "here")?);
-    let mut port = MemPort::new(rt.alloc(), place, script)?;
-    meets_in(
-        &rt,
-        &mut port,
-        "serve he; faults 0 0; accept failed; faults 1 1; serve! al; faults 2 1; \
-         accept end; ask! here; faults 3 1",
-    );
-    let kept = port.kept();
-    assert!(rt; counts(Some(kept)) == (Some("here"), 3, 1));
-    assert!(rt; is_talk(kept.talk(0), None, ["he", "llo", "he"], 0));
-    assert!(rt; is_talk(kept.talk(1), None, ["al", "l", ""], 1));
-    assert!(rt; kept.talk(2).is_none());
-    Ok(())
-}
-
-/// A port that only dials, whose call of the number 2 fails. A link waits that nobody can accept.
-fn dialling_port(alloc: Global) -> Result<MemPort, NoMemory> {
-    let mut script = script(alloc, &["unheard"])?;
-    add_place(alloc, &mut script, "a", "first")?;
-    add_place(alloc, &mut script, "b", "other")?;
-    add_place(alloc, &mut script, "a", "second")?;
-    script.failing.push(2)?;
-    MemPort::new(alloc, None, script)
-}
-
-#[test]
-fn a_port_in_memory_dials_the_first_of_a_place(rt: HostRuntime) -> Result<(), NoMemory> {
-    let mut port = dialling_port(rt.alloc())?;
-    meets_in(
-        &rt,
-        &mut port,
-        "accept end; ask a fi; ask a se; ask! b; ask! a; faults 2 0; ask b ot",
-    );
-    hang_up(&mut port, plain_link(rt.alloc(), "strange")?);
-    let kept = port.kept();
-    assert!(rt; kept.place().is_none());
-    let talks = [
-        (Some("a"), ["fi", "rst", ""]),
-        (Some("a"), ["se", "cond", ""]),
-        (Some("b"), ["ot", "her", ""]),
-        (None, ["", "strange", ""]),
-    ];
-    for (index, (place, bytes)) in talks.iter().enumerate() {
-        assert!(rt;
-            is_talk(kept.talk(index), *place, *bytes, 0),
-            "talk {index}"
-        );
+/// Whether a net keeps these ports, and no more.
+fn keeps(net: &MemNet, ports: &[Kept]) -> bool {
+    for (index, want) in ports.iter().enumerate() {
+        if !is_kept(net.kept(index), want) {
+            return false;
+        }
     }
-    Ok(())
+    net.kept(ports.len()).is_none()
 }
 
-/// The place of a port that came back, and its counts.
-fn counts(port: Option<&KeptPort>) -> (Option<&str>, u64, u64) {
-    match port {
-        Some(port) => (port.place(), port.faults(), port.accept_faults()),
-        None => (None, 0, 0),
+/// The scripts of ports.
+fn scripts(alloc: Global, ports: &[Script]) -> Result<Vec<PortScript>, NoMemory> {
+    let mut scripts = Vec::new(alloc);
+    for script in ports {
+        scripts.push(port_script(alloc, script)?)?;
     }
+    Ok(scripts)
 }
 
 /// The place `here` alone.
@@ -113,84 +317,24 @@ fn one_place(alloc: Global) -> Result<Vec<String>, AllocError> {
     Ok(places)
 }
 
-/// A net of two scripts at one place, at the second of which the first call fails.
-fn net_of_two(alloc: Global) -> Result<MemNet, NoMemory> {
-    let mut scripts = Vec::new(alloc);
-    scripts.push(script(alloc, &["hello"])?)?;
-    let mut second = script(alloc, &["all"])?;
-    second.failing.push(0)?;
-    scripts.push(second)?;
-    Ok(MemNet::new(one_place(alloc)?, scripts, Vec::new(alloc)))
+/// Does what a row says with a net of it: what went wrong, or nothing.
+fn wrong_of(alloc: Global, row: &Row) -> Result<&'static str, NoMemory> {
+    let scripts = scripts(alloc, row.ports)?;
+    let places = one_place(alloc)?;
+    let mut net = MemNet::new(places, scripts, Vec::from_slice(alloc, row.failing)?);
+    match meet_all(&mut net, alloc, "here", row.met) {
+        "" if keeps(&net, row.kept) => Ok(""),
+        "" => Ok("what is kept"),
+        wrong => Ok(wrong),
+    }
 }
 
-/// Does calls at three ports of a place, and gathers them.
-fn meet_at_three<N: Net>(rt: &impl Abort, alloc: Global, net: &mut N) -> Result<(), CallFault>
-where
-    N::Port: Drop,
-{
-    let mut ports = net.ports(alloc, Some("here"), 3)?;
-    assert!(rt; ports.len() == 3);
-    meets(rt, &mut ports[1], "accept failed; serve al");
-    meets(rt, &mut ports[0], "serve he");
-    meets(rt, &mut ports[2], "accept end");
-    net.gather(ports);
-    assert!(rt; net.faults() == 1 && net.port_faults() == 1);
-    Ok(())
-}
-
+/// What nets, ports and links in memory do.
 #[test]
-fn a_net_in_memory_keeps_the_ports_of_one_place(rt: HostRuntime) -> Result<(), CallFault> {
-    let mut net = net_of_two(rt.alloc())?;
-    meet_at_three(&rt, rt.alloc(), &mut net)?;
-    for (index, faults) in [(0, 0), (1, 1), (2, 0)] {
-        assert!(rt;
-            counts(net.kept(index)) == (Some("here"), faults, faults),
-            "port {index}"
-        );
+fn a_net_in_memory_does_what_its_scripts_say(rt: HostRuntime) -> Result<(), NoMemory> {
+    for (number, row) in ROWS.iter().enumerate() {
+        let wrong = wrong_of(rt.alloc(), row)?;
+        assert!(rt; wrong.is_empty(), "{wrong} in row {number}");
     }
-    assert!(rt; net.kept(3).is_none());
-    let talk = net.kept(1).and_then(|port| port.talk(0));
-    assert!(rt; is_talk(talk, None, ["al", "l", "al"], 0));
-    Ok(())
-}
-
-/// Whether this many ports are made there.
-fn makes<N: Net>(net: &mut N, alloc: Global, place: Option<&str>, count: u32) -> bool {
-    match net.ports(alloc, place, count) {
-        Ok(ports) => {
-            let is_all = ports.len() == count as usize;
-            net.gather(ports);
-            is_all
-        }
-        Err(_fault) => false,
-    }
-}
-
-/// Places, how many ports are made there, whether they are, and how many faults the net and its ports then count.
-const MADE: [(Option<&str>, u32, bool, u64); 4] = [
-    (Some("here"), 2, true, 0),
-    (None, 1, false, 1),
-    (Some("there"), 1, false, 2),
-    (None, 1, true, 2),
-];
-
-/// Makes these ports at a net.
-fn make_each<N: Net>(rt: &impl Abort, alloc: Global, net: &mut N) {
-    for (place, count, is_made, faults) in MADE {
-        assert!(rt; makes(net, alloc, place, count) == is_made, "{place:?}");
-        assert!(rt;
-            net.faults() == faults && net.port_faults() == faults,
-            "{place:?}"
-        );
-    }
-}
-
-#[test]
-fn a_net_fails_where_it_is_listed_and_at_other_places(rt: HostRuntime) -> Result<(), NoMemory> {
-    let mut failing = Vec::new(rt.alloc());
-    failing.push(1)?;
-    let mut net = MemNet::new(one_place(rt.alloc())?, Vec::new(rt.alloc()), failing);
-    make_each(&rt, rt.alloc(), &mut net);
-    assert!(rt; matches!(net.kept(2), Some(_)) && counts(net.kept(2)) == (None, 0, 0));
     Ok(())
 }

@@ -1,14 +1,11 @@
 //! Tests of standard output as a sink.
 
-use crate::ends::takes;
-use disk_trait::Faults;
+use crate::link_calls::says;
 use std::cell::Cell;
 use std::fmt::Display;
 use std::io;
 use std::io::ErrorKind;
-use std::process::Abort;
 use stream_host::StdoutSink;
-use stream_io::Sink;
 
 /// An output that takes one byte at a time after an interruption, until it takes none.
 #[derive(Drop)]
@@ -18,18 +15,22 @@ struct FakeOutput<'a> {
 }
 
 impl Print for FakeOutput<'_> {
+    /// Fails.
     fn print<D: Display + Drop>(&self, _value: D) -> io::Result<()> {
         Err(io::Error::from(ErrorKind::Unsupported))
     }
 
+    /// Fails.
     fn println<D: Display + Drop>(&self, _value: D) -> io::Result<()> {
         Err(io::Error::from(ErrorKind::Unsupported))
     }
 
+    /// Fails.
     fn write_all(&self, _bytes: &[u8]) -> io::Result<()> {
         Err(io::Error::from(ErrorKind::Unsupported))
     }
 
+    /// Takes a byte, or is interrupted.
     fn write_some(&self, bytes: &[u8]) -> io::Result<usize> {
         let call = self.calls.get();
         self.calls.set(call.saturating_add(1));
@@ -44,33 +45,20 @@ impl Print for FakeOutput<'_> {
     }
 }
 
-/// Writes `abc` to a sink that takes no more.
-fn fill<K: Sink>(rt: &impl Abort, sink: &mut K) {
-    assert!(rt; takes(sink, b"abc"));
-    assert_eq!(rt; sink.faults(), 0);
-    assert!(rt; !takes(sink, b"d"));
-    assert_eq!(rt; sink.faults(), 1);
-}
-
+/// An output that is made up, and that of the machine.
 #[test]
-fn an_output_is_tried_again_after_a_signal(rt: HostRuntime) {
+fn an_output_takes_all_bytes(rt: HostRuntime) {
     let taken = Cell::new(0);
     let output = FakeOutput {
         taken: &taken,
         calls: Cell::new(0),
     };
-    fill(&rt, &mut StdoutSink::new(output));
-    assert_eq!(rt; taken.get(), b'c');
-}
-
-/// Writes a line to a sink, and a piece without bytes.
-fn say<K: Sink>(rt: &impl Abort, sink: &mut K) {
-    assert!(rt; takes(sink, b"hello\n"));
-    assert!(rt; sink.write(b"") == Ok(0));
-    assert_eq!(rt; sink.faults(), 0);
-}
-
-#[test]
-fn standard_output_takes_all_bytes(rt: HostRuntime) {
-    say(&rt, &mut StdoutSink::new(rt));
+    let script = "ok send abc; ok count 0; failed send d; ok count 1";
+    let wrong = says(&mut StdoutSink::new(output), script);
+    let also_wrong = says(
+        &mut StdoutSink::new(rt),
+        "ok send hello; ok write 0; ok count 0",
+    );
+    let is_right = wrong.is_empty() && also_wrong.is_empty() && taken.get() == b'c';
+    assert!(rt; is_right, "{wrong}, {also_wrong}");
 }

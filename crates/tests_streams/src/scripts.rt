@@ -1,6 +1,5 @@
-//! Scripts: the steps of a test as text, each with the name of a call and what it is given.
-
-use std::alloc::{AllocError, Global};
+//! Scripts: the steps of a test as text, each with the word that it has to come to, the name of a call, whose first
+//! letter counts, and what that is given.
 
 /// The first word of a text, and what stands behind it.
 pub(crate) fn first_word(text: &str) -> (&str, &str) {
@@ -13,13 +12,28 @@ pub(crate) fn first_number(text: &str) -> (u64, &str) {
     (number.parse().unwrap_or(0), rest)
 }
 
-/// The numbers among the words of a text.
-pub(crate) fn numbers(alloc: Global, text: &str) -> Result<Vec<u64>, AllocError> {
-    let mut numbers = Vec::new(alloc);
-    for word in text.split(' ') {
-        if let Ok(number) = word.parse() {
-            numbers.push(number)?;
-        }
+/// The first letter of a text, or 0.
+pub(crate) fn initial(text: &str) -> u8 {
+    match text.as_bytes().first() {
+        Some(letter) => *letter,
+        None => 0,
     }
-    Ok(numbers)
+}
+
+/// A word where something holds.
+pub(crate) fn word_if(holds: bool, word: &'static str) -> &'static str {
+    if holds { word } else { "other" }
+}
+
+/// Whether these bytes are a text.
+pub(crate) fn is_text(bytes: &[u8], text: &str) -> bool {
+    bytes == text.as_bytes()
+}
+
+/// Whether the first so many bytes of a room are a text.
+pub(crate) fn begins(room: &[u8], count: usize, text: &str) -> bool {
+    match room.get(..count) {
+        Some(bytes) => is_text(bytes, text),
+        None => false,
+    }
 }

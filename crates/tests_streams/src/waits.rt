@@ -1,78 +1,124 @@
-//! Tests of what no contract says of links that wait: when one waits, when it rings, and that two threads wait for each
-//! other.
+//! Tests of what no contract says of links that wait: when one waits, when it rings, and that two threads wait for
+//! each other.
 
-use crate::link_calls::{link, meets, talks};
-use crate::talks::is_talk;
-use disk_trait::Faults;
+use crate::peers::{PEER, Peer, Script, Talk, is_talk, port_script};
+use crate::port_calls::meets;
 use memory::NoMemory;
 use std::alloc::Global;
-use std::process::Abort;
 use std::thread;
 use std::thread::Threads;
 use stream_io::{Accepted, Port, read_whole, write_whole};
-use stream_memory::{
-    Before, Bell, Hold, MemLink, MemPort, PortScript, Ring, WaitingLink, WaitingPort,
+use stream_memory::{Before, Bell, Hold, MemPort, Ring, WaitingPort};
+
+/// A port at which one link waits that gives `hello`, and one to be dialled at `b`, all at once.
+const SCRIPT: Script = Script {
+    waiting: &[Peer {
+        text: "hello",
+        pieces: &[],
+        ..PEER
+    }],
+    dialled: &[(
+        "b",
+        Peer {
+            text: "other",
+            pieces: &[],
+            ..PEER
+        },
+    )],
+    failing: &[],
 };
 
-/// A link to a peer that gives these bytes, all at once.
-fn whole_link(alloc: Global, bytes: &str) -> Result<MemLink, NoMemory> {
-    link(alloc, bytes, &[], None)
-}
-
-/// A port at which one link waits that gives `hello`, and one to be dialled at `b`.
+/// Such a port.
 fn port(alloc: Global) -> Result<MemPort, NoMemory> {
-    let mut script = PortScript::new(alloc);
-    script.waiting.push(whole_link(alloc, "hello")?)?;
-    let other = whole_link(alloc, "other")?;
-    script.dialled.push((String::from_str(alloc, "b")?, other))?;
+    let script = port_script(alloc, &SCRIPT)?;
     MemPort::new(alloc, Some(String::from_str(alloc, "here")?), script)
 }
 
-/// Does the calls of a script on a link that waits. The tests share it, since what costs a proof is a call over these
-/// very types.
-fn says(rt: &impl Abort, link: &mut WaitingLink<'_, MemLink>, script: &str) {
-    talks(rt, link, script);
+/// Two ports: the links of the first wait, if at all, until the bell was rung so often, and each of the second rings
+/// once so many bytes were written to it.
+fn two_ports<'a>(
+    alloc: Global,
+    bell: &'a Bell,
+    wait: &Option<(Before, u64)>,
+    written: usize,
+) -> Result<Vec<WaitingPort<'a>>, NoMemory> {
+    let hold = match *wait {
+        Some((before, rings)) => Some(Hold {
+            before,
+            bell,
+            rings,
+        }),
+        None => None,
+    };
+    let mut ports = Vec::with_capacity(alloc, 2)?;
+    ports.push(WaitingPort::new(port(alloc)?, hold, None))?;
+    let ring = Ring { bell, written };
+    ports.push(WaitingPort::new(port(alloc)?, None, Some(ring)))?;
+    Ok(ports)
 }
 
-#[test]
-fn a_link_gives_no_more_before_the_bell_was_rung(rt: HostRuntime) -> Result<(), NoMemory> {
-    let bell = Bell::new(3);
-    let hold = Hold {
-        before: Before::Reading(2),
-        bell: &bell,
-        rings: 2,
-    };
-    let mut link = WaitingLink::new(whole_link(rt.alloc(), "hello")?, Some(hold), None);
-    says(&rt, &mut link, "read he; read!");
-    bell.ring();
-    says(&rt, &mut link, "read!; write 1 a");
-    bell.ring();
-    says(&rt, &mut link, "read llo; read; faults 2");
-    let (link, vain) = link.end();
-    assert!(rt; link.faults() == 0 && vain == 2);
-    Ok(())
+/// What the links of the first port wait for, how many bytes have one of the second ring, what is done, and what has
+/// gone over the first link that was hung up at the first port.
+type Wait = (Option<(Before, u64)>, usize, &'static str, Talk);
+
+static WAITS: [Wait; 3] = [
+    // A link gives no more before the bell was rung.
+    (
+        Some((Before::Reading(2), 2)),
+        1,
+        "link accept 0; ok read 0 he; failed read 0; link accept 1; ok write 1 1 a; failed read 0; \
+         ok write 0 1 a; link dial 1 b; ok write 2 1 a; ok read 0 llo; ok read 0; ok count 0 2; \
+         ok count 1 0; ok hang 0 0; ok faults 0 1 0",
+        (None, ["hello", "", "a"], 2),
+    ),
+    // A link takes no byte before another was written to.
+    (
+        Some((Before::Writing, 1)),
+        3,
+        "link accept 0; ok read 0 hello; failed write 0 0 a; link accept 1; ok write 1 2 ab; \
+         failed write 0 0 a; ok write 1 2 cd; ok count 1 0; ok write 0 1 a; ok count 0 2; \
+         ok hang 0 0; ok faults 0 1 0",
+        (None, ["hello", "", "a"], 2),
+    ),
+    // A wait in vain is a fault of the port.
+    (
+        Some((Before::Reading(0), 1)),
+        1,
+        "link accept 0; failed read 0; ok send 0 reply; ok hang 0 0; ok faults 0 1 0; link accept 1; \
+         ok write 0 1 a; link dial 0 b; ok read 1 other; ok hang 0 1; failed dial 0 b; ok faults 0 2 0",
+        (None, ["", "hello", "reply"], 1),
+    ),
+];
+
+/// Whether this went over the first link that was hung up at a port.
+fn has_kept(port: &WaitingPort, want: &Talk) -> bool {
+    is_talk(port.kept().talk(0), want)
 }
 
-#[test]
-fn a_link_takes_no_byte_before_another_was_written_to(rt: HostRuntime) -> Result<(), NoMemory> {
+/// Does what a row says with two ports: what went wrong, or nothing.
+fn wrong_of(alloc: Global, row: &Wait) -> Result<&'static str, NoMemory> {
+    let (wait, written, script, talk) = row;
     let bell = Bell::new(3);
-    let hold = Hold {
-        before: Before::Writing,
-        bell: &bell,
-        rings: 1,
+    let mut ports = two_ports(alloc, &bell, wait, *written)?;
+    let wrong = meets(&mut ports, alloc, "b", script);
+    let is_kept = match ports.first() {
+        Some(port) => has_kept(port, talk),
+        None => false,
     };
-    let ring = Ring {
-        bell: &bell,
-        written: 3,
-    };
-    let mut one = WaitingLink::new(whole_link(rt.alloc(), "hello")?, Some(hold), None);
-    let mut other = WaitingLink::new(whole_link(rt.alloc(), "")?, None, Some(ring));
-    says(&rt, &mut one, "read hello; write! a");
-    says(&rt, &mut other, "write 2 ab");
-    says(&rt, &mut one, "write! a");
-    says(&rt, &mut other, "write 2 cd; faults 0");
-    says(&rt, &mut one, "write 1 a; faults 2");
-    assert!(rt; one.link().conversation().written() == b"a".as_slice());
+    Ok(if wrong.is_empty() && !is_kept {
+        "what is kept"
+    } else {
+        wrong
+    })
+}
+
+/// When links wait.
+#[test]
+fn a_link_waits_for_a_bell(rt: HostRuntime) -> Result<(), NoMemory> {
+    for row in WAITS.iter() {
+        let wrong = wrong_of(rt.alloc(), row)?;
+        assert!(rt; wrong.is_empty(), "{wrong} of {}", row.2);
+    }
     Ok(())
 }
 
@@ -86,58 +132,31 @@ fn serve<P: Port>(port: &mut P) {
     }
 }
 
-/// Whether at a port one link was hung up, on which `hello` was read and `reply` written.
-fn has_served(port: &WaitingPort) -> bool {
-    is_talk(port.kept().talk(0), None, ["hello", "", "reply"], 0) && port.faults() == 0
-}
+/// What goes over a link that is served.
+const SERVED: Talk = (None, ["hello", "", "reply"], 0);
 
 /// Serves two ports by two threads, the first with this hold, where the second rings once it was answered.
 fn serve_both<R: Threads + Sync>(
     rt: &R,
     alloc: Global,
     bell: &Bell,
-    before: Option<Before>,
+    wait: &Option<(Before, u64)>,
 ) -> Result<bool, NoMemory> {
-    let hold = before.map(|before| Hold {
-        before,
-        bell,
-        rings: 1,
-    });
-    let ring = Ring { bell, written: 5 };
-    let mut ports = Vec::new(alloc);
-    ports.push(WaitingPort::new(port(alloc)?, hold, None))?;
-    ports.push(WaitingPort::new(port(alloc)?, None, Some(ring)))?;
+    let mut ports = two_ports(alloc, bell, wait, 5)?;
     thread::for_each_mut(rt, &mut ports, 2, &|_, port| serve(port));
-    Ok(ports.iter().all(has_served))
+    Ok(ports.iter().all(|port| has_kept(port, &SERVED)))
 }
 
+/// Two threads that wait for each other.
 #[test]
 fn a_port_waits_until_another_has_answered(rt: HostRuntime) -> Result<(), NoMemory> {
-    for before in [None, Some(Before::Reading(2)), Some(Before::Writing)] {
+    for wait in &[
+        None,
+        Some((Before::Reading(2), 1)),
+        Some((Before::Writing, 1)),
+    ] {
         let bell = Bell::new(1_000_000_000);
-        assert!(rt; serve_both(&rt, rt.alloc(), &bell, before)?, "{before:?}");
+        assert!(rt; serve_both(&rt, rt.alloc(), &bell, wait)?, "{wait:?}");
     }
-    Ok(())
-}
-
-/// Serves a port whose link waits in vain, which is a fault of the port, and dials once the bell was rung.
-fn serve_in_vain<P: Port>(rt: &impl Abort, port: &mut P, bell: &Bell) {
-    serve(port);
-    meets(rt, port, "faults 1 0");
-    bell.ring();
-    meets(rt, port, "ask b other; ask! b; faults 2 0");
-}
-
-#[test]
-fn a_wait_in_vain_is_a_fault_of_the_port(rt: HostRuntime) -> Result<(), NoMemory> {
-    let bell = Bell::new(3);
-    let hold = Hold {
-        before: Before::Reading(0),
-        bell: &bell,
-        rings: 1,
-    };
-    let mut port = WaitingPort::new(port(rt.alloc())?, Some(hold), None);
-    serve_in_vain(&rt, &mut port, &bell);
-    assert!(rt; matches!(port.kept().talk(0), Some(talk) if talk.faults() == 1));
     Ok(())
 }
