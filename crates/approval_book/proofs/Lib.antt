@@ -1,2 +1,1 @@
 mod Listings
-mod Lives

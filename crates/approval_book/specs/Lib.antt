@@ -1,4 +1,2 @@
-pub mod Approved
 pub mod Book
-pub mod Decisions
 pub mod Listed

@@ -5,7 +5,7 @@ ghost use Rattle.std.specs.Prelude.{IfErr};
 ghost use Rattle.std.specs.Prelude.{IsSome, IsSomeAnd, IfSome, Err, true, false, nat_eq};
 ghost use Rattle.std.specs.Cmp.Lexicographic.{pointwise};
 ghost use Rattle.std.specs.Option.{option_map_or};
-ghost use Rattle.approval_book.specs.Approved.{ids_of, is_in, room_of};
+ghost use Rattle.trustee_core.specs.Approved.{ids_of, is_in, room_of};
 ghost use Rattle.approval_book.specs.Listed.{Adds, AddsTo, IsAdding, IsFreeIn, IsSettled, first_free, is_half};
 ghost use Rattle.approval_book.specs.Listed.{is_listed};
 ghost use Rattle.approval_book.specs.Listed.{lists};
@@ -16,7 +16,6 @@ ghost use Rattle.slot_file.specs.Cache.{count_of as cache_count, header_of as ca
 ghost use Rattle.slot_file.specs.declared.doubted.Doubted.{Doubted as DoubtedPut};
 ghost use Rattle.slot_file.specs.Disks.{RisesAt, Unwritten};
 
-use crate::approved::Approved;
 use crate::faults::{BookFault, unsettled};
 use disk_trait::{Disk, DiskFault};
 use lms_bytes::MessageId;
@@ -24,6 +23,7 @@ use memory::NoMemory;
 use opening_journal::Entered;
 use slot_file::{CacheLoad, CachedSlots, Doubted, Header, Settled, Slot};
 use std::alloc::Global;
+use trustee_core::Approved;
 
 /// How many messages a book can list.
 const SLOTS: u32 = 1024;

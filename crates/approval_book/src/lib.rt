@@ -1,15 +1,10 @@
-//! The messages that a trustee may answer for, in a book on a disk, and what a trustee with a book decides.
+//! The messages that a trustee may answer for, in a book on a disk.
 #![tactic(auto)]
 
-mod approved;
 mod book;
-mod decide;
-mod denial;
 mod faults;
-pub mod laws;
 
-pub use approved::Approved;
 pub use book::Book;
-pub use decide::decide_approved;
-pub use denial::Denial;
 pub use faults::BookFault;
+pub use trustee_core::laws::only_approved;
+pub use trustee_core::{Approved, Denial, decide_approved};

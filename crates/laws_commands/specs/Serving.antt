@@ -10,7 +10,7 @@ use Rattle.tool_aggregate.specs.Steady.{HasNoNetFault}
 use Rattle.tool_base.specs.Ending.{Ending}
 use Rattle.tool_base.specs.World.{Outside, from_to}
 use Rattle.tool_sign.specs.Ports.{over_net}
-use Rattle.tool_trustee.specs.Nets.{HasAccepted}
+use Rattle.tool_base.specs.Services.{HasAccepted}
 use Rattle.tool_trustee.specs.Steady.{GrantsAll}
 use Rattle.tool_trustee.specs.Trustee.{ServedTrustee}
 use Rattle.tool_words.specs.Words.{Row, Aggregate, AggregateWords, Trustee, TrusteeWords}

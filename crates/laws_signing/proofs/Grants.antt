@@ -17,7 +17,7 @@ use Rattle.lms_bytes.specs.declared.public_key.PublicKey.{PublicKey}
 use Rattle.lms_bytes.specs.Bytes.{joined}
 use Rattle.lms_bytes.specs.declared.ask.ReplyHead.{ReplyHead}
 use Rattle.lms_bytes.proofs.Joined.{joined-more, joined-none, length-joined}
-use Rattle.approval_book.specs.Decisions.{Decided}
+use Rattle.trustee_core.specs.Approvals.{Decided}
 use Rattle.session_core.specs.Asks.{ask_with}
 use Rattle.share_files.specs.declared.share.Share.{Share}
 use Rattle.trustee_core.specs.Decisions.{Granted}

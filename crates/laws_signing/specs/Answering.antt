@@ -1,7 +1,7 @@
 -- What the links of a coalition's members gave, where each member answered both asks of a session with its own masks.
 use Rattle.std.specs.Prelude.{◌≡◌, ◌++◌, ℕ, List, [], ◌∷◌, Ok}
 use Rattle.aggregator_session.specs.Hearing.{hear}
-use Rattle.approval_book.specs.Decisions.{Decided}
+use Rattle.trustee_core.specs.Approvals.{Decided}
 use Rattle.lms_bytes.specs.declared.ask.Ask.{Ask}
 use Rattle.lms_bytes.specs.declared.ask.ReplyHead.{ReplyHead}
 use Rattle.reference_value.specs.Dealing.{Dealing, key_of, leaf_randomizer, random_mask}

@@ -12,7 +12,7 @@ use Rattle.stream_io.specs.Net.{IsNewPort, PortState, SomeUnaccepted}
 use Rattle.tool_base.proofs.Heard.{heard_new}
 use Rattle.tool_base.specs.Ending.{Ending}
 use Rattle.tool_aggregate.specs.Serving.{NetClientsEnd, cells_run, no_memory, served}
-use Rattle.tool_trustee.specs.Nets.{ServiceEnds}
+use Rattle.tool_base.specs.Services.{ServiceEnds}
 use Rattle.tool_sign.specs.Ports.{NetRun}
 use Rattle.tool_words.specs.Words.{AggregateWords}
 use Rattle.node_workers.specs.declared.totals.Totals.{Totals}

@@ -21,7 +21,7 @@ use Rattle.tool_aggregate.specs.Serving.{ServedTable, ports_of}
 use Rattle.tool_desk.proofs.Keys.{sizes}
 use Rattle.tool_desk.specs.Files.{key_name, reference_name, tree_name}
 use Rattle.tool_desk.specs.declared.files.KeyFiles.{KeyFiles}
-use Rattle.tool_trustee.specs.Nets.{HasAccepted}
+use Rattle.tool_base.specs.Services.{HasAccepted}
 use Rattle.tool_sign.proofs.Steady.{EndsSteady, Lack, keys-steady, lacking, load-steady, other-steady, plain, reference-steady, unheard}
 use Rattle.tool_sign.specs.Ports.{NetRun}
 use Rattle.tool_desk.specs.Views.{FailsReferences}

@@ -17,7 +17,7 @@ use Rattle.tool_base.specs.Heard.{HeardNobody}
 use Rattle.tool_base.specs.World.{StoreRun}
 use Rattle.tool_aggregate.specs.Desks.{ReadsReference}
 use Rattle.tool_base.specs.Loads.{ReadsAs}
-use Rattle.tool_trustee.specs.Nets.{ServiceEnds}
+use Rattle.tool_base.specs.Services.{ServiceEnds}
 use Rattle.tool_sign.specs.Ports.{NetRun}
 use Rattle.tool_sign.specs.Tables.{IsFresh, IsTable, LeavesTable, table_header}
 use Rattle.tool_words.specs.Words.{AggregateWords}

@@ -8,7 +8,7 @@ use Rattle.tool_base.specs.Ending.{Ending}
 use Rattle.tool_base.specs.World.{StoreRun}
 use Rattle.tool_aggregate.specs.Serving.{ServedTable, ports_of}
 use Rattle.tool_sign.specs.Ports.{NetRun}
-use Rattle.tool_trustee.specs.Nets.{HasAccepted}
+use Rattle.tool_base.specs.Services.{HasAccepted}
 use Rattle.tool_words.specs.Words.{AggregateWords}
 
 -- No port failed to accept, so the end has the numbers of what was served. Where the net's links have room for 65,536

@@ -20,9 +20,8 @@ use std::alloc::Global;
 use std::sync::Wait;
 use std::thread::Threads;
 use stream_io::{CallFault, Net, Store};
-use tool_base::{Ending, end_of_slots};
+use tool_base::{Ending, end_of_service, end_of_slots};
 use tool_sign::table_header;
-use tool_trustee::end_of_service;
 use tool_words::AggregateWords;
 
 /// Takes the leaf table of the words, serves clients with it over ports, and gives it back.

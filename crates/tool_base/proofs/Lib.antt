@@ -3,6 +3,7 @@ pub mod Heard
 pub mod Names
 pub mod Nets
 pub mod Runs
+pub mod Unaccepted
 pub mod Sharing
 pub mod Writing
 pub mod Outs

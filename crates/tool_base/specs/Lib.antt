@@ -5,6 +5,7 @@ pub mod Heard
 pub mod OutputOf
 pub mod Outputs
 pub mod Reads
+pub mod Services
 pub mod Touched
 pub mod World
 pub mod Disks

@@ -1,13 +1,12 @@
 -- What a trustee did over the ports of a net.
-use Rattle.std.specs.Prelude.{◌≡◌, ◌⊎◌, ◌++◌, ℕ, List, All, length, Option, Some, IsTrue, false}
-use Rattle.std.specs.Prelude.{Result, Ok, Err}
-use Rattle.memory.specs.declared.NoMemory.{NoMemory}
+use Rattle.std.specs.Prelude.{◌≡◌, ◌++◌, ℕ, List, All, length, Option, Some, IsTrue, false, Ok}
 use Rattle.disk_trait.specs.Faults.{Rose}
 use Rattle.share_files.specs.declared.share.Share.{Share}
 use Rattle.stream_io.specs.Net.{IsNewPort, NetState, PortState, SomeUnaccepted}
 use Rattle.tool_base.specs.Ending as ending
 use Rattle.tool_base.specs.Ending.{Ending}
 use Rattle.tool_base.specs.Heard.{HeardNobody}
+use Rattle.tool_base.specs.Services.{HasAccepted, ServiceEnds}
 use Rattle.tool_base.specs.World.{TimeState}
 use Rattle.tool_words.specs.Words.{TrusteeWords}
 use Rattle.trustee_node.specs.Connections.{ClockState}
@@ -19,16 +18,6 @@ use Rattle.node_workers.specs.declared.totals.Totals.{Totals}
 pub record IsNewClock (time : TimeState) (clock : ClockState) : Type 0 where
   pub told : IsTrue time.told → IsTrue clock.told
   pub answers : IsTrue time.told → (j : ℕ) → clock.answers j ≡ time.answers j
-
--- a port that did not fail to accept
-abbrev pub HasAccepted : PortState → Type 0
-HasAccepted port = port.accept_count ≡ 0
-
--- how a service over these ports ends, by what came of serving them
-abbrev pub ServiceEnds : List PortState → Result Totals NoMemory → Ending → Type 0
-ServiceEnds ports (Ok totals) end = (All HasAccepted ports × (end ≡ ending.Served totals.connections totals.frames))
-    ⊎ (SomeUnaccepted ports × (end ≡ ending.NetFailed))
-ServiceEnds ports (Err none) end = end ≡ ending.NoMemory
 
 -- a service: the share of its trustee, and the trustee before and after
 pub record Service : Type 0 where

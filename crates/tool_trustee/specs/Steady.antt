@@ -1,6 +1,6 @@
 -- What a trustee grants where nothing outside fails.
 use Rattle.std.specs.Prelude.{◌≡◌, ℕ, List, All, Option, None, Some}
-use Rattle.approval_book.specs.Decisions.{Decided}
+use Rattle.trustee_core.specs.Approvals.{Decided}
 use Rattle.lms_bytes.specs.MessageId.{message_id_bytes}
 use Rattle.lms_bytes.specs.declared.ask.Ask.{Ask}
 use Rattle.lms_bytes.specs.declared.ask.Second.{Second}

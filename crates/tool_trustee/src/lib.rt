@@ -8,5 +8,4 @@ mod nets;
 mod trustee;
 
 pub use clocks::{Clocks, MemClock, MemClocks, SystemClock, SystemClocks};
-pub use nets::end_of_service;
 pub use trustee::serve_trustee;

@@ -1,29 +1,27 @@
 //! Service over the ports of a net.
 
-ghost use Rattle.std.specs.Prelude.{◌≡◌, ◌≤◌, map, nat_lt};
-ghost use Rattle.std.specs.List.{list_any};
+ghost use Rattle.std.specs.Prelude.{◌≡◌, ◌≤◌};
 ghost use Rattle.std.specs.Option.{option_map};
-ghost use Rattle.approval_book.specs.Approved.{ids_of};
+ghost use Rattle.trustee_core.specs.Approved.{ids_of};
 ghost use Rattle.tool_base.specs.Endings.{ending};
 ghost use Rattle.tool_base.specs.World.{IsNetBack};
-ghost use Rattle.tool_trustee.specs.Nets.{NetServiceEnds, ServiceEnds, service_of};
+ghost use Rattle.tool_trustee.specs.Nets.{NetServiceEnds, service_of};
 ghost use Rattle.tool_words.specs.Rows.{trustee_words};
 ghost use Rattle.trustee_core.specs.Trustee.{share_of};
 ghost use Rattle.trustee_node.specs.Trustees.{trustee_state};
 
 use crate::clocks::Clocks;
-use approval_book::Approved;
 use disk_trait::Disk;
 use memory::NoMemory;
 use share_files::Share;
 use std::alloc::Global;
 use std::sync::Wait;
 use std::thread::Threads;
-use stream_io::{CallFault, Net, Port};
-use tool_base::Ending;
+use stream_io::{CallFault, Net};
+use tool_base::{Ending, end_of_service};
 use tool_words::TrusteeWords;
-use trustee_core::Trustee;
-use trustee_node::{Totals, serve_ports};
+use trustee_core::{Approved, Trustee};
+use trustee_node::serve_ports;
 
 /// Makes ports, serves a trustee over them, and gives them back.
 pub(crate) fn serve_net<R: Threads + Wait + Sync, D: Disk + Send, N: Net, T: Clocks>(
@@ -72,25 +70,4 @@ pub(crate) fn serve_net<R: Threads + Wait + Sync, D: Disk + Send, N: Net, T: Clo
     let end = end_of_service(&ports, totals);
     net.gather(ports);
     (trustee, end)
-}
-
-/// The end of a service over these ports.
-pub fn end_of_service<P: Port>(ports: &[P], totals: Result<Totals, NoMemory>) -> Ending
-    ensures ends { ServiceEnds (map P.state ports.now) totals (ending result) }
-{
-    match totals {
-        Ok(_) if some_unaccepted(ports) => Ending::NetFailed,
-        Ok(totals) => Ending::Served {
-            connections: totals.connections,
-            frames: totals.frames,
-        },
-        Err(NoMemory) => Ending::NoMemory,
-    }
-}
-
-/// Whether some port failed to accept.
-fn some_unaccepted<P: Port>(ports: &[P]) -> bool
-    ensures { result ≡ list_any (λ port. nat_lt 0 (P.state port).accept_count) ports.now }
-{
-    ports.iter().any(|port| port.accept_faults() > 0)
 }

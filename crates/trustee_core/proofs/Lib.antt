@@ -1,4 +1,6 @@
 pub mod Adding
+mod Approvals
+pub mod ApprovedIds
 pub mod Extending
 pub mod Living
 pub mod NoteLists

@@ -1,3 +1,5 @@
+pub mod Approvals
+pub mod Approved
 pub mod Codes
 pub mod Decisions
 pub mod Grants

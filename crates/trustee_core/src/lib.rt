@@ -1,7 +1,10 @@
-//! The decisions of a trustee, and the clock by which it dates them.
+//! The decisions of a trustee, alone or with a list of approved messages, and the clock by which it dates them.
 #![tactic(auto)]
 
+mod approval;
+mod approved;
 mod clock;
+mod denial;
 mod grant;
 mod kept;
 pub mod laws;
@@ -9,7 +12,10 @@ mod note;
 mod refusal;
 mod trustee;
 
+pub use approval::decide_approved;
+pub use approved::Approved;
 pub use clock::Clock;
+pub use denial::Denial;
 pub use grant::{Grant, mask_count, release};
 pub use kept::TrusteeName;
 pub use note::{Note, NoteLog};

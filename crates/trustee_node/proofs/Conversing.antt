@@ -3,7 +3,7 @@ use Rattle.std.proofs.Common.{◌≡◌, ◌≢◌, ◌⊎◌, ◌+◌, ◌*◌,
 use Rattle.std.proofs.lemmas.Grind.{flat_map-append}
 use mathlib.Core.Logic.{dite}
 use native.Mathlib.Decide.{dec_le}
-use Rattle.approval_book.specs.Decisions.{book_answer_in}
+use Rattle.trustee_core.specs.Approvals.{book_answer_in}
 use Rattle.disk_trait.specs.Faults.{Rose}
 use Rattle.lms_bytes.specs.declared.ask.Ask.{Ask}
 use Rattle.lms_bytes.specs.declared.params.Params.{Params}

@@ -2,7 +2,7 @@
 use Rattle.std.proofs.Common.{◌≡◌, ℕ, List, [], ◌∷◌, ◌++◌, Option, None, Some, IfSome, is_some, Result, refl, sym, ◌∙◌, ap, subst, inl, inr, append-nil}
 use Rattle.std.proofs.lemmas.Bool.{false≢true}
 use mathlib.Core.List.{IsPrefix}
-use Rattle.approval_book.specs.Decisions.{BookAnswer, BookDecides, Decided, IsDenied, decided, denied}
+use Rattle.trustee_core.specs.Approvals.{BookAnswer, BookDecides, Decided, IsDenied, decided, denied}
 use Rattle.lms_bytes.specs.declared.ask.Ask.{Ask}
 use Rattle.lms_bytes.specs.declared.ask.Second.{Second}
 use Rattle.opening_journal.specs.Entries.{JournalState}

@@ -1,6 +1,6 @@
 -- Replies are frames.
 use Rattle.std.proofs.Common.{◌≡◌, ◌+◌, ◌*◌, ℕ, zero, suc, List, Option, None, Some, length, refl, sym, ap, ◌∙◌, arith, length-append}
-use Rattle.approval_book.specs.Decisions.{Decided, Denied}
+use Rattle.trustee_core.specs.Approvals.{Decided, Denied}
 use Rattle.lms_bytes.specs.Bytes.{joined, u32str}
 use Rattle.lms_bytes.specs.declared.ask.Ask.{Ask}
 use Rattle.lms_bytes.specs.declared.ask.Second.{Second}

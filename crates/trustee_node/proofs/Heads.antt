@@ -1,8 +1,8 @@
 -- The heads of replies, and what follows them.
 use Rattle.std.proofs.Common.{◌≡◌, ◌⊎◌, ◌≤◌, ◌++◌, ◌∙◌, ℕ, List, Option, None, Some, IfSome, Ok, Err, length, replicate, refl, ap, sym, subst, inl, inr, arith}
 use Rattle.std.proofs.lemmas.List.{length-replicate}
-use Rattle.approval_book.specs.Decisions.{Decided, Denied}
-use Rattle.approval_book.specs.declared.denial.Denial.TheVariants.{NotApproved, Core}
+use Rattle.trustee_core.specs.Approvals.{Decided, Denied}
+use Rattle.trustee_core.specs.declared.denial.Denial.TheVariants.{NotApproved, Core}
 use Rattle.lms_bytes.specs.declared.ask.Ask.{Ask}
 use Rattle.lms_bytes.specs.declared.ask.Second.{Second}
 use Rattle.lms_bytes.specs.declared.params.Params.{Params}

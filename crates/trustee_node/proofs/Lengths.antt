@@ -1,6 +1,6 @@
 -- No reply is longer than the longest.
 use Rattle.std.proofs.Common.{◌≡◌, ◌≤◌, ◌*◌, ℕ, List, Ok, Err, Option, None, Some, length, ap, arith, length-append}
-use Rattle.approval_book.specs.declared.denial.Denial.TheVariants.{NotApproved, Core}
+use Rattle.trustee_core.specs.declared.denial.Denial.TheVariants.{NotApproved, Core}
 use Rattle.lms_bytes.specs.declared.ask.Ask.{Ask}
 use Rattle.lms_bytes.specs.declared.ask.Second.{Second}
 use Rattle.lms_bytes.specs.declared.message.MessageId.{MessageId}

@@ -3,7 +3,7 @@ use Rattle.std.proofs.Common.{◌≡◌, ◌<◌, ◌^◌, ℕ, List, [], ◌∷
 use Rattle.std.proofs.Math.Seq.{get_or-append_seam}
 use Rattle.std.proofs.lemmas.List.Elements.{All-append, All-cons, All-head, All-nil, All-tail, All-weaker}
 use mathlib.Core.List.{IsPrefix}
-use Rattle.approval_book.specs.Decisions.{BookAnswer, BookDecides, Decided, Denied, decided, denied}
+use Rattle.trustee_core.specs.Approvals.{BookAnswer, BookDecides, Decided, Denied, decided, denied}
 use Rattle.lms_bytes.specs.declared.ask.Ask.{Ask}
 use Rattle.opening_journal.specs.Entries.{Adds, IsLegalList, JournalState, leaf_of, map_of}
 use Rattle.opening_journal.specs.Opening.{settled_with}

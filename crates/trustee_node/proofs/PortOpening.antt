@@ -5,7 +5,7 @@ use mathlib.Core.List.{IsPrefix}
 use Rattle.lms_bytes.specs.declared.ask.Ask.{Ask}
 use Rattle.opening_journal.specs.Entries.{IsLegalList}
 use Rattle.opening_journal.specs.declared.entry.Entry.{Entry}
-use Rattle.approval_book.specs.Decisions.{Decided, Denied}
+use Rattle.trustee_core.specs.Approvals.{Decided, Denied}
 use Rattle.share_files.specs.declared.share.Share.{Share}
 use Rattle.trustee_core.specs.Decisions.{Granted, Refused}
 use Rattle.trustee_core.specs.Lives.{OneOpening}

@@ -5,8 +5,8 @@ use Rattle.std.proofs.lemmas.List.Elements.{All-nil, All-weaker}
 use mathlib.Core.List.{IsPrefix}
 use native.Mathlib.Decide.{dec_le}
 use mathlib.Core.Logic.{dite}
-use Rattle.approval_book.specs.Decisions.{BookAnswer, BookDecides, Decided, Denied, IsDenied, as_denial, book_answer_in, decided, denied}
-use Rattle.approval_book.specs.declared.denial.Denial.{Denial}
+use Rattle.trustee_core.specs.Approvals.{BookAnswer, BookDecides, Decided, Denied, IsDenied, as_denial, book_answer_in, decided, denied}
+use Rattle.trustee_core.specs.declared.denial.Denial.{Denial}
 use Rattle.disk_trait.specs.Faults.{Rose}
 use Rattle.disk_trait.specs.declared.disk.Pages as pages
 use Rattle.disk_trait.specs.declared.faults.Faults as counting

@@ -1,7 +1,7 @@
 -- Where turns stand in a log.
 use Rattle.std.specs.Prelude.{◌≡◌, ◌≤◌, ◌<◌, ◌^◌, ◌+◌, ◌++◌, ℕ, List, [], ◌∷◌, All, length, take, Option}
 use mathlib.Core.List.{IsPrefix}
-use Rattle.approval_book.specs.Decisions.{Decided, Denied}
+use Rattle.trustee_core.specs.Approvals.{Decided, Denied}
 use Rattle.lms_bytes.specs.declared.ask.Ask.{Ask}
 use Rattle.opening_journal.specs.Entries.{IsLegalList, JournalState, map_of}
 use Rattle.opening_journal.specs.Opening.{SettlesTo}

@@ -2,8 +2,8 @@
 use Rattle.std.specs.Prelude.{◌≡◌, ◌≤◌, ◌+◌, ◌*◌, ◌++◌, ◌∷◌, [], ⊤, ℕ, List, length, replicate, Option, Some, None}
 use Rattle.std.specs.Prelude.{Ok, Err, IfOk, IfSome}
 use Rattle.std.specs.List.{flat_map}
-use Rattle.approval_book.specs.Decisions.{Decided, Denied, book_answer_in}
-use Rattle.approval_book.specs.declared.denial.Denial.TheVariants.{NotApproved, Core}
+use Rattle.trustee_core.specs.Approvals.{Decided, Denied, book_answer_in}
+use Rattle.trustee_core.specs.declared.denial.Denial.TheVariants.{NotApproved, Core}
 use Rattle.lms_bytes.specs.Bytes.{joined}
 use Rattle.lms_bytes.specs.MessageId.{message_id_bytes}
 use Rattle.lms_bytes.specs.declared.ask.Ask.{Ask}

@@ -4,7 +4,7 @@ use Rattle.std.specs.Prelude.{All, Contains, map}
 use Rattle.std.specs.Prelude.{Option, IfSome, IsSomeAnd, IsTrue, if◌then◌else◌}
 use Rattle.std.specs.List.{flat_map, sum_by}
 use mathlib.Core.List.{IsPrefix}
-use Rattle.approval_book.specs.Decisions.{BookAnswer, BookDecides, Decided, Denied, IsDenied}
+use Rattle.trustee_core.specs.Approvals.{BookAnswer, BookDecides, Decided, Denied, IsDenied}
 use Rattle.lms_bytes.specs.declared.ask.Ask.{Ask}
 use Rattle.opening_journal.specs.Opening.{settled_with}
 use Rattle.opening_journal.specs.declared.entry.Entry.{Entry}

@@ -2,20 +2,19 @@
 
 ghost use Rattle.std.specs.Prelude.{◌≡◌, ◌≢◌, IsTrue};
 ghost use Rattle.std.specs.Option.{option_map};
-ghost use Rattle.approval_book.specs.Approved.{ids_of};
+ghost use Rattle.trustee_core.specs.Approved.{ids_of};
 ghost use Rattle.trustee_node.specs.Connections.{Conversation, clock_state};
 ghost use Rattle.trustee_node.specs.Turns.{IsIdle};
 
 use crate::reply::write_reply;
 use crate::turn::decide_in_turn;
-use approval_book::Approved;
 use disk_trait::{Disk, Faults};
 use node_workers::{Served, ServedEnd, end_by};
 use round_frames::{FrameFault, next_ask};
 use share_files::Share;
 use std::sync::Wait;
 use stream_io::{Failed, Sink, Source, Stream};
-use trustee_core::{Clock, Trustee};
+use trustee_core::{Approved, Clock, Trustee};
 use turn_lock::{Pass, TurnLock};
 
 /// The most frames of one connection.

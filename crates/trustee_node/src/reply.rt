@@ -10,7 +10,6 @@ ghost use Rattle.trustee_node.specs.Replies.{longest_reply, masks_joined, reply_
 ghost use Rattle.round_frames.specs.Sending.{Sends, sink_state};
 
 use crate::turn::Answer;
-use approval_book::Denial;
 use disk_trait::Faults;
 use lms_bytes::bytes::put;
 use lms_bytes::{Ask, Params, ReplyHead, Val, digit};
@@ -18,7 +17,7 @@ use mask_prf::MacKey;
 use round_frames::put_reply_head;
 use share_files::Share;
 use stream_io::{Failed, Sink, Stream, write_whole};
-use trustee_core::{Grant, Refusal, mask_count};
+use trustee_core::{Denial, Grant, Refusal, mask_count};
 
 /// How many bytes of a reply are written at once: all of them, most often.
 const ROOM: usize = 4096;

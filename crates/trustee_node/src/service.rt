@@ -2,7 +2,7 @@
 
 ghost use Rattle.std.specs.Prelude.{◌≡◌, ◌≤◌, map, vec_len, IfOk, OnErr};
 ghost use Rattle.std.specs.Option.{option_map};
-ghost use Rattle.approval_book.specs.Approved.{ids_of};
+ghost use Rattle.trustee_core.specs.Approved.{ids_of};
 ghost use Rattle.trustee_core.specs.Trustee.{share_of};
 ghost use Rattle.trustee_node.specs.Connections.{clock_state};
 ghost use Rattle.trustee_node.specs.Ports.{ServedPorts, ports_run};
@@ -10,7 +10,6 @@ ghost use Rattle.trustee_node.specs.Trustees.{trustee_state};
 
 use crate::gather::gather;
 use crate::serve;
-use approval_book::Approved;
 use disk_trait::Disk;
 use memory::NoMemory;
 use node_workers::{Totals, Worker, make_workers};
@@ -19,7 +18,7 @@ use std::alloc::Global;
 use std::sync::Wait;
 use std::thread::Threads;
 use stream_io::Port;
-use trustee_core::{Clock, Trustee};
+use trustee_core::{Approved, Clock, Trustee};
 use turn_lock::TurnLock;
 
 /// Serves a trustee over ports, by a worker for each port, all beside each other, each with a clock of its own. A

@@ -2,17 +2,16 @@
 
 ghost use Rattle.std.specs.Prelude.{◌≡◌};
 ghost use Rattle.std.specs.Option.{option_map};
-ghost use Rattle.approval_book.specs.Approved.{ids_of};
+ghost use Rattle.trustee_core.specs.Approved.{ids_of};
 ghost use Rattle.round_frames.specs.Asks.{HasSizes};
 ghost use Rattle.trustee_node.specs.Replies.{IsGrantOf, OneTurn, outcome_in};
 ghost use Rattle.trustee_node.specs.Turns.{IsIdle, code_of, is_worn};
 
-use approval_book::{Approved, Denial, decide_approved};
 use disk_trait::Disk;
 use lms_bytes::Ask;
 use share_files::Share;
 use std::sync::Wait;
-use trustee_core::{Grant, Trustee};
+use trustee_core::{Approved, Denial, Grant, Trustee, decide_approved};
 use turn_lock::{Pass, TurnLock};
 
 /// What came of an ask.

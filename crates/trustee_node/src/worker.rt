@@ -3,14 +3,13 @@
 ghost use Rattle.std.specs.Prelude.{◌≡◌, ◌≤◌, ◌<◌, ℕ, All, length};
 ghost use Rattle.std.specs.Prelude.{slice_index_or};
 ghost use Rattle.std.specs.Option.{option_map};
-ghost use Rattle.approval_book.specs.Approved.{ids_of};
+ghost use Rattle.trustee_core.specs.Approved.{ids_of};
 ghost use Rattle.stream_io.specs.Net.{PortOnward};
 ghost use Rattle.trustee_node.specs.Connections.{clock_state};
 ghost use Rattle.trustee_node.specs.Turns.{IsIdle};
 ghost use Rattle.trustee_node.specs.Workers.{ServesLink, WorkEnds, Worked, worker_state};
 
 use crate::connection::serve_connection;
-use approval_book::Approved;
 use disk_trait::Disk;
 use node_workers::{Served, Worker, next_link};
 use share_files::Share;
@@ -18,7 +17,7 @@ use std::sync::Wait;
 use std::thread;
 use std::thread::Threads;
 use stream_io::{Port, Stream};
-use trustee_core::{Clock, Trustee};
+use trustee_core::{Approved, Clock, Trustee};
 use turn_lock::{Pass, TurnLock};
 
 /// Serves one link after the other by each worker, all beside each other, until each has served `connections`, there is

@@ -1,9 +1,9 @@
 use Rattle.std.proofs.Common.{◌≡◌, ℕ, List, ◌≤◌, length, take}
-use Rattle.approval_book.specs.Approved.{ids_of, is_in, room_of}
+use Rattle.trustee_core.specs.Approved.{ids_of, is_in, room_of}
 use Rattle.approval_book.specs.Listed.{is_listed}
 use Rattle.slot_file.specs.Copies.{taken_count}
 use Rattle.slot_file.specs.declared.slot.Slot.{Slot}
-use Rattle.approval_book.specs.declared.approved.Approved.{Approved}
+use Rattle.trustee_core.specs.declared.approved.Approved.{Approved}
 use Rattle.approval_book.proofs.book.listed_in.Given as goal
 
 -- the slots that were looked at are listed

@@ -7,7 +7,7 @@ use Rattle.tool_base.proofs.Nets.{net_back}
 use Rattle.tool_base.specs.Endings.{ending}
 use Rattle.tool_aggregate.specs.Serving.{no_memory, no_ports}
 use Rattle.tool_aggregate.proofs.Nets.{net_ends}
-use Rattle.tool_trustee.proofs.Serving.{not_true}
+use Rattle.tool_base.proofs.Unaccepted.{not_true}
 use Rattle.tool_sign.specs.Ports.{over_net}
 use Rattle.tool_words.specs.Rows.{aggregate_words}
 use Rattle.tool_aggregate.proofs.serving.serve_net.Goals as goal

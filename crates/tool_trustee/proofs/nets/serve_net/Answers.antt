@@ -1,6 +1,6 @@
 use Rattle.std.proofs.Common.{◌≡◌, ◌++◌, ◌∙◌, map, refl, ap, arith}
 use Rattle.std.specs.Option.{option_map}
-use Rattle.approval_book.specs.Approved.{ids_of}
+use Rattle.trustee_core.specs.Approved.{ids_of}
 use Rattle.trustee_node.specs.Connections.{clock_state}
 use Rattle.trustee_node.specs.Trustees.{trustee_state}
 use Rattle.tool_words.specs.Rows.{trustee_words}
@@ -8,7 +8,8 @@ use Rattle.tool_base.specs.Endings.{ending}
 use Rattle.tool_trustee.specs.Nets.{no_memory, no_ports, service_of}
 use Rattle.tool_base.proofs.Nets.{net_back}
 use Rattle.tool_base.proofs.Heard.{heard_new, heard_none}
-use Rattle.tool_trustee.proofs.Serving.{dated_by, net_ends, not_true, ports_many}
+use Rattle.tool_base.proofs.Unaccepted.{not_true}
+use Rattle.tool_trustee.proofs.Serving.{dated_by, net_ends, ports_many}
 use Rattle.tool_trustee.proofs.nets.serve_net.Goals as goal
 
 pub returns-in-Err-Failed-clause-ends : goal.returns-in-Err-Failed-clause-ends

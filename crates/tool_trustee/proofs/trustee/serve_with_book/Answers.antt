@@ -1,6 +1,6 @@
 use Rattle.std.proofs.Common.{◌≡◌, IsTrue, refl, sym, ap, subst}
 use Rattle.std.specs.Option.{option_map}
-use Rattle.approval_book.specs.Approved.{ids_of}
+use Rattle.trustee_core.specs.Approved.{ids_of}
 use Rattle.approval_book.specs.Book.{state_of}
 use Rattle.slot_file.specs.Loading.{LoadRefused}
 use Rattle.slot_file.specs.State.{HasSlots}

@@ -1,6 +1,6 @@
 use Rattle.std.proofs.Common.{◌≡◌, List, length}
 use Rattle.std.specs.Option.{option_map}
-use Rattle.approval_book.specs.Approved.{ids_of}
+use Rattle.trustee_core.specs.Approved.{ids_of}
 use Rattle.trustee_node.specs.Connections.{clock_state}
 use Rattle.trustee_node.specs.Turns.{IsIdle, Turn, with_code}
 use Rattle.trustee_node.proofs.Asking.{Heard, Replied}

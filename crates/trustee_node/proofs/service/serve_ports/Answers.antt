@@ -1,7 +1,7 @@
 use Rattle.std.proofs.Common.{◌≡◌, ◌∙◌, length, map, sym, arith}
 use Rattle.std.proofs.lemmas.List.{length-map}
 use Rattle.std.specs.Option.{option_map}
-use Rattle.approval_book.specs.Approved.{ids_of}
+use Rattle.trustee_core.specs.Approved.{ids_of}
 use Rattle.trustee_core.proofs.NotesHeld.{doubt-held, entries-held}
 use Rattle.trustee_node.specs.Connections.{clock_state}
 use Rattle.trustee_node.specs.Workers.{worker_state}

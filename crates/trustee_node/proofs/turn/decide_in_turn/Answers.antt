@@ -1,6 +1,6 @@
 use Rattle.std.proofs.Common.{◌≡◌, [], ℕ, length, List, Option, Some, IfSome, sym, ap, ◌∙◌, subst, arith}
 use mathlib.Core.List.{IsPrefix}
-use Rattle.approval_book.specs.Decisions.{BookAnswer, BookDecides, book_answer_in}
+use Rattle.trustee_core.specs.Approvals.{BookAnswer, BookDecides, book_answer_in}
 use Rattle.lms_bytes.specs.declared.ask.Ask.{Ask}
 use Rattle.disk_trait.specs.Faults.{Rose}
 use Rattle.opening_journal.specs.Entries.{JournalState}

@@ -1,6 +1,6 @@
 use Rattle.std.proofs.Common.{true≢false, refl, sym, ap, ◌∙◌, subst, arith}
 use Rattle.std.specs.Option.{option_map}
-use Rattle.approval_book.specs.Approved.{ids_of}
+use Rattle.trustee_core.specs.Approved.{ids_of}
 use Rattle.trustee_node.specs.Connections.{clock_state}
 use Rattle.trustee_node.specs.Turns.{IsIdle}
 use Rattle.trustee_node.specs.Workers.{Worked, worker_state}

@@ -1,6 +1,6 @@
 use Rattle.std.proofs.Common.{◌≡◌, false}
 use Rattle.std.specs.Option.{option_map}
-use Rattle.approval_book.specs.Approved.{ids_of}
+use Rattle.trustee_core.specs.Approved.{ids_of}
 use Rattle.trustee_node.specs.Turns.{IsIdle}
 use Rattle.trustee_node.specs.Workers.{Worked, worker_state}
 use Rattle.trustee_node.proofs.worker.work.Given as goal

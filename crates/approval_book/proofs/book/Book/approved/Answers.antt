@@ -1,5 +1,5 @@
 use Rattle.std.proofs.Common.{◌∙◌, sym}
-use Rattle.approval_book.proofs.Listings.{contains-in, in-contains}
+use Rattle.trustee_core.proofs.ApprovedIds.{contains-in, in-contains}
 use Rattle.approval_book.proofs.book.Book.approved.Goals as goal
 
 pub returns : goal.returns

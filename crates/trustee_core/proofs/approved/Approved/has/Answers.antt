@@ -1,6 +1,6 @@
 use Rattle.std.proofs.Common.{◌∙◌, sym}
-use Rattle.approval_book.proofs.Listings.{contains-in, in-contains}
-use Rattle.approval_book.proofs.approved.Approved.has.Goals as goal
+use Rattle.trustee_core.proofs.ApprovedIds.{contains-in, in-contains}
+use Rattle.trustee_core.proofs.approved.Approved.has.Goals as goal
 
 pub returns : goal.returns
 returns c = (

@@ -2,7 +2,7 @@
 use Rattle.std.specs.Prelude.{ℕ, List, Bool, nat_eq}
 use Rattle.std.specs.Cmp.Lexicographic.{pointwise}
 use Rattle.std.specs.List.{list_any}
-use Rattle.approval_book.specs.declared.approved.Approved.{Approved}
+use Rattle.trustee_core.specs.declared.approved.Approved.{Approved}
 
 -- their ids, each in its 36 bytes
 abbrev pub ids_of : Approved → List (List ℕ)

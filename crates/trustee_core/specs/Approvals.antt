@@ -8,9 +8,9 @@ use Rattle.share_files.specs.declared.share.Share.{Share}
 use Rattle.trustee_core.specs.Decisions.{Answer, Decides, Granted, Refused}
 use Rattle.trustee_core.specs.Lives.{Answered, Lives}
 use Rattle.trustee_core.specs.declared.refusal.Refusal.{Refusal}
-use Rattle.approval_book.specs.Approved.{is_in}
-use Rattle.approval_book.specs.declared.denial.Denial.{Denial}
-use Rattle.approval_book.specs.declared.denial.Denial.TheVariants as denial
+use Rattle.trustee_core.specs.Approved.{is_in}
+use Rattle.trustee_core.specs.declared.denial.Denial.{Denial}
+use Rattle.trustee_core.specs.declared.denial.Denial.TheVariants as denial
 
 -- there is a book, the ask is of round one, and its message is not among the book's ids
 abbrev pub IsDenied : Option (List (List ℕ)) → Ask → Type 0

@@ -1,5 +1,5 @@
-use Rattle.approval_book.proofs.Listings.{in-added}
-use Rattle.approval_book.proofs.approved.Approved.insert.Goals as goal
+use Rattle.trustee_core.proofs.ApprovedIds.{in-added}
+use Rattle.trustee_core.proofs.approved.Approved.insert.Goals as goal
 
 pub returns-clause-listed : goal.returns-clause-listed
 returns-clause-listed c =

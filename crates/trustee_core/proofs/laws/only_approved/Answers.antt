@@ -1,5 +1,5 @@
-use Rattle.approval_book.proofs.Lives.{all_approved, decided_lives}
-use Rattle.approval_book.proofs.laws.only_approved.Goals as goal
+use Rattle.trustee_core.proofs.Approvals.{all_approved, decided_lives}
+use Rattle.trustee_core.proofs.laws.only_approved.Goals as goal
 
 pub returns-clause-lives : goal.returns-clause-lives
 returns-clause-lives c = decided_lives

@@ -1,6 +1,6 @@
 use Rattle.std.proofs.Common.{refl, sym, inl, inr, ◌∙◌}
-use Rattle.tool_trustee.proofs.Serving.{none_deaf, some_deaf}
-use Rattle.tool_trustee.proofs.nets.end_of_service.Goals as goal
+use Rattle.tool_base.proofs.Unaccepted.{none_deaf, some_deaf}
+use Rattle.tool_base.proofs.services.end_of_service.Goals as goal
 
 pub returns-in-Ok : goal.returns-in-Ok
 returns-in-Ok g c = record {

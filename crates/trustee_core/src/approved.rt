@@ -3,7 +3,7 @@
 ghost use Rattle.std.specs.Prelude.{◌≡◌, ◌≤◌, ◌<◌, ◌+◌, ◌↔◌, ◌||◌, ℕ, List, [], length, nat_eq, Contains, IsTrue, IfOk};
 ghost use Rattle.std.specs.Cmp.Lexicographic.{pointwise};
 ghost use Rattle.lms_bytes.specs.MessageId.{message_id_bytes};
-ghost use Rattle.approval_book.specs.Approved.{ids_of, is_in, room_of};
+ghost use Rattle.trustee_core.specs.Approved.{ids_of, is_in, room_of};
 
 use lms_bytes::MessageId;
 use memory::NoMemory;
@@ -25,7 +25,7 @@ impl Approved {
     }
 
     /// No message yet, and room for so many.
-    pub(crate) fn with_room(alloc: Global, room: usize) -> Result<Approved, NoMemory>
+    pub fn with_room(alloc: Global, room: usize) -> Result<Approved, NoMemory>
         ensures empty { IfOk result (λ approved. ids_of approved ≡ []) }
         ensures room { IfOk result (λ approved. room ≤ room_of approved) }
     {
@@ -35,14 +35,14 @@ impl Approved {
     }
 
     /// Whether an id is listed.
-    pub(crate) fn lists(&self, id: &[u8; 36]) -> bool
+    pub fn lists(&self, id: &[u8; 36]) -> bool
         ensures { result ≡ is_in (ids_of self.now) id.now }
     {
         self.ids.holds(id)
     }
 
     /// Lists an id.
-    pub(crate) fn insert(&mut self, id: [u8; 36])
+    pub fn insert(&mut self, id: [u8; 36])
         requires { length (ids_of self.old) < room_of self.old }
         ensures listed { (other : List ℕ)
             → is_in (ids_of self.new) other ≡ (pointwise nat_eq other id || is_in (ids_of self.old) other) }

@@ -1,9 +1,9 @@
 use Rattle.std.proofs.Common.{◌≡◌, ◌∙◌, subst, sym, true≢false}
-use Rattle.approval_book.specs.Decisions.{decided, denied}
+use Rattle.trustee_core.specs.Approvals.{decided, denied}
 use Rattle.trustee_core.specs.Decisions.{Answer, Granted, Refused}
 use Rattle.trustee_core.specs.Notes.{Notes}
 use Rattle.trustee_core.specs.Trustee.{notes_of}
-use Rattle.approval_book.proofs.decide.decide_approved.Goals as goal
+use Rattle.trustee_core.proofs.approval.decide_approved.Goals as goal
 
 pub returns-then-is_denied-clause-event : goal.returns-then-is_denied-clause-event
 returns-then-is_denied-clause-event g c = denied (c.is_denied.ensures.0 c.if-is_denied.true)

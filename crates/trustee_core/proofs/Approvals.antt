@@ -7,8 +7,8 @@ use Rattle.opening_journal.specs.Entries.{JournalState}
 use Rattle.share_files.specs.declared.share.Share.{Share}
 use Rattle.trustee_core.specs.Lives.{Answered, Lives}
 use Rattle.trustee_core.specs.Lives as lives
-use Rattle.approval_book.specs.Decisions.{BookAnswer, BookAnswered, BookDecides, BookLives, IsApproved, decided_in, if_decided}
-use Rattle.approval_book.specs.Decisions as book
+use Rattle.trustee_core.specs.Approvals.{BookAnswer, BookAnswered, BookDecides, BookLives, IsApproved, decided_in, if_decided}
+use Rattle.trustee_core.specs.Approvals as book
 
 -- lives with no answer, and then others
 then : (share : Share) (before after last : JournalState) (none answers : List Answered) → none ≡ [] → Lives share before none after

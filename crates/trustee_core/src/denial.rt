@@ -1,8 +1,8 @@
 //! The answers of a trustee with a book.
 
+use crate::refusal::Refusal;
 use lms_bytes::MessageId;
 use thiserror::Error;
-use trustee_core::Refusal;
 
 /// Why an ask is not granted.
 #[derive(Clone, Copy, Debug, PartialEq, Eq, Error)]

@@ -2,9 +2,9 @@
 
 ghost use Rattle.std.specs.Prelude.{◌≡◌, length, ◌↔◌, IsTrue, IfOk, IfSome, Result};
 ghost use Rattle.std.specs.Option.{option_map};
-ghost use Rattle.approval_book.specs.Approved.{ids_of};
-ghost use Rattle.approval_book.specs.Decisions.{BookDecides, Decided as DecidedBy, IsDenied, as_denial};
-ghost use Rattle.approval_book.specs.Decisions.{book_answer_in};
+ghost use Rattle.trustee_core.specs.Approved.{ids_of};
+ghost use Rattle.trustee_core.specs.Approvals.{BookDecides, Decided as DecidedBy, IsDenied, as_denial};
+ghost use Rattle.trustee_core.specs.Approvals.{book_answer_in};
 ghost use Rattle.opening_journal.specs.Journal.{state_of};
 ghost use Rattle.trustee_core.specs.Grants.{ask_of};
 ghost use Rattle.trustee_core.specs.Decisions.{Answer};
@@ -15,9 +15,10 @@ ghost use Rattle.trustee_core.specs.declared.refusal.Refusal.{Refusal as Refused
 
 use crate::approved::Approved;
 use crate::denial::Denial;
+use crate::grant::Grant;
+use crate::trustee::Trustee;
 use disk_trait::Disk;
 use lms_bytes::Ask;
-use trustee_core::{Grant, Trustee};
 
 /// Decides on an ask at a moment, in seconds since the start of 1970. Where there is a book, an ask of round one is
 /// denied whose message it does not list; that is tested first, makes no call of the disk and changes nothing. All
