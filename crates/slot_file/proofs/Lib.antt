@@ -1,5 +1,7 @@
 mod Blank
 mod Copied
+mod CopyLaws
+mod FaultLaws
 mod Kept
 mod Loads
 pub mod Logs
@@ -19,3 +21,5 @@ mod Same
 mod Sure
 mod CachedRuns
 mod CachedPuts
+mod CachedLooks
+mod SlotsLooks

@@ -6,6 +6,13 @@ use Rattle.slot_file.specs.Layout.{file_size}
 use Rattle.slot_file.specs.Slots.{header_of, file_of}
 use Rattle.slot_file.proofs.Copied.{is_copy}
 use Rattle.slot_file.proofs.Shut.{header_block-shut, shut_unready}
+use Rattle.std.proofs.Common.{refl, inl}
+use Rattle.slot_file.proofs.CopyLaws.{calls-failed, calls-then, device-answer, looked-none}
+use Rattle.std.proofs.Common.{arith}
+use Rattle.std.proofs.lemmas.Bool.{false≢true}
+use Rattle.slot_file.proofs.CopyLaws.{device-not-held, device-says}
+use Rattle.slot_file.proofs.SlotsLooks.{no-value}
+use Rattle.slot_file.specs.Copying.{FindsDamaged}
 use Rattle.slot_file.proofs.copies.write_closed.Goals as goal
 
 pub write_shut-requires-clause-shut : goal.write_shut-requires-clause-shut
@@ -40,3 +47,41 @@ returns-clause-unready g c =
       images = λ told honest image leaves.
           shut_unready image (c.write_copies.ensures.shut.images (first.honest ∙ honest) (c.in_ok-write_shut.ensures.shut told honest) image leaves);
     }
+
+pub returns-clause-calls : goal.returns-clause-calls
+returns-clause-calls g c =
+    let from = c.args.from.now in
+    calls-then g.D.Pages g.D.Faults c.args.disk.now c.write_shut.new.disk c.write_copies.new.disk from from c.write_copies.new.from _ _ c.write_shut.ensures.stays (looked-none from)
+    c.in_ok-write_shut.ensures.cause.succeeded refl c.write_copies.ensures.calls
+
+pub returns-in_err-write_shut-clause-calls : goal.returns-in_err-write_shut-clause-calls
+returns-in_err-write_shut-clause-calls g c =
+    let from = c.args.from.now in
+    calls-failed g.D.Pages g.D.Faults c.args.disk.now c.write_shut.new.disk from from _ _ c.write_shut.ensures.stays (looked-none from) (device-answer _ c.from_residual.ensures.1)
+    (inl c.in_err-write_shut.ensures.cause.failed)
+
+pub returns-in_err-write_shut-clause-copied : goal.returns-in_err-write_shut-clause-copied
+returns-in_err-write_shut-clause-copied g c = no-value _ _ c.from_residual.ensures.0
+
+pub returns-in_err-write_shut-clause-damaged : goal.returns-in_err-write_shut-clause-damaged
+returns-in_err-write_shut-clause-damaged g c = device-says (FindsDamaged c.args.from.now c.args.count) _ c.from_residual.ensures.1 tt
+
+pub returns-in_err-write_shut-clause-not_empty : goal.returns-in_err-write_shut-clause-not_empty
+returns-in_err-write_shut-clause-not_empty g c = device-not-held _ c.from_residual.ensures.1
+
+pub returns-in_err-write_shut-clause-unready : goal.returns-in_err-write_shut-clause-unready
+returns-in_err-write_shut-clause-unready g c = c.write_shut.ensures.unready
+
+pub returns-in_err-write_shut-clause-succeeds : goal.returns-in_err-write_shut-clause-succeeds
+returns-in_err-write_shut-clause-succeeds g c = λ steady told steady_from told_from room. absurd (false≢true (c.in_err-write_shut.ensures.succeeds steady told (omega (arith, room))))
+
+pub returns-clause-damaged : goal.returns-clause-damaged
+returns-clause-damaged g c = c.write_copies.ensures.damaged
+
+pub returns-clause-not_empty : goal.returns-clause-not_empty
+returns-clause-not_empty g c = c.write_copies.ensures.not_empty
+
+pub returns-clause-succeeds : goal.returns-clause-succeeds
+returns-clause-succeeds g c = λ steady told steady_from told_from room.
+    let stays = c.write_shut.ensures.stays in
+    c.write_copies.ensures.succeeds (stays.steady ∙ steady) (stays.told ∙ told) steady_from told_from (omega (arith, room, stays.room))

@@ -1,7 +1,9 @@
-use Rattle.std.proofs.Common.{◌≡◌, ◌≤◌, ◌+◌, ◌*◌, ◌++◌, ℕ, List, replicate, take, ◌∙◌, ap, arith, append_assoc, rules}
+use Rattle.std.proofs.Common.{◌≡◌, ◌≤◌, ◌+◌, ◌*◌, ◌++◌, ℕ, List, replicate, take, ◌∙◌, ap, arith, append_assoc, refl}
 use Rattle.std.proofs.lemmas.List.{replicate-append-replicate, take-replicate}
 use Rattle.slot_file.specs.Layout.{slot_size}
 use Rattle.slot_file.proofs.Puts.{most_size}
+use Rattle.slot_file.proofs.FaultLaws.{cause-failed, on-err}
+use Rattle.slot_file.proofs.Unwritten.{same-then}
 use Rattle.slot_file.proofs.prepared.write_free.Goals as goal
 
 one_more : (front : List ℕ) (size slot n : ℕ) → n ≡ size → size ≤ 160 → (front ++ replicate (size * slot) 0) ++ take n (replicate 160 0) ≡ front ++ replicate (size * (slot + 1)) 0
@@ -21,7 +23,39 @@ loop-slot-preserved g c =
           let here : g.D.Pages.reads c.append.new.disk ≡ g.D.Pages.reads c.loop-slot.disk ++ take size (replicate 160 0) = c.in_ok-append.ensures.bytes (so_far.stays.told ∙ told) in
           here ∙ ap (λ (l : List ℕ). l ++ take size (replicate 160 0)) (so_far.bytes told)
           ∙ one_more (g.D.Pages.reads c.args.disk.now) (slot_size c.args.version) c.loop-slot.slot size c.slot_len-size.ensures (most_size c.args.version);
-      shut = search rules;
-      count = search rules;
-      stays = search rules;
+      shut = record {
+        reads = λ told shut. c.append.ensures.shut.reads (so_far.stays.told ∙ told) (so_far.shut.reads told shut);
+        images = λ honest all. c.append.ensures.shut.images (so_far.stays.honest ∙ honest) (so_far.shut.images honest all);
+      };
+      count = c.in_ok-append.ensures.cause.succeeded ∙ so_far.count;
+      stays = same-then g.D.Pages g.D.Faults c.args.disk.now c.loop-slot.disk c.append.new.disk so_far.stays c.append.ensures.stays;
     }
+
+pub returns-clause-shut : goal.returns-clause-shut
+returns-clause-shut g c = c.loop-slot.invariant.shut
+
+pub returns-clause-stays : goal.returns-clause-stays
+returns-clause-stays g c = c.loop-slot.invariant.stays
+
+pub returns-in_err-append-clause-bytes : goal.returns-in_err-append-clause-bytes
+returns-in_err-append-clause-bytes g c = λ told. on-err _ _ c.from_residual.ensures.0
+
+pub returns-in_err-append-clause-cause : goal.returns-in_err-append-clause-cause
+returns-in_err-append-clause-cause g c = cause-failed _ (g.D.Faults.count c.loop-slot.disk) _ _ c.from_residual.ensures.0 c.loop-slot.invariant.count c.append.ensures.cause.later c.in_err-append.ensures.cause.failed
+
+pub returns-in_err-append-clause-stays : goal.returns-in_err-append-clause-stays
+returns-in_err-append-clause-stays g c = same-then g.D.Pages g.D.Faults c.args.disk.now c.loop-slot.disk c.append.new.disk c.loop-slot.invariant.stays c.append.ensures.stays
+
+pub returns-in_err-append-clause-shut : goal.returns-in_err-append-clause-shut
+returns-in_err-append-clause-shut g c =
+    let so_far = c.loop-slot.invariant in
+    record {
+      reads = λ told shut. c.append.ensures.shut.reads (so_far.stays.told ∙ told) (so_far.shut.reads told shut);
+      images = λ honest all. c.append.ensures.shut.images (so_far.stays.honest ∙ honest) (so_far.shut.images honest all);
+    }
+
+pub returns-clause-succeeds : goal.returns-clause-succeeds
+returns-clause-succeeds g c = λ steady told room. refl
+
+pub returns-clause-cause : goal.returns-clause-cause
+returns-clause-cause g c = record { later = c.loop-slot.invariant.stays.count; succeeded = c.loop-slot.invariant.count; failed = tt }

@@ -2,7 +2,30 @@ use Rattle.std.proofs.Common.{◌≡◌, ◌≢◌, ◌<◌, ◌≤◌, Some, No
 use Rattle.slot_file.specs.declared.header.LoadFault.TheVariants.{Length}
 use Rattle.slot_file.specs.Layout.{file_size, header_fault}
 use Rattle.slot_file.proofs.Loads.{load-short, load-header, load-other, load-none}
+use Rattle.std.proofs.Common.{◌⊎◌, inl, refl, Result, Ok, Err, IfErr, IsErrAnd, ℕ}
+use Rattle.std.proofs.lemmas.Bool.{false≢true}
+use Rattle.slot_file.specs.declared.header.LoadFault.{LoadFault}
+use Rattle.slot_file.specs.declared.header.LoadFault.TheVariants.{Device}
+use Rattle.slot_file.proofs.CopyLaws.{device-answer}
+use Rattle.slot_file.proofs.FaultLaws.{on-err, rises-failed, rises-fine}
+use Rattle.slot_file.proofs.Unwritten.{unwritten-call, unwritten-then}
 use Rattle.slot_file.proofs.slots.check_file.Goals as goal
+
+device-refused : {T : Type 0} (X : LoadFault → Type 0) (answer : Result T LoadFault) → IsErrAnd answer (λ fault. fault ≡ Device) → IfErr answer (λ fault. (fault ≡ Device) ⊎ X fault)
+device-refused X (Ok value) is = tt
+device-refused X (Err fault) is = inl is
+
+length-not : (got want : ℕ) → Length got want ≢ Device
+length-not got want is = cc
+
+other-fault : {T : Type 0} (fault : LoadFault) → fault ≢ Device → ◌≢◌ {A = Result T LoadFault} (Err fault) (Err Device)
+other-fault fault differs is = (let same : fault ≡ Device = cc in differs same)
+
+length-fault : {T : Type 0} (got want : ℕ) → ◌≢◌ {A = Result T LoadFault} (Err (Length got want)) (Err Device)
+length-fault got want = other-fault (Length got want) (length-not got want)
+
+fine : {T : Type 0} {value : T} → ◌≢◌ {A = Result T LoadFault} (Ok value) (Err Device)
+fine {T} {value} is = cc
 
 pub returns-then-got-clause-refuses : goal.returns-then-got-clause-refuses
 returns-then-got-clause-refuses g c = λ told.
@@ -44,3 +67,192 @@ returns-clause-opens g c = λ told.
     let fault : header_fault c.args.header.now (take 32 file) ≡ None = ap (header_fault c.args.header.now) (sym block) ∙ c.in_default.ensures.fault in
     let long : 128 ≤ length file = omega (arith, c.if-got.false) in
     load-none c.args.header.now c.args.count file long fault (sym got ∙ c.if-got-want.false ∙ c.file_len-want.ensures.value)
+
+pub returns-in_err-sync-clause-unwritten : goal.returns-in_err-sync-clause-unwritten
+returns-in_err-sync-clause-unwritten g c =
+    let p = g.D.Pages in
+    let f = g.D.Faults in
+    let s = c.sync.ensures in
+    let u1 = unwritten-call p f c.args.disk.now c.sync.new.self s.stays s.cause.later s.same s.images in
+    u1
+
+pub returns-in_err-sync-clause-has_room : goal.returns-in_err-sync-clause-has_room
+returns-in_err-sync-clause-has_room g c = c.sync.ensures.has_room
+
+pub returns-in_err-sync-clause-opens : goal.returns-in_err-sync-clause-opens
+returns-in_err-sync-clause-opens g c = λ told. on-err _ _ c.from_residual.ensures.0
+
+pub returns-in_err-sync-clause-stable : goal.returns-in_err-sync-clause-stable
+returns-in_err-sync-clause-stable g c = λ honest told. on-err _ _ c.from_residual.ensures.0
+
+pub returns-in_err-sync-clause-refuses : goal.returns-in_err-sync-clause-refuses
+returns-in_err-sync-clause-refuses g c = λ told. device-refused _ _ c.from_residual.ensures.1
+
+pub returns-in_err-sync-clause-cause : goal.returns-in_err-sync-clause-cause
+returns-in_err-sync-clause-cause g c = rises-failed _ (g.D.Faults.count c.args.disk.now) _ _ _ (device-answer _ c.from_residual.ensures.1) (refl) c.sync.ensures.cause.later c.in_err-sync.ensures.cause.failed
+
+pub returns-in_err-got-clause-unwritten : goal.returns-in_err-got-clause-unwritten
+returns-in_err-got-clause-unwritten g c =
+    let p = g.D.Pages in
+    let f = g.D.Faults in
+    let s = c.sync.ensures in
+    let u1 = unwritten-call p f c.args.disk.now c.sync.new.self s.stays s.cause.later s.same s.images in
+    let l = c.len.ensures in
+    let u2 = unwritten-then p f c.args.disk.now c.sync.new.self c.len.new.self u1 (unwritten-call p f c.sync.new.self c.len.new.self l.stays l.cause.later l.same (λ honest image. (l.images honest image).0)) in
+    u2
+
+pub returns-in_err-got-clause-has_room : goal.returns-in_err-got-clause-has_room
+returns-in_err-got-clause-has_room g c = c.sync.ensures.has_room
+
+pub returns-in_err-got-clause-opens : goal.returns-in_err-got-clause-opens
+returns-in_err-got-clause-opens g c = λ told. on-err _ _ c.from_residual-in_err-got.ensures.0
+
+pub returns-in_err-got-clause-stable : goal.returns-in_err-got-clause-stable
+returns-in_err-got-clause-stable g c = λ honest told. on-err _ _ c.from_residual-in_err-got.ensures.0
+
+pub returns-in_err-got-clause-refuses : goal.returns-in_err-got-clause-refuses
+returns-in_err-got-clause-refuses g c = λ told. device-refused _ _ c.from_residual-in_err-got.ensures.1
+
+pub returns-in_err-got-clause-cause : goal.returns-in_err-got-clause-cause
+returns-in_err-got-clause-cause g c = rises-failed _ (g.D.Faults.count c.sync.new.self) _ _ _ (device-answer _ c.from_residual-in_err-got.ensures.1) (c.in_ok-sync.ensures.cause.succeeded) c.len.ensures.cause.later c.in_err-got.ensures.cause.failed
+
+pub returns-then-got-clause-unwritten : goal.returns-then-got-clause-unwritten
+returns-then-got-clause-unwritten g c =
+    let p = g.D.Pages in
+    let f = g.D.Faults in
+    let s = c.sync.ensures in
+    let u1 = unwritten-call p f c.args.disk.now c.sync.new.self s.stays s.cause.later s.same s.images in
+    let l = c.len.ensures in
+    let u2 = unwritten-then p f c.args.disk.now c.sync.new.self c.len.new.self u1 (unwritten-call p f c.sync.new.self c.len.new.self l.stays l.cause.later l.same (λ honest image. (l.images honest image).0)) in
+    u2
+
+pub returns-then-got-clause-has_room : goal.returns-then-got-clause-has_room
+returns-then-got-clause-has_room g c = c.sync.ensures.has_room
+
+pub returns-then-got-clause-opens : goal.returns-then-got-clause-opens
+returns-then-got-clause-opens g c = λ told. tt
+
+pub returns-then-got-clause-stable : goal.returns-then-got-clause-stable
+returns-then-got-clause-stable g c = λ honest told. tt
+
+pub returns-then-got-clause-cause : goal.returns-then-got-clause-cause
+returns-then-got-clause-cause g c = rises-fine _ _ _ _ (length-fault _ _) (c.in_ok-got.ensures.cause.succeeded ∙ c.in_ok-sync.ensures.cause.succeeded)
+
+pub returns-in_err-read_at-clause-unwritten : goal.returns-in_err-read_at-clause-unwritten
+returns-in_err-read_at-clause-unwritten g c =
+    let p = g.D.Pages in
+    let f = g.D.Faults in
+    let s = c.sync.ensures in
+    let u1 = unwritten-call p f c.args.disk.now c.sync.new.self s.stays s.cause.later s.same s.images in
+    let l = c.len.ensures in
+    let u2 = unwritten-then p f c.args.disk.now c.sync.new.self c.len.new.self u1 (unwritten-call p f c.sync.new.self c.len.new.self l.stays l.cause.later l.same (λ honest image. (l.images honest image).0)) in
+    let r = c.read_at.ensures in
+    let u3 = unwritten-then p f c.args.disk.now c.len.new.self c.read_at.new.self u2 (unwritten-call p f c.len.new.self c.read_at.new.self r.stays r.cause.later r.same (λ honest image. (r.images honest image).0)) in
+    u3
+
+pub returns-in_err-read_at-clause-has_room : goal.returns-in_err-read_at-clause-has_room
+returns-in_err-read_at-clause-has_room g c = c.sync.ensures.has_room
+
+pub returns-in_err-read_at-clause-opens : goal.returns-in_err-read_at-clause-opens
+returns-in_err-read_at-clause-opens g c = λ told. on-err _ _ c.from_residual-in_err-read_at.ensures.0
+
+pub returns-in_err-read_at-clause-stable : goal.returns-in_err-read_at-clause-stable
+returns-in_err-read_at-clause-stable g c = λ honest told. on-err _ _ c.from_residual-in_err-read_at.ensures.0
+
+pub returns-in_err-read_at-clause-refuses : goal.returns-in_err-read_at-clause-refuses
+returns-in_err-read_at-clause-refuses g c = λ told. device-refused _ _ c.from_residual-in_err-read_at.ensures.1
+
+pub returns-in_err-read_at-clause-cause : goal.returns-in_err-read_at-clause-cause
+returns-in_err-read_at-clause-cause g c = rises-failed _ (g.D.Faults.count c.len.new.self) _ _ _ (device-answer _ c.from_residual-in_err-read_at.ensures.1) (c.in_ok-got.ensures.cause.succeeded ∙ c.in_ok-sync.ensures.cause.succeeded) c.read_at.ensures.cause.later c.in_err-read_at.ensures.cause.failed
+
+pub returns-in-Err-clause-unwritten : goal.returns-in-Err-clause-unwritten
+returns-in-Err-clause-unwritten g c =
+    let p = g.D.Pages in
+    let f = g.D.Faults in
+    let s = c.sync.ensures in
+    let u1 = unwritten-call p f c.args.disk.now c.sync.new.self s.stays s.cause.later s.same s.images in
+    let l = c.len.ensures in
+    let u2 = unwritten-then p f c.args.disk.now c.sync.new.self c.len.new.self u1 (unwritten-call p f c.sync.new.self c.len.new.self l.stays l.cause.later l.same (λ honest image. (l.images honest image).0)) in
+    let r = c.read_at.ensures in
+    let u3 = unwritten-then p f c.args.disk.now c.len.new.self c.read_at.new.self u2 (unwritten-call p f c.len.new.self c.read_at.new.self r.stays r.cause.later r.same (λ honest image. (r.images honest image).0)) in
+    u3
+
+pub returns-in-Err-clause-has_room : goal.returns-in-Err-clause-has_room
+returns-in-Err-clause-has_room g c = c.sync.ensures.has_room
+
+pub returns-in-Err-clause-opens : goal.returns-in-Err-clause-opens
+returns-in-Err-clause-opens g c = λ told. tt
+
+pub returns-in-Err-clause-stable : goal.returns-in-Err-clause-stable
+returns-in-Err-clause-stable g c = λ honest told. tt
+
+pub returns-in-Err-clause-cause : goal.returns-in-Err-clause-cause
+returns-in-Err-clause-cause g c = rises-fine _ _ _ _ (other-fault _ c.in-Err.ensures.other) (c.in_ok-read_at.ensures.cause.succeeded ∙ c.in_ok-got.ensures.cause.succeeded ∙ c.in_ok-sync.ensures.cause.succeeded)
+
+pub returns-then-got-want-clause-unwritten : goal.returns-then-got-want-clause-unwritten
+returns-then-got-want-clause-unwritten g c =
+    let p = g.D.Pages in
+    let f = g.D.Faults in
+    let s = c.sync.ensures in
+    let u1 = unwritten-call p f c.args.disk.now c.sync.new.self s.stays s.cause.later s.same s.images in
+    let l = c.len.ensures in
+    let u2 = unwritten-then p f c.args.disk.now c.sync.new.self c.len.new.self u1 (unwritten-call p f c.sync.new.self c.len.new.self l.stays l.cause.later l.same (λ honest image. (l.images honest image).0)) in
+    let r = c.read_at.ensures in
+    let u3 = unwritten-then p f c.args.disk.now c.len.new.self c.read_at.new.self u2 (unwritten-call p f c.len.new.self c.read_at.new.self r.stays r.cause.later r.same (λ honest image. (r.images honest image).0)) in
+    u3
+
+pub returns-then-got-want-clause-has_room : goal.returns-then-got-want-clause-has_room
+returns-then-got-want-clause-has_room g c = c.sync.ensures.has_room
+
+pub returns-then-got-want-clause-opens : goal.returns-then-got-want-clause-opens
+returns-then-got-want-clause-opens g c = λ told. tt
+
+pub returns-then-got-want-clause-stable : goal.returns-then-got-want-clause-stable
+returns-then-got-want-clause-stable g c = λ honest told. tt
+
+pub returns-then-got-want-clause-cause : goal.returns-then-got-want-clause-cause
+returns-then-got-want-clause-cause g c = rises-fine _ _ _ _ (length-fault _ _) (c.in_ok-read_at.ensures.cause.succeeded ∙ c.in_ok-got.ensures.cause.succeeded ∙ c.in_ok-sync.ensures.cause.succeeded)
+
+pub returns-clause-unwritten : goal.returns-clause-unwritten
+returns-clause-unwritten g c =
+    let p = g.D.Pages in
+    let f = g.D.Faults in
+    let s = c.sync.ensures in
+    let u1 = unwritten-call p f c.args.disk.now c.sync.new.self s.stays s.cause.later s.same s.images in
+    let l = c.len.ensures in
+    let u2 = unwritten-then p f c.args.disk.now c.sync.new.self c.len.new.self u1 (unwritten-call p f c.sync.new.self c.len.new.self l.stays l.cause.later l.same (λ honest image. (l.images honest image).0)) in
+    let r = c.read_at.ensures in
+    let u3 = unwritten-then p f c.args.disk.now c.len.new.self c.read_at.new.self u2 (unwritten-call p f c.len.new.self c.read_at.new.self r.stays r.cause.later r.same (λ honest image. (r.images honest image).0)) in
+    u3
+
+pub returns-clause-has_room : goal.returns-clause-has_room
+returns-clause-has_room g c = c.sync.ensures.has_room
+
+pub returns-clause-cause : goal.returns-clause-cause
+returns-clause-cause g c = rises-fine _ _ _ _ fine (c.in_ok-read_at.ensures.cause.succeeded ∙ c.in_ok-got.ensures.cause.succeeded ∙ c.in_ok-sync.ensures.cause.succeeded)
+
+pub returns-in_err-sync-clause-succeeds : goal.returns-in_err-sync-clause-succeeds
+returns-in_err-sync-clause-succeeds g c = λ steady told. absurd (false≢true (c.in_err-sync.ensures.succeeds steady))
+
+pub returns-in_err-got-clause-succeeds : goal.returns-in_err-got-clause-succeeds
+returns-in_err-got-clause-succeeds g c = λ steady told. absurd (false≢true (c.in_err-got.ensures.succeeds (c.sync.ensures.stays.steady ∙ steady)))
+
+pub returns-then-got-clause-succeeds : goal.returns-then-got-clause-succeeds
+returns-then-got-clause-succeeds g c = λ steady told. length-not _ _
+
+pub returns-then-got-want-clause-succeeds : goal.returns-then-got-want-clause-succeeds
+returns-then-got-want-clause-succeeds g c = λ steady told. length-not _ _
+
+pub returns-in-Err-clause-succeeds : goal.returns-in-Err-clause-succeeds
+returns-in-Err-clause-succeeds g c = λ steady told. c.in-Err.ensures.other
+
+pub returns-clause-succeeds : goal.returns-clause-succeeds
+returns-clause-succeeds g c = λ steady told. tt
+
+pub returns-clause-refuses : goal.returns-clause-refuses
+returns-clause-refuses g c = λ told. tt
+
+pub returns-clause-stable : goal.returns-clause-stable
+returns-clause-stable g c = λ honest told image leaves.
+    let h1 = c.sync.ensures.stays.honest ∙ honest in
+    c.in_ok-sync.ensures.stable honest told image ((c.len.ensures.images h1 image).0 ((c.read_at.ensures.images (c.len.ensures.stays.honest ∙ h1) image).0 leaves))

@@ -6,6 +6,7 @@ use Rattle.slot_file.specs.Layout.{file_size}
 use Rattle.slot_file.specs.Files.{IsFile}
 use Rattle.slot_file.specs.Gated.{Gated}
 use Rattle.slot_file.proofs.Kept.{slot-within, gated_stays}
+use Rattle.std.proofs.Common.{refl}
 use Rattle.slot_file.proofs.slots.Slots.put.Goals as goal
 
 -- where no put was refused, what holds after a put that succeeded
@@ -39,3 +40,12 @@ invariant_of-self g c =
           sure-after c.write_gated-done.result slots.doubt c.after-self.result c.args.slot c.after-self.ensures
           (call.stable was_told was_honest) sure;
     }
+
+pub returns-clause-doubt : goal.returns-clause-doubt
+returns-clause-doubt g c = c.after-self.ensures
+
+pub returns-clause-cause : goal.returns-clause-cause
+returns-clause-cause g c = c.write_gated-done.ensures.cause
+
+pub returns-clause-stays : goal.returns-clause-stays
+returns-clause-stays g c = record { header = refl; count = refl; disk = c.write_gated-done.ensures.stays }

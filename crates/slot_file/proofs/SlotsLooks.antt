@@ -1,0 +1,61 @@
+-- What a call that writes nothing leaves of a file of slots.
+use Rattle.std.proofs.Common.{◌≡◌, ◌≤◌, ℕ, List, Result, Ok, Err, IsErr, IfOk, is_ok, if◌then◌else◌, IsTrue, refl, sym, ◌∙◌, subst, arith}
+use Rattle.std.proofs.lemmas.Bool.{false≢true}
+use Rattle.disk_trait.specs.Images.{Only}
+use Rattle.disk_trait.specs.declared.disk.Pages as pages
+use Rattle.disk_trait.specs.declared.faults.Faults as faults
+use Rattle.slot_file.specs.Disks.{Unwritten}
+use Rattle.slot_file.specs.Doubts.{IsSure, looked_run}
+use Rattle.slot_file.specs.Files.{IsFile}
+use Rattle.slot_file.specs.Layout.{file_size}
+use Rattle.slot_file.specs.Reading.{LooksOnly}
+use Rattle.slot_file.specs.Slots.{OnlyLooked}
+use Rattle.slot_file.specs.declared.slots.Doubt.{Doubt}
+use Rattle.slot_file.specs.declared.slots.Doubt.TheVariants.{Nowhere, Refused, Settled}
+use Rattle.slot_file.specs.declared.slots.Slots.{Slots}
+
+module _ {D : Type 0} {p : pages.Ghosts D} {f : faults.Ghosts D} (slots : Slots D p f) (disk : D) (unwritten : Unwritten p f slots.disk disk) where
+  pub kept-whole : IsTrue (p.told disk) → IsFile slots.header slots.count (p.reads disk)
+  kept-whole told = (let was = sym unwritten.stays.told ∙ told in subst (IsFile slots.header slots.count) (sym (unwritten.same was)) (slots.whole was))
+
+  pub kept-room : IsTrue (p.told disk) → file_size slots.header.version slots.count ≤ p.room disk
+  kept-room told = omega (arith, slots.has_room (sym unwritten.stays.told ∙ told), unwritten.stays.room)
+
+  pub kept-images : IsTrue (p.told disk) → IsTrue (p.honest disk) → (image : List ℕ) → p.may_leave disk image → IsFile slots.header slots.count image
+  kept-images told honest image leaves =
+      let was = sym unwritten.stays.honest ∙ honest in
+      slots.images_whole (sym unwritten.stays.told ∙ told) was image (unwritten.images was image leaves)
+
+  pub kept-stable : IsSure slots.doubt → IsTrue (p.told disk) → IsTrue (p.honest disk) → Only (p.reads disk) (p.may_leave disk)
+  kept-stable sure told honest image leaves =
+      let was_told = sym unwritten.stays.told ∙ told in
+      let was = sym unwritten.stays.honest ∙ honest in
+      slots.stable sure was_told was image (unwritten.images was image leaves) ∙ sym (unwritten.same was_told)
+
+  pub synced-stable : (IsTrue (p.honest slots.disk) → IsTrue (p.told slots.disk) → Only (p.reads slots.disk) (p.may_leave disk))
+      → IsTrue (p.told disk) → IsTrue (p.honest disk) → Only (p.reads disk) (p.may_leave disk)
+  synced-stable only told honest image leaves =
+      let was_told = sym unwritten.stays.told ∙ told in
+      only (sym unwritten.stays.honest ∙ honest) was_told image leaves ∙ sym (unwritten.same was_told)
+
+-- slots that are only looked at
+pub looks-only : {E : Type 0} {q : pages.Ghosts E} {h : faults.Ghosts E} (old new : Slots E q h) → OnlyLooked old new → LooksOnly old new
+looks-only old new looked = record {
+  unwritten = record { same = looked.same; images = λ honest image leaves. (looked.images honest image).0 leaves; stays = looked.stays.disk };
+  doubt = looked.doubt;
+  stays = looked.stays;
+}
+
+pub sure-run : (first count : ℕ) (doubt : Doubt) → IsSure (looked_run first count doubt) → IsSure doubt
+sure-run first count Nowhere sure = tt
+sure-run first count (Refused slot) sure = absurd sure
+sure-run first count (Settled slot) sure = tt
+
+-- what is said of an answer that is refused
+pub if-err : {T X U : Type 0} (answer : Result T X) (done not_done : U) → IsErr answer → not_done ≡ (if is_ok answer then done else not_done)
+if-err (Ok value) done not_done is = absurd (false≢true is)
+if-err (Err fault) done not_done is = refl
+
+pub no-value : {T X : Type 0} (P : T → Type 0) (answer : Result T X) → IsErr answer → IfOk answer P
+no-value P (Ok value) is = absurd (false≢true is)
+no-value P (Err fault) is = tt
