@@ -1,6 +1,6 @@
 -- The walk over the leaves of a coalition to its least free one.
 use Rattle.std.proofs.Common.{◌≡◌, ◌≢◌, ℕ, ◌^◌, ◌+◌, ◌-◌, ◌%◌, ◌<◌, ◌≤◌, nat_eq, true, false, List, length, get_or, set, Option, None, Some, inl, inr, refl, sym, ◌∙◌, ap, subst, arith, ⊎_elim}
-use Rattle.std.specs.Prelude.{IfSome, MatchOption}
+use Rattle.std.specs.Prelude.{◌↔◌, IfSome, IsNone, MatchOption}
 use Rattle.std.specs.Option.{option_eq}
 use Rattle.std.proofs.lemmas.Bool.{cases_eq, cases_lt}
 use Rattle.std.proofs.lemmas.Cmp.{nat_eq_equiv}
@@ -44,6 +44,28 @@ module _ (plan : PlanNumbers) (slots : List Slot) (c : ℕ) where
       (λ (before : other < leaf). at.1 other is before free)
       (λ (from : leaf ≤ other). let same : other ≡ leaf = omega (arith, upto, from) in taken (ap (slot_in slots) (sym same) ∙ free))
       (cases_lt other leaf)
+
+  -- a free leaf is none of those that were passed
+  later-or : (after : Option ℕ) → IfSome after (IsPassed plan slots c) → (leaf : ℕ) → IsLeafAfter plan c None leaf → slot_in slots leaf ≡ Free
+      → IsLeafAfter plan c after leaf
+  later-or None passed leaf is free = is
+  later-or (Some last) passed leaf is free = record {
+    leaf = is.leaf;
+    own = is.own;
+    later = ⊎_elim
+        (λ (before : last < leaf). before)
+        (λ (from : leaf ≤ last). absurd (passed leaf is from free))
+        (cases_lt last leaf);
+  }
+
+  -- the walk goes to the next leaf
+  pub seeks : (after next : Option ℕ) → IfSome after (IsPassed plan slots c) → IfSome next (λ q. IsLeafAfter plan c after q)
+      → IfSome next (λ q. (r : ℕ) → IsLeafAfter plan c after r → q ≤ r) → (IsNone next ↔ ((q : ℕ) → ¬ IsLeafAfter plan c after q)) → Seeks next
+  seeks after None passed own least none = λ leaf is used. none.0 refl leaf (later-or after passed leaf is (free-use (slot_in slots leaf) used))
+  seeks after (Some next) passed own least none = (
+    record { leaf = own.leaf; own = own.own; later = tt },
+    λ other is before free. let from = least other (later-or after passed other is free) in omega (arith, before, from),
+  )
 
   pub less : (leaf : ℕ) (next : Option ℕ) → leaf < 2 ^ plan.h → IfSome next (λ q. IsLeafAfter plan c (Some leaf) q)
       → left_of (2 ^ plan.h) next < left_of (2 ^ plan.h) (Some leaf)

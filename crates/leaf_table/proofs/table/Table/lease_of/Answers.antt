@@ -1,7 +1,12 @@
-use Rattle.std.proofs.Common.{refl}
+use Rattle.std.proofs.Common.{Err, Ok, refl}
 use Rattle.leaf_table.specs.Leasing.{free, kept, none}
 use Rattle.leaf_table.specs.Steps as steps
 use Rattle.leaf_table.specs.Table.{plan_of, state_of}
+use Rattle.leaf_table.specs.declared.faults.TableFault.TheVariants.{NoLeaf}
+use Rattle.leaf_table.specs.declared.lease.Lease.TheVariants.{Leased}
+use Rattle.lms_bytes.specs.MessageId.{message_id_bytes}
+use Rattle.slot_file.specs.declared.slot.Slot.TheVariants.{Half}
+use Rattle.leaf_table.proofs.Entering.{enters-none, put-none}
 use Rattle.leaf_table.proofs.Events.{leased-in}
 use Rattle.leaf_table.proofs.table.Table.lease_of.Goals as goal
 
@@ -28,3 +33,19 @@ returns-in-Some-clause-within g c = c.in-Some.ensures.least.own.leaf
 
 pub returns-in-Some-clause-leased : goal.returns-in-Some-clause-leased
 returns-in-Some-clause-leased g c = let found = c.in-Some.ensures.least in found.used
+
+pub returns-in-Some-clause-enters : goal.returns-in-Some-clause-enters
+returns-in-Some-clause-enters g c = enters-none c.args.self.now (Ok c.in-Some.leaf) (λ leaf a b is. absurd (cc)) (λ is. absurd (cc))
+
+pub returns-in_default-free_leaf-clause-enters : goal.returns-in_default-free_leaf-clause-enters
+returns-in_default-free_leaf-clause-enters g c = enters-none c.args.self.now (Err (NoLeaf c.args.c)) (λ leaf a b is. absurd (cc)) (λ is. absurd (cc))
+
+pub returns-clause-enters : goal.returns-clause-enters
+returns-clause-enters g c = c.put_lease.ensures.enters
+
+pub returns-clause-idle : goal.returns-clause-idle
+returns-clause-idle g c = λ none same fine.
+    let leaf = c.in-Some-free_leaf.leaf in
+    let message = c.args.message.now in
+    put-none (state_of c.args.self.now) (state_of c.put_lease.new.self) (Leased leaf message) leaf (Half (message_id_bytes message)) c.put_lease.result
+    c.put_lease.ensures.event c.put_lease.ensures.new same fine
