@@ -1,3 +1,5 @@
+pub mod Puts
 pub mod Reading
 pub mod Replying
+pub mod Sends
 pub mod Writing

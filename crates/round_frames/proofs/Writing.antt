@@ -2,6 +2,7 @@
 use Rattle.std.proofs.Common.{◌≡◌, ◌≤◌, ◌<◌, ◌^◌, ◌+◌, ◌*◌, ◌++◌, ◌==◌, ℕ, List, [], ◌∷◌, Option, Some, None, Result, Ok, Err, true, false, length, take, drop, refl, ap, sym, ◌∙◌, subst, arith, append_assoc, append-nil, length-append, take_at, drop_at, nat_lt, le-ltb, MatchResult}
 use Rattle.std.proofs.Math.Seq.{take-append-add}
 use Rattle.std.proofs.lemmas.Bool.{eq-eqb, le-leb}
+use Rattle.std.proofs.lemmas.List.{take-append-le}
 use Rattle.std.proofs.lemmas.Nat.{from_be_bytes-to_be_bytes_2, from_be_bytes-to_be_bytes_4}
 use Rattle.std.specs.Int.{w16, from_be_bytes}
 use Rattle.coalition_map.specs.Members.{bits_of, member_numbers}
@@ -33,6 +34,14 @@ wrote-behind old mid new a b (Err x) m part = record {
   short = (let s = part.short in let e = length-append a b in omega (arith, s, e));
   written = part.written ∙ ap (λ t. t ++ take part.size b) m ∙ append_assoc old.written a (take part.size b)
       ∙ ap (λ t. old.written ++ t) (sym (take-append-add a b part.size));
+}
+
+-- a write that failed within the first bytes failed within all
+pub wrote-front : (old new : Talk) (a b : List ℕ) → WrotePart old new a → WrotePart old new (a ++ b)
+wrote-front old new a b part = record {
+  size = part.size;
+  short = (let s = part.short in let e = length-append a b in omega (arith, s, e));
+  written = part.written ∙ ap (λ t. old.written ++ t) (sym (take-append-le part.size a b (let s = part.short in omega (arith, s))));
 }
 
 pub number-again : (x : ℕ) → x < 2 ^ 32 → str_to_u32 (u32str x) ≡ x

@@ -64,3 +64,12 @@ returns-clause-told g c told =
     (body-then params header (talk c.args.source.now) (talk c.fill.new.source) (talk c.next_body.new.source) (Ok (c.in_ok-found.found, body)) c.fill.new.out size (length (take (header.length - size) c.args.body.now))
     c.in_default.ensures.fault is (omega (arith, is, h)) rest (f.bytes told ∙ ap (λ n. take n left) full)
     (subst (Took (talk c.args.source.now) (talk c.fill.new.source)) full (f.passed told)) (c.in_ok-found.ensures.told (f.only.told ∙ told)))
+
+pub next_body-requires : goal.next_body-requires
+next_body-requires g c = c.fill.auto.out ∙ (length-take-le c.head_length-size.result (replicate 91 0) c.head_length-size.ensures.bound ∙ c.head_length-size.ensures.length)
+
+pub overflow_sub-length : goal.overflow_sub-length
+overflow_sub-length g c =
+    let is = c.head_length-size.ensures.length in
+    let h = c.in_default.ensures.head refl in
+    omega (arith, is, h)
