@@ -1,11 +1,14 @@
 -- The shares of the first trustees.
-use Rattle.std.proofs.Common.{◌≡◌, ℕ, ◌+◌, ◌<◌, List, [], ◌∷◌, ◌++◌, length, map, take, get_or, sym, ap, add-one}
+use Rattle.std.proofs.Common.{◌≡◌, ℕ, ◌+◌, ◌<◌, List, [], ◌∷◌, ◌++◌, length, map, take, get_or, refl, sym, ap, ◌∙◌, add-one, arith, take_all}
 use Rattle.std.specs.Prelude.{All}
 use Rattle.std.specs.List.{range_with_len}
 use Rattle.std.proofs.Math.Seq.{take-suc}
-use Rattle.std.proofs.lemmas.List.{map-append}
+use Rattle.std.proofs.lemmas.List.{length-map, map-append}
+use Rattle.std.proofs.lemmas.List.Elements.{All-nil}
+use Rattle.std.proofs.lemmas.List.FromFn.{length-range_with_len}
 use Rattle.reference_value.specs.Dealing.{Dealing}
 use Rattle.share_files.specs.declared.share.Share.{Share}
+use Rattle.dealer.specs.Dealt.{AreShares}
 use Rattle.dealer.proofs.Mapped.{all_more, range_push}
 
 pub record HasShares (d : Dealing) (count : ℕ) (shares : List Share) : Type 0 where
@@ -37,3 +40,29 @@ more_shares d count old new share before next pushed =
       plan = all_more (λ share. share.plan ≡ d.plan) old new share before.plan next.plan pushed;
       id = all_more (λ share. share.id ≡ d.id) old new share before.id next.id pushed;
     }
+
+-- before the first
+pub no_shares : (d : Dealing) (shares : List Share) → shares ≡ [] → HasShares d 0 shares
+no_shares d shares none = rw none (record {
+  members = refl;
+  keys = refl;
+  params = All-nil (λ share. share.params ≡ d.params);
+  plan = All-nil (λ share. share.plan ≡ d.plan);
+  id = All-nil (λ share. share.id ≡ d.id);
+})
+
+-- behind the last
+pub all_shares : (d : Dealing) (count : ℕ) (shares : List Share) → HasShares d count shares → count ≡ d.plan.n → length d.keys ≡ d.plan.n → AreShares d shares
+all_shares d count shares h all keys = record {
+  members = rw all at h.members;
+  keys = h.keys ∙ take_all count d.keys (omega (arith, all, keys));
+  params = h.params;
+  plan = h.plan;
+  id = h.id;
+}
+
+pub some_shares : (d : Dealing) (count : ℕ) (shares : List Share) → HasShares d count shares → 0 < count → 0 < length shares
+some_shares d count shares h some =
+    let member : Share → ℕ = λ share. share.member in
+    let size : length shares ≡ count = sym (length-map shares member) ∙ (ap length h.members ∙ length-range_with_len 1 count) in
+    rw size some

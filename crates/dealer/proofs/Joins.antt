@@ -1,5 +1,5 @@
 -- Leaves that several threads build, each a run of them.
-use Rattle.std.proofs.Common.{◌≡◌, ℕ, zero, suc, ◌+◌, ◌^◌, ◌<◌, List, [], ◌++◌, length, map, get_or, refl, sym, ap, ◌∙◌, arith, append-nil, append_assoc, take, drop, ap₂}
+use Rattle.std.proofs.Common.{◌≡◌, ℕ, zero, suc, ◌+◌, ◌^◌, ◌<◌, List, [], ◌++◌, length, map, get_or, refl, sym, ap, ◌∙◌, arith, append-nil, append_assoc, take, take_all, drop, ap₂, ◌*◌, ◌≤◌}
 use Rattle.std.specs.List.{range_with_len}
 use Rattle.std.proofs.lemmas.List.{ext_get_or, take_at}
 use Rattle.std.proofs.lemmas.List.FromFn.{get_or-map-range_with_len, length-map-range_with_len}
@@ -59,3 +59,10 @@ pub runs-written : (f : ℕ → List ℕ) (a b : List ℕ) (first front back m n
     → a ≡ joined (λ i. f (front + i)) m → b ≡ joined (λ i. f (back + i)) n → a ++ b ≡ joined (λ i. f (first + i)) count
 runs-written f a b first front back m n count here behind all one other =
     rw (one, other, here) (runs-joined f first back m n count behind all)
+
+-- a run whose last leaf was written
+pub run-written : (f : ℕ → List ℕ) (size i count : ℕ) (out : List ℕ) → length out ≡ size * count → i ≡ count → take (size * i) out ≡ joined f i
+    → out ≡ joined f count
+run-written f size i count out room last taken =
+    let all : length out ≤ size * i = rw last (omega (arith, room)) in
+    sym (take_all (size * i) out all) ∙ (taken ∙ ap (joined f) last)

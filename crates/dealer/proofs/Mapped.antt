@@ -1,7 +1,8 @@
 -- Values that are computed one after the other.
-use Rattle.std.proofs.Common.{◌≡◌, ℕ, zero, suc, ◌+◌, ◌<◌, List, [], ◌∷◌, ◌++◌, length, map, get_or, subst, refl, sym, ap, arith}
+use Rattle.std.proofs.Common.{◌≡◌, ℕ, zero, suc, ◌+◌, ◌-◌, ◌<◌, ◌≤◌, List, [], ◌∷◌, ◌++◌, length, map, get_or, take, drop, subst, refl, sym, ap, ◌∙◌, arith, length-drop, length-take-le}
 use Rattle.std.specs.Prelude.{All}
 use Rattle.std.specs.List.{range_with_len}
+use Rattle.std.proofs.lemmas.List.{take_at}
 use Rattle.std.proofs.lemmas.List.Elements.{All-append, All-cons, All-nil}
 use Rattle.std.proofs.lemmas.List.FromFn.{map-range_with_len_more}
 
@@ -23,3 +24,20 @@ all_more P old new x before this pushed = rw pushed (All-append P old (x ∷ [])
 -- what holds of all elements holds of the one that was read
 pub at_read : {X : Type 0} (P : X → Type 0) (xs : List X) (i : ℕ) (x : X) → All P xs → x ≡ get_or xs i x → i < length xs → P x
 at_read P xs i x all read within = subst P (sym read) (all i x within)
+
+-- what was written over the whole slice of a Vec is what it holds
+pub over_all : {X : Type 0} (count : ℕ) (out old is : List X) → length out ≡ count → out ≡ is → take count (out ++ drop (length out) old) ≡ is
+over_all count out old is size e = take_at out (drop (length out) old) count size ∙ e
+
+pub all_over : {X : Type 0} (P : X → Type 0) (count : ℕ) (out old : List X) → length out ≡ count → All P out
+    → All P (take count (out ++ drop (length out) old))
+all_over P count out old size all = subst (All P) (sym (take_at out (drop (length out) old) count size)) all
+
+pub length_over : {X : Type 0} (count : ℕ) (out old : List X) → length out ≡ count → length (take count (out ++ drop (length out) old)) ≡ count
+length_over count out old size = ap length (take_at out (drop (length out) old) count size) ∙ size
+
+-- a part of a list is as long as was asked
+pub length_part : {X : Type 0} (place count : ℕ) (xs : List X) → place + count ≤ length xs → length (take (place + count - place) (drop place xs)) ≡ count
+length_part place count xs within =
+    let rest = length-drop place xs in
+    length-take-le (place + count - place) (drop place xs) (omega (arith, rest, within)) ∙ omega arith

@@ -1,6 +1,6 @@
-use Rattle.std.proofs.Common.{◌≡◌, ◌+◌, ◌-◌, length, refl, arith}
+use Rattle.std.proofs.Common.{◌≡◌, ◌+◌, ◌-◌, ◌<◌, length, refl, arith}
 use Rattle.dealer.specs.Secrets.{dealing_with}
-use Rattle.dealer.proofs.FirstShares.{more_shares}
+use Rattle.dealer.proofs.FirstShares.{all_shares, more_shares, no_shares, some_shares}
 use Rattle.dealer.proofs.Mapped.{at_read}
 use Rattle.dealer.proofs.shares.build_shares.Goals as goal
 
@@ -22,3 +22,16 @@ trustees-preserved c =
       plan = refl;
       id = refl;
     }) c.in_ok-push.ensures.items)
+
+pub trustees-init : goal.trustees-init
+trustees-init c = no_shares (dealing_with c.args.params.now c.args.plan.now c.args.secrets.now) c.in_ok-shares.shares.items c.in_ok-shares.ensures.items
+
+pub returns-clause-shares : goal.returns-clause-shares
+returns-clause-shares c =
+    let all : c.trustees.t - 1 ≡ c.args.plan.now.n = omega (arith, c.trustees-test.false, c.trustees.auto.t, c.trustees.auto.t-end, c.n-t-end.ensures.value) in
+    all_shares (dealing_with c.args.params.now c.args.plan.now c.args.secrets.now) (c.trustees.t - 1) c.trustees.shares.items c.trustees.invariant all c.requires.keys
+
+pub returns-clause-some : goal.returns-clause-some
+returns-clause-some c =
+    let some : 0 < c.trustees.t - 1 = omega (arith, c.trustees-test.false, c.n-t-end.ensures.value, c.n-t-end.ensures.plan.threshold.two_or_more, c.n-t-end.ensures.plan.threshold.k_within) in
+    some_shares (dealing_with c.args.params.now c.args.plan.now c.args.secrets.now) (c.trustees.t - 1) c.trustees.shares.items c.trustees.invariant some

@@ -1,0 +1,31 @@
+use Rattle.std.proofs.Common.{◌∙◌}
+use Rattle.reference_value.specs.Dealing.{reference}
+use Rattle.dealer.specs.Secrets.{dealing_with}
+use Rattle.dealer.proofs.Mapped.{over_all}
+use Rattle.dealer.proofs.beside.build_beside.Goals as goal
+
+pub finish-requires-clause-suit : goal.finish-requires-clause-suit
+finish-requires-clause-suit g c = c.in_ok-secrets.ensures.suit
+
+pub finish-requires-clause-low : goal.finish-requires-clause-low
+finish-requires-clause-low g c = c.requires.dealable.set.height
+
+pub finish-requires-clause-lengths : goal.finish-requires-clause-lengths
+finish-requires-clause-lengths g c = c.in_ok-secrets.ensures.lengths
+
+pub finish-requires-clause-leaf_keys : goal.finish-requires-clause-leaf_keys
+finish-requires-clause-leaf_keys g c = c.deref.ensures.value ∙ c.in_ok-keys.ensures.keys
+
+pub finish-requires-clause-whole : goal.finish-requires-clause-whole
+finish-requires-clause-whole g c = rw c.deref.ensures.value c.in_ok-keys.ensures.length
+
+pub finish-requires-clause-leaves : goal.finish-requires-clause-leaves
+finish-requires-clause-leaves g c =
+    let size = c.write_leaves_beside.auto.out ∙ c.deref_mut.ensures.len in
+    over_all c.in_ok-leaves.leaves.len c.write_leaves_beside.new.out c.in_ok-leaves.leaves.items (reference (dealing_with c.args.params.now c.args.plan.now c.in_ok-secrets.secrets)) size c.write_leaves_beside.ensures
+
+pub returns-clause-dealt : goal.returns-clause-dealt
+returns-clause-dealt g c = rw c.in_ok-secrets.ensures.dealing at c.finish.ensures.dealt
+
+pub returns-clause-shares : goal.returns-clause-shares
+returns-clause-shares g c = c.finish.ensures.shares
