@@ -1,6 +1,7 @@
 -- What a net says of its ports follows from what each of them says.
-use Rattle.std.proofs.Common.{arith, ◌≡◌, ℕ, ◌<◌, Bool, true, false, List, Option, Result, Ok, Err, IfOk, length, map, All, IsTrue, IsFalse}
+use Rattle.std.proofs.Common.{arith, ◌≡◌, ℕ, ◌<◌, Bool, true, false, List, [], ◌∷◌, MatchBool, Option, Result, Ok, Err, IfOk, length, map, All, IsTrue, IsFalse}
 use Rattle.std.proofs.Common.{refl, sym, ◌∙◌, subst}
+use Rattle.std.specs.List.{AllWithin, HoldsAt}
 use Rattle.std.proofs.lemmas.Bool.{false≢true}
 use Rattle.std.proofs.lemmas.List.{get_or-map, length-map}
 use Rattle.std.proofs.lemmas.List.Elements.{All-map}
@@ -75,3 +76,18 @@ module _ {X : Type 0} (state : X → PortState) (faults port_faults : ℕ) where
     out = λ told. absurd (false≢true told);
     kept = λ told. absurd (false≢true told);
   }
+
+-- what a search over ports says of all of them
+module _ {X : Type 0} (P : X → Type 0) where
+  pub found-not-all : (found : Bool) (xs : List X)
+      → MatchBool found ((k : ℕ) × (k < length xs) × HoldsAt (λ x. P x → ⊥) xs k) (AllWithin P xs 0 (length xs))
+      → IsTrue found → All P xs → ⊥
+  found-not-all true [] h is all = absurd (omega (arith, h.1))
+  found-not-all true (x ∷ xs) h is all = h.2 x (all h.0 x h.1)
+  found-not-all false xs h is all = false≢true is
+
+  pub none-found : (found : Bool) (xs : List X)
+      → MatchBool found ((k : ℕ) × (k < length xs) × HoldsAt (λ x. P x → ⊥) xs k) (AllWithin P xs 0 (length xs))
+      → IsFalse found → All P xs
+  none-found false xs h is = λ k d below. h k d (omega arith) below
+  none-found true xs h is = absurd (false≢true (sym is))

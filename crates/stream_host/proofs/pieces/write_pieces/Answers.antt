@@ -1,4 +1,4 @@
-use Rattle.std.proofs.Common.{◌≡◌, ◌+◌, ◌-◌, ◌≤◌, ℕ, List, IsTrue, length, take, drop, ap, sym, ◌∙◌, arith, rules, length-drop, subst}
+use Rattle.std.proofs.Common.{◌≡◌, ◌+◌, ◌-◌, ◌≤◌, ℕ, List, IsTrue, length, take, drop, ap, sym, ◌∙◌, arith, rules, length-drop, refl, subst}
 use Rattle.disk_trait.specs.Images.{written, Torn, Follows}
 use Rattle.stream_host.proofs.FilePieces.{follows-then, kind-then, length-written, on-err, torn-then, torn-wide, written-then, written-torn}
 use Rattle.stream_host.proofs.pieces.write_pieces.Goals as goal
@@ -105,3 +105,59 @@ returns-in_err-count-clause-images g c honest told within =
     follows-then at (length bytes) done _ _ _ v.within (v.images honest told within)
     (follows_piece _ _ at done c.in-Some.place (length rest) (length bytes) place
     (left done bytes rest c.after.ensures) (r.images (v.stays.honest ∙ honest) (v.stays.told ∙ told) there))
+
+pub returns-in_err-count-clause-syncs : goal.returns-in_err-count-clause-syncs
+returns-in_err-count-clause-syncs g c =
+    let v = c.pieces.invariant in
+    let r = c.in_err-count.ensures in
+    let at = c.args.at in
+    let done = c.pieces.done in
+    let bytes = c.args.bytes.now in
+    let before = g.F.RawFile.reads c.args.file.now in
+    let place : c.in-Some.place ≡ at + done = search rules in
+    let size = left done bytes c.after.result.now c.after.ensures in
+    record {
+      grown = λ told fits.
+          let within : at ≤ length before = omega arith in
+          let e = ap length (v.wrote told within) in
+          let l = length-written before bytes at within done v.within in
+          r.syncs.grown (v.stays.told ∙ told) (let w = v.within in omega arith) ∙ v.syncs.grown told fits;
+      failed = λ told. r.syncs.failed (v.stays.told ∙ told) ∙ v.syncs.failed told;
+    }
+
+pub returns-in_err-count-clause-stays : goal.returns-in_err-count-clause-stays
+returns-in_err-count-clause-stays g c = kind-then _ _ _ _ _ _ _ c.pieces.invariant.stays c.in_err-count.ensures.stays
+
+-- where the next place is no number
+pub returns-in_default-clause-bytes : goal.returns-in_default-clause-bytes
+returns-in_default-clause-bytes g c told within = tt
+
+pub returns-in_default-clause-torn : goal.returns-in_default-clause-torn
+returns-in_default-clause-torn g c told within =
+    let v = c.pieces.invariant in
+    torn_part _ _ c.args.bytes.now c.args.at c.pieces.done within v.within (v.wrote told within)
+
+pub returns-in_default-clause-images : goal.returns-in_default-clause-images
+returns-in_default-clause-images g c = c.pieces.invariant.images
+
+pub returns-in_default-clause-syncs : goal.returns-in_default-clause-syncs
+returns-in_default-clause-syncs g c = c.pieces.invariant.syncs
+
+pub returns-in_default-clause-stays : goal.returns-in_default-clause-stays
+returns-in_default-clause-stays g c = c.pieces.invariant.stays
+
+-- where all is written
+pub returns-clause-torn : goal.returns-clause-torn
+returns-clause-torn g c told within = tt
+
+pub returns-clause-images : goal.returns-clause-images
+returns-clause-images g c = c.pieces.invariant.images
+
+pub returns-clause-syncs : goal.returns-clause-syncs
+returns-clause-syncs g c = c.pieces.invariant.syncs
+
+pub returns-clause-succeeds : goal.returns-clause-succeeds
+returns-clause-succeeds g c steady told within room fits = refl
+
+pub returns-clause-stays : goal.returns-clause-stays
+returns-clause-stays g c = c.pieces.invariant.stays
