@@ -1,4 +1,0 @@
-pub mod Causes
-pub mod Steady
-mod Written
-mod Whole

@@ -1,3 +1,0 @@
-pub mod Lower
-pub mod HssSign
-pub mod Lost
