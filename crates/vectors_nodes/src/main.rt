@@ -1,9 +1,8 @@
 //! Runs trustees and aggregators over links in memory of which one waits for another: links of one trustee, and
-//! sessions of two clients. Then it reads frames, and runs drills, as another implementation did.
+//! sessions of two clients. Then it reads frames as another implementation did.
 #![tactic(auto)]
 
 mod beside;
-mod drills;
 mod files;
 mod frames;
 mod links;
@@ -17,6 +16,5 @@ use std::io;
 fn main(rt: HostRuntime) -> io::Result<()> {
     beside::print_runs(&rt, rt)?;
     meeting::print_runs(&rt, rt)?;
-    frames::print_runs(rt)?;
-    drills::print_runs(rt)
+    frames::print_runs(rt)
 }

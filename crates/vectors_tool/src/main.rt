@@ -1,21 +1,18 @@
-//! Runs the tool as a user does, over files and links in memory: `verify`, `rehearse` and `deal`; the
-//! commands of a trustee; `sign`; `aggregate`; `hss check`; and runs for which the premises of laws hold. What it is
-//! given and what must come of it is from another implementation. What is run stands in scripts, which are data:
-//! `play` reads them, `verbs` says what their lines are. It prints what each command prints, the status behind it, and
-//! how the files and the bytes on links are like those that are wanted.
+//! Runs the tool as a user does, over files and links in memory: `verify`, `rehearse` and `deal`; the commands of a
+//! trustee; `sign`; `aggregate`; `hss check`; `drill`; and runs for which the premises of laws hold. What it is given
+//! and what must come of it is from another implementation. What is run stands in scripts, which are data:
+//! `script` reads them, and `vectors_scripts` does their lines. It prints what each command prints, the status behind
+//! it, and how the files and the bytes on links are like those that are wanted.
 #![tactic(auto)]
 
-mod answers;
-mod files;
-mod links;
-mod play;
-mod prints;
+mod drills;
 mod runs;
 mod scene;
-mod verbs;
+mod script;
 mod witnesses;
-mod world;
 
+use scene::read_all;
+use script::play;
 use std::io;
 
 /// The scripts, each a file of the system, in their order.
@@ -30,7 +27,10 @@ const SCRIPTS: &[&str] = &[
 
 fn main(rt: HostRuntime) -> io::Result<()> {
     for name in SCRIPTS {
-        play::play(&rt, rt, name)?;
+        let files = read_all(rt, "index")?;
+        let world = play(&rt, rt.alloc(), files, name)?;
+        print!(rt; "{}", world.said())?;
     }
+    drills::print_runs(rt)?;
     witnesses::print_runs(&rt, rt)
 }

@@ -2,7 +2,7 @@
 
 mod steady;
 
-use crate::scene::{Files, LINE, file, made, net_at_here, read_files, run, store_of, words_of};
+use crate::scene::{read_files, run, words_of};
 use laws_signing::witness::{Peer, lost_steadily, served_steadily, well_signed};
 use memory::NoMemory;
 use std::alloc::Global;
@@ -12,6 +12,7 @@ use std::thread::Threads;
 use steady::ran_steadily;
 use stream_memory::MemStore;
 use tool_words::{Command, command_of};
+use vectors_scripts::{Files, LINE, file, made, net_at_here, store_of};
 
 /// The words of `sign` here.
 const SIGN: &str = "sign A table message out 1=one 2=two 3=three";

@@ -141,7 +141,7 @@ pub(crate) fn tell_clients(world: &mut World) -> io::Result<()> {
 /// Puts the signature that the first client was answered into the store, under this name. Where there is none, or it
 /// cannot be written, the line is wrong.
 pub(crate) fn add_signature(world: &mut World, name: &str) -> io::Result<()> {
-    let alloc = world.rt.alloc();
+    let alloc = world.alloc;
     let written = match first_frame(answered(world.net.kept(0), 0)) {
         Some((7, signature, _)) => {
             let readers = Readers::Anyone;

@@ -1,20 +1,11 @@
-//! Runs drills whose outcomes another implementation found, and prints their lines. Of the first one it also prints
-//! what its disks hold at the end; and it runs the largest drill that there may be, twice.
+//! What the disks of a drill hold at its end, as another implementation found; and the largest drill that there may be,
+//! which is run twice. The lines of drills are printed by scripts.
+
 use disk_trait::MemDisk;
 use drill::{Drilled, run_drill};
 use memory::NoMemory;
 use slot_file::{Header, LoadFault, Slot, Slots};
 use std::io;
-
-/// Numbers, with how many sessions and events. One stands twice: a drill comes to the same each time.
-const DRILLS: [(u64, u32, u32); 6] = [
-    (7, 40, 0),
-    (7, 20, 400),
-    (7, 20, 400),
-    (1, 0, 50),
-    (2, 12, 300),
-    (4, 36, 900),
-];
 
 /// How many leaves the key of a drill has.
 const LEAVES: u32 = 32;
@@ -101,21 +92,11 @@ fn print_largest(rt: HostRuntime) -> io::Result<()> {
     )
 }
 
-/// Runs all drills, and prints what came of them.
+/// Runs these drills, and prints what came of them.
 pub(crate) fn print_runs(rt: HostRuntime) -> io::Result<()> {
-    let alloc = rt.alloc();
-    for (index, (number, sessions, events)) in DRILLS.into_iter().enumerate() {
-        if sessions <= 10_000 && events <= 100_000 {
-            match run_drill(alloc, number, sessions, events) {
-                Ok(drilled) => {
-                    println!(rt; "{}", drilled.summary)?;
-                    if index == 0 {
-                        print_disks(rt, drilled)?;
-                    }
-                }
-                Err(NoMemory) => println!(rt; "out of memory")?,
-            }
-        }
+    match run_drill(rt.alloc(), 7, 40, 0) {
+        Ok(drilled) => print_disks(rt, drilled)?,
+        Err(NoMemory) => println!(rt; "out of memory")?,
     }
     print_largest(rt)
 }

@@ -50,7 +50,7 @@ fn add_counted(bytes: &mut Vec<u8>, length: usize, modulus: usize) -> Result<(),
 
 /// Adds the bytes of these digits. Where they are no digits of bytes, the line is wrong.
 fn add_hex(world: &mut World, bytes: &mut Vec<u8>, digits: &str) -> io::Result<()> {
-    match hex::decode(world.rt.alloc(), digits) {
+    match hex::decode(world.alloc, digits) {
         Ok(decoded) => bytes.extend_from_slice(&decoded)?,
         Err(_) => world.wrong = true,
     }
@@ -113,7 +113,7 @@ fn add_part(world: &mut World, bytes: &mut Vec<u8>, part: &str) -> io::Result<()
 /// Makes a file of parts.
 pub(crate) fn make_file(world: &mut World, rest: &str) -> io::Result<()> {
     let (name, parts) = rest.split_once(' ').unwrap_or((rest, ""));
-    let mut bytes = Vec::new(world.rt.alloc());
+    let mut bytes = Vec::new(world.alloc);
     for part in parts.split_whitespace() {
         add_part(world, &mut bytes, part)?;
     }
@@ -124,7 +124,7 @@ pub(crate) fn make_file(world: &mut World, rest: &str) -> io::Result<()> {
 pub(crate) fn keep(world: &mut World, name: &str) -> io::Result<()> {
     match world.store.bytes(name) {
         Some(bytes) => {
-            let bytes = Vec::from_slice(world.rt.alloc(), bytes)?;
+            let bytes = Vec::from_slice(world.alloc, bytes)?;
             world.put(name, bytes)
         }
         None => {
@@ -162,7 +162,7 @@ fn disk_of(alloc: Global, bytes: &[u8], call: Option<u64>) -> Result<MemDisk, No
 
 /// Puts a disk into the store that is made next.
 fn push_disk(world: &mut World, name: &str, disk: MemDisk) -> io::Result<()> {
-    let name = String::from_str(world.rt.alloc(), name)?;
+    let name = String::from_str(world.alloc, name)?;
     Ok(world.disks.push((name, disk))?)
 }
 
@@ -170,7 +170,7 @@ fn push_disk(world: &mut World, name: &str, disk: MemDisk) -> io::Result<()> {
 fn add_stopping(world: &mut World, name: &str, call: &str) -> io::Result<()> {
     let call = world.number(call) as u64;
     world.load(name)?;
-    let mut disk = made(disk_of(world.rt.alloc(), world.bytes(name), None))?;
+    let mut disk = made(disk_of(world.alloc, world.bytes(name), None))?;
     disk.stop_at(call);
     push_disk(world, name, disk)
 }
@@ -182,7 +182,7 @@ pub(crate) fn add_disk(world: &mut World, word: &str) -> io::Result<()> {
     }
     let (name, call) = with_call(world, word);
     world.load(name)?;
-    let disk = made(disk_of(world.rt.alloc(), world.bytes(name), call))?;
+    let disk = made(disk_of(world.alloc, world.bytes(name), call))?;
     push_disk(world, name, disk)
 }
 
@@ -191,7 +191,7 @@ pub(crate) fn crash_disk(world: &mut World, pick: u64, name: &str) -> io::Result
     let Ok(disk) = world.store.take_disk(name) else {
         return Ok(());
     };
-    match disk.into_disk().crash(world.rt.alloc(), pick) {
+    match disk.into_disk().crash(world.alloc, pick) {
         Ok(image) => push_disk(world, name, image),
         Err(_) => Err(io::Error::from(ErrorKind::OutOfMemory)),
     }
@@ -199,7 +199,7 @@ pub(crate) fn crash_disk(world: &mut World, pick: u64, name: &str) -> io::Result
 
 /// Makes the store of the disks that were made for it.
 pub(crate) fn make_store(world: &mut World, rest: &str) -> io::Result<()> {
-    let alloc = world.rt.alloc();
+    let alloc = world.alloc;
     let (_, call) = with_call(world, rest);
     let calls = calls_of(alloc, call)?;
     let disks = mem::replace(&mut world.disks, Vec::new(alloc));

@@ -1,40 +1,45 @@
 //! What a script works on: files by their names, a store and links in memory, and what is to be printed.
 
-use crate::scene::{Files, LINE, made, net_at_here, read, store_of};
+use crate::scene::{Files, LINE, made, net_at_here, store_of};
 use disk_trait::MemDisk;
+use std::alloc::Global;
 use std::fmt::Write;
 use std::{io, mem};
 use stream_memory::{MemNet, MemStore, PortScript};
 
 /// What a script works on.
 #[derive(Drop)]
-pub(crate) struct World {
-    /// The system.
-    pub(crate) rt: HostRuntime,
-    /// Files that were made, kept or read, which lines name.
+pub struct World {
+    /// The memory that all of it takes.
+    pub alloc: Global,
+    /// Files that are there from the start.
+    given: Files,
+    /// Files that were made or kept, and those of the first that were used, which lines name.
     pub(crate) files: Files,
     /// The disks of the store that is made next.
     pub(crate) disks: Vec<(String, MemDisk)>,
     /// The store that commands run over.
-    pub(crate) store: MemStore,
+    pub store: MemStore,
     /// The ports of the next run.
     pub(crate) ports: Vec<PortScript>,
     /// The net of the last run.
-    pub(crate) net: MemNet,
+    pub net: MemNet,
     /// For how many bytes a link has room, how many one write to it takes, and room for what a command prints.
-    pub(crate) rooms: (usize, usize, usize),
+    pub rooms: (usize, usize, usize),
     /// What lines have printed, and what was printed in the turn before.
     pub(crate) page: String,
-    pub(crate) last: String,
+    last: String,
+    /// What the parts of the script have printed.
+    said: String,
     /// Whether a line was found wrong.
     pub(crate) wrong: bool,
 }
 
-/// A world with nothing in it.
-pub(crate) fn new_world(rt: HostRuntime) -> io::Result<World> {
-    let alloc = rt.alloc();
+/// A world with these files from the start, and nothing else in it.
+pub fn new_world(alloc: Global, given: Files) -> io::Result<World> {
     Ok(World {
-        rt,
+        alloc,
+        given,
         files: Vec::new(alloc),
         disks: Vec::new(alloc),
         store: store_of(alloc, Vec::new(alloc), &[])?,
@@ -43,8 +48,15 @@ pub(crate) fn new_world(rt: HostRuntime) -> io::Result<World> {
         rooms: (8192, 4096, LINE),
         page: String::new(alloc),
         last: String::new(alloc),
+        said: String::new(alloc),
         wrong: false,
     })
+}
+
+/// The bytes of the last file of this name.
+fn last_of<'a>(files: &'a Files, name: &str) -> Option<&'a [u8]> {
+    let file = files.iter().rev().find(|file| file.0.as_str() == name)?;
+    Some(file.1.as_slice())
 }
 
 impl World {
@@ -59,36 +71,34 @@ impl World {
         }
     }
 
-    /// The bytes of the file of this name: the last that was made or kept, or else one of the store.
+    /// The bytes of the file of this name: the last that was made, kept or used, or else one of the store.
     pub(crate) fn find(&self, name: &str) -> Option<&[u8]> {
-        for file in self.files.iter().rev() {
-            if file.0.as_str() == name {
-                return Some(file.1.as_slice());
-            }
-        }
-        self.store.bytes(name)
+        last_of(&self.files, name).or_else(|| self.store.bytes(name))
     }
 
     /// The same, none where there is no such file.
-    pub(crate) fn bytes(&self, name: &str) -> &[u8] {
+    pub fn bytes(&self, name: &str) -> &[u8] {
         self.find(name).unwrap_or_default()
     }
 
     /// Keeps a file under this name, before those that have it.
     pub(crate) fn put(&mut self, name: &str, bytes: Vec<u8>) -> io::Result<()> {
-        let name = String::from_str(self.rt.alloc(), name)?;
+        let name = String::from_str(self.alloc, name)?;
         Ok(self.files.push((name, bytes))?)
     }
 
-    /// Reads the file of this name from the system, unless it was made or kept, or is in the store. Where it is
-    /// nowhere, the line is wrong.
-    pub(crate) fn load(&mut self, name: &str) -> io::Result<()> {
+    /// Has the file of this name found: where it was not made or kept, and is not in the store, it is one of those that
+    /// are there from the start. Where it is nowhere, the line is wrong.
+    pub fn load(&mut self, name: &str) -> io::Result<()> {
         if self.find(name).is_some() {
             return Ok(());
         }
-        match read(self.rt, name) {
-            Ok(bytes) => self.put(name, bytes),
-            Err(_) => {
+        match last_of(&self.given, name) {
+            Some(bytes) => {
+                let bytes = Vec::from_slice(self.alloc, bytes)?;
+                self.put(name, bytes)
+            }
+            None => {
                 self.wrong = true;
                 Ok(())
             }
@@ -96,7 +106,7 @@ impl World {
     }
 
     /// Adds a line that was wrong to what lines have printed.
-    pub(crate) fn judge(&mut self, line: &str) -> io::Result<()> {
+    pub fn judge(&mut self, line: &str) -> io::Result<()> {
         if self.wrong {
             self.wrong = false;
             writeln!(self.page, "wrong: {line}")?;
@@ -104,22 +114,30 @@ impl World {
         Ok(())
     }
 
-    /// Prints what lines have printed.
-    pub(crate) fn print(&mut self) -> io::Result<()> {
-        let rt = self.rt;
-        print!(rt; "{}", self.page)?;
+    /// Adds what lines have printed to what the script prints.
+    pub fn print(&mut self) -> io::Result<()> {
+        self.said.push_str(&self.page)?;
         self.page.clear();
         Ok(())
     }
 
-    /// Prints what lines have printed in the turn of this number, where it is not what they printed in the turn before.
-    pub(crate) fn print_turn(&mut self, call: usize) -> io::Result<()> {
-        let rt = self.rt;
+    /// Does so behind the turn of this number, where it is not what lines printed in the turn before.
+    pub fn print_turn(&mut self, call: usize) -> io::Result<()> {
         if self.page.as_str() != self.last.as_str() {
-            print!(rt; "from {call}:\n{}", self.page)?;
+            write!(self.said, "from {call}:\n{}", self.page)?;
         }
         mem::swap(&mut self.page, &mut self.last);
         self.page.clear();
         Ok(())
+    }
+
+    /// Forgets what was printed in the turn before.
+    pub fn end_turns(&mut self) {
+        self.last.clear();
+    }
+
+    /// What the script prints.
+    pub fn said(&self) -> &str {
+        &self.said
     }
 }

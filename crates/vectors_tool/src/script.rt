@@ -4,18 +4,17 @@
 //! number, which stands for `%0%` in these lines. A line `each FILE` has them done for each line of a file, whose
 //! words stand for `%0%`, `%1%` and so on.
 
-use crate::scene::read;
-use crate::verbs::command;
-use crate::world::{World, new_world};
+use crate::runs::{reply, run_line};
 use std::alloc::{AllocError, Global};
 use std::io;
 use std::sync::Wait;
 use std::thread::Threads;
+use vectors_scripts::{Files, World, do_verb, new_world};
 
-/// The text of a file of the system.
-fn read_text(rt: HostRuntime, name: &str) -> io::Result<String> {
-    let bytes = read(rt, name)?;
-    Ok(String::from_utf8_lossy(rt.alloc(), &bytes)?)
+/// The text of a file.
+fn text_of(world: &mut World, name: &str) -> io::Result<String> {
+    world.load(name)?;
+    Ok(String::from_utf8_lossy(world.alloc, world.bytes(name))?)
 }
 
 /// The word of this number of a row, which begins with the word 0.
@@ -38,6 +37,20 @@ fn filled(alloc: Global, line: &str, row: &str) -> Result<String, AllocError> {
     Ok(text)
 }
 
+/// Does a line.
+fn command<R: Threads + Wait + Sync>(
+    threads: &R,
+    world: &mut World,
+    verb: &str,
+    rest: &str,
+) -> io::Result<()> {
+    match verb {
+        "run" => run_line(threads, world, rest),
+        "reply" => reply(threads, world, rest),
+        _ => do_verb(world, verb, rest),
+    }
+}
+
 /// Does what a line says, and prints the line where it is wrong.
 fn obey<R: Threads + Wait + Sync>(threads: &R, world: &mut World, line: &str) -> io::Result<()> {
     let (verb, rest) = line.split_once(' ').unwrap_or((line, ""));
@@ -55,7 +68,7 @@ fn play_line<R: Threads + Wait + Sync>(
     if line.is_empty() || line.starts_with('#') {
         return Ok(());
     }
-    let line = filled(world.rt.alloc(), line, row)?;
+    let line = filled(world.alloc, line, row)?;
     obey(threads, world, &line)
 }
 
@@ -80,11 +93,11 @@ fn play_calls<R: Threads + Wait + Sync>(
     lines: &str,
 ) -> io::Result<()> {
     for call in 0..count {
-        let row = format!(in world.rt.alloc(); "{call}")?;
+        let row = format!(in world.alloc; "{call}")?;
         play_lines(threads, world, lines, &row)?;
         world.print_turn(call)?;
     }
-    world.last.clear();
+    world.end_turns();
     Ok(())
 }
 
@@ -112,7 +125,7 @@ fn play_turns<R: Threads + Wait + Sync>(
     match head.parse() {
         Ok(count) => play_calls(threads, world, count, lines),
         Err(_) => {
-            let rows = read_text(world.rt, head)?;
+            let rows = text_of(world, head)?;
             play_rows(threads, world, &rows, lines)
         }
     }
@@ -142,22 +155,15 @@ fn play_parts<R: Threads + Wait + Sync>(
     Ok(())
 }
 
-/// Plays the script of this name.
-fn play_file<R: Threads + Wait + Sync>(
-    threads: &R,
-    world: &mut World,
-    name: &str,
-) -> io::Result<()> {
-    let parts = read_text(world.rt, name)?;
-    play_parts(threads, world, &parts)
-}
-
-/// Plays the script of this name over a world with nothing in it.
+/// Plays the script of this name over these files, of which it is one, and gives the world that comes of it.
 pub(crate) fn play<R: Threads + Wait + Sync>(
     threads: &R,
-    rt: HostRuntime,
+    alloc: Global,
+    files: Files,
     name: &str,
-) -> io::Result<()> {
-    let mut world = new_world(rt)?;
-    play_file(threads, &mut world, name)
+) -> io::Result<World> {
+    let mut world = new_world(alloc, files)?;
+    let parts = text_of(&mut world, name)?;
+    play_parts(threads, &mut world, &parts)?;
+    Ok(world)
 }

@@ -2,7 +2,7 @@
 //!
 //! - `file NAME PART..` keeps a file that is made of parts under a name; `keep NAME..` keeps files of the store, and
 //!   `clear NAME..` keeps nothing under these names. Where a line names a file it is one that was kept, or else one of
-//!   the store, or else one of the system.
+//!   the store, or else one that was there from the start, which is then kept.
 //! - `disks NAME..` makes disks of files; `synced NAME..`, `unsynced NAME..` and `torn NAME..` make them of what a
 //!   crash leaves of the store's disks: the bytes as at the last sync, as a read gives them, or some of what was
 //!   written since. `store` makes the store of these disks. `disks NAME!CALL` and `store !CALL` have a call fail, and
@@ -12,7 +12,7 @@
 //!   that can be dialled, of which `FILE!CALL` has a call fail, and `deaf CALL` has a call of the port fail. `room ROOM
 //!   MOST LINE` says for how many bytes links have room, how many one write takes, and how many a command may print.
 //! - `run WORDS` runs a command over the store and the net, and `reply PLACE WORDS` runs one to which what was asked at
-//!   a place is sent, and keeps what it answers under that name.
+//!   a place is sent, and keeps what it answers under that name. These two are the program's.
 //! - `like NAME FILE`, `asked PLACE FILE` and `answered PORT FILE` print how a file of the store, what was asked, or
 //!   what was answered on the first link of a port, or on link LINK of `PORT.LINK`, is like a file; `clients` prints
 //!   what was answered on each link, `counts TABLE` how many leaves are leased and burnt, `show NAME..` and `there
@@ -23,11 +23,8 @@ use crate::answers::{add_signature, tell_clients};
 use crate::files::{add_disk, crash_disk, keep, make_file, make_store};
 use crate::links::{add_port, deafen, dial, wait};
 use crate::prints::{compare, tell_counts, tell_file, tell_there};
-use crate::runs::{reply, run_in_memory};
 use crate::world::World;
 use std::io;
-use std::sync::Wait;
-use std::thread::Threads;
 
 /// Sets the room of links, the most that a write takes, and the room for what a command prints.
 fn set_rooms(world: &mut World, rest: &str) {
@@ -40,7 +37,7 @@ fn set_rooms(world: &mut World, rest: &str) {
 
 /// Keeps a file with nothing in it.
 fn clear(world: &mut World, name: &str) -> io::Result<()> {
-    let nothing = Vec::new(world.rt.alloc());
+    let nothing = Vec::new(world.alloc);
     world.put(name, nothing)
 }
 
@@ -102,8 +99,8 @@ fn tell(world: &mut World, verb: &str, rest: &str) -> io::Result<()> {
     }
 }
 
-/// Does a line that makes something.
-fn make(world: &mut World, verb: &str, rest: &str) -> io::Result<()> {
+/// Does a line whose verb is none of those that run a command.
+pub fn do_verb(world: &mut World, verb: &str, rest: &str) -> io::Result<()> {
     match verb {
         "file" => make_file(world, rest),
         "store" => make_store(world, rest),
@@ -112,19 +109,5 @@ fn make(world: &mut World, verb: &str, rest: &str) -> io::Result<()> {
         "deaf" => deafen(world, rest),
         "signature" => add_signature(world, rest),
         _ => tell(world, verb, rest),
-    }
-}
-
-/// Does a line.
-pub(crate) fn command<R: Threads + Wait + Sync>(
-    threads: &R,
-    world: &mut World,
-    verb: &str,
-    rest: &str,
-) -> io::Result<()> {
-    match verb {
-        "run" => run_in_memory(threads, world, rest),
-        "reply" => reply(threads, world, rest),
-        _ => make(world, verb, rest),
     }
 }

@@ -48,7 +48,7 @@ fn file_link(
     world.load(name)?;
     world.load(pieces)?;
     made(link_of(
-        world.rt.alloc(),
+        world.alloc,
         world.bytes(name),
         world.bytes(pieces),
         (world.rooms.0, world.rooms.1),
@@ -58,7 +58,7 @@ fn file_link(
 
 /// Adds a port to the next run.
 pub(crate) fn add_port(world: &mut World) -> io::Result<()> {
-    let port = PortScript::new(world.rt.alloc());
+    let port = PortScript::new(world.alloc);
     Ok(world.ports.push(port)?)
 }
 
@@ -73,8 +73,8 @@ pub(crate) fn deafen(world: &mut World, call: &str) -> io::Result<()> {
 }
 
 /// The net of the next run.
-pub(crate) fn take_net(world: &mut World) -> io::Result<MemNet> {
-    let alloc = world.rt.alloc();
+pub fn take_net(world: &mut World) -> io::Result<MemNet> {
+    let alloc = world.alloc;
     let ports = mem::replace(&mut world.ports, Vec::new(alloc));
     made(net_at_here(alloc, ports))
 }
@@ -93,7 +93,7 @@ pub(crate) fn wait(world: &mut World, rest: &str) -> io::Result<()> {
 
 /// Has a link be dialled at a place from the last port.
 fn push_dialled(world: &mut World, place: &str, link: MemLink) -> io::Result<()> {
-    let entry = (String::from_str(world.rt.alloc(), place)?, link);
+    let entry = (String::from_str(world.alloc, place)?, link);
     match world.ports.last_mut() {
         Some(port) => port.dialled.push(entry)?,
         None => world.wrong = true,

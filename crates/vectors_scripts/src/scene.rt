@@ -1,0 +1,35 @@
+//! Stores and nets in memory.
+
+use memory::NoMemory;
+use std::alloc::Global;
+use std::io::{self, ErrorKind};
+use stream_memory::{MemNet, MemStore, PortScript};
+
+/// Files, each a name and its bytes.
+pub type Files = Vec<(String, Vec<u8>)>;
+
+/// Room for any lines of the tool that are printed by scripts.
+pub const LINE: usize = 1000;
+
+/// What was made, where there was memory for it.
+pub fn made<T>(value: Result<T, NoMemory>) -> io::Result<T> {
+    value.map_err(|_| io::Error::from(ErrorKind::OutOfMemory))
+}
+
+/// A store with these files. The listed calls fail.
+pub fn store_of(alloc: Global, files: Files, failing: &[u64]) -> io::Result<MemStore> {
+    let failing = Vec::from_slice(alloc, failing)?;
+    made(MemStore::of_files(alloc, files, failing))
+}
+
+/// The bytes of a file of a store, none where it is not there.
+pub fn file<'a>(store: &'a MemStore, name: &str) -> &'a [u8] {
+    store.bytes(name).unwrap_or_default()
+}
+
+/// A net that offers the place `here`, with these ports.
+pub fn net_at_here(alloc: Global, ports: Vec<PortScript>) -> Result<MemNet, NoMemory> {
+    let mut places = Vec::new(alloc);
+    places.push(String::from_str(alloc, "here")?)?;
+    Ok(MemNet::new(places, ports, Vec::new(alloc)))
+}
