@@ -5,4 +5,5 @@ mod Links
 mod Added
 mod Loans
 mod Stable
+mod Talks
 mod MemFiles

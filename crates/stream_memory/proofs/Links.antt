@@ -4,7 +4,7 @@ use Rattle.stream_io.specs.Net.{Accepts, Dials, IsNewLink, PortState}
 use Rattle.stream_io.specs.Talk.{Talk}
 use Rattle.stream_memory.specs.Waiting.{with_waits}
 
-first_true : (first last : Bool) → (first && last) ≡ true → first ≡ true
+pub first_true : (first last : Bool) → (first && last) ≡ true → first ≡ true
 first_true true last both = refl
 first_true false last both = both
 

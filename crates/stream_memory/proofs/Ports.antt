@@ -52,16 +52,17 @@ pub admitted : (net : MemNet) (place : Option (List ℕ)) → is_admitted (is_li
 admitted net None there = tt
 admitted net (Some place) there = there
 
--- ports that are new for a net are so for one that is as steady
+-- a port that is new for a net is so for one that is as steady
+pub new-one : (a b : NetState) (place : Option (List ℕ)) (port : PortState) → a.told ≡ b.told → a.steady ≡ b.steady → b.room ≤ a.room → IsNewPort a place port → IsNewPort b place port
+new-one a b place port told steady room new = record {
+  told = λ t. new.told (told ∙ t);
+  steady = λ t. new.steady (steady ∙ t);
+  place = new.place;
+  count = new.count;
+  accept_count = new.accept_count;
+  talks = new.talks;
+  room = let its = new.room in omega arith;
+}
+
 pub new-for : (a b : NetState) (place : Option (List ℕ)) (ports : List PortState) → a.told ≡ b.told → a.steady ≡ b.steady → b.room ≤ a.room → All (IsNewPort a place) ports → All (IsNewPort b place) ports
-new-for a b place ports told steady room new k d lt =
-    let port = new k d lt in
-    record {
-      told = λ t. port.told (told ∙ t);
-      steady = λ t. port.steady (steady ∙ t);
-      place = port.place;
-      count = port.count;
-      accept_count = port.accept_count;
-      talks = port.talks;
-      room = let its = port.room in omega arith;
-    }
+new-for a b place ports told steady room new k d lt = new-one a b place (get_or ports k d) told steady room (new k d lt)

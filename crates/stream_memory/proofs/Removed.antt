@@ -61,6 +61,18 @@ pub steady-accepted : (still calm gave link waiting waited dialled : Bool) → s
     → ((still && (gave && link)) && (waiting && dialled)) ≡ ((calm && gave) && (waited && dialled))
 steady-accepted still calm gave link waiting waited dialled e f = rw (e, f) (accepted-moves calm gave link waiting dialled)
 
+-- A link goes from those that wait to be dialled to those that were given.
+dialled-moves : (calm gave link waiting dialled : Bool) → ((calm && (gave && link)) && (waiting && dialled)) ≡ ((calm && gave) && (waiting && (link && dialled)))
+dialled-moves false gave link waiting dialled = refl
+dialled-moves true false link waiting dialled = refl
+dialled-moves true true true waiting dialled = refl
+dialled-moves true true false true dialled = refl
+dialled-moves true true false false dialled = refl
+
+pub steady-dialled : (still calm gave link waiting dialled there : Bool) → still ≡ calm → there ≡ (link && dialled)
+    → ((still && (gave && link)) && (waiting && dialled)) ≡ ((calm && gave) && (waiting && there))
+steady-dialled still calm gave link waiting dialled there e f = rw (e, f) (dialled-moves calm gave link waiting dialled)
+
 -- the link is among them
 pub given : (calm gave link rest : Bool) → ((calm && (gave && link)) && rest) ≡ true → link ≡ true
 given calm gave true rest e = refl

@@ -1,6 +1,7 @@
 //! The calls of an object in memory.
 
 ghost use Rattle.std.specs.Prelude.{◌≡◌, ◌+◌, ◌-◌, ◌^◌, ◌≤◌, ◌↔◌, min, Contains, IsTrue, IsOk, IsErr, OnOk, OnErr};
+ghost use Rattle.disk_trait.specs.Faults.{HasCause};
 ghost use Rattle.stream_memory.specs.Calls.{is_empty};
 
 use stream_io::Failed;
@@ -59,6 +60,18 @@ impl Calls {
         let listed = self.failing.contains(&self.made);
         self.made = self.made.saturating_add(1);
         if listed { Err(self.fail()) } else { Ok(()) }
+    }
+
+    /// Counts a fault where this failed, and answers it.
+    pub(crate) fn count(&mut self, answer: Result<usize, Failed>) -> Result<usize, Failed>
+        ensures same { result ≡ answer }
+        ensures cause { HasCause self.old.faults self.new.faults result }
+        ensures failing { self.new.failing ≡ self.old.failing }
+    {
+        if answer.is_err() {
+            self.fail();
+        }
+        answer
     }
 
     /// Counts a fault.

@@ -3,7 +3,7 @@
 use crate::bell::Bell;
 
 /// Before which of its calls a link waits.
-#[derive(Clone, Copy, Debug, PartialEq, Eq)]
+#[derive(Clone, Copy)]
 pub enum Before {
     /// Before it gives more than so many bytes.
     Reading(usize),

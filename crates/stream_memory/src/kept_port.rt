@@ -1,14 +1,16 @@
 //! What a port in memory has and keeps.
 
-ghost use Rattle.std.specs.Prelude.{◌≡◌, ◌≢◌, ◌↔◌, ◌<◌, ◌+◌, ◌&&◌, ℕ, List, length, false, None, Some, IsTrue, IfSome};
-ghost use Rattle.std.specs.Prelude.{IfNone, min, option_copied, option_map, position, string_bytes};
+ghost use Rattle.std.specs.Prelude.{◌≡◌, ◌≢◌, ◌↔◌, ◌<◌, ◌≤◌, ◌+◌, ◌&&◌, ℕ, List, length, false, None, Some};
+ghost use Rattle.std.specs.Prelude.{IsTrue, IfSome, IfNone, IfOk, OnErr, min, option_copied, option_map};
+ghost use Rattle.std.specs.Prelude.{position, string_bytes};
 ghost use Rattle.std.specs.List.{list_all, list_any, slice_get};
 ghost use Rattle.std.specs.Str.{bytes_eq};
+ghost use Rattle.disk_trait.specs.Faults.{HasCause};
 ghost use Rattle.stream_memory.specs.Chain.{own};
 ghost use Rattle.stream_memory.specs.Links.{conversation_of, room_left, talk_of};
 ghost use Rattle.stream_memory.specs.Ports.{is_at, is_steady_entry, is_steady_waiting, least, port_state};
 ghost use Rattle.stream_memory.specs.Ports.{room_of_entry, room_of_waiting};
-ghost use Rattle.stream_io.specs.Net.{Accepts, HangsUp, KeepsTalk, PortOnward, SameLinks};
+ghost use Rattle.stream_io.specs.Net.{Accepts, Dials, HangsUp, KeepsTalk, PortOnward, SameLinks};
 ghost use Rattle.stream_io.specs.Store.{RisesWhere};
 ghost use Rattle.stream_io.specs.declared.port.Accepted.{Accepted};
 
@@ -16,7 +18,7 @@ use crate::calls::Calls;
 use crate::chain::{Chain, Node};
 use crate::conversation::Conversation;
 use crate::mem_link::MemLink;
-use stream_io::Accepted;
+use stream_io::{Accepted, Failed};
 
 /// A port in memory: its place or none, the links that wait to be accepted and those that wait to be dialled, each with
 /// its place, and the conversations that were hung up.
@@ -79,7 +81,7 @@ impl KeptPort {
         if self.place.is_none() || self.waiting.is_empty() {
             return Accepted::End;
         }
-        if self.calls.make().is_err() {
+        if let Err(Failed) = self.calls.make() {
             self.accept_faults = self.accept_faults.saturating_add(1);
             return Accepted::Failed;
         }
@@ -87,6 +89,27 @@ impl KeptPort {
         link.begin(None);
         self.gave_steady &= link.is_steady();
         Accepted::Link(link)
+    }
+
+    /// Dials a place, as `Port` says.
+    pub(crate) fn dial(&mut self, place: &str) -> Result<MemLink, Failed>
+        ensures link { IfOk result (λ link. Dials (port_state self.old) place.now (talk_of (conversation_of link))
+            (is_steady_waiting link) (room_left (conversation_of link)) (port_state self.new)) }
+        ensures refused { OnErr result (SameLinks (port_state self.old) (port_state self.new)) }
+        ensures nobody { IsTrue (port_state self.old).steady
+            → OnErr result ((port_state self.old).reaches place.now ≡ false) }
+        ensures cause { HasCause (port_state self.old).count (port_state self.new).count result }
+        ensures once { (port_state self.new).count ≤ (port_state self.old).count + 1 }
+        ensures accepting { (port_state self.new).accept_count ≡ (port_state self.old).accept_count }
+        ensures onward { PortOnward (port_state self.old) (port_state self.new) }
+    {
+        self.calls.make()?;
+        let Some((name, mut link)) = take_at(&mut self.dialled, place) else {
+            return Err(self.calls.fail());
+        };
+        link.begin(Some(name));
+        self.gave_steady &= link.is_steady();
+        Ok(link)
     }
 
     /// Ends a link of which this was said, as `Port` says. Nothing was read ahead, and nothing held back.
@@ -110,7 +133,7 @@ impl KeptPort {
 }
 
 /// Takes the first link that waits to be accepted.
-pub(crate) fn take_first(waiting: &mut Vec<MemLink>) -> MemLink
+fn take_first(waiting: &mut Vec<MemLink>) -> MemLink
     requires { 0 < length waiting.old.items }
     ensures many { length waiting.old.items ≡ length waiting.new.items + 1 }
     ensures steady { list_all is_steady_waiting waiting.old.items
@@ -129,10 +152,7 @@ fn find(dialled: &[(String, MemLink)], place: &str) -> Option<usize>
 }
 
 /// Takes the first link that waits at a place, with the name of the place.
-pub(crate) fn take_at(
-    dialled: &mut Vec<(String, MemLink)>,
-    place: &str,
-) -> Option<(String, MemLink)>
+fn take_at(dialled: &mut Vec<(String, MemLink)>, place: &str) -> Option<(String, MemLink)>
     ensures name { IfSome result (λ entry. string_bytes entry.0 ≡ place.now) }
     ensures there { IfSome result (λ _. IsTrue (list_any (is_at place.now) dialled.old.items)) }
     ensures others { (other : List ℕ) → bytes_eq other place.now ≡ false

@@ -89,11 +89,7 @@ impl MemLink {
         ensures steady { is_steady_link (conversation_of self.new) ≡ is_steady_link (conversation_of self.old) }
         ensures room { room_left (conversation_of self.new) ≡ room_of_waiting self.old }
     {
-        let link = &mut self.node.value;
-        link.place = place;
-        link.source.begin();
-        link.sink.begin();
-        link.calls.begin();
+        self.node.value.begin(place);
     }
 }
 
@@ -115,15 +111,7 @@ impl Stream for MemLink {
 
 impl Source for MemLink {
     fn read(&mut self, out: &mut [u8]) -> Result<usize, Failed> {
-        let link = &mut self.node.value;
-        link.calls.make()?;
-        if link.is_held() {
-            return Err(link.calls.fail());
-        }
-        match link.source.read(out) {
-            Ok(count) => Ok(count),
-            Err(Failed) => Err(link.calls.fail()),
-        }
+        self.node.value.read(out)
     }
 }
 
@@ -133,11 +121,6 @@ impl Sink for MemLink {
     ghost rooms = { λ _. refl };
 
     fn write(&mut self, bytes: &[u8]) -> Result<usize, Failed> {
-        let link = &mut self.node.value;
-        link.calls.make()?;
-        match link.sink.write(bytes) {
-            Ok(count) => Ok(count),
-            Err(Failed) => Err(link.calls.fail()),
-        }
+        self.node.value.write(bytes)
     }
 }

@@ -7,7 +7,7 @@ ghost use Rattle.stream_memory.specs.Ports.{is_at, is_steady_script, kept_of, le
 
 use crate::calls::Calls;
 use crate::chain::{Chain, Node};
-use crate::kept_port::{KeptPort, take_at};
+use crate::kept_port::KeptPort;
 use crate::mem_link::MemLink;
 use crate::port_script::PortScript;
 use disk_trait::Faults;
@@ -85,14 +85,7 @@ impl Port for MemPort {
     }
 
     fn dial(&mut self, place: &str) -> Result<MemLink, Failed> {
-        let port = &mut self.node.value;
-        port.calls.make()?;
-        let Some((name, mut link)) = take_at(&mut port.dialled, place) else {
-            return Err(port.calls.fail());
-        };
-        link.begin(Some(name));
-        port.gave_steady &= link.is_steady();
-        Ok(link)
+        self.node.value.dial(place)
     }
 
     fn hang_up(&mut self, link: MemLink) {

@@ -136,6 +136,14 @@ fn new_disk(
     Ok(disk)
 }
 
+/// A file as a disk, with its name.
+fn file_disk(alloc: Global, file: (String, Vec<u8>)) -> Result<(String, MemDisk), NoMemory>
+    ensures { IfOk result (λ disk. disk ≡ file_disk file) }
+{
+    let (name, bytes) = file;
+    Ok((name, full_disk(alloc, bytes.as_slice())?))
+}
+
 /// Files as disks, each with its name.
 fn disks_of(
     alloc: Global,
@@ -144,8 +152,8 @@ fn disks_of(
     ensures { IfOk result (λ disks. disks.items ≡ map file_disk files.items) }
 {
     let mut disks = Vec::with_capacity(alloc, files.len())?;
-    for (name, bytes) in files {
-        disks.push((name, full_disk(alloc, bytes.as_slice())?))?;
+    for file in files {
+        disks.push(file_disk(alloc, file)?)?;
     }
     Ok(disks)
 }

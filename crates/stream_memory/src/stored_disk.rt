@@ -36,13 +36,6 @@ impl StoredDisk {
         StoredDisk { disk, faults: 0 }
     }
 
-    /// What a read gives.
-    pub fn bytes(&self) -> &[u8]
-        ensures { result.now ≡ ⟦<StoredDisk as Pages>⟧.reads self.now }
-    {
-        self.disk.bytes()
-    }
-
     /// The disk in memory, which a crash may be tried on.
     pub fn into_disk(self) -> MemDisk
         ensures bytes { result.bytes ≡ ⟦<StoredDisk as Pages>⟧.reads self }

@@ -40,11 +40,6 @@ impl<'a, L: Source + Sink> WaitingLink<'a, L> {
         }
     }
 
-    /// The link that it is made of.
-    pub fn link(&self) -> &L {
-        &self.link
-    }
-
     /// The link that it is made of, and how many waits were in vain.
     pub fn end(self) -> (L, u64)
         ensures { ⟦<WaitingLink<'a, L> as Stream>⟧.talk self.entry ≡ with_vain (L.talk result.0) result.1 }
@@ -72,9 +67,12 @@ impl<'a, L: Source + Sink> WaitingLink<'a, L> {
     fn is_writable(&self) -> bool
         ensures { IsTrue (is_none self.now.hold) → IsTrue result }
     {
-        match self.hold {
-            Some(hold) if hold.before == Before::Writing => hold.bell.hears(hold.rings),
-            _ => true,
+        let Some(hold) = self.hold else {
+            return true;
+        };
+        match hold.before {
+            Before::Reading(_) => true,
+            Before::Writing => hold.bell.hears(hold.rings),
         }
     }
 

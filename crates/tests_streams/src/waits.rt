@@ -147,16 +147,19 @@ fn serve_both<R: Threads + Sync>(
     Ok(ports.iter().all(|port| has_kept(port, &SERVED)))
 }
 
+/// What the first of two links waits for.
+static HOLDS: [Option<(Before, u64)>; 3] = [
+    None,
+    Some((Before::Reading(2), 1)),
+    Some((Before::Writing, 1)),
+];
+
 /// Two threads that wait for each other.
 #[test]
 fn a_port_waits_until_another_has_answered(rt: HostRuntime) -> Result<(), NoMemory> {
-    for wait in &[
-        None,
-        Some((Before::Reading(2), 1)),
-        Some((Before::Writing, 1)),
-    ] {
+    for (number, wait) in HOLDS.iter().enumerate() {
         let bell = Bell::new(1_000_000_000);
-        assert!(rt; serve_both(&rt, rt.alloc(), &bell, wait)?, "{wait:?}");
+        assert!(rt; serve_both(&rt, rt.alloc(), &bell, wait)?, "hold {number}");
     }
     Ok(())
 }

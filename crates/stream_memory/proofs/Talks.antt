@@ -1,0 +1,36 @@
+-- What goes over a link in memory is what goes over its source and its sink.
+use Rattle.std.proofs.Common.{◌≡◌, ◌≤◌, ◌++◌, ℕ, List, Result, Ok, Err, MatchResult, take, length, refl, sym, ap, ◌∙◌}
+use Rattle.stream_io.specs.Talk.{HasRead, HasWritten, Talk, Took}
+use Rattle.stream_io.specs.declared.failed.Failed.{Failed}
+
+-- a talk that was read, and another that has the same bytes to read
+module _ (a b c d : Talk) (told : c.told ≡ a.told) (taken : c.taken ≡ a.taken) (left : c.left ≡ a.left) (taken' : d.taken ≡ b.taken)
+    (left' : d.left ≡ b.left) where
+  as_took : (n : ℕ) → Took a b n → Took c d n
+  as_took n it = record {
+    there = rw left it.there;
+    taken = rw (taken, left, taken') it.taken;
+    left = rw (left, left') it.left;
+  }
+
+  either_took : (result : Result ℕ Failed) → MatchResult result (λ n. Took a b n) (λ _. Took a b 0)
+      → MatchResult result (λ n. Took c d n) (λ _. Took c d 0)
+  either_took (Ok n) it = as_took n it
+  either_took (Err e) it = as_took 0 it
+
+  pub has_read : (room : ℕ) (out : List ℕ) (result : Result ℕ Failed) → HasRead a b room out result → HasRead c d room out result
+  has_read room out result it = record {
+    size = it.size;
+    bytes = λ t. rw left (it.bytes (sym told ∙ t));
+    took = λ t. either_took result (it.took (sym told ∙ t));
+    end = λ t. rw left (it.end (sym told ∙ t));
+  }
+
+-- a talk that was written to, and another that has the same bytes written
+pub has_written : (a b c d : Talk) (bytes : List ℕ) (result : Result ℕ Failed) → c.told ≡ a.told → c.written ≡ a.written → d.written ≡ b.written
+    → HasWritten a b bytes result → HasWritten c d bytes result
+has_written a b c d bytes result told written written' it = record {
+  size = it.size;
+  progress = it.progress;
+  wrote = λ t. rw (written, written') (it.wrote (sym told ∙ t));
+}
