@@ -16,3 +16,4 @@ pub mod Answering
 pub mod Ending
 pub mod Running
 pub mod Signing
+pub mod Standing

@@ -1,9 +1,13 @@
-use Rattle.std.proofs.Common.{◌≡◌, ◌+◌, ◌<◌, ◌≤◌, true, false, length, refl, sym, ap, subst, ◌∙◌, arith}
+use Rattle.std.specs.Prelude.{IsSome}
+use Rattle.std.proofs.Common.{List, ℕ, Option, ◌≡◌, ◌+◌, ◌<◌, ◌≤◌, true, false, length, refl, sym, ap, subst, ◌∙◌, arith}
 use Rattle.std.proofs.lemmas.List.{get_or-set_other, length-set}
 use Rattle.std.proofs.lemmas.List.Elements.{All-set}
 use Rattle.std.proofs.lemmas.Result.{err_from_is_err_and}
 use Rattle.aggregator_session.proofs.Frames.{asked-as, frames-of}
 use Rattle.aggregator_session.proofs.Rounds.{ok-is, second-done, second-ends, second-more, second-refuses}
+use Rattle.aggregator_session.proofs.Digests.{same-digest}
+use Rattle.aggregator_session.proofs.Sessions.{err-as, exact-stays}
+use Rattle.aggregator_session.proofs.Standing.{member-of, stands-as}
 use Rattle.aggregator_session.proofs.Tasks.{lost-as, same-then}
 use Rattle.reference_value.proofs.Staying.{stays-then}
 use Rattle.aggregator_session.proofs.session.ask_again.Goals as goal
@@ -73,3 +77,48 @@ returns-in_err-ask_once_more-clause-links g c =
           (subst is_wide (sym value) (v.rooms wide c.members.i c.index_mut.result.now (omega arith) inside))
           (lost-as _ _ _ _ _ p.1 p.2 c.in_err-ask_once_more.was lost);
     }
+
+pub ask_once_more-requires-clause-task : goal.ask_once_more-requires-clause-task
+ask_once_more-requires-clause-task g c =
+    let v = c.members.invariant in
+    let all = c.requires.task in
+    record {
+      stands = stands-as _ c.args.session.now c.members.session _ _ _ _ _ _ v.stays.set v.stays.plan c.members.auto.room v.same all.stands;
+      round = subst (λ (o : Option (List ℕ)). IsSome o) (sym v.same.c) all.round;
+      digest_is = all.digest_is ∙ same-digest _ _ _ v.same;
+    }
+
+pub ask_once_more-requires-clause-member : goal.ask_once_more-requires-clause-member
+ask_once_more-requires-clause-member g c =
+    member-of c.args.session.now c.members.session c.args.task.now.members.now c.members.i _ c.requires.task.stands.all c.members.invariant.same c.members-test.true
+
+pub returns-in_err-ask_once_more-clause-same : goal.returns-in_err-ask_once_more-clause-same
+returns-in_err-ask_once_more-clause-same g c = same-then _ _ _ c.members.invariant.same c.ask_once_more.ensures.same
+
+pub returns-then-not-branch-clause-same : goal.returns-then-not-branch-clause-same
+returns-then-not-branch-clause-same g c = same-then _ _ _ c.members.invariant.same c.ask_once_more.ensures.same
+
+pub returns-in_err-ask_once_more-clause-cells : goal.returns-in_err-ask_once_more-clause-cells
+returns-in_err-ask_once_more-clause-cells g c =
+    let v = c.members.invariant in
+    let p = err_from_is_err_and c.from_residual.result c.from_residual.ensures.1 in
+    let a = c.ask_once_more.ensures.cells in
+    record {
+      rises = λ is. (let rose = a.rises (err-as _ _ _ _ _ p.1 p.2 c.in_err-ask_once_more.was is) in let le = v.count in omega (arith, rose, le));
+      succeeds = λ exact is. a.succeeds (exact-stays v.stays exact) (err-as _ _ _ _ _ p.1 p.2 c.in_err-ask_once_more.was is);
+      stays = stays-then v.stays a.stays;
+    }
+
+pub returns-then-not-branch-clause-cells : goal.returns-then-not-branch-clause-cells
+returns-then-not-branch-clause-cells g c = record {
+  rises = λ is. absurd (cc);
+  succeeds = λ exact is. absurd (cc);
+  stays = stays-then c.members.invariant.stays c.ask_once_more.ensures.cells.stays;
+}
+
+pub returns-clause-cells : goal.returns-clause-cells
+returns-clause-cells g c = record {
+  rises = λ is. absurd (cc);
+  succeeds = λ exact is. absurd (cc);
+  stays = c.members.invariant.stays;
+}

@@ -1,9 +1,10 @@
-use Rattle.std.proofs.Common.{rules, ◌≤◌, ℕ, List, [], sym, ap, subst, ◌∙◌, arith}
+use Rattle.std.proofs.Common.{rules, ◌≤◌, ℕ, List, [], sym, ap, subst, ◌∙◌, arith, inl, inr}
 use Rattle.std.proofs.lemmas.List.{length-map}
 use Rattle.std.proofs.lemmas.Result.{err_from_is_err_and}
 use Rattle.session_core.specs.State.{State}
 use Rattle.session_core.specs.declared.faults.SessionFault.TheVariants.{Reference}
-use Rattle.aggregator_session.specs.Runs.{judged_in_one, judged_in_two, lost_in_one, lost_in_two, signed}
+use Rattle.aggregator_session.proofs.Standing.{same-asked, same-turned, stands-again, stands-as}
+use Rattle.aggregator_session.specs.Runs.{SameSession, judged_in_one, judged_in_two, lost_in_one, lost_in_two, signed}
 use Rattle.aggregator_session.proofs.Tasks.{dials-on, judged-none, lost-as, once-as, once-of}
 use Rattle.aggregator_session.proofs.Sessions.{count-as, dealt-as, err-as, exact-as, exact-stays, fails-as, fails-reference, first-as, first-not, joined-as, none-of, opens, run-as, same-err, second-end, sign-reference, stays-same, stops-later, stops-reference, whole-as}
 use Rattle.reference_value.proofs.Staying.{stays-as, stays-then}
@@ -237,3 +238,58 @@ returns-clause-dials g c =
       writes = λ steady fits lost. lost;
       only = d.only;
     }
+
+pub turn-requires-clause-round : goal.turn-requires-clause-round
+turn-requires-clause-round g c = c.dial_all.ensures.same.c ∙ c.requires.task.round
+
+pub turn-requires-clause-set : goal.turn-requires-clause-set
+turn-requires-clause-set g c =
+    let d = c.dial_all.ensures in
+    ap g.R.Cells.set d.cells ∙ (c.requires.task.stands.set ∙ ap (λ (k : PublicKey). k.params) (sym d.same.key))
+
+pub turn-requires-clause-plan : goal.turn-requires-clause-plan
+turn-requires-clause-plan g c =
+    let d = c.dial_all.ensures in
+    ap g.R.Cells.plan d.cells ∙ (c.requires.task.stands.plan ∙ sym d.same.plan)
+
+pub digest_of-digest-requires-clause-key : goal.digest_of-digest-requires-clause-key
+digest_of-digest-requires-clause-key g c =
+    ap (λ (s : State). s.key) c.in_ok-turn.ensures.turns.turned.same ∙ (c.dial_all.ensures.same.key ∙ c.requires.task.stands.of_key)
+
+pub ask_again-requires-clause-task : goal.ask_again-requires-clause-task
+ask_again-requires-clause-task g c =
+    let d = c.dial_all.ensures in
+    let t = c.in_ok-turn.ensures in
+    let stays = stays-as d.cells t.onward.stays in
+    stands-again _ _ _ _ _ _ t.turns.turned _ c.digest_of-digest.ensures
+    (stands-as _ c.args.session.now c.dial_all.new.session _ _ _ _ _ _ stays.set stays.plan c.dial_all.auto.room d.same c.requires.task.stands)
+
+pub ask_again-requires-clause-links : goal.ask_again-requires-clause-links
+ask_again-requires-clause-links g c = elim c.in_ok-dial_all.ensures.whole [
+  | inl is ↦ is
+  | inr not ↦ absurd (not c.in_ok-turn.ensures.turns.turned.masks)
+]
+
+pub finish_with-requires-clause-cells : goal.finish_with-requires-clause-cells
+finish_with-requires-clause-cells g c =
+    let d = c.dial_all.ensures in
+    let a = c.ask_again.ensures in
+    let stays = stays-then (stays-as d.cells c.in_ok-turn.ensures.onward.stays) a.cells.stays in
+    let same = same-turned _ _ _ _ d.same c.in_ok-turn.ensures.turns.turned a.same in
+    (stays.set ∙ (c.requires.task.stands.set ∙ ap (λ (k : PublicKey). k.params) (sym same.key)), stays.plan ∙ (c.requires.task.stands.plan ∙ sym same.plan))
+
+pub returns-in_err-dial_all-clause-same : goal.returns-in_err-dial_all-clause-same
+returns-in_err-dial_all-clause-same g c = same-asked _ _ c.dial_all.ensures.same
+
+pub returns-in_err-turn-clause-same : goal.returns-in_err-turn-clause-same
+returns-in_err-turn-clause-same g c =
+    subst (λ (s : State). SameSession c.args.session.now s) (sym c.in_err-turn.ensures.same) (same-asked _ _ c.dial_all.ensures.same)
+
+pub returns-in_err-ask_again-clause-same : goal.returns-in_err-ask_again-clause-same
+returns-in_err-ask_again-clause-same g c = same-turned _ _ _ _ c.dial_all.ensures.same c.in_ok-turn.ensures.turns.turned c.ask_again.ensures.same
+
+pub returns-in_err-finish_with-clause-same : goal.returns-in_err-finish_with-clause-same
+returns-in_err-finish_with-clause-same g c = same-turned _ _ _ _ c.dial_all.ensures.same c.in_ok-turn.ensures.turns.turned c.ask_again.ensures.same
+
+pub returns-clause-same : goal.returns-clause-same
+returns-clause-same g c = same-turned _ _ _ _ c.dial_all.ensures.same c.in_ok-turn.ensures.turns.turned c.ask_again.ensures.same

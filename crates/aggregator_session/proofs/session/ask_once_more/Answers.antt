@@ -1,6 +1,7 @@
 use Rattle.std.proofs.Common.{refl, arith}
 use Rattle.std.proofs.lemmas.Result.{err_from_is_err_and}
 use Rattle.round_frames.specs.Asks.{ask_frame}
+use Rattle.aggregator_session.proofs.Standing.{may-ask}
 use Rattle.aggregator_session.proofs.Frames.{longest, second-frame}
 use Rattle.aggregator_session.specs.Runs.{asked, not_read}
 use Rattle.aggregator_session.proofs.session.ask_once_more.Goals as goal
@@ -27,3 +28,6 @@ returns-clause-links g c =
       reads = links.reads;
       writes = λ steady fits lost. links.writes steady (omega (arith, most, fits)) lost;
     }
+
+pub ask_member-requires : goal.ask_member-requires
+ask_member-requires g c = record { ask = may-ask _ _ _ _ _ _ _ c.requires.task.stands c.in_ok-ask.ensures.ask }

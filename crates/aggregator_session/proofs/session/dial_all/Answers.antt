@@ -1,8 +1,9 @@
-use Rattle.std.proofs.Common.{true, false, sym, ◌∙◌, arith, inr}
+use Rattle.std.proofs.Common.{true, false, sym, ap, ◌∙◌, arith, inr}
 use Rattle.std.proofs.lemmas.Result.{err_from_is_err_and}
 use Rattle.aggregator_session.proofs.Adding.{asked-more}
 use Rattle.aggregator_session.proofs.Refusing.{called-refused}
 use Rattle.aggregator_session.proofs.Rounds.{first-done, first-ends, first-more, first-refuses, ok-is}
+use Rattle.aggregator_session.proofs.Standing.{member-of, stands-first}
 use Rattle.aggregator_session.proofs.Tasks.{called-as, dials-then, frame-same, lost-as, ok-not, once-as, once-of, rises-later, rose-later, same-then}
 use Rattle.aggregator_session.specs.Runs.{first_frame}
 use Rattle.aggregator_session.proofs.session.dial_all.Goals as goal
@@ -98,3 +99,24 @@ returns-clause-dials g c =
       writes = λ steady fits lost. lost;
       only = v.port;
     }
+
+pub dial_member-requires-clause-task : goal.dial_member-requires-clause-task
+dial_member-requires-clause-task g c κs within =
+    let v = c.members.invariant in
+    stands-first _ c.args.session.now c.members.session _ _ _ _ _ _ (ap g.R.Cells.set v.cells) (ap g.R.Cells.plan v.cells) c.members.auto.room v.same c.requires.task
+
+pub dial_member-requires-clause-member : goal.dial_member-requires-clause-member
+dial_member-requires-clause-member g c κs within =
+    member-of c.args.session.now c.members.session c.args.task.now.members.now c.members.i _ c.requires.task.stands.all c.members.invariant.same c.members-test.true
+
+pub returns-in_err-dial_member-clause-same : goal.returns-in_err-dial_member-clause-same
+returns-in_err-dial_member-clause-same g c = same-then _ _ _ c.members.invariant.same c.dial_member.ensures.called.same
+
+pub returns-in_err-dial_member-clause-cells : goal.returns-in_err-dial_member-clause-cells
+returns-in_err-dial_member-clause-cells g c = c.dial_member.ensures.cells ∙ c.members.invariant.cells
+
+pub returns-then-not-branch-clause-same : goal.returns-then-not-branch-clause-same
+returns-then-not-branch-clause-same g c = same-then _ _ _ c.members.invariant.same c.dial_member.ensures.called.same
+
+pub returns-then-not-branch-clause-cells : goal.returns-then-not-branch-clause-cells
+returns-then-not-branch-clause-cells g c = c.dial_member.ensures.cells ∙ c.members.invariant.cells

@@ -5,6 +5,7 @@ use Rattle.aggregator_session.specs.Runs.{dialled, nowhere, undialled}
 use Rattle.aggregator_session.specs.declared.fault.SignFault.TheVariants.{Lost}
 use Rattle.aggregator_session.specs.declared.fault.Why.TheVariants.{DialFailed, NoAddress}
 use Rattle.aggregator_session.proofs.Adding.{adds-none, adds-one}
+use Rattle.aggregator_session.proofs.Standing.{may-ask}
 use Rattle.aggregator_session.proofs.Frames.{first-frame, first-length}
 use Rattle.stream_io.specs.Net.{Dials}
 use Rattle.aggregator_session.proofs.session.dial_member.Goals as goal
@@ -80,3 +81,6 @@ returns-clause-dials g c =
       writes = λ steady fits lost. links.writes (d.link.link.steady steady) (omega (arith, fits, size, had)) lost;
       only = record { onward = d.onward; talks = d.link.talks; accepting = d.accepting };
     }
+
+pub ask_member-answer-requires : goal.ask_member-answer-requires
+ask_member-answer-requires g c = record { ask = may-ask _ _ _ _ _ _ _ c.requires.task.stands c.in_ok-ask.ensures.ask }
