@@ -1,5 +1,15 @@
 -- A message that is signed with a leaf of a table.
-use Rattle.std.proofs.Common.{◌≡◌, ◌≤◌, ◌<◌, ◌^◌, ℕ, List, length, IfOk, Option, None, Result, Ok, Err, subst, sym, ◌∙◌}
+use Rattle.std.proofs.Common.{◌≡◌, ◌≤◌, ◌<◌, ◌^◌, ℕ, List, length, IfErr, IfOk, Option, None, Result, Ok, Err, refl, subst, sym, ap, ◌∙◌, arith}
+use Rattle.std.specs.declared.alloc.Global.{Global}
+use Rattle.std.specs.declared.vec.Vec.{Vec}
+use Rattle.aggregator_session.specs.Causes.{PortCauses, ReferenceCauses}
+use Rattle.aggregator_session.specs.Faults.{LostBy}
+use Rattle.aggregator_session.specs.declared.fault.SignFault.TheVariants.{Session}
+use Rattle.aggregator_session.specs.declared.fault.Why.{Why}
+use Rattle.aggregator_session.specs.declared.fault.Why.TheVariants.{DialFailed, ReadFailed, WriteFailed}
+use Rattle.aggregator_session.specs.declared.sign.Signed.{Signed}
+use Rattle.reference_value.specs.declared.cells.Cells as cells
+use Rattle.session_core.specs.declared.faults.SessionFault.TheVariants.{Reference}
 use Rattle.aggregator_session.specs.declared.fault.SignFault.{SignFault}
 use Rattle.disk_trait.specs.declared.disk.Pages as pages
 use Rattle.disk_trait.specs.declared.faults.Faults as faults
@@ -46,3 +56,69 @@ module _ {sign : ToSign} {before after : TableSeen} {port now : PortState} {end 
   pub not-begun : end ≡ Err fault → session ≡ None → (signs : SignsLeased sign before port after now (Err fault)) → last_of signs ≡ None
       → LeasedTo sign before port after now end session
   not-begun is none signs last = subst (λ (e : Result Signature SignFault). LeasedTo sign before port after now e session) (sym is) (record { signs = signs; session_is = none ∙ sym last })
+
+-- nobody was dialled
+pub port-none : {V : Type 0} (message : List ℕ) (port : PortState) (result : Result V SignFault) → ((why : Why) → LostBy why result → ⊥) → PortCauses message port port result
+port-none message port result none = record {
+  dialled = λ lost. absurd (none DialFailed lost);
+  unwritten = λ lost. absurd (none WriteFailed lost);
+  unread = λ lost. absurd (none ReadFailed lost);
+  reads = λ steady lost. none ReadFailed lost;
+  writes = λ steady fits lost. none WriteFailed lost;
+  onward = record { told = refl; steady = refl; place = refl; count = omega arith; accept_count = omega arith; room = omega arith };
+  accepting = refl;
+}
+
+-- no cell was read
+pub cells-none : {C V : Type 0} (c : cells.Ghosts C) (f : faults.Ghosts C) (own : C) (result : Result V SignFault) → (result ≡ Err (Session Reference) → ⊥) → ReferenceCauses c f own own result
+cells-none c f own result none = record {
+  rises = λ is. absurd (none is);
+  succeeds = λ exact is. none is;
+  stays = record { set = refl; plan = refl; told = refl; steady = refl; leaves = λ told. refl };
+}
+
+-- what came of a session is what comes of the message
+module _ (outcome : Result (Vec ℕ Global) SignFault) where
+  abbrev failed : SignFault → Result (Vec ℕ Global) SignFault
+  failed fault = Err fault
+
+  lost-back : (why : Why) (result : Result Signed SignFault) → IfErr result (λ fault. outcome ≡ Err fault) → LostBy why result → LostBy why outcome
+  lost-back why (Ok signed) from lost = absurd lost
+  lost-back why (Err fault) from lost = subst (λ (r : Result (Vec ℕ Global) SignFault). LostBy why r) (sym from) lost
+
+  err-back : (fault : SignFault) (result : Result Signed SignFault) → IfErr result (λ fault. outcome ≡ Err fault) → result ≡ Err fault → outcome ≡ Err fault
+  err-back fault (Ok signed) from is = absurd (cc)
+  err-back fault (Err other) from is = let same : other ≡ fault = cc in from ∙ ap failed same
+
+  pub port-signed : (message : List ℕ) (a b : PortState) (result : Result Signed SignFault) → IfErr result (λ fault. outcome ≡ Err fault) → PortCauses message a b outcome → PortCauses message a b result
+  port-signed message a b result from p = record {
+    dialled = λ lost. p.dialled (lost-back DialFailed result from lost);
+    unwritten = λ lost. p.unwritten (lost-back WriteFailed result from lost);
+    unread = λ lost. p.unread (lost-back ReadFailed result from lost);
+    reads = λ steady lost. p.reads steady (lost-back ReadFailed result from lost);
+    writes = λ steady fits lost. p.writes steady fits (lost-back WriteFailed result from lost);
+    onward = p.onward;
+    accepting = p.accepting;
+  }
+
+  pub cells-signed : {C : Type 0} (c : cells.Ghosts C) (f : faults.Ghosts C) (old new : C) (result : Result Signed SignFault) → IfErr result (λ fault. outcome ≡ Err fault)
+      → ReferenceCauses c f old new outcome → ReferenceCauses c f old new result
+  cells-signed c f old new result from r = record {
+    rises = λ is. r.rises (err-back (Session Reference) result from is);
+    succeeds = λ exact is. r.succeeds exact (err-back (Session Reference) result from is);
+    stays = r.stays;
+  }
+
+module _ {D : Type 0} {p : pages.Ghosts D} {f : faults.Ghosts D} (a b c : Table D p f) where
+  pub table-then : Stays a b → Stays b c → Stays a c
+  table-then one two = record {
+    plan = two.plan ∙ one.plan;
+    header = two.header ∙ one.header;
+    disk = record {
+      told = two.disk.told ∙ one.disk.told;
+      honest = two.disk.honest ∙ one.disk.honest;
+      steady = two.disk.steady ∙ one.disk.steady;
+      room = two.disk.room ∙ one.disk.room;
+      count = omega (arith, one.disk.count, two.disk.count);
+    };
+  }

@@ -1,7 +1,11 @@
-use Rattle.std.proofs.Common.{refl, ap, arith}
+use Rattle.std.proofs.Common.{◌<◌, ◌^◌, Result, refl, sym, ap, subst, arith}
+use Rattle.aggregator_session.specs.Causes.{PortCauses, ReferenceCauses}
+use Rattle.aggregator_session.specs.declared.fault.SignFault.{SignFault}
+use Rattle.aggregator_session.specs.declared.sign.Signed.{Signed}
+use Rattle.coalition_map.specs.Coalitions.{PlanNumbers}
 use Rattle.aggregator_session.specs.Signing.{not_leased, signature_in, too_long}
 use Rattle.aggregator_session.specs.Tables.{table_seen}
-use Rattle.aggregator_session.proofs.Signing.{asks-as, leased-to, not-begun}
+use Rattle.aggregator_session.proofs.Signing.{asks-as, cells-none, cells-signed, leased-to, not-begun, port-none, port-signed, table-then}
 use Rattle.aggregator_session.proofs.sign.run_leased.Goals as goal
 
 pub returns-then-message-clause-signs : goal.returns-then-message-clause-signs
@@ -17,3 +21,37 @@ returns-clause-signs g c =
     leased-to c.signed_with.ensures.answer (let long = c.if-message.false in omega arith) c.of-id.ensures
     (asks-as c.args.message.now c.of-id.ensures c.in-Ok.ensures.event c.in-Ok.ensures.within c.in-Ok.ensures.leased c.in-Ok.ensures.enters)
     c.run_on-outcome.ensures.runs c.spent_by.ensures c.burn_spent.ensures.spends
+
+pub returns-then-message-clause-port : goal.returns-then-message-clause-port
+returns-then-message-clause-port g c =
+    let port = g.P.Port.state c.args.port.now in
+    subst (λ (r : Result Signed SignFault). PortCauses c.args.message.now port port r) (sym c.not_begun.ensures.0) (port-none _ port _ (λ why lost. lost))
+
+pub returns-then-message-clause-cells : goal.returns-then-message-clause-cells
+returns-then-message-clause-cells g c =
+    let cells = c.args.cells.now in
+    subst (λ (r : Result Signed SignFault). ReferenceCauses g.R.Cells g.R.Faults cells cells r) (sym c.not_begun.ensures.0) (cells-none g.R.Cells g.R.Faults cells _ (λ is. cc))
+
+pub returns-in-Err-clause-port : goal.returns-in-Err-clause-port
+returns-in-Err-clause-port g c =
+    let port = g.P.Port.state c.args.port.now in
+    subst (λ (r : Result Signed SignFault). PortCauses c.args.message.now port port r) (sym c.not_begun-in-Err.ensures.0) (port-none _ port _ (λ why lost. lost))
+
+pub returns-in-Err-clause-cells : goal.returns-in-Err-clause-cells
+returns-in-Err-clause-cells g c =
+    let cells = c.args.cells.now in
+    subst (λ (r : Result Signed SignFault). ReferenceCauses g.R.Cells g.R.Faults cells cells r) (sym c.not_begun-in-Err.ensures.0) (cells-none g.R.Cells g.R.Faults cells _ (λ is. cc))
+
+pub returns-in-Err-clause-table : goal.returns-in-Err-clause-table
+returns-in-Err-clause-table g c = c.in-Err.ensures.enters.stays
+
+pub returns-clause-port : goal.returns-clause-port
+returns-clause-port g c =
+    port-signed c.run_on-outcome.result.outcome c.args.message.now _ _ c.signed_with.result c.signed_with.ensures.err c.run_on-outcome.ensures.port
+
+pub returns-clause-cells : goal.returns-clause-cells
+returns-clause-cells g c =
+    cells-signed c.run_on-outcome.result.outcome g.R.Cells g.R.Faults _ _ c.signed_with.result c.signed_with.ensures.err c.run_on-outcome.ensures.cells
+
+pub returns-clause-table : goal.returns-clause-table
+returns-clause-table g c = table-then c.args.table.now c.lease.new.self c.burn_spent.new.table c.in-Ok.ensures.enters.stays c.burn_spent.ensures.stays
