@@ -33,6 +33,14 @@ pub record IsBegun (store : StoreRun) (entropy message key_out signature_out see
   pub new : All (IsNew store) (key_out ∷ signature_out ∷ [])
   pub read : AreRead store entropy message seeds text
 
+-- internal: all is begun so, and the rehearsal gives these outputs
+pub record IsReady (store : StoreRun) (entropy message key_out signature_out : List ℕ) (outputs : List Output)
+    : Type 0 where
+  pub seeds : List ℕ
+  pub text : List ℕ
+  pub begun : IsBegun store entropy message key_out signature_out seeds text
+  pub made : IsRehearsedTo seeds text key_out signature_out outputs
+
 -- the end, and the outputs that were written
 abbrev pub RehearseEnds : StoreRun → (entropy message key_out signature_out : List ℕ) → Ending → List Output → Type 0
 RehearseEnds store entropy message key_out signature_out =

@@ -1,11 +1,12 @@
 //! The command `deal`.
 
-ghost use Rattle.std.specs.Prelude.{◌≡◌, ◌<◌, ◌≤◌, [], ◌++◌, List, ℕ, length, map, min, option_map, string_bytes};
+ghost use Rattle.std.specs.Prelude.{◌≡◌, ◌<◌, ◌≤◌, [], ◌∷◌, ◌++◌, List, ℕ, length, map, min, option_map};
 ghost use Rattle.std.specs.Prelude.{IfOk, IfErr, OnOk};
 ghost use Rattle.coalition_map.specs.Coalitions.{IsPlan};
 ghost use Rattle.dealer.specs.Dealt.{IsDealt};
 ghost use Rattle.dealer.specs.Files.{AreFiles};
 ghost use Rattle.dealer.specs.Entropy.{dealing_of};
+ghost use Rattle.stream_io.specs.declared.store.Readers.TheVariants.{Anyone};
 ghost use Rattle.tool_base.specs.Ending as spec;
 ghost use Rattle.tool_keys.specs.Naming.{named_files, named_shares};
 ghost use Rattle.tool_keys.specs.Deal.{AreAsked, DealEnds, IsDealableBy, IsDealtTo, IsNotDealt, IsReady, IsSet};
@@ -38,28 +39,14 @@ pub fn deal_files<R: Threads + Sync, S: Store>(
         EndsWith (DealEnds run (deal_words words.now)) run (ending result) }
     ensures back { IsBack (S.state store.old) (S.state store.new) }
 {
-    match try_deal(rt, alloc, store, words) {
-        Ok(done) => done,
+    let (outputs, done) = match new_outputs(rt, alloc, store, words) {
+        Ok(ready) => ready,
+        Err(end) => return end,
+    };
+    match write_all(alloc, store, &outputs) {
+        Ok(()) => done,
         Err(end) => end,
     }
-}
-
-/// Deals a key as the words ask, and writes its files. It answers the end once all are written.
-fn try_deal<R: Threads + Sync, S: Store>(
-    rt: &R,
-    alloc: Global,
-    store: &mut S,
-    words: &DealWords,
-) -> Result<Ending, Ending>
-    ensures dealt { let run = from_to (S.state store.old) (S.state store.new) in
-        IfOk result (λ done. EndsWith (DealEnds run (deal_words words.now)) run (ending done)) }
-    ensures refused { let run = from_to (S.state store.old) (S.state store.new) in
-        IfErr result (λ end. EndsWith (DealEnds run (deal_words words.now)) run (ending end)) }
-    ensures back { IsBack (S.state store.old) (S.state store.new) }
-{
-    let (outputs, done) = new_outputs(rt, alloc, store, words)?;
-    write_all(alloc, store, &outputs)?;
-    Ok(done)
 }
 
 /// Reads the entropy, deals, and tests the names of the outputs. It answers these and the end once all are written.
@@ -95,7 +82,9 @@ fn dealt_outputs<R: Threads + Sync>(
     let params = set_of(words)?;
     let plan = plan_of(words, &params)?;
     let (files, commits) = dealt_files(rt, alloc, words, &params, &plan, entropy)?;
-    let outputs = name_files(alloc, words.prefix, files, commits)?;
+    let Ok(outputs) = named_outputs(alloc, words.prefix, files, commits) else {
+        return Err(Ending::NoMemory);
+    };
     let done = Ending::Dealt {
         leaves: params.leaves(),
         coalitions: plan.count(),
@@ -160,24 +149,6 @@ fn deal_as_asked<R: Threads + Sync>(
 }
 
 /// The files with their names.
-fn name_files(
-    alloc: Global,
-    prefix: &str,
-    files: DealingFiles,
-    commits: Option<Vec<u8>>,
-) -> Result<Vec<Output>, Ending>
-    requires { length files.shares.items ≤ 12 }
-    ensures named { IfOk result (λ outputs. map output_of outputs.items
-        ≡ named_files prefix.now files (option_map (λ file. file.items) commits)) }
-    ensures refused { IfErr result (λ end. ending end ≡ spec.NoMemory) }
-{
-    match named_outputs(alloc, prefix, files, commits) {
-        Ok(outputs) => Ok(outputs),
-        Err(AllocError) => Err(Ending::NoMemory),
-    }
-}
-
-/// The files with their names.
 fn named_outputs(
     alloc: Global,
     prefix: &str,
@@ -189,24 +160,31 @@ fn named_outputs(
         ≡ named_files prefix.now files (option_map (λ file. file.items) commits)) }
 {
     let mut outputs = Vec::new(alloc);
-    outputs.push(named(
-        format!(in alloc; "{prefix}.pub")?,
-        files.public,
-        Readers::Anyone,
-    ))?;
-    outputs.push(named(
-        format!(in alloc; "{prefix}.tree")?,
-        files.tree,
-        Readers::Anyone,
-    ))?;
-    outputs.push(named(
-        format!(in alloc; "{prefix}.ref")?,
-        files.reference,
-        Readers::Anyone,
-    ))?;
+    push_file(alloc, prefix, ".pub", files.public, &mut outputs)?;
+    push_file(alloc, prefix, ".tree", files.tree, &mut outputs)?;
+    push_file(alloc, prefix, ".ref", files.reference, &mut outputs)?;
     push_shares(alloc, prefix, files.shares, &mut outputs)?;
     push_commits(alloc, prefix, commits, &mut outputs)?;
     Ok(outputs)
+}
+
+/// Adds a file that anyone may read, under the prefix with an ending behind it.
+fn push_file(
+    alloc: Global,
+    prefix: &str,
+    end: &str,
+    bytes: Vec<u8>,
+    outputs: &mut Vec<Output>,
+) -> Result<(), AllocError>
+    ensures { OnOk result (map output_of outputs.new.items ≡ map output_of outputs.old.items
+        ++ (record { name = prefix.now ++ end.now; bytes = bytes.items; readers = Anyone } ∷ [])) }
+{
+    outputs.push(Output {
+        name: format!(in alloc; "{prefix}{end}")?,
+        bytes,
+        readers: Readers::Anyone,
+    })?;
+    Ok(())
 }
 
 /// Adds the shares with their names, that of trustee 1 first. A share is its trustee's secret.
@@ -222,11 +200,11 @@ fn push_shares(
 {
     let mut t: u8 = 1;
     'shares: for share in shares {
-        outputs.push(named(
-            format!(in alloc; "{prefix}.share{t}")?,
-            share,
-            Readers::OwnerAlone,
-        ))?;
+        outputs.push(Output {
+            name: format!(in alloc; "{prefix}.share{t}")?,
+            bytes: share,
+            readers: Readers::OwnerAlone,
+        })?;
         t += 1;
     }
     Ok(())
@@ -242,20 +220,9 @@ fn push_commits(
     ensures { OnOk result (map output_of outputs.new.items
         ≡ map output_of outputs.old.items ++ commits_outputs prefix.now (option_map (λ file. file.items) commits)) }
 {
-    if let Some(file) = commits {
-        outputs.push(named(format!(in alloc; "{prefix}.commit")?, file, Readers::Anyone))?;
-    }
-    Ok(())
-}
-
-/// A file under a name.
-fn named(name: String, bytes: Vec<u8>, readers: Readers) -> Output
-    ensures { output_of result ≡ record { name = string_bytes name; bytes = bytes.items; readers = readers } }
-{
-    Output {
-        name,
-        bytes,
-        readers,
+    match commits {
+        Some(file) => push_file(alloc, prefix, ".commit", file, outputs),
+        None => Ok(()),
     }
 }
 

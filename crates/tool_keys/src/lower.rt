@@ -1,21 +1,21 @@
 //! The lower key, its signature and the message.
 
-ghost use Rattle.std.specs.Prelude.{All, IfErr, IfOk, OnOk};
+ghost use Rattle.std.specs.Prelude.{IfErr, IfOk};
 ghost use Rattle.stream_io.specs.Net.{NetState};
 ghost use Rattle.stream_io.specs.Store.{StoreOnward};
 ghost use Rattle.tool_base.specs.Endings.{ending};
-ghost use Rattle.tool_base.specs.Outputs.{FirstNotNew, IsNew};
 ghost use Rattle.tool_base.specs.World.{InAnyRun, IsUnchanged, from_to};
 ghost use Rattle.tool_keys.specs.HssSign.{HssSigningRun};
-ghost use Rattle.tool_keys.specs.Lower.{FailsLower, IsLower, IsReady, lower_of, output_names};
+ghost use Rattle.tool_keys.specs.Lower.{FailsLower, IsLower, IsReady, lower_of};
 ghost use Rattle.tool_sign.specs.Ports.{over_net};
 ghost use Rattle.tool_words.specs.Rows.{hss_sign_words};
 
+use crate::reading::test_two_new;
 use lms_bytes::PublicKey;
 use lms_verify::{Verdict, verify};
 use std::alloc::Global;
 use stream_io::Store;
-use tool_base::{Ending, FILE_LIMIT, read_file, test_new};
+use tool_base::{Ending, FILE_LIMIT, read_file};
 use tool_desk::read_key_file;
 use tool_words::HssSignWords;
 
@@ -39,25 +39,13 @@ pub(crate) fn accepted_lower<S: Store>(
         (from_to (S.state store.old) (S.state store.new)) (over_net net net) (ending end)) }
     ensures unchanged { IsUnchanged (S.state store.old) (S.state store.new) }
 {
-    test_outputs(alloc, words, store)?;
+    test_two_new(alloc, store, words.key_out, words.signature_out)?;
     let lower = read_lower(alloc, words, store)?;
     let verdict = verify(&lower.key, &lower.message, &lower.signature);
     match verdict {
         Verdict::Accepted { .. } => Ok(lower),
         Verdict::Malformed(_) | Verdict::OtherRoot { .. } => Err(Ending::Verified(verdict)),
     }
-}
-
-/// Tests that the names of both outputs are new.
-fn test_outputs<S: Store>(alloc: Global, words: &HssSignWords, store: &mut S) -> Result<(), Ending>
-    ensures new { InAnyRun S.state store.old store.new (λ run.
-        OnOk result (All (IsNew run) (output_names (hss_sign_words words.now)))) }
-    ensures refused { InAnyRun S.state store.old store.new (λ run.
-        IfErr result (λ end. FirstNotNew run (output_names (hss_sign_words words.now)) (ending end))) }
-    ensures unchanged { IsUnchanged (S.state store.old) (S.state store.new) }
-{
-    test_new(alloc, store, words.key_out)?;
-    test_new(alloc, store, words.signature_out)
 }
 
 /// Reads the lower key, its signature and the message.

@@ -1,22 +1,22 @@
 //! The command `rehearse`.
 
-ghost use Rattle.std.specs.Prelude.{◌≡◌, ◌≢◌, [], ◌∷◌, map, IfOk, IfErr, OnOk};
+ghost use Rattle.std.specs.Prelude.{◌≡◌, ◌≢◌, [], ◌∷◌, map, IfOk, IfErr};
 ghost use Rattle.lms_bytes.specs.PublicKey.{public_bytes};
 ghost use Rattle.stream_io.specs.declared.store.Readers.TheVariants.{Anyone};
-ghost use Rattle.tool_base.specs.Ending as spec;
 ghost use Rattle.tool_base.specs.Endings.{ending};
 ghost use Rattle.tool_base.specs.OutputOf.{output_of};
 ghost use Rattle.tool_base.specs.Outputs.{EndsWith};
-ghost use Rattle.tool_keys.specs.Rehearse.{IsBegun, IsNotRehearsed, IsRehearsedTo, RehearseEnds};
+ghost use Rattle.tool_keys.specs.Rehearse.{IsBegun, IsNotRehearsed, IsReady, IsRehearsedTo, RehearseEnds};
 ghost use Rattle.tool_base.specs.World.{InAnyRun, IsBack, IsUnchanged, from_to};
 
-use crate::reading::read_two;
+use crate::reading::{read_two, test_two_new};
 use crate::undealt::end_of_fault;
+use crate::writing::two_outputs;
 use dealer::{Rehearsed, public_file, rehearse};
 use memory::NoMemory;
 use std::alloc::Global;
-use stream_io::{Readers, Store};
-use tool_base::{Ending, Output, test_new, write_all};
+use stream_io::Store;
+use tool_base::{Ending, Output, write_all};
 
 /// Deals a key and signs a message with its first leaf in memory, and writes the public key and the signature.
 pub fn rehearse_files<S: Store>(
@@ -32,10 +32,33 @@ pub fn rehearse_files<S: Store>(
         EndsWith (RehearseEnds run entropy.now message.now key_out.now signature_out.now) run (ending result) }
     ensures back { IsBack (S.state store.old) (S.state store.new) }
 {
-    match try_rehearse(alloc, store, entropy, message, key_out, signature_out) {
+    let outputs = match new_outputs(alloc, store, entropy, message, key_out, signature_out) {
+        Ok(outputs) => outputs,
+        Err(end) => return end,
+    };
+    match write_all(alloc, store, &outputs) {
         Ok(()) => Ending::Rehearsed,
         Err(end) => end,
     }
+}
+
+/// Tests the names of the outputs, reads the entropy and the message, and deals and signs in memory.
+fn new_outputs<S: Store>(
+    alloc: Global,
+    store: &mut S,
+    entropy: &str,
+    message: &str,
+    key_out: &str,
+    signature_out: &str,
+) -> Result<[Output; 2], Ending>
+    ensures ready { InAnyRun S.state store.old store.new (λ run. IfOk result (λ outputs.
+        IsReady run entropy.now message.now key_out.now signature_out.now (map output_of outputs))) }
+    ensures refused { InAnyRun S.state store.old store.new (λ run.
+        IfErr result (λ end. RehearseEnds run entropy.now message.now key_out.now signature_out.now (ending end) [])) }
+    ensures unchanged { IsUnchanged (S.state store.old) (S.state store.new) }
+{
+    let (seeds, text) = read_new(alloc, store, entropy, message, key_out, signature_out)?;
+    rehearsed_outputs(alloc, &seeds, &text, key_out, signature_out)
 }
 
 /// Tests the names of the outputs, and reads the entropy and the message.
@@ -53,32 +76,8 @@ fn read_new<S: Store>(
         IfErr result (λ end. RehearseEnds run entropy.now message.now key_out.now signature_out.now (ending end) [])) }
     ensures unchanged { IsUnchanged (S.state store.old) (S.state store.new) }
 {
-    test_new(alloc, store, key_out)?;
-    test_new(alloc, store, signature_out)?;
+    test_two_new(alloc, store, key_out, signature_out)?;
     read_two(alloc, store, entropy, message)
-}
-
-/// Tests the names of the outputs, reads, deals and signs in memory, and writes.
-fn try_rehearse<S: Store>(
-    alloc: Global,
-    store: &mut S,
-    entropy: &str,
-    message: &str,
-    key_out: &str,
-    signature_out: &str,
-) -> Result<(), Ending>
-    requires { key_out.now ≢ signature_out.now }
-    ensures rehearsed { let run = from_to (S.state store.old) (S.state store.new) in
-        OnOk result (EndsWith (RehearseEnds run entropy.now message.now key_out.now signature_out.now) run
-        spec.Rehearsed) }
-    ensures refused { let run = from_to (S.state store.old) (S.state store.new) in
-        IfErr result (λ end. EndsWith (RehearseEnds run entropy.now message.now key_out.now signature_out.now) run
-        (ending end)) }
-    ensures back { IsBack (S.state store.old) (S.state store.new) }
-{
-    let (seeds, text) = read_new(alloc, store, entropy, message, key_out, signature_out)?;
-    let outputs = rehearsed_outputs(alloc, &seeds, &text, key_out, signature_out)?;
-    write_all(alloc, store, &outputs)
 }
 
 /// The files of a rehearsal: the public key and the signature.
@@ -114,15 +113,6 @@ fn named_outputs(
         record { name = key_out.now; bytes = public_bytes rehearsed.public; readers = Anyone }
         ∷ record { name = signature_out.now; bytes = rehearsed.signature.items; readers = Anyone } ∷ []) }
 {
-    let key = Output {
-        name: String::from_str(alloc, key_out)?,
-        bytes: public_file(alloc, &rehearsed.public)?,
-        readers: Readers::Anyone,
-    };
-    let signature = Output {
-        name: String::from_str(alloc, signature_out)?,
-        bytes: rehearsed.signature,
-        readers: Readers::Anyone,
-    };
-    Ok([key, signature])
+    let key = public_file(alloc, &rehearsed.public)?;
+    two_outputs(alloc, key_out, key, signature_out, rehearsed.signature)
 }

@@ -1,8 +1,9 @@
-//! The key and the signature of two levels, and their files.
+//! The key and the signature of two levels, and their files, and two files that anyone may read.
 
-ghost use Rattle.std.specs.Prelude.{◌≡◌, ◌≢◌, All, IfOk, map};
+ghost use Rattle.std.specs.Prelude.{◌≡◌, ◌≢◌, [], ◌∷◌, All, IfOk, map};
 ghost use Rattle.hss_levels.specs.Levels.{Accepts};
 ghost use Rattle.lms_bytes.specs.PublicKey.{public_bytes};
+ghost use Rattle.stream_io.specs.declared.store.Readers.TheVariants.{Anyone};
 ghost use Rattle.tool_base.specs.Endings.{ending};
 ghost use Rattle.tool_base.specs.OutputOf.{output_of};
 ghost use Rattle.tool_base.specs.Outputs.{IsNew};
@@ -67,15 +68,33 @@ fn joined_outputs(
         &lower.key,
         &lower.signature,
     )?;
-    let key = Output {
-        name: String::from_str(alloc, words.key_out)?,
-        bytes: key,
-        readers: Readers::Anyone,
-    };
-    let signature = Output {
-        name: String::from_str(alloc, words.signature_out)?,
-        bytes: signature,
-        readers: Readers::Anyone,
-    };
-    Ok([key, signature])
+    two_outputs(alloc, words.key_out, key, words.signature_out, signature)
+}
+
+/// Two files under their names, which anyone may read.
+pub(crate) fn two_outputs(
+    alloc: Global,
+    one: &str,
+    first: Vec<u8>,
+    two: &str,
+    second: Vec<u8>,
+) -> Result<[Output; 2], NoMemory>
+    ensures { IfOk result (λ outputs. map output_of outputs ≡
+        record { name = one.now; bytes = first.items; readers = Anyone }
+        ∷ record { name = two.now; bytes = second.items; readers = Anyone } ∷ []) }
+{
+    let one = String::from_str(alloc, one)?;
+    let two = String::from_str(alloc, two)?;
+    Ok([
+        Output {
+            name: one,
+            bytes: first,
+            readers: Readers::Anyone,
+        },
+        Output {
+            name: two,
+            bytes: second,
+            readers: Readers::Anyone,
+        },
+    ])
 }

@@ -11,6 +11,6 @@ pub shares-preserved : goal.shares-preserved
 shares-preserved c =
     let at = c.shares.invariant.0 in (
       omega (arith, length_push c.shares.yielded c.in-Some.share),
-      pushed c.args.prefix.now output_of (λ share. share.items) c.shares.outputs.items _ _ c.shares.yielded c.in-Some.share c.named.result c.shares.t at
-          c.in_ok-push.ensures.items c.shares.invariant.1 (c.named.ensures ∙ rw c.in_ok-format.ensures.ok refl),
+      pushed c.args.prefix.now output_of (λ share. share.items) c.shares.outputs.items _ _ c.shares.yielded c.in-Some.share _ c.shares.t at
+          c.in_ok-push.ensures.items c.shares.invariant.1 (rw c.in_ok-format.ensures.ok refl),
     )

@@ -8,19 +8,19 @@ use Rattle.tool_keys.specs.Lower.{lower_of}
 use Rattle.tool_words.specs.Rows.{hss_sign_words}
 use Rattle.tool_keys.proofs.lower.accepted_lower.Goals as goal
 
-pub returns-in_err-test_outputs-clause-refused : goal.returns-in_err-test_outputs-clause-refused
-returns-in_err-test_outputs-clause-refused g c =
+pub returns-in_err-test_two_new-clause-refused : goal.returns-in_err-test_two_new-clause-refused
+returns-in_err-test_two_new-clause-refused g c =
     let p = err_from_is_err_and c.from_residual.result c.from_residual.ensures.1 in
-    let tested = c.in_err-test_outputs.ensures in
+    let tested = c.in_err-test_two_new.ensures in
     λ net. rw (p.1, p.2) (unbegun (hss_sign_words c.args.words.now) _ _ net _ tested.unchanged
-    (not_new _ (tested.refused c.args.store.now c.test_outputs.new.store (part_of _ _ _ _ (unchanged_none _) (onward_none _))) refl))
+    (not_new _ (tested.refused c.args.store.now c.test_two_new.new.store (part_of _ _ _ _ (unchanged_none _) (onward_none _))) refl))
 
 pub returns-in_err-lower-clause-refused : goal.returns-in_err-lower-clause-refused
 returns-in_err-lower-clause-refused g c =
     let p = err_from_is_err_and c.from_residual-in_err-lower.result c.from_residual-in_err-lower.ensures.1 in
     let first = c.args.store.now in
     let last = c.read_lower.new.store in
-    let tested = c.in_ok-test_outputs.ensures in
+    let tested = c.in_ok-test_two_new.ensures in
     let read = c.in_err-lower.ensures in
     λ net. rw (p.1, p.2) (unbegun (hss_sign_words c.args.words.now) _ _ net _ (unchanged_on _ _ _ tested.unchanged read.unchanged)
     (no_lower _ (tested.new first last (part_of _ _ _ _ (unchanged_none _) read.unchanged.onward)) (read.refused first last (part_of _ _ _ _ tested.unchanged (onward_none _))) refl))
@@ -28,7 +28,7 @@ returns-in_err-lower-clause-refused g c =
 pub returns-in-Accepted-clause-ready : goal.returns-in-Accepted-clause-ready
 returns-in-Accepted-clause-ready g c = λ last onward.
     let first = c.args.store.now in
-    let tested = c.in_ok-test_outputs.ensures in
+    let tested = c.in_ok-test_two_new.ensures in
     let read = c.in_ok-lower.ensures in
     record {
       new = tested.new first last (part_of _ _ _ _ (unchanged_none _) (onward_on _ _ _ read.unchanged.onward onward));
@@ -37,13 +37,13 @@ returns-in-Accepted-clause-ready g c = λ last onward.
     }
 
 pub returns-in-Accepted-clause-unchanged : goal.returns-in-Accepted-clause-unchanged
-returns-in-Accepted-clause-unchanged g c = unchanged_on _ _ _ c.in_ok-test_outputs.ensures.unchanged c.in_ok-lower.ensures.unchanged
+returns-in-Accepted-clause-unchanged g c = unchanged_on _ _ _ c.in_ok-test_two_new.ensures.unchanged c.in_ok-lower.ensures.unchanged
 
 pub returns-in-Malformed : goal.returns-in-Malformed
 returns-in-Malformed g c =
     let first = c.args.store.now in
     let last = c.read_lower.new.store in
-    let tested = c.in_ok-test_outputs.ensures in
+    let tested = c.in_ok-test_two_new.ensures in
     let read = c.in_ok-lower.ensures in
     let unchanged = unchanged_on _ _ _ tested.unchanged read.unchanged in
     let says = c.verify-verdict.result in

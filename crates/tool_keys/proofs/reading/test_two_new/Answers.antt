@@ -4,15 +4,15 @@ use Rattle.std.proofs.lemmas.Result.{err_from_is_err_and, IfErr-weaker, on_ok_we
 use Rattle.tool_base.proofs.Runs.{unchanged_on, onward_on, part_of}
 use Rattle.tool_base.specs.Outputs.{IsNew}
 use Rattle.tool_base.specs.World.{from_to}
-use Rattle.tool_keys.proofs.lower.test_outputs.Goals as goal
+use Rattle.tool_keys.proofs.reading.test_two_new.Goals as goal
 
 pub returns-in_err-test_new-clause-refused : goal.returns-in_err-test_new-clause-refused
 returns-in_err-test_new-clause-refused g c =
     let p = err_from_is_err_and c.from_residual.result c.from_residual.ensures.1 in
     λ first last part. rw (p.1, p.2) (record {
       before = [];
-      name = c.args.words.now.key_out.now;
-      after = c.args.words.now.signature_out.now ∷ [];
+      name = c.args.one.now;
+      after = c.args.two.now ∷ [];
       is = refl;
       new = All-nil (IsNew (from_to (g.S.Store.state first) (g.S.Store.state last)));
       cause = c.in_err-test_new.ensures.refused first last part;
@@ -26,7 +26,7 @@ returns-clause-new g c =
     let Fresh = IsNew (from_to (g.S.Store.state first) (g.S.Store.state last)) in
     let key = one.new first last (part_of _ _ _ _ part.earlier (onward_on _ _ _ two.unchanged.onward part.later)) in
     on_ok_weaker c.test_new-2.result (λ signature.
-    All-cons Fresh c.args.words.now.key_out.now (c.args.words.now.signature_out.now ∷ []) key (All-cons Fresh c.args.words.now.signature_out.now [] signature (All-nil Fresh)))
+    All-cons Fresh c.args.one.now (c.args.two.now ∷ []) key (All-cons Fresh c.args.two.now [] signature (All-nil Fresh)))
     (two.new first last (part_of _ _ _ _ (unchanged_on _ _ _ part.earlier one.unchanged) part.later))
 
 pub returns-clause-refused : goal.returns-clause-refused
@@ -37,11 +37,11 @@ returns-clause-refused g c =
     let Fresh = IsNew (from_to (g.S.Store.state first) (g.S.Store.state last)) in
     let key = one.new first last (part_of _ _ _ _ part.earlier (onward_on _ _ _ two.unchanged.onward part.later)) in
     IfErr-weaker c.test_new-2.result _ _ (λ end cause. record {
-      before = c.args.words.now.key_out.now ∷ [];
-      name = c.args.words.now.signature_out.now;
+      before = c.args.one.now ∷ [];
+      name = c.args.two.now;
       after = [];
       is = refl;
-      new = All-cons Fresh c.args.words.now.key_out.now [] key (All-nil Fresh);
+      new = All-cons Fresh c.args.one.now [] key (All-nil Fresh);
       cause = cause;
     })
     (two.refused first last (part_of _ _ _ _ (unchanged_on _ _ _ part.earlier one.unchanged) part.later))
