@@ -1,6 +1,6 @@
-use Rattle.std.proofs.Common.{length, refl, rules}
+use Rattle.std.proofs.Common.{length, refl}
 use Rattle.disk_trait.specs.MemDisk.{write_fails, sync_fails}
-use Rattle.disk_trait.proofs.Calls.{write-bytes, write-torn, write-cause, write-steady, write-room, sync-stable, sync-images, sync-cause, sync-bytes, sync-steady, sync-room}
+use Rattle.disk_trait.proofs.Calls.{write-bytes, write-torn, write-cause, write-within, write-fits, write-succeeds, write-steady, write-room, sync-stable, sync-images, sync-cause, sync-bytes, sync-succeeds, sync-steady, sync-room}
 use Rattle.disk_trait.proofs.mem_disk.MemDiskDisk.TheImpl.Goals as goal
 
 pub write_at-tells : goal.write_at-tells
@@ -12,9 +12,9 @@ write_at-tells c =
       bytes = λ told. rw (c.ensures.outcome, c.ensures.after) (write-bytes disk c.args.at bytes fails);
       torn = λ told. rw (c.ensures.outcome, c.ensures.after) (write-torn disk c.args.at bytes fails);
       images = λ honest. c.ensures.images;
-      within = search rules;
-      fits = search rules;
-      succeeds = search rules;
+      within = λ told. rw c.ensures.outcome (write-within disk c.args.at (length bytes));
+      fits = λ told. rw c.ensures.outcome (write-fits disk c.args.at (length bytes));
+      succeeds = λ steady told begins ends. rw c.ensures.outcome (write-succeeds disk c.args.at (length bytes) steady begins ends);
       cause = rw (c.ensures.outcome, c.ensures.after) (write-cause disk c.args.at bytes fails);
       stays = record {
         told = refl;
@@ -33,7 +33,7 @@ sync-tells c =
       images = λ honest. rw c.ensures.after (sync-images disk fails);
       same = λ told. rw c.ensures.after (sync-bytes disk fails);
       has_room = λ told. c.ensures.has_room;
-      succeeds = search rules;
+      succeeds = λ steady. rw c.ensures.outcome (sync-succeeds disk steady);
       cause = rw (c.ensures.outcome, c.ensures.after) (sync-cause disk fails);
       stays = record {
         told = refl;
