@@ -88,15 +88,6 @@ fn adds_or_not(rt: &impl Abort, alloc: Global, call: u64, pick: u64) -> bool {
     answered & (lists(&book, b"abc") == is_made)
 }
 
-#[test]
-fn a_listing_is_before_or_after(rt: HostRuntime) {
-    for call in 0..5 {
-        for pick in [0, 1] {
-            assert!(rt; adds_or_not(&rt, rt.alloc(), call, pick));
-        }
-    }
-}
-
 /// Lists `abc` by a disk that fails at a call, and then another message: whether so many are listed then.
 fn adds_again(rt: &impl Abort, alloc: Global, call: u64, count: u32) -> bool {
     let disk = failing_file(
@@ -113,11 +104,15 @@ fn adds_again(rt: &impl Abort, alloc: Global, call: u64, count: u32) -> bool {
 }
 
 #[test]
-fn a_doubt_is_settled(rt: HostRuntime) {
-    for call in 0..3 {
-        assert!(rt; adds_again(&rt, rt.alloc(), call, 1));
+fn a_listing_is_before_or_after_and_a_doubt_is_settled(rt: HostRuntime) {
+    for call in 0..5 {
+        for pick in [0, 1] {
+            assert!(rt; adds_or_not(&rt, rt.alloc(), call, pick));
+        }
     }
-    assert!(rt; adds_again(&rt, rt.alloc(), 3, 2));
+    for (call, count) in [(0, 1), (1, 1), (2, 1), (3, 2)] {
+        assert!(rt; adds_again(&rt, rt.alloc(), call, count), "call {call}");
+    }
 }
 
 /// Writes what a full book has: in slot `i` the message of the bytes of `i`.

@@ -30,17 +30,10 @@ impl Cache {
         }
     }
 
-    /// Puts body A into slot 1 if it is free, where no put is in doubt.
-    fn put_first(&mut self) -> Result<(), DiskFault> {
+    /// Puts into slot 1 the body that is next, where no put is in doubt.
+    fn put_next(&mut self) -> Result<(), DiskFault> {
         match (self.slots.doubt(), *self.slots.slot(1)) {
             (None, Slot::Free) => self.slots.put_a(1, &A),
-            _ => Ok(()),
-        }
-    }
-
-    /// Puts body B into slot 1 if it is half, where no put is in doubt.
-    fn put_second(&mut self) -> Result<(), DiskFault> {
-        match (self.slots.doubt(), *self.slots.slot(1)) {
             (None, Slot::Half(_)) => self.slots.put_b(1, &B, 0),
             _ => Ok(()),
         }
@@ -70,47 +63,35 @@ impl Cache {
         doubted & self.has(1, Slot::Free)
     }
 
-    /// How many slots there are.
-    fn count(&self) -> u32 {
-        self.slots.count()
-    }
-
     /// Gives the disk back.
     fn end(self) -> MemDisk {
         self.slots.end()
     }
 }
 
-/// A cache of free slots, with body A and body B put into slot 1.
-fn filled(rt: &impl Abort, alloc: Global) -> Cache {
-    let disk = free_file(rt, alloc, &header(1, 3), 8);
-    let mut cache = Cache::open(rt, alloc, disk);
-    let first = cache.put_first().is_ok();
-    let second = cache.put_second().is_ok();
-    assert!(rt; first & second);
-    cache
-}
-
-#[test]
-fn a_cache_is_sure_and_free(rt: HostRuntime) {
-    let disk = free_file(&rt, rt.alloc(), &header(1, 3), 8);
-    let mut cache = Cache::open(&rt, rt.alloc(), disk);
+/// Whether a cache is sure, has eight slots and nothing to settle, and its last slot is free.
+fn is_idle(cache: &mut Cache) -> bool {
     let idle = cache.settles(Ok(Settled::Nothing));
-    assert!(rt; idle & cache.is_sure() & (cache.count() == 8) & cache.has(7, Slot::Free));
+    let count = cache.slots.count() == 8;
+    idle & count & cache.is_sure() & cache.has(7, Slot::Free)
 }
 
 #[test]
 fn slots_are_kept(rt: HostRuntime) {
-    let cache = filled(&rt, rt.alloc());
+    let disk = free_file(&rt, rt.alloc(), &header(1, 3), 8);
+    let mut cache = Cache::open(&rt, rt.alloc(), disk);
+    assert!(rt; is_idle(&mut cache));
+    let first = cache.put_next().is_ok();
+    let second = cache.put_next().is_ok();
     let last = Cache::open(&rt, rt.alloc(), cache.end());
-    assert!(rt; last.has(1, Slot::Full(A, B, 0)) & last.has(0, Slot::Free));
+    assert!(rt; first & second & last.has(1, Slot::Full(A, B, 0)) & last.has(0, Slot::Free));
 }
 
 /// Puts body A into slot 1, which fails at a call, and settles it: whether that finds this, and keeps the slot as this.
 fn is_settled(rt: &impl Abort, alloc: Global, call: u64, found: Settled, kept: Slot) -> bool {
     let disk = failing_file(rt, alloc, &header(1, 3), 8, call);
     let mut cache = Cache::open(rt, alloc, disk);
-    let refused = cache.put_first().is_err();
+    let refused = cache.put_next().is_err();
     let doubted = cache.is_doubted();
     let settled = cache.settles(Ok(found));
     refused & doubted & settled & cache.is_sure() & cache.has(1, kept)
@@ -130,7 +111,7 @@ fn a_refused_put_is_settled(rt: HostRuntime) {
 fn a_doubt_stays_where_the_disk_fails(rt: HostRuntime) {
     let disk = stopping_file(&rt, rt.alloc(), &header(1, 3), 8, 7);
     let mut cache = Cache::open(&rt, rt.alloc(), disk);
-    let refused = cache.put_first().is_err();
+    let refused = cache.put_next().is_err();
     let fails = cache.settles(Err(SettleFault::Device));
     assert!(rt; refused & fails & cache.is_doubted());
 }
@@ -144,15 +125,11 @@ fn is_refused(alloc: Global, disk: MemDisk, why: CacheLoad) -> bool {
 }
 
 #[test]
-fn a_file_that_is_not_read_is_refused(rt: HostRuntime) {
+fn another_file_is_refused(rt: HostRuntime) {
     for call in 0..4 {
         let disk = failing_file(&rt, rt.alloc(), &header(1, 3), 8, call);
         assert!(rt; is_refused(rt.alloc(), disk, CacheLoad::Device));
     }
-}
-
-#[test]
-fn another_file_is_refused(rt: HostRuntime) {
     let disk = free_file(&rt, rt.alloc(), &header(1, 3), 8);
     let disk = with_byte(&rt, disk, 168 + 128, 0xC2);
     let disk = with_byte(&rt, disk, 168 + 256, 0xC2);

@@ -111,18 +111,6 @@ fn empty_journal(rt: &impl Abort, alloc: Global) -> Leaves {
     Leaves::open(rt, alloc, free_file(rt, alloc, &header(2, 3), 32))
 }
 
-/// A journal with no entry, on a disk that stops at a call after the load.
-fn stopping_journal(rt: &impl Abort, alloc: Global, call: u64) -> Leaves {
-    let disk = stopping_file(
-        rt,
-        alloc,
-        &header(2, 3),
-        32,
-        LOAD_CALLS.saturating_add(call),
-    );
-    Leaves::open(rt, alloc, disk)
-}
-
 /// A journal with no entry, on a disk of which one call after the load fails.
 fn failing_journal(rt: &impl Abort, alloc: Global, call: u64) -> Leaves {
     let disk = failing_file(
@@ -179,50 +167,29 @@ fn stopped(call: u64) -> Result<Entered, JournalFault> {
     }
 }
 
-/// Whether an entry is made whose disk stops at a call.
-fn is_made(call: u64, pick: u64) -> bool {
-    call == 4 || call == 3 && pick == 1
-}
-
-/// Whether binding leaf 1 leaves it as before or as after, where the disk stops at a call.
-fn binds_or_not(rt: &impl Abort, alloc: Global, call: u64, pick: u64) -> bool {
-    let mut leaves = stopping_journal(rt, alloc, call);
-    let answered = leaves.binds(1, &ONE, stopped(call));
+/// Whether binding leaf 1 and then opening it leaves each as before or as after, where the disk stops at a call: an
+/// entry takes four, and by pick 1 a crash keeps what was written and not synced.
+fn enters_or_not(rt: &impl Abort, alloc: Global, call: u64, pick: u64) -> bool {
+    let at = LOAD_CALLS.saturating_add(call);
+    let mut leaves = Leaves::open(rt, alloc, stopping_file(rt, alloc, &header(2, 3), 32, at));
+    let binds = leaves.binds(1, &ONE, stopped(call));
+    let opens = call < 4 || leaves.opens((0xCC, 0xDD), 7, stopped(call - 4));
     let mut leaves = leaves.crash(rt, alloc, pick);
-    if is_made(call, pick) {
-        let listed = leaves.lists(&[bound(1, ONE)]);
-        answered & listed & leaves.binds(1, &TWO, SPENT)
-    } else {
-        let listed = leaves.lists(&[]);
-        answered & listed & leaves.binds(1, &TWO, Ok(Entered::New))
-    }
-}
-
-#[test]
-fn a_bind_is_before_or_after(rt: HostRuntime) {
-    for call in 0..5 {
-        for pick in [0, 1, 5] {
-            assert!(rt; binds_or_not(&rt, rt.alloc(), call, pick));
-        }
-    }
-}
-
-/// Whether opening leaf 1 leaves it as before or as after, where the disk stops at a call of the opening.
-fn opens_or_not(rt: &impl Abort, alloc: Global, call: u64, pick: u64) -> bool {
-    let mut leaves = stopping_journal(rt, alloc, call.saturating_add(4));
-    let binds = leaves.binds(1, &ONE, Ok(Entered::New));
-    let answered = leaves.opens((0xCC, 0xDD), 7, stopped(call));
-    let leaves = leaves.crash(rt, alloc, pick);
     let whole = [bound(1, ONE), opened()];
-    let count = if is_made(call, pick) { 2 } else { 1 };
-    binds & answered & leaves.lists(&whole[..count])
+    let count = call.saturating_add(u64::from(pick == 1)) / 4;
+    let listed = leaves.lists(&whole[..count.min(2) as usize]);
+    let again = if count > 0 { SPENT } else { Ok(Entered::New) };
+    binds & opens & listed & leaves.binds(1, &TWO, again)
 }
 
 #[test]
-fn an_opening_is_before_or_after(rt: HostRuntime) {
-    for call in 0..5 {
+fn an_entry_is_before_or_after(rt: HostRuntime) {
+    for call in 0..9 {
         for pick in [0, 1, 5] {
-            assert!(rt; opens_or_not(&rt, rt.alloc(), call, pick));
+            assert!(rt;
+                enters_or_not(&rt, rt.alloc(), call, pick),
+                "call {call}, pick {pick}"
+            );
         }
     }
 }
@@ -242,14 +209,6 @@ fn binds_again(
     fails & answered & leaves.lists(&[bound(1, message)])
 }
 
-#[test]
-fn a_doubtful_bind_is_settled(rt: HostRuntime) {
-    for call in 0..3 {
-        assert!(rt; binds_again(&rt, rt.alloc(), call, Ok(Entered::New), TWO));
-    }
-    assert!(rt; binds_again(&rt, rt.alloc(), 3, SPENT, ONE));
-}
-
 /// Opens leaf 1 with one pair, which fails at a call, and then with another: whether that is answered by this.
 fn opens_again(
     rt: &impl Abort,
@@ -264,10 +223,12 @@ fn opens_again(
 }
 
 #[test]
-fn a_doubtful_opening_is_settled(rt: HostRuntime) {
+fn a_doubtful_entry_is_settled(rt: HostRuntime) {
     for call in 0..3 {
+        assert!(rt; binds_again(&rt, rt.alloc(), call, Ok(Entered::New), TWO));
         assert!(rt; opens_again(&rt, rt.alloc(), call, Ok(Entered::New)));
     }
+    assert!(rt; binds_again(&rt, rt.alloc(), 3, SPENT, ONE));
     assert!(rt; opens_again(&rt, rt.alloc(), 3, other_digest()));
 }
 
@@ -280,35 +241,17 @@ fn is_refused(rt: &impl Abort, alloc: Global, disk: MemDisk, number: u8, why: Jo
 }
 
 #[test]
-fn a_short_file_is_refused(rt: HostRuntime) {
+fn other_files_are_refused(rt: HostRuntime) {
+    let (got, want) = (100, 5248);
+    let length = JournalLoad::Slots(LoadFault::Length { got, want });
     let short = holding(&rt, rt.alloc(), &[0xA7; 100]);
-    let length = LoadFault::Length {
-        got: 100,
-        want: 5248,
-    };
-    assert!(rt; is_refused(&rt, rt.alloc(), short, 3, JournalLoad::Slots(length)));
-}
-
-#[test]
-fn a_foreign_file_is_refused(rt: HostRuntime) {
-    let disk = free_file(&rt, rt.alloc(), &header(2, 3), 32);
+    assert!(rt; is_refused(&rt, rt.alloc(), short, 3, length));
     let kept = header(2, 3);
     let foreign = JournalLoad::Slots(LoadFault::Foreign { kept });
+    let disk = free_file(&rt, rt.alloc(), &kept, 32);
     assert!(rt; is_refused(&rt, rt.alloc(), disk, 4, foreign));
-}
-
-#[test]
-fn a_damaged_file_is_refused(rt: HostRuntime) {
-    let disk = free_file(&rt, rt.alloc(), &header(2, 3), 32);
-    let disk = with_byte(&rt, disk, 328, 0xC2);
     let (leaf, a, b) = (1, 0, 0xC2);
-    assert!(rt;
-        is_refused(
-            &rt,
-            rt.alloc(),
-            disk,
-            3,
-            JournalLoad::Damaged { leaf, a, b }
-        )
-    );
+    let damaged = JournalLoad::Damaged { leaf, a, b };
+    let disk = with_byte(&rt, free_file(&rt, rt.alloc(), &kept, 32), 328, 0xC2);
+    assert!(rt; is_refused(&rt, rt.alloc(), disk, 3, damaged));
 }

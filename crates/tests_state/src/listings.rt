@@ -30,12 +30,29 @@ fn put(rt: &impl Abort, file: &mut Vec<u8>, place: usize, bytes: &[u8]) {
     file[place..place + bytes.len()].copy_from_slice(bytes);
 }
 
-/// A file of so many bytes whose slots are all free.
-fn file(rt: &impl Abort, alloc: Global, version: u8, number: u8, length: usize) -> Vec<u8> {
+/// A file of this version and number, of so many bytes, whose slots are all free but for what is put at these places.
+fn file(
+    rt: &impl Abort,
+    alloc: Global,
+    version: u8,
+    number: u8,
+    length: usize,
+    parts: &[(usize, &[u8])],
+) -> Vec<u8> {
     let mut bytes = vec![in alloc; 0; length].expect(rt, "memory");
     put(rt, &mut bytes, 0, &[0xA7, 0, 0, 0, version, number]);
     put(rt, &mut bytes, 6, &KEY);
+    for (place, part) in parts {
+        put(rt, &mut bytes, *place, *part);
+    }
     bytes
+}
+
+/// A journal of member 3 with leaf 1 bound, and leaf 4 opened at a moment.
+fn journal(rt: &impl Abort, alloc: Global, moment: u64) -> Vec<u8> {
+    let moment = moment.to_be_bytes();
+    let parts: [(usize, &[u8]); 4] = [(288, &ABC), (768, &ABC), (808, &[0xC2]), (876, &moment)];
+    file(rt, alloc, 2, 3, JOURNAL, &parts)
 }
 
 /// Whether the listing of these bytes is this.
@@ -54,16 +71,6 @@ fn refuses(alloc: Global, bytes: Vec<u8>, want: ListingFault) -> bool {
     }
 }
 
-/// A journal of member 3 with leaf 1 bound, and leaf 4 opened at a moment.
-fn journal(rt: &impl Abort, alloc: Global, moment: u64) -> Vec<u8> {
-    let mut bytes = file(rt, alloc, 2, 3, JOURNAL);
-    put(rt, &mut bytes, 288, &ABC);
-    put(rt, &mut bytes, 768, &ABC);
-    put(rt, &mut bytes, 808, &[0xC2]);
-    put(rt, &mut bytes, 876, &moment.to_be_bytes());
-    bytes
-}
-
 /// Whether the last moment of a journal's line is this.
 fn has_last(rt: &impl Abort, alloc: Global, moment: u64, want: &str) -> bool {
     match list_slots(alloc, journal(rt, alloc, moment), false) {
@@ -72,19 +79,67 @@ fn has_last(rt: &impl Abort, alloc: Global, moment: u64, want: &str) -> bool {
     }
 }
 
+/// The line of a journal with no entry.
+const FRESH: &str = concat!(
+    "journal member 3 version 2 codes 5 3 key 1d1d1d1d1d1d1d1d1d1d1d1d1d1d1d1d",
+    " leaves 32 bound 0 opened 0 last -\n",
+);
+
+/// The lines of a journal of an earlier version.
+const OLD: &str = concat!(
+    "journal member 3 version 1 codes 5 3 key 1d1d1d1d1d1d1d1d1d1d1d1d1d1d1d1d",
+    " leaves 32 bound 0 opened 1 last -\n",
+    "leaf 31 opened 3:ba7816bf8f01cfea414140de5dae2223b00361a396177a9cb410ff61f20015ad -\n",
+);
+
+/// The lines of a leaf table.
+const LEASES: &str = concat!(
+    "table codes 5 3 key 1d1d1d1d1d1d1d1d1d1d1d1d1d1d1d1d",
+    " leaves 32 leased 1 burnt 1\n",
+    "leaf 0 leased 3:ba7816bf8f01cfea414140de5dae2223b00361a396177a9cb410ff61f20015ad\n",
+    "leaf 9 burnt 3:ba7816bf8f01cfea414140de5dae2223b00361a396177a9cb410ff61f20015ad by 2\n",
+);
+
+/// The lines of a book.
+const LISTED: &str = concat!(
+    "book member 3 codes 5 3 key 1d1d1d1d1d1d1d1d1d1d1d1d1d1d1d1d",
+    " slots 1024 listed 1\n",
+    "slot 0 3:ba7816bf8f01cfea414140de5dae2223b00361a396177a9cb410ff61f20015ad\n",
+);
+
+/// Version and number of a file, its length, what is put at which places of it, and its listing.
+const LISTINGS: [(u8, u8, usize, &[(usize, &[u8])], &str); 4] = [
+    (2, 3, JOURNAL, &[], FRESH),
+    (1, 3, TABLE, &[(4096, &ABC), (4136, &[0xC2])], OLD),
+    (
+        1,
+        0,
+        TABLE,
+        &[
+            (128, &ABC),
+            (1280, &ABC),
+            (1320, &ABC),
+            (1320, &[0xC2]),
+            (1360, &[2]),
+        ],
+        LEASES,
+    ),
+    (3, 3, BOOK, &[(128, &ABC)], LISTED),
+];
+
 #[test]
-fn fresh_journal(rt: HostRuntime) {
-    let line = concat!(
-        "journal member 3 version 2 codes 5 3 key 1d1d1d1d1d1d1d1d1d1d1d1d1d1d1d1d",
-        " leaves 32 bound 0 opened 0 last -\n",
-    );
+fn files_of_slots(rt: HostRuntime) {
     let alloc = rt.alloc();
-    assert!(&rt; lists(alloc, file(&rt, alloc, 2, 3, JOURNAL), false, line));
-    assert!(&rt; lists(alloc, file(&rt, alloc, 2, 3, JOURNAL), true, line));
+    for (version, number, length, parts, want) in LISTINGS {
+        let bytes = file(&rt, alloc, version, number, length, parts);
+        assert!(&rt; lists(alloc, bytes, true, want), "{want}");
+    }
+    let fresh = file(&rt, alloc, 2, 3, JOURNAL, &[]);
+    assert!(&rt; lists(alloc, fresh, false, FRESH));
 }
 
 #[test]
-fn journal_with_entries(rt: HostRuntime) {
+fn moments(rt: HostRuntime) {
     let want = concat!(
         "journal member 3 version 2 codes 5 3 key 1d1d1d1d1d1d1d1d1d1d1d1d1d1d1d1d",
         " leaves 32 bound 1 opened 1 last 2026-11-28T09:00:00Z\n",
@@ -93,87 +148,77 @@ fn journal_with_entries(rt: HostRuntime) {
     );
     let alloc = rt.alloc();
     assert!(&rt; lists(alloc, journal(&rt, alloc, 1_795_856_400), true, want));
+    for (moment, last) in [
+        (0, " last 1970-01-01T00:00:00Z\n"),
+        (94_694_399, " last 1972-12-31T23:59:59Z\n"),
+        (951_868_799, " last 2000-02-29T23:59:59Z\n"),
+        (4_107_542_400, " last 2100-03-01T00:00:00Z\n"),
+        (u64::MAX, " last 584554051223-11-09T07:00:15Z\n"),
+    ] {
+        assert!(&rt; has_last(&rt, alloc, moment, last), "{moment}");
+    }
 }
 
-#[test]
-fn old_journal(rt: HostRuntime) {
-    let want = concat!(
-        "journal member 3 version 1 codes 5 3 key 1d1d1d1d1d1d1d1d1d1d1d1d1d1d1d1d",
-        " leaves 32 bound 0 opened 1 last -\n",
-        "leaf 31 opened 3:ba7816bf8f01cfea414140de5dae2223b00361a396177a9cb410ff61f20015ad -\n",
-    );
-    let alloc = rt.alloc();
-    let mut bytes = file(&rt, alloc, 1, 3, TABLE);
-    put(&rt, &mut bytes, 4096, &ABC);
-    put(&rt, &mut bytes, 4136, &[0xC2]);
-    assert!(&rt; lists(alloc, bytes, true, want));
-}
+/// A file's name, version and number, its length, what is put at which places of it, and why it is not listed.
+const REFUSED: [(&str, u8, u8, usize, &[(usize, &[u8])], ListingFault); 6] = [
+    (
+        "closed",
+        2,
+        3,
+        JOURNAL,
+        &[(0, &[0])],
+        ListingFault::NotLoaded { fault: 2 },
+    ),
+    (
+        "damaged",
+        1,
+        0,
+        TABLE,
+        &[(1320, &[0xC2])],
+        ListingFault::NotLoaded { fault: 6 },
+    ),
+    (
+        "short",
+        3,
+        3,
+        BOOK - 1,
+        &[],
+        ListingFault::NotLoaded { fault: 1 },
+    ),
+    (
+        "a head",
+        2,
+        3,
+        32,
+        &[],
+        ListingFault::NotLoaded { fault: 1 },
+    ),
+    (
+        "of version 4",
+        4,
+        3,
+        JOURNAL,
+        &[],
+        ListingFault::NotASlotFile,
+    ),
+    (
+        "of no set",
+        2,
+        3,
+        JOURNAL,
+        &[(11, &[10])],
+        ListingFault::NotASlotFile,
+    ),
+];
 
 #[test]
-fn table(rt: HostRuntime) {
-    let want = concat!(
-        "table codes 5 3 key 1d1d1d1d1d1d1d1d1d1d1d1d1d1d1d1d",
-        " leaves 32 leased 1 burnt 1\n",
-        "leaf 0 leased 3:ba7816bf8f01cfea414140de5dae2223b00361a396177a9cb410ff61f20015ad\n",
-        "leaf 9 burnt 3:ba7816bf8f01cfea414140de5dae2223b00361a396177a9cb410ff61f20015ad by 2\n",
-    );
+fn other_files(rt: HostRuntime) {
     let alloc = rt.alloc();
-    let mut bytes = file(&rt, alloc, 1, 0, TABLE);
-    put(&rt, &mut bytes, 128, &ABC);
-    put(&rt, &mut bytes, 1280, &ABC);
-    put(&rt, &mut bytes, 1320, &[0xC2, 0, 0, 0]);
-    put(&rt, &mut bytes, 1324, &ABC[4..]);
-    put(&rt, &mut bytes, 1360, &[2]);
-    assert!(&rt; lists(alloc, bytes, true, want));
-}
-
-#[test]
-fn book(rt: HostRuntime) {
-    let want = concat!(
-        "book member 3 codes 5 3 key 1d1d1d1d1d1d1d1d1d1d1d1d1d1d1d1d",
-        " slots 1024 listed 1\n",
-        "slot 0 3:ba7816bf8f01cfea414140de5dae2223b00361a396177a9cb410ff61f20015ad\n",
-    );
-    let alloc = rt.alloc();
-    let mut bytes = file(&rt, alloc, 3, 3, BOOK);
-    put(&rt, &mut bytes, 128, &ABC);
-    assert!(&rt; lists(alloc, bytes, true, want));
-}
-
-#[test]
-fn dates(rt: HostRuntime) {
-    let alloc = rt.alloc();
-    assert!(&rt; has_last(&rt, alloc, 0, " last 1970-01-01T00:00:00Z\n"));
-    assert!(&rt; has_last(&rt, alloc, 94_694_399, " last 1972-12-31T23:59:59Z\n"));
-    assert!(&rt; has_last(&rt, alloc, 951_868_799, " last 2000-02-29T23:59:59Z\n"));
-    assert!(&rt; has_last(&rt, alloc, 4_107_542_400, " last 2100-03-01T00:00:00Z\n"));
-    assert!(&rt; has_last(&rt, alloc, u64::MAX, " last 584554051223-11-09T07:00:15Z\n"));
-}
-
-#[test]
-fn not_loaded(rt: HostRuntime) {
-    let alloc = rt.alloc();
-    let mut closed = file(&rt, alloc, 2, 3, JOURNAL);
-    put(&rt, &mut closed, 0, &[0]);
-    assert!(&rt; refuses(alloc, closed, ListingFault::NotLoaded { fault: 2 }));
-    let mut damaged = file(&rt, alloc, 1, 0, TABLE);
-    put(&rt, &mut damaged, 1320, &[0xC2]);
-    assert!(&rt; refuses(alloc, damaged, ListingFault::NotLoaded { fault: 6 }));
-    let short = file(&rt, alloc, 3, 3, BOOK - 1);
-    assert!(&rt; refuses(alloc, short, ListingFault::NotLoaded { fault: 1 }));
-    let head = file(&rt, alloc, 2, 3, 32);
-    assert!(&rt; refuses(alloc, head, ListingFault::NotLoaded { fault: 1 }));
-}
-
-#[test]
-fn no_files_of_slots(rt: HostRuntime) {
-    let alloc = rt.alloc();
-    let mut short = file(&rt, alloc, 2, 3, 32);
+    for (name, version, number, length, parts, want) in REFUSED {
+        let bytes = file(&rt, alloc, version, number, length, parts);
+        assert!(&rt; refuses(alloc, bytes, want), "{name}");
+    }
+    let mut short = file(&rt, alloc, 2, 3, 32, &[]);
     let _ = short.pop();
     assert!(&rt; refuses(alloc, short, ListingFault::NotASlotFile));
-    let other = file(&rt, alloc, 4, 3, JOURNAL);
-    assert!(&rt; refuses(alloc, other, ListingFault::NotASlotFile));
-    let mut no_set = file(&rt, alloc, 2, 3, JOURNAL);
-    put(&rt, &mut no_set, 11, &[10]);
-    assert!(&rt; refuses(alloc, no_set, ListingFault::NotASlotFile));
 }

@@ -17,6 +17,15 @@ const A: [u8; 36] = [0xAA; 36];
 
 const B: [u8; 64] = [0xBB; 64];
 
+/// The header of another trustee's file.
+const OTHER: Header = Header {
+    version: 2,
+    number: 4,
+    lms: 5,
+    ots: 3,
+    id: [0x1D; 16],
+};
+
 /// A file of 32 slots that is open, and the moment that is put into it.
 #[derive(Drop)]
 struct File {
@@ -85,10 +94,12 @@ impl File {
         self.slots.look(slot) == Ok(want)
     }
 
-    /// Whether a look at the last two slots at once gives these.
-    fn has_last(&mut self, want: [Slot; 2]) -> bool {
+    /// Whether body A is put into the last slot, and a look at the last two slots at once finds it there.
+    fn puts_last(&mut self) -> bool {
+        let put = self.put_first(31).is_ok();
         let mut found = [Slot::Free; 2];
-        self.slots.look_run(30, &mut found).is_ok() & (found == want)
+        let looked = self.slots.look_run(30, &mut found).is_ok();
+        put & looked & (found == [Slot::Free, Slot::Half(A)])
     }
 
     /// Whether slot 1 is this, and the slots beside it are free.
@@ -223,26 +234,38 @@ fn part_fault(
     }
 }
 
-#[test]
-fn a_part_of_a_file_is_refused(rt: HostRuntime) {
-    let (got, want) = (127, 5248);
-    let short = Some(LoadFault::Length { got, want });
-    assert!(rt; part_fault(&rt, rt.alloc(), 127, 0, 0xA6) == short);
-    let got = 5247;
-    let short = Some(LoadFault::Length { got, want });
-    assert!(rt; part_fault(&rt, rt.alloc(), 5247, 6, 0) == short);
-    assert!(rt; part_fault(&rt, rt.alloc(), 5248, 6, 0) == None);
-}
+/// How many bytes of a free file there are, a place, the byte that is put there, and why the file does not open.
+const FAULTS: [(usize, u64, u8, Option<LoadFault>); 6] = [
+    (
+        127,
+        0,
+        0xA6,
+        Some(LoadFault::Length {
+            got: 127,
+            want: 5248,
+        }),
+    ),
+    (
+        5247,
+        6,
+        0,
+        Some(LoadFault::Length {
+            got: 5247,
+            want: 5248,
+        }),
+    ),
+    (5248, 6, 0, None),
+    (5247, 0, 0xA6, Some(LoadFault::NotReady { gate: 0xA6 })),
+    (5247, 4, 1, Some(LoadFault::Version { got: 1 })),
+    (5247, 5, 4, Some(LoadFault::Foreign { kept: OTHER })),
+];
 
 #[test]
-fn another_header_is_refused(rt: HostRuntime) {
-    let shut = Some(LoadFault::NotReady { gate: 0xA6 });
-    assert!(rt; part_fault(&rt, rt.alloc(), 5247, 0, 0xA6) == shut);
-    let version = Some(LoadFault::Version { got: 1 });
-    assert!(rt; part_fault(&rt, rt.alloc(), 5247, 4, 1) == version);
-    let kept = header(2, 4);
-    let foreign = Some(LoadFault::Foreign { kept });
-    assert!(rt; part_fault(&rt, rt.alloc(), 5247, 5, 4) == foreign);
+fn another_file_is_refused(rt: HostRuntime) {
+    for (length, place, byte, want) in FAULTS {
+        let fault = part_fault(&rt, rt.alloc(), length, place, byte);
+        assert!(rt; fault == want, "{length} bytes, byte {place}");
+    }
 }
 
 #[test]
@@ -268,8 +291,7 @@ fn a_run_is_looked_at(rt: HostRuntime) {
     for version in [1, 2] {
         let disk = free_file(&rt, rt.alloc(), &header(version, 3), 32);
         let mut file = File::open(&rt, disk, version);
-        assert!(rt; file.put_first(31).is_ok());
-        assert!(rt; file.has_last([Slot::Free, Slot::Half(A)]));
+        assert!(rt; file.puts_last());
     }
 }
 
@@ -342,20 +364,11 @@ fn copies_or_not(
 
 #[test]
 fn a_file_is_made_or_does_not_open(rt: HostRuntime) {
-    for call in 0..39 {
-        for pick in [0, 1] {
-            let want = call == 38 && pick == 1;
-            assert!(rt; makes_or_not(&rt, rt.alloc(), call, pick, want));
-        }
-    }
-}
-
-#[test]
-fn a_copy_is_made_or_does_not_open(rt: HostRuntime) {
     let mut from = filled(&rt, rt.alloc(), 1);
     for call in 0..39 {
         for pick in [0, 1] {
             let want = call == 38 && pick == 1;
+            assert!(rt; makes_or_not(&rt, rt.alloc(), call, pick, want));
             assert!(rt; copies_or_not(&rt, rt.alloc(), &mut from, call, pick, want));
         }
     }

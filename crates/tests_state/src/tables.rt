@@ -64,12 +64,6 @@ fn empty_table(rt: &impl Abort, alloc: Global) -> Table<MemDisk> {
     small(rt, alloc, free_file(rt, alloc, &header(1, 0), 32))
 }
 
-/// A table with no entry, on a disk that stops at a call after the load.
-fn stopping_table(rt: &impl Abort, alloc: Global, call: u64) -> Table<MemDisk> {
-    let call = LOAD_CALLS.saturating_add(call);
-    small(rt, alloc, stopping_file(rt, alloc, &header(1, 0), 32, call))
-}
-
 /// A table with no entry, on a disk of which one call after the load fails.
 fn failing_table(rt: &impl Abort, alloc: Global, call: u64) -> Table<MemDisk> {
     let call = LOAD_CALLS.saturating_add(call);
@@ -161,45 +155,27 @@ fn stopped(call: u64) -> Result<u32, TableFault> {
     }
 }
 
-/// Whether an entry is made whose disk stops at a call.
-fn is_made(call: u64, pick: u64) -> bool {
-    call == 4 || call == 3 && pick == 1
-}
-
-/// Whether leasing leaf 1 leaves it as before or as after, where the disk stops at a call.
-fn leases_or_not(rt: &impl Abort, alloc: Global, call: u64, pick: u64) -> bool {
-    let mut table = stopping_table(rt, alloc, call);
-    let answered = lease(&mut table, FIRST_AND_THIRD, &ONE) == stopped(call);
-    let table = after_crash(rt, alloc, table, pick);
-    let whole = [leased(1, ONE)];
-    let count = if is_made(call, pick) { 1 } else { 0 };
-    answered & lists(&table, &whole[..count])
-}
-
-#[test]
-fn a_lease_is_before_or_after(rt: HostRuntime) {
-    for call in 0..5 {
-        for pick in [0, 1, 5] {
-            assert!(rt; leases_or_not(&rt, rt.alloc(), call, pick));
-        }
-    }
-}
-
-/// Whether burning leaf 1 leaves it as before or as after, where the disk stops at a call of the burning.
-fn burns_or_not(rt: &impl Abort, alloc: Global, call: u64, pick: u64) -> bool {
-    let mut table = stopping_table(rt, alloc, call.saturating_add(4));
-    let answered = burn(&mut table, 3) == stopped(call);
+/// Whether leasing leaf 1 and then burning it leaves each as before or as after, where the disk stops at a call: an
+/// entry takes four, and by pick 1 a crash keeps what was written and not synced.
+fn enters_or_not(rt: &impl Abort, alloc: Global, call: u64, pick: u64) -> bool {
+    let at = LOAD_CALLS.saturating_add(call);
+    let mut table = small(rt, alloc, stopping_file(rt, alloc, &header(1, 0), 32, at));
+    let leases = lease(&mut table, FIRST_AND_THIRD, &ONE) == stopped(call);
+    let burns = call < 4 || burn(&mut table, 3) == stopped(call - 4);
     let table = after_crash(rt, alloc, table, pick);
     let whole = [leased(1, ONE), Lease::Burnt { leaf: 1 }];
-    let count = if is_made(call, pick) { 2 } else { 1 };
-    answered & lists(&table, &whole[..count])
+    let count = call.saturating_add(u64::from(pick == 1)) / 4;
+    leases & burns & lists(&table, &whole[..count.min(2) as usize])
 }
 
 #[test]
-fn a_burning_is_before_or_after(rt: HostRuntime) {
-    for call in 0..5 {
+fn an_entry_is_before_or_after(rt: HostRuntime) {
+    for call in 0..9 {
         for pick in [0, 1, 5] {
-            assert!(rt; burns_or_not(&rt, rt.alloc(), call, pick));
+            assert!(rt;
+                enters_or_not(&rt, rt.alloc(), call, pick),
+                "call {call}, pick {pick}"
+            );
         }
     }
 }
@@ -213,14 +189,6 @@ fn leases_again(rt: &impl Abort, alloc: Global, call: u64, two: u32, one: u32) -
     fails & second & (lease(&mut table, FIRST_AND_THIRD, &ONE) == Ok(one))
 }
 
-#[test]
-fn a_doubtful_lease_is_settled(rt: HostRuntime) {
-    for call in 0..3 {
-        assert!(rt; leases_again(&rt, rt.alloc(), call, 1, 4));
-    }
-    assert!(rt; leases_again(&rt, rt.alloc(), 3, 4, 1));
-}
-
 /// Burns leaf 1 as reported by member 3, which fails at a call, and then the leaf of the message as reported by member
 /// 5: whether that is this leaf, and this member is kept for leaf 1.
 fn burns_again(rt: &impl Abort, alloc: Global, call: u64, leaf: u32, reporter: u8) -> bool {
@@ -232,10 +200,12 @@ fn burns_again(rt: &impl Abort, alloc: Global, call: u64, leaf: u32, reporter: u
 }
 
 #[test]
-fn a_doubtful_burning_is_settled(rt: HostRuntime) {
+fn a_doubtful_entry_is_settled(rt: HostRuntime) {
     for call in 0..3 {
+        assert!(rt; leases_again(&rt, rt.alloc(), call, 1, 4));
         assert!(rt; burns_again(&rt, rt.alloc(), call, 1, 5));
     }
+    assert!(rt; leases_again(&rt, rt.alloc(), 3, 4, 1));
     assert!(rt; burns_again(&rt, rt.alloc(), 3, 4, 3));
 }
 

@@ -152,6 +152,9 @@ fn round_one_is_for_one_message(rt: HostRuntime) {
     let key = share(&rt).id;
     let once = binds_once(&mut signer, key);
     assert!(rt; once & refuses_others(&mut signer, key));
+    // A trustee that is loaded from what an earlier life left goes on with that life.
+    let mut again = Signer::open(&rt, rt.alloc(), signer.end());
+    assert!(rt; binds_once(&mut again, key));
 }
 
 /// Whether leaf 10 is opened for one randomizer, once it is bound.
@@ -186,15 +189,20 @@ fn round_two_is_for_one_randomizer(rt: HostRuntime) {
 fn a_refusal_has_its_number(rt: HostRuntime) {
     let kept = MessageId::of(b"abc");
     let (c, digest) = (Val::of(&[0xCC; 32]), Val::of(&[0xDD; 32]));
-    assert!(rt; Refusal::ForeignKey.code() == 1);
-    assert!(rt; Refusal::NoSuchLeaf.code() == 2);
-    assert!(rt; Refusal::NotMember.code() == 3);
-    assert!(rt; Refusal::TooLong { got: 16_777_217 }.code() == 4);
-    assert!(rt; Refusal::BadCheck.code() == 5);
-    assert!(rt; Refusal::Device.code() == 6);
-    assert!(rt; Refusal::NotBound.code() == 8);
-    assert!(rt; Refusal::Spent { kept }.code() == 9);
-    assert!(rt; Refusal::OtherDigest { c, digest }.code() == 10);
+    let numbers = [
+        (Refusal::ForeignKey, 1),
+        (Refusal::NoSuchLeaf, 2),
+        (Refusal::NotMember, 3),
+        (Refusal::TooLong { got: 16_777_217 }, 4),
+        (Refusal::BadCheck, 5),
+        (Refusal::Device, 6),
+        (Refusal::NotBound, 8),
+        (Refusal::Spent { kept }, 9),
+        (Refusal::OtherDigest { c, digest }, 10),
+    ];
+    for (refusal, number) in numbers {
+        assert!(rt; refusal.code() == number, "refusal {number}");
+    }
 }
 
 /// Whether a grant of round one for leaf 0 gives the mask of the randomizer.
@@ -237,15 +245,8 @@ fn a_grant_gives_the_masks_of_its_round(rt: HostRuntime) {
     let mut signer = Signer::new(&rt, rt.alloc());
     let share = share(&rt);
     let random = gives_random_mask(&mut signer, &share);
-    assert!(rt; random & gives_chain_masks(&mut signer, &share));
-}
-
-#[test]
-fn a_repeat_gives_the_same_mask(rt: HostRuntime) {
-    let mut signer = Signer::new(&rt, rt.alloc());
-    let share = share(&rt);
-    let once = gives_random_mask(&mut signer, &share);
-    assert!(rt; once & gives_random_mask(&mut signer, &share));
+    let again = gives_random_mask(&mut signer, &share);
+    assert!(rt; random & again & gives_chain_masks(&mut signer, &share));
 }
 
 /// Asks for leaf 0 in round one over a disk that fails at a call, and then for another message. Whether that one is
@@ -270,16 +271,6 @@ fn a_disk_that_fails_is_asked_again(rt: HostRuntime) {
     for call in 0..4 {
         assert!(rt; is_refused_after_failing(&rt, rt.alloc(), call) == Some(call == 3));
     }
-}
-
-// A trustee that is loaded from what an earlier life left goes on with that life.
-#[test]
-fn a_life_goes_on(rt: HostRuntime) {
-    let mut signer = Signer::new(&rt, rt.alloc());
-    let key = share(&rt).id;
-    let bound = signer.grants(&first(key, 0, MessageId::of(b"abc")));
-    let mut again = Signer::open(&rt, rt.alloc(), signer.end());
-    assert!(rt; bound & binds_once(&mut again, key));
 }
 
 #[test]
