@@ -33,3 +33,8 @@ module _ {D : Type 0} (p : pages.Ghosts D) (f : faults.Ghosts D) where
     images = images;
     stays = record { told = kind.told; honest = kind.honest; steady = kind.steady; room = kind.room; count = later };
   }
+
+  -- one such call more
+  pub unwritten-next : {old mid new : D} → Unwritten p f old mid → SameKind p.told p.honest f.steady p.room mid new → f.count mid ≤ f.count new → (IsTrue (p.told mid) → p.reads new ≡ p.reads mid)
+      → (IsTrue (p.honest mid) → (image : List ℕ) → p.may_leave new image → p.may_leave mid image) → Unwritten p f old new
+  unwritten-next {old} {mid} {new} first kind later same images = unwritten-then old mid new first (unwritten-call mid new kind later same images)

@@ -8,7 +8,7 @@ use Rattle.slot_file.specs.declared.header.LoadFault.{LoadFault}
 use Rattle.slot_file.specs.declared.header.LoadFault.TheVariants.{Device}
 use Rattle.slot_file.proofs.CopyLaws.{device-answer}
 use Rattle.slot_file.proofs.FaultLaws.{on-err, rises-failed, rises-fine}
-use Rattle.slot_file.proofs.Unwritten.{unwritten-call, unwritten-then}
+use Rattle.slot_file.proofs.Unwritten.{unwritten-call, unwritten-next}
 use Rattle.slot_file.proofs.slots.check_file.Goals as goal
 
 device-refused : {T : Type 0} (X : LoadFault → Type 0) (answer : Result T LoadFault) → IsErrAnd answer (λ fault. fault ≡ Device) → IfErr answer (λ fault. (fault ≡ Device) ⊎ X fault)
@@ -70,10 +70,8 @@ returns-clause-opens g c = λ told.
 
 pub returns-in_err-sync-clause-unwritten : goal.returns-in_err-sync-clause-unwritten
 returns-in_err-sync-clause-unwritten g c =
-    let p = g.D.Pages in
-    let f = g.D.Faults in
     let s = c.sync.ensures in
-    let u1 = unwritten-call p f c.args.disk.now c.sync.new.self s.stays s.cause.later s.same s.images in
+    let u1 = unwritten-call g.D.Pages g.D.Faults _ _ s.stays s.cause.later s.same s.images in
     u1
 
 pub returns-in_err-sync-clause-has_room : goal.returns-in_err-sync-clause-has_room
@@ -93,12 +91,10 @@ returns-in_err-sync-clause-cause g c = rises-failed _ (g.D.Faults.count c.args.d
 
 pub returns-in_err-got-clause-unwritten : goal.returns-in_err-got-clause-unwritten
 returns-in_err-got-clause-unwritten g c =
-    let p = g.D.Pages in
-    let f = g.D.Faults in
     let s = c.sync.ensures in
-    let u1 = unwritten-call p f c.args.disk.now c.sync.new.self s.stays s.cause.later s.same s.images in
+    let u1 = unwritten-call g.D.Pages g.D.Faults _ _ s.stays s.cause.later s.same s.images in
     let l = c.len.ensures in
-    let u2 = unwritten-then p f c.args.disk.now c.sync.new.self c.len.new.self u1 (unwritten-call p f c.sync.new.self c.len.new.self l.stays l.cause.later l.same (λ honest image. (l.images honest image).0)) in
+    let u2 = unwritten-next g.D.Pages g.D.Faults u1 l.stays l.cause.later l.same (λ honest image. (l.images honest image).0) in
     u2
 
 pub returns-in_err-got-clause-has_room : goal.returns-in_err-got-clause-has_room
@@ -118,12 +114,10 @@ returns-in_err-got-clause-cause g c = rises-failed _ (g.D.Faults.count c.sync.ne
 
 pub returns-then-got-clause-unwritten : goal.returns-then-got-clause-unwritten
 returns-then-got-clause-unwritten g c =
-    let p = g.D.Pages in
-    let f = g.D.Faults in
     let s = c.sync.ensures in
-    let u1 = unwritten-call p f c.args.disk.now c.sync.new.self s.stays s.cause.later s.same s.images in
+    let u1 = unwritten-call g.D.Pages g.D.Faults _ _ s.stays s.cause.later s.same s.images in
     let l = c.len.ensures in
-    let u2 = unwritten-then p f c.args.disk.now c.sync.new.self c.len.new.self u1 (unwritten-call p f c.sync.new.self c.len.new.self l.stays l.cause.later l.same (λ honest image. (l.images honest image).0)) in
+    let u2 = unwritten-next g.D.Pages g.D.Faults u1 l.stays l.cause.later l.same (λ honest image. (l.images honest image).0) in
     u2
 
 pub returns-then-got-clause-has_room : goal.returns-then-got-clause-has_room
@@ -140,14 +134,12 @@ returns-then-got-clause-cause g c = rises-fine _ _ _ _ (length-fault _ _) (c.in_
 
 pub returns-in_err-read_at-clause-unwritten : goal.returns-in_err-read_at-clause-unwritten
 returns-in_err-read_at-clause-unwritten g c =
-    let p = g.D.Pages in
-    let f = g.D.Faults in
     let s = c.sync.ensures in
-    let u1 = unwritten-call p f c.args.disk.now c.sync.new.self s.stays s.cause.later s.same s.images in
+    let u1 = unwritten-call g.D.Pages g.D.Faults _ _ s.stays s.cause.later s.same s.images in
     let l = c.len.ensures in
-    let u2 = unwritten-then p f c.args.disk.now c.sync.new.self c.len.new.self u1 (unwritten-call p f c.sync.new.self c.len.new.self l.stays l.cause.later l.same (λ honest image. (l.images honest image).0)) in
+    let u2 = unwritten-next g.D.Pages g.D.Faults u1 l.stays l.cause.later l.same (λ honest image. (l.images honest image).0) in
     let r = c.read_at.ensures in
-    let u3 = unwritten-then p f c.args.disk.now c.len.new.self c.read_at.new.self u2 (unwritten-call p f c.len.new.self c.read_at.new.self r.stays r.cause.later r.same (λ honest image. (r.images honest image).0)) in
+    let u3 = unwritten-next g.D.Pages g.D.Faults u2 r.stays r.cause.later r.same (λ honest image. (r.images honest image).0) in
     u3
 
 pub returns-in_err-read_at-clause-has_room : goal.returns-in_err-read_at-clause-has_room
@@ -167,14 +159,12 @@ returns-in_err-read_at-clause-cause g c = rises-failed _ (g.D.Faults.count c.len
 
 pub returns-in-Err-clause-unwritten : goal.returns-in-Err-clause-unwritten
 returns-in-Err-clause-unwritten g c =
-    let p = g.D.Pages in
-    let f = g.D.Faults in
     let s = c.sync.ensures in
-    let u1 = unwritten-call p f c.args.disk.now c.sync.new.self s.stays s.cause.later s.same s.images in
+    let u1 = unwritten-call g.D.Pages g.D.Faults _ _ s.stays s.cause.later s.same s.images in
     let l = c.len.ensures in
-    let u2 = unwritten-then p f c.args.disk.now c.sync.new.self c.len.new.self u1 (unwritten-call p f c.sync.new.self c.len.new.self l.stays l.cause.later l.same (λ honest image. (l.images honest image).0)) in
+    let u2 = unwritten-next g.D.Pages g.D.Faults u1 l.stays l.cause.later l.same (λ honest image. (l.images honest image).0) in
     let r = c.read_at.ensures in
-    let u3 = unwritten-then p f c.args.disk.now c.len.new.self c.read_at.new.self u2 (unwritten-call p f c.len.new.self c.read_at.new.self r.stays r.cause.later r.same (λ honest image. (r.images honest image).0)) in
+    let u3 = unwritten-next g.D.Pages g.D.Faults u2 r.stays r.cause.later r.same (λ honest image. (r.images honest image).0) in
     u3
 
 pub returns-in-Err-clause-has_room : goal.returns-in-Err-clause-has_room
@@ -191,14 +181,12 @@ returns-in-Err-clause-cause g c = rises-fine _ _ _ _ (other-fault _ c.in-Err.ens
 
 pub returns-then-got-want-clause-unwritten : goal.returns-then-got-want-clause-unwritten
 returns-then-got-want-clause-unwritten g c =
-    let p = g.D.Pages in
-    let f = g.D.Faults in
     let s = c.sync.ensures in
-    let u1 = unwritten-call p f c.args.disk.now c.sync.new.self s.stays s.cause.later s.same s.images in
+    let u1 = unwritten-call g.D.Pages g.D.Faults _ _ s.stays s.cause.later s.same s.images in
     let l = c.len.ensures in
-    let u2 = unwritten-then p f c.args.disk.now c.sync.new.self c.len.new.self u1 (unwritten-call p f c.sync.new.self c.len.new.self l.stays l.cause.later l.same (λ honest image. (l.images honest image).0)) in
+    let u2 = unwritten-next g.D.Pages g.D.Faults u1 l.stays l.cause.later l.same (λ honest image. (l.images honest image).0) in
     let r = c.read_at.ensures in
-    let u3 = unwritten-then p f c.args.disk.now c.len.new.self c.read_at.new.self u2 (unwritten-call p f c.len.new.self c.read_at.new.self r.stays r.cause.later r.same (λ honest image. (r.images honest image).0)) in
+    let u3 = unwritten-next g.D.Pages g.D.Faults u2 r.stays r.cause.later r.same (λ honest image. (r.images honest image).0) in
     u3
 
 pub returns-then-got-want-clause-has_room : goal.returns-then-got-want-clause-has_room
@@ -215,14 +203,12 @@ returns-then-got-want-clause-cause g c = rises-fine _ _ _ _ (length-fault _ _) (
 
 pub returns-clause-unwritten : goal.returns-clause-unwritten
 returns-clause-unwritten g c =
-    let p = g.D.Pages in
-    let f = g.D.Faults in
     let s = c.sync.ensures in
-    let u1 = unwritten-call p f c.args.disk.now c.sync.new.self s.stays s.cause.later s.same s.images in
+    let u1 = unwritten-call g.D.Pages g.D.Faults _ _ s.stays s.cause.later s.same s.images in
     let l = c.len.ensures in
-    let u2 = unwritten-then p f c.args.disk.now c.sync.new.self c.len.new.self u1 (unwritten-call p f c.sync.new.self c.len.new.self l.stays l.cause.later l.same (λ honest image. (l.images honest image).0)) in
+    let u2 = unwritten-next g.D.Pages g.D.Faults u1 l.stays l.cause.later l.same (λ honest image. (l.images honest image).0) in
     let r = c.read_at.ensures in
-    let u3 = unwritten-then p f c.args.disk.now c.len.new.self c.read_at.new.self u2 (unwritten-call p f c.len.new.self c.read_at.new.self r.stays r.cause.later r.same (λ honest image. (r.images honest image).0)) in
+    let u3 = unwritten-next g.D.Pages g.D.Faults u2 r.stays r.cause.later r.same (λ honest image. (r.images honest image).0) in
     u3
 
 pub returns-clause-has_room : goal.returns-clause-has_room
