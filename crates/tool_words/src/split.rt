@@ -23,9 +23,14 @@ const COMMANDS: [&str; 13] = [
 /// The name of a command and its words, in the order in which `clap` splits them off, or why they are no command by its
 /// rules. No clause says what comes: whoever calls it compares each word with the one that was given.
 pub fn split_words(alloc: Global, words: &[String]) -> Result<Vec<&str>, Error> {
-    let matches = commands(alloc)?.try_get_matches_from(words)?;
+    let found = commands(alloc)?.try_get_matches_from(words)?;
+    Ok(values_of(alloc, &found)?)
+}
+
+/// The name of the command that was found, and its words.
+fn values_of<'a>(alloc: Global, found: &ArgMatches<'a>) -> Result<Vec<&'a str>, AllocError> {
     let mut split = Vec::new(alloc);
-    if let Some((name, found)) = matches.subcommand() {
+    if let Some((name, found)) = found.subcommand() {
         split.push(name)?;
         add_values(&mut split, found)?;
     }
@@ -44,15 +49,21 @@ fn add_values<'a>(split: &mut Vec<&'a str>, found: &ArgMatches<'a>) -> Result<()
 
 /// The parser of all commands.
 fn commands<'a>(alloc: Global) -> Result<Parser<'a>, AllocError> {
-    let mut commands = Vec::new(alloc);
-    for names in COMMANDS {
-        commands.push(command(alloc, names)?)?;
-    }
+    let commands = each_command(alloc)?;
     parser(alloc, "rikselbe")
         .no_binary_name(true)
         .disable_help_subcommand(true)
         .subcommand_required(true)
         .subcommands(commands)
+}
+
+/// The parsers of the commands.
+fn each_command<'a>(alloc: Global) -> Result<Vec<Parser<'a>>, AllocError> {
+    let mut commands = Vec::new(alloc);
+    for names in COMMANDS {
+        commands.push(command(alloc, names)?)?;
+    }
+    Ok(commands)
 }
 
 /// The parser of one command: its name, the names of the words that it has to have, and what may follow them.
@@ -62,13 +73,21 @@ fn command<'a>(alloc: Global, names: &'a str) -> Result<Parser<'a>, AllocError> 
     for name in words.split_whitespace() {
         command = command.arg(word(alloc, name).required(true))?;
     }
+    match last_word(alloc, name) {
+        Some(last) => command.arg(last),
+        None => Ok(command),
+    }
+}
+
+/// What follows the words that a command of this name has to have.
+fn last_word<'a>(alloc: Global, name: &str) -> Option<Arg<'a>> {
     match name {
-        "deal" => command.arg(word(alloc, "commit")),
-        "trustee" => command.arg(word(alloc, "book")),
-        "show" => command.arg(word(alloc, "leaves")),
-        "sign" | "blame" | "aggregate" => command.arg(several(alloc, "addresses", 12)),
-        "hss" => command.arg(several(alloc, "words", 19)),
-        _ => Ok(command),
+        "deal" => Some(word(alloc, "commit")),
+        "trustee" => Some(word(alloc, "book")),
+        "show" => Some(word(alloc, "leaves")),
+        "sign" | "blame" | "aggregate" => Some(several(alloc, "addresses", 12)),
+        "hss" => Some(several(alloc, "words", 19)),
+        _ => None,
     }
 }
 
