@@ -84,6 +84,7 @@ fn set(world: &mut World, verb: &str, rest: &str) -> io::Result<()> {
             world.store.stop_new_disks(call)
         }
         "hush" => world.page.clear(),
+        "turns" => world.end_turns(),
         _ => return do_words(world, verb, rest),
     }
     Ok(())
@@ -95,6 +96,11 @@ fn tell(world: &mut World, verb: &str, rest: &str) -> io::Result<()> {
         "like" | "asked" | "answered" => compare(world, verb, rest),
         "clients" => tell_clients(world),
         "counts" => tell_counts(world, rest),
+        "print" => world.print(),
+        "turn" => {
+            let call = world.number(rest);
+            world.print_turn(call)
+        }
         _ => set(world, verb, rest),
     }
 }

@@ -77,7 +77,7 @@ impl World {
     }
 
     /// The same, none where there is no such file.
-    pub fn bytes(&self, name: &str) -> &[u8] {
+    pub(crate) fn bytes(&self, name: &str) -> &[u8] {
         self.find(name).unwrap_or_default()
     }
 
@@ -89,7 +89,7 @@ impl World {
 
     /// Has the file of this name found: where it was not made or kept, and is not in the store, it is one of those that
     /// are there from the start. Where it is nowhere, the line is wrong.
-    pub fn load(&mut self, name: &str) -> io::Result<()> {
+    pub(crate) fn load(&mut self, name: &str) -> io::Result<()> {
         if self.find(name).is_some() {
             return Ok(());
         }
@@ -115,14 +115,14 @@ impl World {
     }
 
     /// Adds what lines have printed to what the script prints.
-    pub fn print(&mut self) -> io::Result<()> {
+    pub(crate) fn print(&mut self) -> io::Result<()> {
         self.said.push_str(&self.page)?;
         self.page.clear();
         Ok(())
     }
 
     /// Does so behind the turn of this number, where it is not what lines printed in the turn before.
-    pub fn print_turn(&mut self, call: usize) -> io::Result<()> {
+    pub(crate) fn print_turn(&mut self, call: usize) -> io::Result<()> {
         if self.page.as_str() != self.last.as_str() {
             write!(self.said, "from {call}:\n{}", self.page)?;
         }
@@ -132,7 +132,7 @@ impl World {
     }
 
     /// Forgets what was printed in the turn before.
-    pub fn end_turns(&mut self) {
+    pub(crate) fn end_turns(&mut self) {
         self.last.clear();
     }
 

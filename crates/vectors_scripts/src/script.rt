@@ -1,0 +1,97 @@
+//! How a script is read. A line that is not empty and does not begin with `#` is a verb and what it is about. A script
+//! has parts with an empty line between each two. What a part's lines print is printed behind it. A line `each COUNT`
+//! has the lines behind it done so often, and prints what they print where it is not as the time before, with the
+//! number, which stands for `%0%` in these lines. A line `each FILE` has them done for each line of a file, whose
+//! words stand for `%0%`, `%1%` and so on.
+
+use crate::world::World;
+use std::alloc::{AllocError, Global};
+use std::io;
+
+/// Lines that are done one after the other.
+type Lines = Vec<String>;
+
+/// The text of a file.
+fn text_of(world: &mut World, name: &str) -> io::Result<String> {
+    world.load(name)?;
+    Ok(String::from_utf8_lossy(world.alloc, world.bytes(name))?)
+}
+
+/// The word of this number of a row, which begins with the word 0.
+fn word_of<'a>(row: &'a str, number: &str) -> &'a str {
+    let number = number.parse().unwrap_or(0);
+    row.split_whitespace().nth(number).unwrap_or_default()
+}
+
+/// A line where the words of a row stand for their numbers.
+fn filled(alloc: Global, line: &str, row: &str) -> Result<String, AllocError> {
+    let mut text = String::new(alloc);
+    for (index, piece) in line.split('%').enumerate() {
+        let piece = if index % 2 == 0 {
+            piece
+        } else {
+            word_of(row, piece)
+        };
+        text.push_str(piece)?;
+    }
+    Ok(text)
+}
+
+/// Adds these lines with the words of a row, but those that say nothing.
+fn add_lines(alloc: Global, all: &mut Lines, lines: &str, row: &str) -> Result<(), AllocError> {
+    for line in lines.lines() {
+        if !line.is_empty() && !line.starts_with('#') {
+            all.push(filled(alloc, line, row)?)?;
+        }
+    }
+    Ok(())
+}
+
+/// Adds lines so often, with what prints them where they print something else than the time before.
+fn add_calls(alloc: Global, all: &mut Lines, count: usize, lines: &str) -> Result<(), AllocError> {
+    for call in 0..count {
+        let row = format!(in alloc; "{call}")?;
+        add_lines(alloc, all, lines, &row)?;
+        all.push(format!(in alloc; "turn {call}")?)?;
+    }
+    Ok(all.push(String::from_str(alloc, "turns")?)?)
+}
+
+/// Adds lines for each row of a file.
+fn add_rows(alloc: Global, all: &mut Lines, rows: &str, lines: &str) -> Result<(), AllocError> {
+    for row in rows.lines() {
+        add_lines(alloc, all, lines, row)?;
+        all.push(String::from_str(alloc, "print")?)?;
+    }
+    Ok(())
+}
+
+/// Adds lines behind the first, which says how often they are done, or has the name of a file with rows.
+fn add_turns(world: &mut World, all: &mut Lines, turns: &str) -> io::Result<()> {
+    let (head, lines) = turns.split_once('\n').unwrap_or((turns, ""));
+    match head.parse() {
+        Ok(count) => Ok(add_calls(world.alloc, all, count, lines)?),
+        Err(_) => {
+            let rows = text_of(world, head)?;
+            Ok(add_rows(world.alloc, all, &rows, lines)?)
+        }
+    }
+}
+
+/// Adds the lines of a part.
+fn add_part(world: &mut World, all: &mut Lines, part: &str) -> io::Result<()> {
+    let (lines, turns) = part.split_once("\neach ").unwrap_or((part, "0"));
+    add_lines(world.alloc, all, lines, "")?;
+    all.push(String::from_str(world.alloc, "print")?)?;
+    add_turns(world, all, turns)
+}
+
+/// The lines of the script of this name, which is one of the world's files, in the order in which they are done.
+pub fn lines_of(world: &mut World, name: &str) -> io::Result<Vec<String>> {
+    let parts = text_of(world, name)?;
+    let mut all = Vec::new(world.alloc);
+    for part in parts.split("\n\n") {
+        add_part(world, &mut all, part)?;
+    }
+    Ok(all)
+}
