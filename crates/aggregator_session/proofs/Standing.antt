@@ -6,7 +6,6 @@ use Rattle.aggregator_session.specs.Runs.{SameSession}
 use Rattle.aggregator_session.specs.Tasks.{MayAsk, Stands, StandsAgain, StandsFirst}
 use Rattle.aggregator_session.specs.declared.session.Task.{Task}
 use Rattle.coalition_map.specs.Coalitions.{PlanNumbers, leaf_members}
-use Rattle.lms_bytes.specs.MessageId.{message_id}
 use Rattle.lms_bytes.specs.declared.ask.Ask.{Ask}
 use Rattle.lms_bytes.specs.declared.ask.Second.{Second}
 use Rattle.lms_bytes.specs.declared.params.Params.{Params}

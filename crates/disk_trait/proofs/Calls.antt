@@ -5,7 +5,7 @@ use Rattle.std.proofs.lemmas.Bool.Decides.{nat_tests}
 use Rattle.std.proofs.lemmas.List.{ext_get_or, get_or-replicate}
 use Rattle.disk_trait.specs.Faults.{HasCause, Rose}
 use Rattle.disk_trait.specs.Images.{written, Torn, Only}
-use Rattle.disk_trait.specs.MemDisk.{MemState, MayLeave, counted, changed, has_room, is_call, is_from, is_steady, sync_fails, with_named, with_written, with_stable, write_fails}
+use Rattle.disk_trait.specs.MemDisk.{MemState, MayLeave, counted, changed, is_call, is_from, is_steady, sync_fails, with_named, with_written, with_stable, write_fails}
 use Rattle.disk_trait.specs.MemDiskLaws.{leaves_bytes}
 use Rattle.disk_trait.specs.declared.disk.DiskFault.{DiskFault}
 

@@ -1,5 +1,5 @@
 -- What goes over a link in memory is what goes over its source and its sink.
-use Rattle.std.proofs.Common.{◌≡◌, ◌≤◌, ◌++◌, ℕ, List, Result, Ok, Err, MatchResult, take, length, refl, sym, ap, ◌∙◌}
+use Rattle.std.proofs.Common.{◌≡◌, ℕ, List, Result, Ok, Err, MatchResult, sym, ◌∙◌}
 use Rattle.stream_io.specs.Talk.{HasRead, HasWritten, Talk, Took}
 use Rattle.stream_io.specs.declared.failed.Failed.{Failed}
 

@@ -1,8 +1,7 @@
-use Rattle.std.proofs.Common.{◌<◌, ◌^◌, Result, refl, sym, ap, subst, arith}
+use Rattle.std.proofs.Common.{Result, refl, sym, ap, subst, arith}
 use Rattle.aggregator_session.specs.Causes.{PortCauses, ReferenceCauses}
 use Rattle.aggregator_session.specs.declared.fault.SignFault.{SignFault}
 use Rattle.aggregator_session.specs.declared.sign.Signed.{Signed}
-use Rattle.coalition_map.specs.Coalitions.{PlanNumbers}
 use Rattle.aggregator_session.specs.Signing.{not_leased, signature_in, too_long}
 use Rattle.aggregator_session.specs.Tables.{table_seen}
 use Rattle.aggregator_session.proofs.Signing.{asks-as, cells-none, cells-signed, leased-to, not-begun, port-none, port-signed, table-then}

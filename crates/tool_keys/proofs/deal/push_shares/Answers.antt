@@ -1,4 +1,4 @@
-use Rattle.std.proofs.Common.{◌∙◌, refl, arith}
+use Rattle.std.proofs.Common.{refl, arith}
 use Rattle.std.proofs.lemmas.List.{length_push}
 use Rattle.tool_base.specs.OutputOf.{output_of}
 use Rattle.tool_keys.proofs.Naming.{named_none, pushed}

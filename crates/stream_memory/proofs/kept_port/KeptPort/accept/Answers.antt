@@ -1,4 +1,4 @@
-use Rattle.std.proofs.Common.{rules, if◌then◌else◌, is_some, option_map, string_bytes, ◌≡◌, ◌+◌, ◌&&◌, ℕ, List, Option, Some, None, length, true, false, refl, sym, ap, ◌∙◌, arith}
+use Rattle.std.proofs.Common.{rules, if◌then◌else◌, is_some, option_map, string_bytes, ◌≡◌, ◌+◌, ◌&&◌, ℕ, Option, Some, None, length, true, false, refl, sym, ap, ◌∙◌, arith}
 use Rattle.std.specs.List.{list_all}
 use Rattle.stream_memory.specs.Calls.{is_empty}
 use Rattle.stream_memory.specs.Ports.{is_steady_entry, is_steady_waiting, port_state}

@@ -1,4 +1,4 @@
-use Rattle.std.proofs.Common.{◌≡◌, ◌++◌, ◌∷◌, [], All, length, map, option_copied, ap, refl, subst, sym, ◌∙◌, arith}
+use Rattle.std.proofs.Common.{◌∷◌, [], All, length, map, option_copied, ap, refl, subst, sym, ◌∙◌, arith}
 use Rattle.std.proofs.lemmas.List.{length_push, map-append}
 use Rattle.std.proofs.lemmas.List.Elements.{All-push}
 use Rattle.stream_io.specs.Net.{IsNewPort}
