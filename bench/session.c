@@ -29,7 +29,7 @@ enum { TRUSTEES = 3, CHAINS = 67, MESSAGE = 1024, SIGNATURE = 2508 };
 /* A file of slots: its header, a slot, and what of a slot is written first. */
 enum { HEADER = 128, SLOT = 160, BODY = 36 };
 /* Bytes of asks and replies. */
-enum { FIRST_ASK = 64, FIRST_REPLY = 97, SECOND_ASK = 96 + MESSAGE, SECOND_REPLY = 2241 };
+enum { FIRST_ASK = 64, FIRST_REPLY = 97, SECOND_ASK = 92 + MESSAGE, SECOND_REPLY = 2241 };
 /* Blocks of SHA-256: a message, hashed for its id and for its digest; a mask; a verification, in the middle. */
 enum { TWICE_MESSAGE = 2 * (MESSAGE / 64 + 1), MASK = 2, VERIFICATION = 602 };
 
