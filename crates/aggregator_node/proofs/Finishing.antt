@@ -9,7 +9,7 @@ use Rattle.leaf_table.specs.declared.lease.Lease.{Lease}
 use Rattle.leaf_table.specs.declared.table.TableName.{TableName}
 use Rattle.aggregator_session.specs.Desks.{DeskState}
 use Rattle.aggregator_session.specs.Tables.{TableSeen}
-use Rattle.node_workers.specs.declared.totals.Totals.{Totals}
+use Rattle.stream_io.specs.declared.totals.Totals.{Totals}
 use Rattle.node_workers.proofs.Logs.{small-ticket}
 use Rattle.turn_lock.specs.Lock.{Lock}
 use Rattle.turn_lock.specs.Pass.{IsWhole, Seen}

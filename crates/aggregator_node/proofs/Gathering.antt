@@ -19,7 +19,7 @@ use Rattle.leaf_table.specs.declared.table.TableName.{TableName}
 use Rattle.stream_io.specs.Net.{PortOnward, PortState}
 use Rattle.node_workers.proofs.Prefixes.{prefix-same, prefix-then}
 use Rattle.node_workers.specs.Ports.{PortEnds, failed, full, none_waits}
-use Rattle.node_workers.specs.declared.totals.Totals.{Totals}
+use Rattle.stream_io.specs.declared.totals.Totals.{Totals}
 use Rattle.node_workers.proofs.Logs.{begins-left, begins-right}
 use Rattle.turn_lock.specs.Lock.{Lock}
 use Rattle.turn_lock.specs.Pass.{Joins, Seen, first_pass}

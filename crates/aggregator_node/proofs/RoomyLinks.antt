@@ -14,7 +14,7 @@ use Rattle.stream_io.specs.Net.{IsNewPort, NetState, PortState}
 use Rattle.node_workers.specs.Ends.{IsLinkFault}
 use Rattle.node_workers.specs.declared.served.ServedEnd.{ServedEnd}
 use Rattle.node_workers.specs.declared.served.ServedEnd.TheVariants.{Closed, Frame, Full, Worn, WriteFailed}
-use Rattle.node_workers.specs.declared.totals.Totals.{Totals}
+use Rattle.stream_io.specs.declared.totals.Totals.{Totals}
 
 which-fault : (ended : ServedEnd) → IsLinkFault ended → (ended ≡ Frame ReadFault) ⊎ (ended ≡ WriteFailed)
 which-fault Closed failed = absurd failed

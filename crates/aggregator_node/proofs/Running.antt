@@ -16,7 +16,7 @@ use Rattle.disk_trait.specs.declared.faults.Faults as faults
 use Rattle.reference_value.specs.declared.cells.Cells as cells
 use Rattle.stream_io.specs.Net.{PortState}
 use Rattle.node_workers.specs.Starting.{fresh_workers}
-use Rattle.node_workers.specs.declared.totals.Totals.{Totals}
+use Rattle.stream_io.specs.declared.totals.Totals.{Totals}
 use Rattle.node_workers.specs.declared.worker.Worker.{Worker}
 use Rattle.node_workers.proofs.Lists.{written-whole}
 use Rattle.turn_lock.specs.Lock.{Lock}

@@ -13,7 +13,7 @@ use Rattle.aggregator_session.specs.Tables.{TableSeen}
 use Rattle.reference_value.specs.declared.cells.Cells as cells
 use Rattle.stream_io.specs.Net.{PortOnward, PortState}
 use Rattle.node_workers.specs.Ports.{PortEnds}
-use Rattle.node_workers.specs.declared.totals.Totals.{Totals}
+use Rattle.stream_io.specs.declared.totals.Totals.{Totals}
 use Rattle.turn_lock.specs.Pass.{Seen}
 
 -- a port, the reference that its worker reads, and the count of faults of that

@@ -6,7 +6,7 @@ ghost use Rattle.aggregator_node.specs.Roomy.{HasRoomyLinks, NoLinkFails, TakesA
 ghost use Rattle.aggregator_session.specs.Desks.{DeskState};
 ghost use Rattle.aggregator_session.specs.Tables.{TableSeen};
 ghost use Rattle.stream_io.specs.Net.{IsNewPort, NetState};
-ghost use Rattle.node_workers.specs.declared.totals.Totals.{Totals};
+ghost use Rattle.stream_io.specs.declared.totals.Totals.{Totals};
 
 /// Over steady ports whose links have room for 65,536 of the longest replies of the key's parameter set, no client's
 /// connection ended by a link that failed. New ports of a steady net with that room are such ports.

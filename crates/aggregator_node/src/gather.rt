@@ -10,9 +10,9 @@ ghost use Rattle.turn_lock.specs.Pass.{first_pass};
 
 use disk_trait::{Disk, Faults};
 use leaf_table::Table;
-use node_workers::{Totals, Worker};
+use node_workers::Worker;
 use reference_value::Cells;
-use stream_io::Port;
+use stream_io::{Port, Totals};
 use turn_lock::{Pass, TurnLock};
 
 /// Joins the passes of workers that are done, adds their numbers, and puts their ports and cells into the room that

@@ -12,12 +12,12 @@ use aggregator_session::Desk;
 use disk_trait::{Disk, Faults};
 use leaf_table::Table;
 use memory::NoMemory;
-use node_workers::{Totals, make_workers};
+use node_workers::make_workers;
 use reference_value::Cells;
 use std::alloc::Global;
 use std::sync::Wait;
 use std::thread::Threads;
-use stream_io::Port;
+use stream_io::{Port, Totals};
 use turn_lock::TurnLock;
 
 /// Serves the clients of a leaf table over ports, by a worker for each port, all beside each other, each with cells of

@@ -18,7 +18,7 @@ use Rattle.aggregator_session.specs.Signing.{Signature, signed_with}
 use Rattle.aggregator_session.specs.Tables.{TableSeen}
 use Rattle.lms_bytes.specs.declared.message.MessageId.{MessageId}
 use Rattle.node_workers.specs.declared.served.ServedEnd.{ServedEnd}
-use Rattle.node_workers.specs.declared.totals.Totals.{Totals}
+use Rattle.stream_io.specs.declared.totals.Totals.{Totals}
 use Rattle.turn_lock.specs.Pass.{Seen}
 
 -- nothing is in an empty list, and one thing in a list of one

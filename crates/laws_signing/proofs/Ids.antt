@@ -24,7 +24,7 @@ use Rattle.lms_bytes.specs.MessageId.{message_id_bytes}
 use Rattle.lms_bytes.specs.declared.message.MessageId.{MessageId}
 use Rattle.stream_io.specs.Net.{PortState}
 use Rattle.node_workers.specs.declared.served.ServedEnd.{ServedEnd}
-use Rattle.node_workers.specs.declared.totals.Totals.{Totals}
+use Rattle.stream_io.specs.declared.totals.Totals.{Totals}
 use Rattle.turn_lock.specs.Pass.{Seen}
 
 abbrev id-of : ℕ → List ℕ → MessageId

@@ -12,7 +12,7 @@ use Rattle.lms_verify.specs.UndividedKey.{UndividedKey}
 use Rattle.reference_value.specs.Dealing.{Dealing}
 use Rattle.tool_words.specs.Words.{AggregateWords}
 use Rattle.node_workers.specs.declared.served.ServedEnd.{ServedEnd}
-use Rattle.node_workers.specs.declared.totals.Totals.{Totals}
+use Rattle.stream_io.specs.declared.totals.Totals.{Totals}
 
 module _ (words : AggregateWords) (d : Dealing) (key : UndividedKey) {desk : DeskState} {reference : ReferenceState}
   where

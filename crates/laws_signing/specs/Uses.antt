@@ -27,7 +27,7 @@ use Rattle.tool_sign.specs.Leases.{AllLeave, IsLeasedIn}
 use Rattle.tool_sign.specs.Ports.{NetRun}
 use Rattle.tool_words.specs.Words.{AggregateWords}
 use Rattle.node_workers.specs.declared.served.ServedEnd.{ServedEnd}
-use Rattle.node_workers.specs.declared.totals.Totals.{Totals}
+use Rattle.stream_io.specs.declared.totals.Totals.{Totals}
 use Rattle.turn_lock.specs.Pass.{Seen}
 
 -- an outcome before which no leaf was leased: the message was too long, there was no turn, or the table gave no leaf

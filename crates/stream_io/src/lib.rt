@@ -10,6 +10,7 @@ mod sink;
 mod source;
 mod store;
 mod stream;
+mod totals;
 
 pub use call_fault::CallFault;
 pub use failed::Failed;
@@ -20,3 +21,4 @@ pub use sink::{Sink, write_whole};
 pub use source::{Source, read_whole};
 pub use store::{NewFault, ReadAllFault, Readers, Store};
 pub use stream::Stream;
+pub use totals::Totals;

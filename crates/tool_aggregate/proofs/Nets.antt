@@ -15,7 +15,7 @@ use Rattle.tool_aggregate.specs.Serving.{NetClientsEnd, cells_run, no_memory, se
 use Rattle.tool_base.specs.Services.{ServiceEnds}
 use Rattle.tool_sign.specs.Ports.{NetRun}
 use Rattle.tool_words.specs.Words.{AggregateWords}
-use Rattle.node_workers.specs.declared.totals.Totals.{Totals}
+use Rattle.stream_io.specs.declared.totals.Totals.{Totals}
 use Rattle.tool_aggregate.proofs.Places.{have_cells, ports_are}
 
 module _ {X P : Type 0} (c : cells.Ghosts X) (f : faults.Ghosts X) (state : P → PortState) (words : AggregateWords) (desk : DeskState) (table_same ports_same cells_same : Type 0) (old new : TableSeen)

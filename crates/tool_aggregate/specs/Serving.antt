@@ -21,7 +21,7 @@ use Rattle.tool_base.specs.Services.{ServiceEnds}
 use Rattle.tool_sign.specs.Ports.{NetRun}
 use Rattle.tool_sign.specs.Tables.{IsFresh, IsTable, LeavesTable, table_header}
 use Rattle.tool_words.specs.Words.{AggregateWords}
-use Rattle.node_workers.specs.declared.totals.Totals.{Totals}
+use Rattle.stream_io.specs.declared.totals.Totals.{Totals}
 
 -- the ports of places
 abbrev pub ports_of : List Place → List PortState

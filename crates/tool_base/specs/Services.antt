@@ -1,7 +1,7 @@
 -- How a service over ports ends.
 use Rattle.std.specs.Prelude.{◌≡◌, ◌⊎◌, List, All, Result, Ok, Err}
 use Rattle.memory.specs.declared.NoMemory.{NoMemory}
-use Rattle.node_workers.specs.declared.totals.Totals.{Totals}
+use Rattle.stream_io.specs.declared.totals.Totals.{Totals}
 use Rattle.stream_io.specs.Net.{PortState, SomeUnaccepted}
 use Rattle.tool_base.specs.Ending as ending
 use Rattle.tool_base.specs.Ending.{Ending}

@@ -7,8 +7,7 @@ ghost use Rattle.tool_base.specs.Services.{ServiceEnds};
 
 use crate::ending::Ending;
 use memory::NoMemory;
-use node_workers::Totals;
-use stream_io::Port;
+use stream_io::{Port, Totals};
 
 /// The end of a service over these ports.
 pub fn end_of_service<P: Port>(ports: &[P], totals: Result<Totals, NoMemory>) -> Ending

@@ -2,19 +2,31 @@
 use Rattle.std.proofs.Common.{◌≡◌, ◌≢◌, ◌++◌, ℕ, List, [], ◌∷◌, All, IfOk, IsTrue, Option, None, Result, Err, get_or, length, map, refl, sym, ap, ◌∙◌, set, subst, arith}
 use Rattle.std.proofs.lemmas.List.Elements.{All-cons, All-head, All-nil}
 use Rattle.aggregator_session.specs.declared.fault.SignFault.{SignFault}
+use Rattle.aggregator_session.specs.declared.sign.Signed.{Signed}
 use Rattle.disk_trait.specs.Faults.{Rose}
+use Rattle.disk_trait.specs.declared.disk.Pages as pages
+use Rattle.disk_trait.specs.declared.faults.Faults as faults
 use Rattle.aggregator_session.specs.Causes.{PortCauses}
 use Rattle.aggregator_session.specs.Ended.{LeasedTo}
-use Rattle.aggregator_session.specs.Signing.{Signature}
+use Rattle.aggregator_session.specs.Signing.{Signature, signature_in}
 use Rattle.aggregator_session.specs.Tables.{TableSeen}
+use Rattle.leaf_table.specs.Table.{Stays}
+use Rattle.leaf_table.specs.declared.table.Table.{Table}
 use Rattle.lms_verify.specs.Accepts.{AcceptsAt}
+use Rattle.reference_value.specs.Stay.{CellsStay}
+use Rattle.reference_value.specs.declared.cells.Cells as cells
 use Rattle.session_core.specs.State.{State}
-use Rattle.stream_io.specs.Net.{Gathers, IsNewPort, MakesPorts, NetState, PortState, SomeFailed, SomeUnaccepted}
+use Rattle.stream_io.specs.Net.{Gathers, IsNewPort, MakesPorts, NetOnward, NetState, PortState, SameNet, SomeFailed, SomeUnaccepted}
 use Rattle.stream_io.specs.Store.{RisesWhere}
+use Rattle.tool_base.proofs.Nets.{net_back}
 use Rattle.tool_base.specs.Ending as ending
 use Rattle.tool_base.specs.Ending.{Ending}
+use Rattle.tool_base.specs.World.{IsNetBack}
+use Rattle.tool_base.specs.declared.ending.Ending as declared
+use Rattle.tool_sign.proofs.Ports.{accepted_as, causes_as}
 use Rattle.tool_sign.specs.Ended.{NetTo, last_over}
 use Rattle.tool_sign.specs.Ports.{IsIdle, IsUnread, NetRun, SignedOver, Signing, answer_of, no_memory, no_port, over_net, sign_of, signed}
+use Rattle.tool_sign.specs.Signs.{answer_in}
 
 module _ {P : Type 0} (f : P → PortState) where
   none-one : length (map f []) ≡ 1 → ⊥
@@ -116,3 +128,39 @@ module _ (signing : Signing) (same : Type 0) (old new : TableSeen) (net : NetRun
   pub had_no_port : answer ≡ Err ending.NetFailed → session ≡ None → same → IsIdle signing net → Rose net.before.port_count net.after.port_count
       → (IsTrue net.before.told → IsTrue net.before.steady → ⊥) → NetTo signing same old new net answer session
   had_no_port is none stays idle rose never = rw is (record { ends = no_port stays idle rose never; session_is = none })
+
+-- the same, by the outcome of the call
+module _ (signing : Signing) (same : Type 0) (old new : TableSeen) (net : NetRun) (outcome : Result Signed declared.Ending) (session : Option State) where
+  pub none_had : outcome ≡ Err declared.TheVariants.NoMemory → session ≡ None → same → signing.reads.now ≡ signing.reads.before → SameNet net.before net.after
+      → NetTo signing same old new net (answer_in outcome) session
+  none_had is none stays reads ports = had_none signing same old new net (answer_in outcome) session (ap answer_in is) none stays (record { reads = reads; ports = ports })
+
+  pub no_port_had : outcome ≡ Err declared.TheVariants.NetFailed → session ≡ None → same → signing.reads.now ≡ signing.reads.before → SameNet net.before net.after
+      → Rose net.before.port_count net.after.port_count → (IsTrue net.before.told → IsTrue net.before.steady → ⊥) → NetTo signing same old new net (answer_in outcome) session
+  no_port_had is none stays reads ports rose never = had_no_port signing same old new net (answer_in outcome) session (ap answer_in is) none stays (record { reads = reads; ports = ports }) rose never
+
+-- the one port that was made is given back, as it then is
+module _ {P : Type 0} (state : P → PortState) (a b c : NetState) (ports : List P) (done : P) where
+  pub port_back : MakesPorts a None 1 (map state ports) b → NetOnward a b → Gathers b (map state (set ports 0 done)) c → NetOnward b c → IsNetBack a c
+  port_back makes onward gathers later = net_back a b c None 1 (map state ports) (map state (set ports 0 done)) makes onward (same_many state ports done makes.many) gathers later
+
+  module _ (port : P) (signing : Signing) (same : Type 0) (old new : TableSeen) (result : Result Signed SignFault) (session : Option State) (answer : Result Signature Ending) where
+    pub port_over : port ≡ get_or ports 0 port → MakesPorts a None 1 (map state ports) b → NetOnward a b → b.count ≡ a.count → b.port_count ≡ a.port_count → Gathers b (map state (set ports 0 done)) c
+        → LeasedTo (sign_of signing) old (state port) new (state done) (signature_in result) session
+        → IfOk result (λ made. AcceptsAt signing.desk.key signing.message made.bytes.items made.leaf) → PortCauses signing.message (state port) (state done) result → IsUnread signing (signature_in result)
+        → answer ≡ answer_of (signature_in result) → NetTo signing same old new (over_net a c) answer session
+    port_over is makes onward count port_count gathers leased accepted causes unread told =
+        ends_over signing old new a b c (state port) (state done) same (signature_in result) session answer told
+        (over_one signing old new a b c (state port) (state done) (map state ports) (map state (set ports 0 done)) (signature_in result) session
+        (first_made state ports port makes.many is) (one_after state ports done makes.many) makes gathers onward.told count port_count leased
+        (accepted_as signing.desk.key signing.message result accepted) (causes_as signing.message (state port) (state done) result causes) unread)
+
+-- ---- where nothing was changed
+pub net_same : (a b : NetState) → SameNet a b → NetOnward a b → IsNetBack a b
+net_same a b same onward = record { onward = onward; out = λ told. same.out }
+
+pub table_same : {D : Type 0} {p : pages.Ghosts D} {f : faults.Ghosts D} (table : Table D p f) → Stays table table
+table_same table = record { plan = refl; header = refl; disk = record { told = refl; honest = refl; steady = refl; room = refl; count = omega arith } }
+
+pub cells_same : {C : Type 0} (c : cells.Ghosts C) (f : faults.Ghosts C) (own : C) → CellsStay c f own own
+cells_same c f own = record { set = refl; plan = refl; told = refl; steady = refl; leaves = λ told. refl }

@@ -14,7 +14,7 @@ use Rattle.trustee_node.specs.Connections.{ClockState, clock_state}
 use Rattle.opening_journal.specs.declared.entry.Entry.{Entry}
 use Rattle.trustee_node.specs.Ports.{IsPortRun, PortRun, ServedPorts, ports_run}
 use Rattle.node_workers.specs.Ports.{PortEnds, failed, full, none_waits}
-use Rattle.node_workers.specs.declared.totals.Totals.{Totals}
+use Rattle.stream_io.specs.declared.totals.Totals.{Totals}
 use Rattle.tool_base.specs.Services.{HasAccepted, ServiceEnds}
 use Rattle.tool_trustee.specs.Nets.{IsNewClock, NetServiceEnds, Service, no_memory, served}
 

@@ -12,7 +12,7 @@ use Rattle.tool_words.specs.Words.{TrusteeWords}
 use Rattle.trustee_node.specs.Connections.{ClockState}
 use Rattle.trustee_node.specs.Ports.{ServedPorts, ports_run}
 use Rattle.trustee_node.specs.Trustees.{TrusteeState}
-use Rattle.node_workers.specs.declared.totals.Totals.{Totals}
+use Rattle.stream_io.specs.declared.totals.Totals.{Totals}
 
 -- a clock that was made here tells what all clocks of this time answer, from the first answer on
 pub record IsNewClock (time : TimeState) (clock : ClockState) : Type 0 where

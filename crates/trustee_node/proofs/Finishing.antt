@@ -16,7 +16,7 @@ use Rattle.trustee_node.specs.Gathered.{Gathered}
 use Rattle.trustee_node.specs.Ports.{AllComeFrom, ComesFrom, IsPortRun, PortRun, PortsRun, ServedPorts, is_asked, turns_in, was_in_doubt, was_there}
 use Rattle.trustee_node.specs.Trustees.{TrusteeState}
 use Rattle.node_workers.proofs.Logs.{small-ticket}
-use Rattle.node_workers.specs.declared.totals.Totals.{Totals}
+use Rattle.stream_io.specs.declared.totals.Totals.{Totals}
 use Rattle.turn_lock.specs.Lock.{Lock}
 use Rattle.turn_lock.specs.Pass.{IsWhole, Seen, first_pass}
 

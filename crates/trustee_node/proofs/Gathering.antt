@@ -21,7 +21,7 @@ use Rattle.trustee_node.specs.Gathered.{Gathered, IsDone}
 use Rattle.trustee_node.specs.Ports.{IsPortRun, PortRun, ports_run, turns_in}
 use Rattle.node_workers.specs.Ports.{PortEnds, failed, full, none_waits}
 use Rattle.node_workers.proofs.Logs.{begins-left, begins-right}
-use Rattle.node_workers.specs.declared.totals.Totals.{Totals}
+use Rattle.stream_io.specs.declared.totals.Totals.{Totals}
 use Rattle.turn_lock.specs.Lock.{Lock}
 use Rattle.turn_lock.specs.Pass.{Joins, Seen, first_pass}
 

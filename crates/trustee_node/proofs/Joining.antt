@@ -8,7 +8,7 @@ use Rattle.trustee_node.specs.Connections.{ClockState}
 use Rattle.trustee_node.specs.Workers.{WorkerState}
 use Rattle.trustee_node.specs.Gathered.{AreDone, Gathered, IsDone}
 use Rattle.trustee_node.specs.Ports.{ports_run}
-use Rattle.node_workers.specs.declared.totals.Totals.{Totals}
+use Rattle.stream_io.specs.declared.totals.Totals.{Totals}
 use Rattle.trustee_node.proofs.Gathering.{gathered-one}
 use Rattle.trustee_node.proofs.PortStanding.{no-clocks, no-ports, split}
 use Rattle.turn_lock.specs.Lock.{Lock}

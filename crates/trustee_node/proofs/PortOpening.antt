@@ -17,7 +17,7 @@ use Rattle.node_workers.proofs.Prefixes.{prefix-same}
 use Rattle.trustee_node.proofs.Standing.{served-begins}
 use Rattle.trustee_node.specs.Ports.{IsPortRun, PortRun, PortsRun, ServedPorts, turns_in}
 use Rattle.trustee_node.specs.Trustees.{TrusteeState}
-use Rattle.node_workers.specs.declared.totals.Totals.{Totals}
+use Rattle.stream_io.specs.declared.totals.Totals.{Totals}
 
 -- what was granted in turns after turns
 granted-one : (outcome : Outcome) (ask : Ask) (asks more : List Ask) → if_granted outcome ask (asks ++ more) ≡ if_granted outcome ask asks ++ more

@@ -10,7 +10,7 @@ use Rattle.trustee_node.specs.Ports.{HasRoomyLinks, IsPortRun, NoLinkFails, Port
 use Rattle.trustee_node.specs.Replies.{longest_reply}
 use Rattle.trustee_node.specs.Trustees.{TrusteeState}
 use Rattle.trustee_node.specs.Workers.{Connection, IsConnection}
-use Rattle.node_workers.specs.declared.totals.Totals.{Totals}
+use Rattle.stream_io.specs.declared.totals.Totals.{Totals}
 
 module _ (share : Share) where
   sound-one : (port : PortState) (one : Connection) → HasRoomyLinks share.params port → IsConnection share port one → IsLinkFault one.served.ended → ⊥

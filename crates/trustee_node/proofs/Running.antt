@@ -11,7 +11,7 @@ use Rattle.trustee_node.specs.Workers.{WorkEnds, WorkerState, Worked, worker_sta
 use Rattle.trustee_node.specs.Gathered.{AreBegun, AreDone, Gathered, IsBegun, IsDone}
 use Rattle.trustee_node.specs.Ports.{PortRun, ports_run}
 use Rattle.node_workers.specs.Starting.{fresh_workers}
-use Rattle.node_workers.specs.declared.totals.Totals.{Totals}
+use Rattle.stream_io.specs.declared.totals.Totals.{Totals}
 use Rattle.node_workers.specs.declared.worker.Worker.{Worker}
 use Rattle.trustee_node.proofs.Starting.{begun-of}
 use Rattle.trustee_node.proofs.PortStanding.{stand-all, stand-then}

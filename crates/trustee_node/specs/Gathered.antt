@@ -9,7 +9,7 @@ use Rattle.trustee_node.specs.Turns.{Draws, Faults, NotedBy, added_by}
 use Rattle.trustee_node.specs.Connections.{ClockState}
 use Rattle.trustee_node.specs.Workers.{WorkEnds, WorkerState, Worked}
 use Rattle.trustee_node.specs.Ports.{HasTotals, IsPortRun, PortRun, PortsRun, turns_in}
-use Rattle.node_workers.specs.declared.totals.Totals.{Totals}
+use Rattle.stream_io.specs.declared.totals.Totals.{Totals}
 use Rattle.turn_lock.specs.Lock.{Lock}
 use Rattle.turn_lock.specs.Pass.{SamePass, Seen, first_pass}
 

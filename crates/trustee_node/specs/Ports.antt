@@ -14,7 +14,7 @@ use Rattle.trustee_node.specs.Turns.{IsAsked, ServedTurns, Turn, added_by, with_
 use Rattle.trustee_node.specs.Workers.{Connection, IsConnection, frames_of, turns_of}
 use Rattle.trustee_node.specs.Trustees.{TrusteeState}
 use Rattle.node_workers.specs.Ports.{PortEnds}
-use Rattle.node_workers.specs.declared.totals.Totals.{Totals}
+use Rattle.stream_io.specs.declared.totals.Totals.{Totals}
 
 -- a port before and after, the clock by which its asks were dated, and the connections that were served at it
 pub record PortRun : Type 0 where

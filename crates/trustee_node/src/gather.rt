@@ -12,8 +12,8 @@ ghost use Rattle.node_workers.specs.Workers.{IsFree};
 ghost use Rattle.turn_lock.specs.Pass.{first_pass};
 
 use disk_trait::Disk;
-use node_workers::{Totals, Worker};
-use stream_io::Port;
+use node_workers::Worker;
+use stream_io::{Port, Totals};
 use trustee_core::{Clock, Trustee};
 use turn_lock::{Pass, TurnLock};
 

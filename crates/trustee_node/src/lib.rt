@@ -12,6 +12,7 @@ mod turn;
 mod worker;
 
 pub use connection::serve_connection;
-pub use node_workers::{Served, ServedEnd, Totals, Worker};
+pub use node_workers::{Served, ServedEnd, Worker};
 pub use service::serve_ports;
+pub use stream_io::Totals;
 pub use worker::serve;

@@ -7,7 +7,7 @@ ghost use Rattle.trustee_core.specs.Lives.{OneOpening};
 ghost use Rattle.trustee_node.specs.Places.{granted_in};
 ghost use Rattle.trustee_node.specs.Ports.{HasRoomyLinks, NoLinkFails, PortsRun, ServedPorts, turns_in};
 ghost use Rattle.trustee_node.specs.Trustees.{TrusteeState};
-ghost use Rattle.node_workers.specs.declared.totals.Totals.{Totals};
+ghost use Rattle.stream_io.specs.declared.totals.Totals.{Totals};
 
 /// All that was granted at all ports is of one opening, where each entry of the trustee may follow those before it, as
 /// `Trustee::end` says.

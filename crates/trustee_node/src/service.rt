@@ -12,12 +12,12 @@ use crate::gather::gather;
 use crate::serve;
 use disk_trait::Disk;
 use memory::NoMemory;
-use node_workers::{Totals, Worker, make_workers};
+use node_workers::{Worker, make_workers};
 use share_files::Share;
 use std::alloc::Global;
 use std::sync::Wait;
 use std::thread::Threads;
-use stream_io::Port;
+use stream_io::{Port, Totals};
 use trustee_core::{Approved, Clock, Trustee};
 use turn_lock::TurnLock;
 

@@ -1,4 +1,4 @@
-//! What came of serving.
+//! What came of serving over ports.
 
 ghost use Rattle.std.specs.Prelude.{◌≡◌, ◌+◌, ◌-◌, ◌^◌, min};
 
