@@ -33,10 +33,10 @@ use Rattle.tool_journals.specs.Enrol as enrol
 use Rattle.tool_journals.specs.Migrate.{MigrateEnds}
 use Rattle.tool_journals.specs.Migrate as migrate
 use Rattle.tool_journals.specs.Taking.{IsNotTaken, no_memory_to_take, take_failed}
-use Rattle.tool_keys.specs.HssSign.{HssSignEnds}
-use Rattle.tool_keys.specs.HssSign as levels
-use Rattle.tool_keys.specs.Lower.{FailsLower}
-use Rattle.tool_keys.specs.Lower as lowers
+use Rattle.tool_sign.specs.HssSign.{HssSignEnds}
+use Rattle.tool_sign.specs.HssSign as levels
+use Rattle.tool_sign.specs.Lower.{FailsLower}
+use Rattle.tool_sign.specs.Lower as lowers
 use Rattle.laws_commands.proofs.Found.{AreThere, Found, IsThere, UpTo, grammar-found, keys-found, lacks-found, last-found, list-1, list-2, list-3, list-4, load-found, new-found, nothing, other-found, reference-found, session-all, session-found, signature-found, table-found, unwritten-found, up-to-here, up-to-later, upto-found, whole}
 use Rattle.tool_keys.specs.Deal.{DealEnds}
 use Rattle.tool_keys.specs.HssCheck.{HssCheckEnds}

@@ -11,7 +11,7 @@ use Rattle.tool_blame.specs.Blame as blame
 use Rattle.tool_blame.specs.Commits.{FailsCommits}
 use Rattle.tool_blame.specs.Commits as commits
 use Rattle.tool_blame.specs.Names.{NamesEnd, TellsEnd, as_ended, as_signed, by_names, named, unread}
-use Rattle.tool_keys.proofs.Causes as levels
+use Rattle.tool_sign.proofs.HssCauses as levels
 use Rattle.laws_commands.specs.Losing.{LosesByPeer}
 use Rattle.tool_run.specs.ToolRun.{CommandRun}
 use Rattle.tool_sign.proofs.Losses.{loses-peer, missing, new-heard, peer-why, session-by, unwritten-heard, upto-heard}

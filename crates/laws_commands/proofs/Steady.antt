@@ -37,7 +37,7 @@ use Rattle.tool_journals.specs.Enrol as enrol
 use Rattle.tool_journals.specs.Migrate.{CopyEnds, MigrateEnds}
 use Rattle.tool_journals.specs.Migrate as migrate
 use Rattle.tool_journals.specs.Taking.{IsNotTaken, no_memory_to_take, take_failed}
-use Rattle.tool_keys.proofs.Steady.{levels-steady}
+use Rattle.tool_sign.proofs.HssSteady.{levels-steady}
 use Rattle.tool_keys.specs.Deal.{DealEnds, IsNotDealt}
 use Rattle.tool_keys.specs.Deal as deal
 use Rattle.tool_run.specs.Drill.{DrillEnds, drilled, no_memory}

@@ -1,7 +1,7 @@
 -- A member that a command lost where no call of the net fails but for its arguments.
 use Rattle.std.specs.Prelude.{ℕ}
 use Rattle.tool_base.specs.World.{Outside, from_to}
-use Rattle.tool_keys.specs.Lost.{LosesLowerPeer}
+use Rattle.tool_sign.specs.LostLower.{LosesLowerPeer}
 use Rattle.tool_sign.specs.Lost.{LosesPeer}
 use Rattle.tool_sign.specs.Ports.{over_net}
 use Rattle.tool_sign.specs.Sign.{session_words}

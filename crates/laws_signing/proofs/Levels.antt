@@ -15,8 +15,8 @@ use Rattle.tool_base.specs.Ending.{Ending, status_of}
 use Rattle.tool_base.specs.World.{StoreRun, file_limit}
 use Rattle.tool_desk.specs.Key.{key_file_fault}
 use Rattle.tool_desk.specs.declared.files.KeyFiles.{KeyFiles}
-use Rattle.tool_keys.specs.HssSign.{AreWritten, HssSignEnds, HssSigningRun, SignsLower, no_lower, no_memory_to_join, not_accepted, not_new, not_signed, session_words, signed, stopped, two_levels}
-use Rattle.tool_keys.specs.Lower.{FailsLower, IsLower, Lower, no_key, no_message, no_signature}
+use Rattle.tool_sign.specs.HssSign.{AreWritten, HssSignEnds, HssSigningRun, SignsLower, no_lower, no_memory_to_join, not_accepted, not_new, not_signed, session_words, signed, stopped, two_levels}
+use Rattle.tool_sign.specs.Lower.{FailsLower, IsLower, Lower, no_key, no_message, no_signature}
 use Rattle.tool_sign.specs.Ports.{NetRun, Signing}
 use Rattle.tool_sign.specs.Sessions.{SessionEnds, ended}
 use Rattle.tool_sign.specs.Sessions as sessions

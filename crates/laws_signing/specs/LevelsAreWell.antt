@@ -6,7 +6,7 @@ use Rattle.lms_verify.specs.UndividedKey.{UndividedKey}
 use Rattle.reference_value.specs.Dealing.{Dealing}
 use Rattle.stream_io.specs.Store.{has_name}
 use Rattle.tool_base.specs.World.{StoreRun, file_limit}
-use Rattle.tool_keys.specs.Lower.{Lower}
+use Rattle.tool_sign.specs.Lower.{Lower}
 use Rattle.tool_sign.specs.Ports.{NetRun}
 use Rattle.tool_words.specs.Words.{HssSignWords, SignWords}
 use Rattle.laws_signing.specs.AllIsWell.{AllIsWell}

@@ -1,7 +1,8 @@
 //! Files that a command writes under new names.
 
-ghost use Rattle.std.specs.Prelude.{◌≡◌, ◌⊎◌, All, map, string_bytes, IfErr, OnOk, OnErr};
+ghost use Rattle.std.specs.Prelude.{◌≡◌, ◌⊎◌, [], ◌∷◌, All, map, string_bytes, IfErr, IfOk, OnOk, OnErr};
 ghost use Rattle.stream_io.specs.Store.{SameStore, StoreOnward, Written};
+ghost use Rattle.stream_io.specs.declared.store.Readers.TheVariants.{Anyone};
 ghost use Rattle.tool_base.specs.Ending as spec;
 ghost use Rattle.tool_base.specs.Endings.{ending};
 ghost use Rattle.tool_base.specs.OutputOf.{output_of};
@@ -9,6 +10,7 @@ ghost use Rattle.tool_base.specs.Outputs.{AreDifferent, EndsWith, FirstNotNew, I
 ghost use Rattle.tool_base.specs.World.{InAnyRun, IsBack, IsUnchanged, from_to};
 
 use crate::ending::Ending;
+use memory::NoMemory;
 use std::alloc::{AllocError, Global};
 use stream_io::{CallFault, NewFault, Readers, Store};
 
@@ -21,6 +23,34 @@ pub struct Output {
     pub bytes: Vec<u8>,
     /// Who may read it.
     pub readers: Readers,
+}
+
+/// Two files under their names, which anyone may read.
+pub fn two_outputs(
+    alloc: Global,
+    one: &str,
+    first: Vec<u8>,
+    two: &str,
+    second: Vec<u8>,
+) -> Result<[Output; 2], NoMemory>
+    ensures { IfOk result (λ outputs. map output_of outputs ≡
+        record { name = one.now; bytes = first.items; readers = Anyone }
+        ∷ record { name = two.now; bytes = second.items; readers = Anyone } ∷ []) }
+{
+    let one = String::from_str(alloc, one)?;
+    let two = String::from_str(alloc, two)?;
+    Ok([
+        Output {
+            name: one,
+            bytes: first,
+            readers: Readers::Anyone,
+        },
+        Output {
+            name: two,
+            bytes: second,
+            readers: Readers::Anyone,
+        },
+    ])
 }
 
 /// The end where an output of this name is in the store.
@@ -46,6 +76,23 @@ pub fn test_new<S: Store>(alloc: Global, store: &mut S, name: &str) -> Result<()
         Err(CallFault::Failed) => Err(Ending::StoreFailed),
         Err(CallFault::NoMemory) => Err(Ending::NoMemory),
     }
+}
+
+/// Tests that two names are new, one after the other.
+pub fn test_two_new<S: Store>(
+    alloc: Global,
+    store: &mut S,
+    one: &str,
+    two: &str,
+) -> Result<(), Ending>
+    ensures new { InAnyRun S.state store.old store.new (λ run.
+        OnOk result (All (IsNew run) (one.now ∷ two.now ∷ []))) }
+    ensures refused { InAnyRun S.state store.old store.new (λ run.
+        IfErr result (λ end. FirstNotNew run (one.now ∷ two.now ∷ []) (ending end))) }
+    ensures unchanged { IsUnchanged (S.state store.old) (S.state store.new) }
+{
+    test_new(alloc, store, one)?;
+    test_new(alloc, store, two)
 }
 
 /// Tests that the names of all outputs are not in the store, in their order.

@@ -1,8 +1,5 @@
 pub mod Deal
 pub mod HssCheck
-pub mod HssSign
-pub mod Lost
-pub mod Lower
 pub mod Naming
 pub mod Rehearse
 pub mod Steps

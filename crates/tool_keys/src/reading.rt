@@ -1,14 +1,13 @@
-//! Files that a command reads one after the other, and names that it tests.
+//! Files that a command reads one after the other.
 
-ghost use Rattle.std.specs.Prelude.{[], ◌∷◌, All, IfOk, IfErr, OnOk};
+ghost use Rattle.std.specs.Prelude.{IfOk, IfErr};
 ghost use Rattle.tool_base.specs.Endings.{ending};
-ghost use Rattle.tool_base.specs.Outputs.{FirstNotNew, IsNew};
 ghost use Rattle.tool_base.specs.World.{InAnyRun, IsUnchanged};
 ghost use Rattle.tool_keys.specs.Steps.{AreRead, FailsToReadTwo};
 
 use std::alloc::Global;
 use stream_io::Store;
-use tool_base::{Ending, FILE_LIMIT, read_file, test_new};
+use tool_base::{Ending, FILE_LIMIT, read_file};
 
 /// Reads two files whole, one after the other.
 pub(crate) fn read_two<S: Store>(
@@ -26,21 +25,4 @@ pub(crate) fn read_two<S: Store>(
     let first = read_file(alloc, store, one, FILE_LIMIT)?;
     let second = read_file(alloc, store, two, FILE_LIMIT)?;
     Ok((first, second))
-}
-
-/// Tests that two names are new, one after the other.
-pub(crate) fn test_two_new<S: Store>(
-    alloc: Global,
-    store: &mut S,
-    one: &str,
-    two: &str,
-) -> Result<(), Ending>
-    ensures new { InAnyRun S.state store.old store.new (λ run.
-        OnOk result (All (IsNew run) (one.now ∷ two.now ∷ []))) }
-    ensures refused { InAnyRun S.state store.old store.new (λ run.
-        IfErr result (λ end. FirstNotNew run (one.now ∷ two.now ∷ []) (ending end))) }
-    ensures unchanged { IsUnchanged (S.state store.old) (S.state store.new) }
-{
-    test_new(alloc, store, one)?;
-    test_new(alloc, store, two)
 }

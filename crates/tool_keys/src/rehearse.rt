@@ -9,14 +9,13 @@ ghost use Rattle.tool_base.specs.Outputs.{EndsWith};
 ghost use Rattle.tool_keys.specs.Rehearse.{IsBegun, IsNotRehearsed, IsReady, IsRehearsedTo, RehearseEnds};
 ghost use Rattle.tool_base.specs.World.{InAnyRun, IsBack, IsUnchanged, from_to};
 
-use crate::reading::{read_two, test_two_new};
+use crate::reading::read_two;
 use crate::undealt::end_of_fault;
-use crate::writing::two_outputs;
 use dealer::{Rehearsed, public_file, rehearse};
 use memory::NoMemory;
 use std::alloc::Global;
 use stream_io::Store;
-use tool_base::{Ending, Output, write_all};
+use tool_base::{Ending, Output, test_two_new, two_outputs, write_all};
 
 /// Deals a key and signs a message with its first leaf in memory, and writes the public key and the signature.
 pub fn rehearse_files<S: Store>(

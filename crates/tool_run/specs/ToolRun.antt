@@ -12,7 +12,7 @@ use Rattle.tool_aggregate.specs.Aggregate.{AggregateRun}
 use Rattle.tool_journals.specs.Approve.{ApproveEnds}
 use Rattle.tool_journals.specs.Enrol.{EnrolEnds}
 use Rattle.tool_journals.specs.Migrate.{MigrateEnds}
-use Rattle.tool_keys.specs.HssSign.{HssSigningRun}
+use Rattle.tool_sign.specs.HssSign.{HssSigningRun}
 use Rattle.tool_run.specs.Drill.{DrillEnds}
 use Rattle.tool_keys.specs.HssCheck.{HssCheckEnds}
 use Rattle.tool_keys.specs.Rehearse.{RehearseEnds}

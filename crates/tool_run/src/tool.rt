@@ -16,9 +16,9 @@ use tool_aggregate::aggregate;
 use tool_base::Ending;
 use tool_blame::blame;
 use tool_journals::{approve_message, enrol_file, migrate_journal};
-use tool_keys::{deal_files, hss_check_files, hss_sign, rehearse_files, verify_files};
+use tool_keys::{deal_files, hss_check_files, rehearse_files, verify_files};
 use tool_show::show_file;
-use tool_sign::sign;
+use tool_sign::{hss_sign, sign};
 use tool_trustee::{Clocks, serve_trustee};
 use tool_words::{Command, command_of};
 

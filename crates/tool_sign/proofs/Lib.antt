@@ -13,3 +13,7 @@ pub mod Views
 pub mod Whole
 pub mod Writes
 mod Placing
+pub mod HssCauses
+pub mod HssSteady
+mod Written
+mod HssWhole

@@ -13,3 +13,6 @@ pub mod Causes
 pub mod Dealt
 pub mod Lost
 pub mod Members
+pub mod Lower
+pub mod HssSign
+pub mod LostLower

@@ -11,7 +11,7 @@ use Rattle.tool_base.specs.Ending.{Ending}
 use Rattle.tool_base.specs.Outputs.{AreDifferent, IsLeft, IsNew, IsNotWritten, IsOther, Output, StopsAfter, all_added, no_memory_to_write, was_there, write_failed}
 use Rattle.tool_base.specs.Touched.{IsUntouched, Keeps}
 use Rattle.tool_base.specs.World.{IsBack, from_to}
-use Rattle.tool_keys.specs.HssSign.{AreWritten, names_of}
+use Rattle.tool_sign.specs.HssSign.{AreWritten, names_of}
 use Rattle.tool_sign.proofs.Writes.{new_is_other, turned_about}
 use Rattle.tool_sign.specs.Writes.{IsWritten}
 

@@ -6,8 +6,8 @@ use Rattle.tool_base.specs.Ending as ending
 use Rattle.tool_base.specs.Ending.{Ending}
 use Rattle.tool_base.specs.World.{StoreRun}
 use Rattle.tool_desk.specs.Files.{key_name, reference_name, tree_name}
-use Rattle.tool_keys.specs.HssSign.{HssSignEnds, HssSigningRun, no_lower, no_memory_to_join, not_accepted, not_new, not_signed, session_words, signed, stopped}
-use Rattle.tool_keys.specs.Lower.{FailsLower, no_key, no_message, no_signature}
+use Rattle.tool_sign.specs.HssSign.{HssSignEnds, HssSigningRun, no_lower, no_memory_to_join, not_accepted, not_new, not_signed, session_words, signed, stopped}
+use Rattle.tool_sign.specs.Lower.{FailsLower, no_key, no_message, no_signature}
 use Rattle.tool_sign.proofs.Steady.{EndsSteady, Lack, grammar-steady, new-steady, plain, session-steady, unwritten-steady, upto-steady}
 use Rattle.tool_sign.specs.Ports.{NetRun}
 use Rattle.tool_sign.specs.Tasks.{message_of}

@@ -14,7 +14,7 @@ use Rattle.tool_base.specs.Ending.{Ending, status_of}
 use Rattle.tool_base.specs.Outputs.{FirstNotNew, IsLeft, IsNew, Output, StopsAfter}
 use Rattle.tool_base.specs.Touched.{Keeps}
 use Rattle.tool_base.specs.World.{IsNetBack, StoreRun}
-use Rattle.tool_keys.specs.Lower.{FailsLower, IsLower, IsReady, Lower, output_names}
+use Rattle.tool_sign.specs.Lower.{FailsLower, IsLower, IsReady, Lower, output_names}
 use Rattle.tool_sign.specs.Ports.{NetRun}
 use Rattle.tool_sign.specs.Sessions.{IsSignedBy, SessionEnds}
 use Rattle.tool_sign.specs.Tasks.{SessionWords, message_of}

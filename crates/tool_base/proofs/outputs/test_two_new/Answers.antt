@@ -4,7 +4,7 @@ use Rattle.std.proofs.lemmas.Result.{err_from_is_err_and, IfErr-weaker, on_ok_we
 use Rattle.tool_base.proofs.Runs.{unchanged_on, onward_on, part_of}
 use Rattle.tool_base.specs.Outputs.{IsNew}
 use Rattle.tool_base.specs.World.{from_to}
-use Rattle.tool_keys.proofs.reading.test_two_new.Goals as goal
+use Rattle.tool_base.proofs.outputs.test_two_new.Goals as goal
 
 pub returns-in_err-test_new-clause-refused : goal.returns-in_err-test_new-clause-refused
 returns-in_err-test_new-clause-refused g c =

@@ -4,8 +4,8 @@ use Rattle.aggregator_session.specs.declared.fault.Why.{Why}
 use Rattle.disk_trait.specs.Faults.{Rose}
 use Rattle.lms_bytes.specs.PublicKey.{public_bytes}
 use Rattle.tool_base.specs.World.{StoreRun}
-use Rattle.tool_keys.specs.HssSign.{session_words}
-use Rattle.tool_keys.specs.Lower.{IsReady, Lower}
+use Rattle.tool_sign.specs.HssSign.{session_words}
+use Rattle.tool_sign.specs.Lower.{IsReady, Lower}
 use Rattle.tool_sign.specs.Lost.{IsOfPeer, IsUnfailed, Loses, longest_asks}
 use Rattle.tool_sign.specs.Ports.{NetRun}
 use Rattle.tool_sign.specs.Tasks.{message_of}

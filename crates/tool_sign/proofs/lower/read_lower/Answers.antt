@@ -1,7 +1,7 @@
 use Rattle.std.proofs.lemmas.Result.{err_from_is_err_and}
 use Rattle.tool_base.proofs.Runs.{unchanged_on, onward_on, part_of}
-use Rattle.tool_keys.specs.Lower.{no_key, no_message, no_signature}
-use Rattle.tool_keys.proofs.lower.read_lower.Goals as goal
+use Rattle.tool_sign.specs.Lower.{no_key, no_message, no_signature}
+use Rattle.tool_sign.proofs.lower.read_lower.Goals as goal
 
 pub returns-in_err-key-clause-refused : goal.returns-in_err-key-clause-refused
 returns-in_err-key-clause-refused g c =

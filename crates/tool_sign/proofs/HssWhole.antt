@@ -16,10 +16,10 @@ use Rattle.tool_base.specs.Outputs.{AreDifferent, IsLeft, IsNew, Output}
 use Rattle.tool_base.specs.Touched.{Keeps}
 use Rattle.tool_base.specs.World.{IsBack, IsUnchanged, IsNetBack, from_to}
 use Rattle.tool_base.proofs.Outs.{keeps_unchanged}
-use Rattle.tool_keys.proofs.Written.{IsForAnyone, are_written, first_ones, keeps_written, new_since, others_leave, others_read, read_before, stops_later}
-use Rattle.tool_keys.specs.HssSign.{HssSignEnds, HssSigningRun, LevelsEnd, SignsLower, names_of, session_words, two_levels}
-use Rattle.tool_keys.specs.HssSign as hss
-use Rattle.tool_keys.specs.Lower.{IsReady, Lower, output_names}
+use Rattle.tool_sign.proofs.Written.{IsForAnyone, are_written, first_ones, keeps_written, new_since, others_leave, others_read, read_before, stops_later}
+use Rattle.tool_sign.specs.HssSign.{HssSignEnds, HssSigningRun, LevelsEnd, SignsLower, names_of, session_words, two_levels}
+use Rattle.tool_sign.specs.HssSign as hss
+use Rattle.tool_sign.specs.Lower.{IsReady, Lower, output_names}
 use Rattle.tool_sign.proofs.Whole.{table_later, task_later}
 use Rattle.tool_sign.proofs.Writes.{as-signed}
 use Rattle.tool_sign.specs.Ports.{NetRun, over_net}

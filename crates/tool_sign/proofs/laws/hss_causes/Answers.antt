@@ -1,5 +1,5 @@
-use Rattle.tool_keys.proofs.Causes.{device-rose, loses-member, loses-peer, net-rose, store-rose}
-use Rattle.tool_keys.proofs.laws.causes.Goals as goal
+use Rattle.tool_sign.proofs.HssCauses.{device-rose, loses-member, loses-peer, net-rose, store-rose}
+use Rattle.tool_sign.proofs.laws.hss_causes.Goals as goal
 
 pub returns-clause-failed : goal.returns-clause-failed
 returns-clause-failed g c = record {

@@ -5,17 +5,16 @@ ghost use Rattle.stream_io.specs.Net.{NetState};
 ghost use Rattle.stream_io.specs.Store.{StoreOnward};
 ghost use Rattle.tool_base.specs.Endings.{ending};
 ghost use Rattle.tool_base.specs.World.{InAnyRun, IsUnchanged, from_to};
-ghost use Rattle.tool_keys.specs.HssSign.{HssSigningRun};
-ghost use Rattle.tool_keys.specs.Lower.{FailsLower, IsLower, IsReady, lower_of};
+ghost use Rattle.tool_sign.specs.HssSign.{HssSigningRun};
+ghost use Rattle.tool_sign.specs.Lower.{FailsLower, IsLower, IsReady, lower_of};
 ghost use Rattle.tool_sign.specs.Ports.{over_net};
 ghost use Rattle.tool_words.specs.Rows.{hss_sign_words};
 
-use crate::reading::test_two_new;
 use lms_bytes::PublicKey;
 use lms_verify::{Verdict, verify};
 use std::alloc::Global;
 use stream_io::Store;
-use tool_base::{Ending, FILE_LIMIT, read_file};
+use tool_base::{Ending, FILE_LIMIT, read_file, test_two_new};
 use tool_desk::read_key_file;
 use tool_words::HssSignWords;
 

@@ -2,11 +2,11 @@ use Rattle.std.proofs.Common.{◌≡◌, inl, inr, refl}
 use Rattle.std.proofs.lemmas.Result.{err_from_is_err_and}
 use Rattle.tool_base.proofs.Runs.{unchanged_none, unchanged_on, onward_none, onward_on, part_of}
 use Rattle.tool_base.specs.Ending.{Verified, status_of}
-use Rattle.tool_keys.proofs.Whole.{unbegun}
-use Rattle.tool_keys.specs.HssSign.{no_lower, not_accepted, not_new}
-use Rattle.tool_keys.specs.Lower.{lower_of}
+use Rattle.tool_sign.proofs.HssWhole.{unbegun}
+use Rattle.tool_sign.specs.HssSign.{no_lower, not_accepted, not_new}
+use Rattle.tool_sign.specs.Lower.{lower_of}
 use Rattle.tool_words.specs.Rows.{hss_sign_words}
-use Rattle.tool_keys.proofs.lower.accepted_lower.Goals as goal
+use Rattle.tool_sign.proofs.lower.accepted_lower.Goals as goal
 
 pub returns-in_err-test_two_new-clause-refused : goal.returns-in_err-test_two_new-clause-refused
 returns-in_err-test_two_new-clause-refused g c =

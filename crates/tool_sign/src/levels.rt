@@ -4,13 +4,14 @@ ghost use Rattle.std.specs.Prelude.{◌≢◌};
 ghost use Rattle.lms_bytes.specs.PublicKey.{public_bytes};
 ghost use Rattle.tool_base.specs.Endings.{ending};
 ghost use Rattle.tool_base.specs.World.{IsUnchanged, from_to};
-ghost use Rattle.tool_keys.specs.HssSign.{HssSigningRun, session_words};
+ghost use Rattle.tool_sign.specs.HssSign.{HssSigningRun, session_words};
 ghost use Rattle.tool_sign.specs.Ports.{over_net};
 ghost use Rattle.tool_sign.specs.Sessions.{SessionRun};
 ghost use Rattle.tool_sign.specs.Tasks.{message_of};
 ghost use Rattle.tool_words.specs.Rows.{hss_sign_words};
 
 use crate::lower::accepted_lower;
+use crate::task::{Message, SessionWords, SignedBy, sign_message};
 use crate::writing::write_levels;
 use dealer::public_file;
 use lms_bytes::PublicKey;
@@ -18,7 +19,6 @@ use memory::NoMemory;
 use std::alloc::Global;
 use stream_io::{Net, Store};
 use tool_base::Ending;
-use tool_sign::{Message, SessionWords, SignedBy, sign_message};
 use tool_words::HssSignWords;
 
 /// Signs a lower key with the trustees of an upper one, and writes the key and the signature of two levels: reads the

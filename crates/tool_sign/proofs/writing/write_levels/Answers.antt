@@ -5,9 +5,9 @@ use Rattle.tool_base.specs.Endings.{ending}
 use Rattle.tool_base.specs.OutputOf.{output_of}
 use Rattle.tool_base.specs.Outputs.{IsLeft, Output, StopsAfter}
 use Rattle.tool_base.specs.World.{from_to}
-use Rattle.tool_keys.proofs.Whole.{two_differ}
-use Rattle.tool_keys.specs.HssSign.{no_memory, part_written, written}
-use Rattle.tool_keys.proofs.writing.write_levels.Goals as goal
+use Rattle.tool_sign.proofs.HssWhole.{two_differ}
+use Rattle.tool_sign.specs.HssSign.{no_memory, part_written, written}
+use Rattle.tool_sign.proofs.writing.write_levels.Goals as goal
 
 pub returns-in_default-clause-ends : goal.returns-in_default-clause-ends
 returns-in_default-clause-ends g c = no_memory (none_left _ _ (unchanged_none _))

@@ -1,24 +1,23 @@
-//! The key and the signature of two levels, and their files, and two files that anyone may read.
+//! The key and the signature of two levels, and their files.
 
-ghost use Rattle.std.specs.Prelude.{◌≡◌, ◌≢◌, [], ◌∷◌, All, IfOk, map};
+ghost use Rattle.std.specs.Prelude.{◌≡◌, ◌≢◌, All, IfOk, map};
 ghost use Rattle.hss_levels.specs.Levels.{Accepts};
 ghost use Rattle.lms_bytes.specs.PublicKey.{public_bytes};
-ghost use Rattle.stream_io.specs.declared.store.Readers.TheVariants.{Anyone};
 ghost use Rattle.tool_base.specs.Endings.{ending};
 ghost use Rattle.tool_base.specs.OutputOf.{output_of};
 ghost use Rattle.tool_base.specs.Outputs.{IsNew};
 ghost use Rattle.tool_base.specs.World.{IsBack, from_to};
-ghost use Rattle.tool_keys.specs.HssSign.{LevelsEnd, two_levels};
-ghost use Rattle.tool_keys.specs.Lower.{lower_of, output_names};
+ghost use Rattle.tool_sign.specs.HssSign.{LevelsEnd, two_levels};
+ghost use Rattle.tool_sign.specs.Lower.{lower_of, output_names};
 ghost use Rattle.tool_words.specs.Rows.{hss_sign_words};
 
 use crate::lower::Lower;
+use crate::task::SignedBy;
 use hss_levels::join_two;
 use memory::NoMemory;
 use std::alloc::Global;
-use stream_io::{Readers, Store};
-use tool_base::{Ending, Output, write_all};
-use tool_sign::SignedBy;
+use stream_io::Store;
+use tool_base::{Ending, Output, two_outputs, write_all};
 use tool_words::HssSignWords;
 
 /// Joins both levels, and writes their key and their signature under names that differ and were found new. `by` is the
@@ -69,32 +68,4 @@ fn joined_outputs(
         &lower.signature,
     )?;
     two_outputs(alloc, words.key_out, key, words.signature_out, signature)
-}
-
-/// Two files under their names, which anyone may read.
-pub(crate) fn two_outputs(
-    alloc: Global,
-    one: &str,
-    first: Vec<u8>,
-    two: &str,
-    second: Vec<u8>,
-) -> Result<[Output; 2], NoMemory>
-    ensures { IfOk result (λ outputs. map output_of outputs ≡
-        record { name = one.now; bytes = first.items; readers = Anyone }
-        ∷ record { name = two.now; bytes = second.items; readers = Anyone } ∷ []) }
-{
-    let one = String::from_str(alloc, one)?;
-    let two = String::from_str(alloc, two)?;
-    Ok([
-        Output {
-            name: one,
-            bytes: first,
-            readers: Readers::Anyone,
-        },
-        Output {
-            name: two,
-            bytes: second,
-            readers: Readers::Anyone,
-        },
-    ])
 }

@@ -4,11 +4,11 @@ use Rattle.tool_base.specs.Grammars.{not_read}
 use Rattle.tool_base.specs.Reads.{no_memory}
 use Rattle.tool_desk.specs.Files.{no_key}
 use Rattle.tool_base.proofs.Outs.{keeps_unchanged}
-use Rattle.tool_keys.specs.HssSign.{session_words}
+use Rattle.tool_sign.specs.HssSign.{session_words}
 use Rattle.tool_sign.proofs.Whole.{unbegun}
 use Rattle.tool_sign.specs.Tasks.{message_of, no_key_files}
 use Rattle.tool_words.specs.Rows.{hss_sign_words}
-use Rattle.tool_keys.proofs.levels.sign_lower.Goals as goal
+use Rattle.tool_sign.proofs.levels.sign_lower.Goals as goal
 
 pub returns-in-Err : goal.returns-in-Err
 returns-in-Err g c = λ first unchanged.

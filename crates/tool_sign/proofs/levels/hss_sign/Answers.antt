@@ -1,10 +1,10 @@
 use Rattle.tool_base.proofs.Runs.{unchanged_none, onward_on}
-use Rattle.tool_keys.proofs.Whole.{new_behind, run_signed, run_unsigned, top_accepts}
-use Rattle.tool_keys.specs.Lower.{lower_of}
+use Rattle.tool_sign.proofs.HssWhole.{new_behind, run_signed, run_unsigned, top_accepts}
+use Rattle.tool_sign.specs.Lower.{lower_of}
 use Rattle.tool_sign.specs.Ports.{NetRun, over_net}
 use Rattle.tool_sign.specs.Sessions.{signature_by}
 use Rattle.tool_words.specs.Rows.{hss_sign_words}
-use Rattle.tool_keys.proofs.levels.hss_sign.Goals as goal
+use Rattle.tool_sign.proofs.levels.hss_sign.Goals as goal
 
 pub write_levels-requires-clause-new : goal.write_levels-requires-clause-new
 write_levels-requires-clause-new g c =

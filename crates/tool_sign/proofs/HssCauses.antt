@@ -7,11 +7,11 @@ use Rattle.tool_base.specs.Ending as ending
 use Rattle.tool_base.specs.Ending.{Ending}
 use Rattle.tool_base.specs.Touched.{DeviceRose}
 use Rattle.tool_base.specs.World.{StoreRun}
-use Rattle.tool_keys.specs.HssSign.{HssSignEnds, HssSigningRun, no_lower, no_memory_to_join, not_accepted, not_new, not_signed, session_words, signed, stopped}
-use Rattle.tool_keys.specs.Lower.{FailsLower, IsReady, Lower, no_key, no_message, no_signature}
+use Rattle.tool_sign.specs.HssSign.{HssSignEnds, HssSigningRun, no_lower, no_memory_to_join, not_accepted, not_new, not_signed, session_words, signed, stopped}
+use Rattle.tool_sign.specs.Lower.{FailsLower, IsReady, Lower, no_key, no_message, no_signature}
 use Rattle.tool_sign.proofs.Causes.{grammar-other, grammar-store, new-other, new-store, session-device, session-net, session-store, unwritten-other, unwritten-store, upto-other, upto-store}
 use Rattle.tool_sign.proofs.Losses.{ByWhy, by-why, grammar-heard, missing, new-heard, peer-why, session-by, unwritten-heard, upto-heard}
-use Rattle.tool_keys.specs.Lost.{LosesForLower, LosesLowerPeer}
+use Rattle.tool_sign.specs.LostLower.{LosesForLower, LosesLowerPeer}
 use Rattle.tool_sign.specs.Lost.{longest_asks}
 use Rattle.tool_sign.specs.Ports.{NetRun}
 use Rattle.tool_sign.specs.Tasks.{message_of}

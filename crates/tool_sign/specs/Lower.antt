@@ -7,7 +7,7 @@ use Rattle.tool_base.specs.Outputs.{IsNew}
 use Rattle.tool_base.specs.Reads.{FailsToRead}
 use Rattle.tool_base.specs.World.{Bytes, IsRead, StoreRun}
 use Rattle.tool_desk.specs.Key.{FailsKey, IsKeyRead}
-use Rattle.tool_keys.specs.declared.lower.Lower as declared
+use Rattle.tool_sign.specs.declared.lower.Lower as declared
 use Rattle.tool_words.specs.Words.{HssSignWords}
 
 -- the names of both outputs, in the order in which they are tested and written
