@@ -5,6 +5,13 @@ ghost use Rattle.std.specs.Prelude.{◌≤◌};
 use coalition_map::{Members, Plan, PlanFault};
 use std::test::Fail;
 
+/// A plan for coalitions of `k` of `n` trustees over trees of height `h`.
+fn plan_of(n: u8, k: u8, h: u8) -> Result<Plan, PlanFault>
+    requires { h ≤ 25 }
+{
+    Plan::new(n, k, h)
+}
+
 /// The bits of a set of trustees.
 fn bits_of(trustees: &[u8]) -> u16 {
     let mut bits = 0;
@@ -40,7 +47,7 @@ fn has_leaves(plan: &Plan, c: u32, leaves: &[u32]) -> bool {
 
 #[test]
 fn orders_the_coalitions_of_three_of_five(rt: HostRuntime) -> Result<(), Fail> {
-    let plan = Plan::new(5, 3, 5)?;
+    let plan = plan_of(5, 3, 5)?;
     let order = [
         [1, 2, 3],
         [1, 2, 4],
@@ -88,7 +95,7 @@ fn has_walk(plan: &Plan, n: u8, k: u8) -> bool
 fn agrees_with_a_walk_of_every_list(rt: HostRuntime) -> Result<(), Fail> {
     for n in 2..=12 {
         for k in 2..=n {
-            let plan = Plan::new(n, k, 10)?;
+            let plan = plan_of(n, k, 10)?;
             assert!(rt; has_walk(&plan, n, k), "{k} of {n}");
         }
     }
@@ -97,7 +104,7 @@ fn agrees_with_a_walk_of_every_list(rt: HostRuntime) -> Result<(), Fail> {
 
 #[test]
 fn gives_each_of_six_of_twelve_a_leaf_or_two(rt: HostRuntime) -> Result<(), Fail> {
-    let plan = Plan::new(12, 6, 10)?;
+    let plan = plan_of(12, 6, 10)?;
     assert!(rt; plan.count() == 924);
     // The leaves 924 to 1023 go to the first hundred anew.
     for c in 0..100 {
@@ -109,28 +116,21 @@ fn gives_each_of_six_of_twelve_a_leaf_or_two(rt: HostRuntime) -> Result<(), Fail
     Ok(())
 }
 
-/// Why these numbers are no plan.
-fn plan_fault(n: u8, k: u8, h: u8) -> Option<PlanFault>
-    requires { h ≤ 25 }
-{
-    Plan::new(n, k, h).err()
-}
-
 #[test]
 fn refuses_what_is_no_plan(rt: HostRuntime) {
     for (n, k) in [(0, 0), (1, 1), (5, 1), (5, 6), (13, 2)] {
         assert!(rt;
-            plan_fault(n, k, 10) == Some(PlanFault::BadThreshold),
+            plan_of(n, k, 10).err() == Some(PlanFault::BadThreshold),
             "{k} of {n}"
         );
     }
     let many = PlanFault::TooManyCoalitions { count: 924 };
-    assert!(rt; plan_fault(12, 6, 5) == Some(many));
+    assert!(rt; plan_of(12, 6, 5).err() == Some(many));
 }
 
 #[test]
 fn refuses_what_is_no_coalition(rt: HostRuntime) -> Result<(), Fail> {
-    let plan = Plan::new(5, 3, 5)?;
+    let plan = plan_of(5, 3, 5)?;
     for trustees in [[1, 2, 2], [1, 2, 6], [1, 2, 16]] {
         let members = Members::of_bits(bits_of(&trustees));
         assert!(rt; plan.number_of(members).is_none(), "{trustees:?}");
@@ -161,7 +161,7 @@ fn has_members_of_leaf(plan: &Plan) -> bool {
 
 #[test]
 fn tells_the_members_of_a_leaf(rt: HostRuntime) -> Result<(), Fail> {
-    let plan = Plan::new(5, 3, 5)?;
+    let plan = plan_of(5, 3, 5)?;
     assert!(rt; (plan.n(), plan.k(), plan.h()) == (5, 3, 5));
     assert!(rt; has_members_of_leaf(&plan));
     assert!(rt; plan == plan);
@@ -185,6 +185,6 @@ fn is_shared<T: Copy + Send + Sync>(_value: T) -> bool {
 
 #[test]
 fn may_be_shared_by_threads(rt: HostRuntime) -> Result<(), Fail> {
-    assert!(rt; is_shared(Plan::new(5, 3, 5)?) && is_shared(Members::of_bits(7)));
+    assert!(rt; is_shared(plan_of(5, 3, 5)?) && is_shared(Members::of_bits(7)));
     Ok(())
 }

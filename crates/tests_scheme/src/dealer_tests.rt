@@ -1,19 +1,17 @@
 //! Tests of what no contract says: that the files are those of another implementation, that several threads give them
 //! as one does, and each refusal once.
 
-ghost use Rattle.std.specs.Prelude.{◌<◌, length};
-
-use crate::dealings::{count_up, deal_count, deal_to, digest_of, head_of};
-use crate::values::set_of;
-use coalition_map::Plan;
+use crate::dealings::{count_up, deal_count, deal_to, digest_of, head_of, scheme_of};
 use dealer::{
-    DealFault, DealingFiles, Dealt, deal, deal_beside, deal_committed, deal_committed_beside,
+    CommittedFault, DealFault, DealingFiles, Dealt, deal_beside, deal_committed,
+    deal_committed_beside,
 };
 use lms_bytes::write_public;
-use memory::NoMemory;
 use share_files::{Share, write_share, write_tree_head};
 use std::alloc::Global;
+use std::process::Abort;
 use std::test::Fail;
+use std::thread::Threads;
 
 /// Typecodes of dealings to coalitions of three of five trustees, with SHA-256 of the files of the public key, of the
 /// tree, of the reference and of the last share.
@@ -90,35 +88,54 @@ fn files_are_those_of_another_implementation(rt: HostRuntime) -> Result<(), Fail
     Ok(())
 }
 
+/// A dealing of typecodes 5 and 3 to coalitions of three of five trustees, by several threads.
+fn dealt_beside<R: Threads + Sync + Abort>(rt: &R, alloc: Global) -> Result<Dealt, DealFault> {
+    let (params, plan) = scheme_of(rt, (5, 3), (5, 3));
+    deal_beside(rt, alloc, &params, &plan, &count_up())
+}
+
+/// The same with its commitments, by one thread.
+fn committed(rt: &impl Abort, alloc: Global) -> Result<(Dealt, Vec<u8>), CommittedFault> {
+    let (params, plan) = scheme_of(rt, (5, 3), (5, 3));
+    deal_committed(alloc, &params, &plan, &count_up())
+}
+
+/// The same with its commitments, by several threads.
+fn committed_beside<R: Threads + Sync + Abort>(
+    rt: &R,
+    alloc: Global,
+) -> Result<(Dealt, Vec<u8>), CommittedFault> {
+    let (params, plan) = scheme_of(rt, (5, 3), (5, 3));
+    deal_committed_beside(rt, alloc, &params, &plan, &count_up())
+}
+
+/// The files of a dealing.
+fn files_of(rt: &impl Abort, alloc: Global, dealt: Dealt) -> DealingFiles {
+    assert!(rt; 0 < dealt.shares.len());
+    dealt.into_files(alloc).expect(rt, "memory")
+}
+
 /// Whether two dealings have the same files, each of them.
-fn have_same_files(alloc: Global, one: Dealt, other: Dealt) -> Result<bool, NoMemory>
-    requires { (0 < length one.shares.items) × (0 < length other.shares.items) }
-{
-    let one: DealingFiles = one.into_files(alloc)?;
-    let other: DealingFiles = other.into_files(alloc)?;
-    Ok(
-        one.public == other.public
-            && one.tree == other.tree
-            && one.reference == other.reference
-            && one.shares == other.shares,
-    )
+fn have_same_files(rt: &impl Abort, alloc: Global, one: Dealt, other: Dealt) -> bool {
+    let one = files_of(rt, alloc, one);
+    let other = files_of(rt, alloc, other);
+    one.public == other.public
+        && one.tree == other.tree
+        && one.reference == other.reference
+        && one.shares == other.shares
 }
 
 #[test]
 fn several_threads_deal_as_one_does(rt: HostRuntime) -> Result<(), Fail> {
     let alloc = rt.alloc();
-    let entropy = count_up();
-    let params = set_of(&rt, 5, 3);
-    let plan = Plan::new(5, 3, params.h).expect(&rt, "a plan");
-    assert!(rt; plan.h() == params.h);
-    let one = deal(alloc, &params, &plan, &entropy)?;
-    let beside = deal_beside(&rt, alloc, &params, &plan, &entropy)?;
-    assert!(rt; have_same_files(alloc, one, beside)?, "the files");
-    let (one, commits) = deal_committed(alloc, &params, &plan, &entropy)?;
-    let (beside, others) = deal_committed_beside(&rt, alloc, &params, &plan, &entropy)?;
+    let one = deal_count(&rt, alloc, (5, 3), (5, 3))?;
+    let beside = dealt_beside(&rt, alloc)?;
+    assert!(rt; have_same_files(&rt, alloc, one, beside), "the files");
+    let (one, commits) = committed(&rt, alloc)?;
+    let (beside, others) = committed_beside(&rt, alloc)?;
     assert!(rt; commits == others, "the commitments");
     assert!(rt;
-        have_same_files(alloc, one, beside)?,
+        have_same_files(&rt, alloc, one, beside),
         "the files beside them"
     );
     Ok(())

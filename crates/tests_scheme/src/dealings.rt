@@ -1,8 +1,11 @@
 //! Dealings that several files of tests need.
 
+ghost use Rattle.std.specs.Prelude.{◌≡◌};
+
 use crate::values::set_of;
 use coalition_map::Plan;
 use dealer::{DealFault, Dealt, deal};
+use lms_bytes::Params;
 use sha2::{Digest, Sha256};
 use share_files::{RefHeader, Share, write_ref_head};
 use std::alloc::Global;
@@ -17,6 +20,33 @@ pub fn count_up() -> [u8; 240] {
     bytes
 }
 
+/// The 32 bytes that count up from this one.
+pub fn key_from(first: u8) -> [u8; 32] {
+    let mut key = [0; 32];
+    let mut next = first;
+    for byte in key.iter_mut() {
+        *byte = next;
+        next = next.wrapping_add(1);
+    }
+    key
+}
+
+/// The key of trustee `member` in a dealing of the bytes that count up from 0.
+pub fn key_of(member: u8) -> [u8; 32] {
+    key_from(member.wrapping_mul(32).wrapping_add(48))
+}
+
+/// The set of these typecodes, and the plan for coalitions of `k` of `n` trustees over its leaves.
+pub fn scheme_of(rt: &impl Abort, codes: (u32, u32), trustees: (u8, u8)) -> (Params, Plan)
+    ensures { result.1.h ≡ result.0.h }
+{
+    let (n, k) = trustees;
+    let params = set_of(rt, codes.0, codes.1);
+    let plan = Plan::new(n, k, params.h).expect(rt, "a plan");
+    assert!(rt; plan.h() == params.h);
+    (params, plan)
+}
+
 /// Deals to coalitions of `k` of `n` trustees.
 pub fn deal_to(
     rt: &impl Abort,
@@ -25,10 +55,7 @@ pub fn deal_to(
     trustees: (u8, u8),
     entropy: &[u8],
 ) -> Result<Dealt, DealFault> {
-    let (n, k) = trustees;
-    let params = set_of(rt, codes.0, codes.1);
-    let plan = Plan::new(n, k, params.h).expect(rt, "a plan");
-    assert!(rt; plan.h() == params.h);
+    let (params, plan) = scheme_of(rt, codes, trustees);
     deal(alloc, &params, &plan, entropy)
 }
 

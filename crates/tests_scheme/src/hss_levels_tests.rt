@@ -18,6 +18,11 @@ const LOW_KEY: usize = 1384;
 
 const LOW_SIGNATURE: usize = 1440;
 
+/// What is read from these bytes.
+fn read(bytes: &[u8]) -> Result<HssKey, HssKeyFault> {
+    read_hss_key(bytes)
+}
+
 /// The verdict on so many bytes of the signature and of a 0 behind it, with one byte changed.
 fn verdict_on(key: &HssKey, place: usize, byte: u8, length: usize) -> HssVerdict {
     let mut bytes = [0; 2733];
@@ -95,7 +100,7 @@ const FAULTS: [(usize, u8, usize, HssFault); 9] = [
 
 #[test]
 fn other_bytes_are_no_signature(rt: HostRuntime) {
-    let key = read_hss_key(&KEY).expect(&rt, "a key");
+    let key = read(&KEY).expect(&rt, "a key");
     for (place, byte, length, fault) in FAULTS {
         let verdict = verdict_on(&key, place, byte, length);
         assert!(rt; verdict == HssVerdict::Malformed(fault), "{length} bytes");
@@ -104,13 +109,14 @@ fn other_bytes_are_no_signature(rt: HostRuntime) {
 
 #[test]
 fn a_signature_is_accepted(rt: HostRuntime) {
-    let key = read_hss_key(&KEY).expect(&rt, "a key");
-    assert!(rt; hss_verify(&key, &MESSAGE, &SIGNATURE) == HssVerdict::Accepted { levels: 2 });
+    let key = read(&KEY).expect(&rt, "a key");
+    // The byte behind the signature is not among those that are verified.
+    assert!(rt; verdict_on(&key, 2732, 0, 2732) == HssVerdict::Accepted { levels: 2 });
 }
 
 #[test]
 fn a_changed_top_signature_leads_to_another_root(rt: HostRuntime) {
-    let key = read_hss_key(&KEY).expect(&rt, "a key");
+    let key = read(&KEY).expect(&rt, "a key");
     let got = Val::of(&[
         0xef, 0x80, 0x32, 0xaf, 0x1f, 0x64, 0x08, 0x44, 0x76, 0x07, 0x53, 0xd7, 0x33, 0xb0, 0xd3,
         0xee, 0xd7, 0x7c, 0xfc, 0x26, 0xcc, 0xb1, 0x9d, 0xf7,
@@ -129,7 +135,7 @@ fn a_changed_top_signature_leads_to_another_root(rt: HostRuntime) {
 
 #[test]
 fn a_changed_low_signature_leads_to_another_root(rt: HostRuntime) {
-    let key = read_hss_key(&KEY).expect(&rt, "a key");
+    let key = read(&KEY).expect(&rt, "a key");
     let got = Val::of(&[
         0x4d, 0xf9, 0x38, 0x1c, 0xcd, 0x57, 0xe4, 0x3f, 0xbb, 0x0b, 0x26, 0x54, 0xb0, 0xf7, 0x44,
         0xb7, 0x05, 0x7a, 0x13, 0x0d, 0x44, 0xfc, 0xf4, 0x21, 0x40, 0x8b, 0xf6, 0x3a, 0x6f, 0xe4,
@@ -168,7 +174,7 @@ fn key_of(length: usize, place: usize, byte: u8) -> Result<HssKey, HssKeyFault> 
     let mut bytes = [0; 52];
     bytes.copy_from_slice(&KEY);
     bytes[place % 52] = byte;
-    read_hss_key(&bytes[..length.min(52)])
+    read(&bytes[..length.min(52)])
 }
 
 #[test]
@@ -192,7 +198,7 @@ fn is_signed(key: &PublicKey, low: &PublicKey, message: &[u8], signature: &[u8])
 
 #[test]
 fn two_levels_are_joined(rt: HostRuntime) -> Result<(), Fail> {
-    let top = read_hss_key(&KEY).expect(&rt, "a key").top;
+    let top = read(&KEY).expect(&rt, "a key").top;
     let low_bytes = &SIGNATURE[LOW_KEY..LOW_SIGNATURE];
     let low = read_public(low_bytes).expect(&rt, "a key");
     let top_signature = &SIGNATURE[4..LOW_KEY];

@@ -1,4 +1,4 @@
-//! Tests of the crates of the scheme, over their public calls.
+//! Tests of the crates of the scheme, of sessions, of frames and of the words of a command, over their public calls.
 #![tactic(auto)]
 
 #[cfg(test)]
@@ -16,6 +16,8 @@ mod lms_verify_tests;
 #[cfg(test)]
 mod mask_prf_tests;
 #[cfg(test)]
+mod meeting;
+#[cfg(test)]
 mod merkle_path_tests;
 #[cfg(test)]
 mod ots_chain_tests;
@@ -24,6 +26,12 @@ mod reference_value_tests;
 #[cfg(test)]
 mod rehearsal_tests;
 #[cfg(test)]
+mod round_frames_tests;
+#[cfg(test)]
+mod session_core_tests;
+#[cfg(test)]
 mod share_files_tests;
+#[cfg(test)]
+mod tool_words_tests;
 #[cfg(test)]
 mod values;

@@ -26,10 +26,15 @@ fn public_key(rt: &impl Abort) -> PublicKey
     key
 }
 
+/// The verdict on these bytes.
+fn verdict(key: &PublicKey, message: &[u8], bytes: &[u8]) -> Verdict {
+    verify(key, message, bytes)
+}
+
 #[test]
 fn a_signature_is_accepted_for_its_message_alone(rt: HostRuntime) {
     let key = public_key(&rt);
-    assert!(rt; verify(&key, &MESSAGE, &SIGNATURE) == Verdict::Accepted { leaf: 14 });
+    assert!(rt; verdict(&key, &MESSAGE, &SIGNATURE) == Verdict::Accepted { leaf: 14 });
     let mut message = MESSAGE;
     message[0] ^= 1;
     let got = Val::of(&[
@@ -40,7 +45,7 @@ fn a_signature_is_accepted_for_its_message_alone(rt: HostRuntime) {
         got,
         want: key.root,
     };
-    assert!(rt; verify(&key, &message, &SIGNATURE) == other);
+    assert!(rt; verdict(&key, &message, &SIGNATURE) == other);
 }
 
 #[test]
@@ -89,7 +94,7 @@ fn verdict_on(key: &PublicKey, place: usize, byte: u8, length: usize) -> Verdict
     let mut bytes = [0; 781];
     bytes[..780].copy_from_slice(&SIGNATURE);
     bytes[place % 781] = byte;
-    verify(key, &MESSAGE, &bytes[..length.min(781)])
+    verdict(key, &MESSAGE, &bytes[..length.min(781)])
 }
 
 #[test]

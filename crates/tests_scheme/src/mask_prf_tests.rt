@@ -94,9 +94,8 @@ const VECTORS: [Vector; 2] = [
 ];
 
 /// Whether the masks are the vector's, of the key and of what is kept of it.
-fn has_masks(params: &Params, vector: &Vector) -> bool {
+fn has_masks(kept: &MacKey, params: &Params, vector: &Vector) -> bool {
     let (q, i, j) = (vector.leaf, vector.chain, vector.steps);
-    let kept = MacKey::new(KEY);
     let chains = chain_mask(KEY, params, ID, q, i, j);
     let random = random_mask(KEY, params, ID, q);
     chains.bytes() == vector.chain_mask
@@ -106,29 +105,29 @@ fn has_masks(params: &Params, vector: &Vector) -> bool {
 }
 
 /// Whether the tag of the vector's randomizer is the vector's, of the key and of what is kept of it.
-fn has_tag(params: &Params, vector: &Vector) -> bool {
+fn has_tag(kept: &MacKey, params: &Params, vector: &Vector) -> bool {
     if vector.c.len() != params.n as usize {
         return false;
     }
     let c = Val::of(vector.c);
     let tag = check_tag(KEY, ID, vector.leaf, &c);
-    tag.as_slice() == vector.check_tag && MacKey::new(KEY).check_tag(ID, vector.leaf, &c) == tag
+    tag.as_slice() == vector.check_tag && kept.check_tag(ID, vector.leaf, &c) == tag
 }
 
 /// Whether the randomizer is the vector's, of the key and of what is kept of it.
-fn has_randomizer(params: &Params, vector: &Vector) -> bool {
+fn has_randomizer(kept: &MacKey, params: &Params, vector: &Vector) -> bool {
     let value = randomizer(KEY, params, ID, vector.leaf);
-    value.bytes() == vector.randomizer
-        && MacKey::new(KEY).randomizer(params, ID, vector.leaf) == value
+    value.bytes() == vector.randomizer && kept.randomizer(params, ID, vector.leaf) == value
 }
 
 #[test]
 fn masks_and_tags_are_those_of_the_formulas(rt: HostRuntime) {
+    let kept = MacKey::new(KEY);
     for vector in &VECTORS {
         let (lms, ots) = vector.codes;
         let params = set_of(&rt, lms, ots);
-        assert!(rt; has_masks(&params, vector), "{lms} {ots}");
-        assert!(rt; has_tag(&params, vector), "{lms} {ots}");
-        assert!(rt; has_randomizer(&params, vector), "{lms} {ots}");
+        assert!(rt; has_masks(&kept, &params, vector), "{lms} {ots}");
+        assert!(rt; has_tag(&kept, &params, vector), "{lms} {ots}");
+        assert!(rt; has_randomizer(&kept, &params, vector), "{lms} {ots}");
     }
 }

@@ -3,7 +3,7 @@
 
 ghost use Rattle.std.specs.Prelude.{◌≤◌, [], false};
 
-use crate::dealings::{count_up, deal_count, digest_of, head_of};
+use crate::dealings::{deal_count, digest_of, head_of, key_from};
 use coalition_map::Plan;
 use dealer::Dealt;
 use disk_trait::{DiskFault, Faults, MemDisk, Pages};
@@ -75,15 +75,6 @@ fn references_are_those_of_another_implementation(rt: HostRuntime) -> Result<(),
 fn pair_of(rt: &impl Abort, dealt: &Dealt) -> (Share, Share) {
     assert!(rt; dealt.shares.len() == 2);
     (dealt.shares[0], dealt.shares[1])
-}
-
-/// The 32 bytes that count up from the first.
-fn key_from(first: usize) -> [u8; 32]
-    requires { first ≤ 208 }
-{
-    let mut key = [0; 32];
-    key.copy_from_slice(&count_up()[first..first + 32]);
-    key
 }
 
 /// Builds leaf 7 of a dealing of the bytes that count up from 0.
@@ -275,15 +266,28 @@ fn join_pages<V: Pages>(rt: &impl Abort, case: &Case, pages: V) -> (Result<bool,
     (joined.map(|_| out == case.want), paged.end())
 }
 
-#[test]
-fn pages_are_read_value_by_value(rt: HostRuntime) -> Result<(), Fail> {
-    let case = case_of(&rt, rt.alloc())?;
+/// Joins the leaf over pages that count the reads, of which the one of this number fails, if any does.
+fn join_watched(
+    rt: &impl Abort,
+    alloc: Global,
+    fails: Option<u64>,
+) -> Result<(Result<bool, RefFault>, Watched), Fail> {
+    let case = case_of(rt, alloc)?;
+    let mut disk = MemDisk::of_bytes(alloc, &case.file, case.file.len(), usize::MAX)?;
+    if let Some(call) = fails {
+        disk.fail_once(call);
+    }
     let watched = Watched {
-        disk: MemDisk::of_bytes(rt.alloc(), &case.file, case.file.len(), usize::MAX)?,
+        disk,
         reads: 0,
         bytes: 0,
     };
-    let (joined, watched) = join_pages(&rt, &case, watched);
+    Ok(join_pages(rt, &case, watched))
+}
+
+#[test]
+fn pages_are_read_value_by_value(rt: HostRuntime) -> Result<(), Fail> {
+    let (joined, watched) = join_watched(&rt, rt.alloc(), None)?;
     assert!(rt; joined == Ok(true));
     assert!(rt; watched.reads == 200);
     assert!(rt; watched.bytes == 4800);
@@ -292,12 +296,9 @@ fn pages_are_read_value_by_value(rt: HostRuntime) -> Result<(), Fail> {
 
 #[test]
 fn a_read_that_fails_is_a_fault(rt: HostRuntime) -> Result<(), Fail> {
-    let case = case_of(&rt, rt.alloc())?;
-    let mut disk = MemDisk::of_bytes(rt.alloc(), &case.file, case.file.len(), usize::MAX)?;
-    disk.fail_once(5);
-    let (joined, disk) = join_pages(&rt, &case, disk);
+    let (joined, watched) = join_watched(&rt, rt.alloc(), Some(5))?;
     assert!(rt; joined == Err(RefFault));
-    assert!(rt; disk.faults() == 1);
+    assert!(rt; watched.faults() == 1);
     Ok(())
 }
 

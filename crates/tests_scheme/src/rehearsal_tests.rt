@@ -42,28 +42,28 @@ fn has_signature(rehearsed: &Rehearsed, message: &[u8], want: &[u8; 32]) -> bool
         && verify(&rehearsed.public, message, &rehearsed.signature) == Verdict::Accepted { leaf: 0 }
 }
 
+/// Rehearses with this entropy.
+fn rehearsed(alloc: Global, entropy: &[u8], message: &[u8]) -> Result<Rehearsed, DealFault> {
+    rehearse(alloc, entropy, message)
+}
+
 /// Rehearses with the bytes 0, 1, .. 143.
 fn rehearse_count(alloc: Global, message: &[u8]) -> Result<Rehearsed, DealFault> {
     let mut entropy = [0; 144];
     for i in 0..144 {
         entropy[i as usize] = i;
     }
-    rehearse(alloc, &entropy, message)
+    rehearsed(alloc, &entropy, message)
 }
 
 #[test]
 fn keys_and_signatures_are_those_of_another_program(rt: HostRuntime) -> Result<(), Fail> {
     for (message, hash) in SIGNED {
-        let rehearsed = rehearse_count(rt.alloc(), message)?;
-        assert!(rt; has_key(&rehearsed));
-        assert!(rt; has_signature(&rehearsed, message, hash));
+        let made = rehearse_count(rt.alloc(), message)?;
+        assert!(rt; has_key(&made));
+        assert!(rt; has_signature(&made, message, hash));
     }
     Ok(())
-}
-
-/// Why so many bytes 7 are no entropy.
-fn fault_of(alloc: Global, length: usize) -> Option<DealFault> {
-    rehearse(alloc, &[7; 144][..length.min(144)], b"").err()
 }
 
 #[test]
@@ -72,7 +72,7 @@ fn other_entropy_is_refused(rt: HostRuntime) {
         got: 143,
         want: 144,
     };
-    assert!(rt; fault_of(rt.alloc(), 143) == Some(length));
+    assert!(rt; rehearsed(rt.alloc(), &[7; 143], b"").err() == Some(length));
     let same = DealFault::SameKeys { t: 1, u: 2 };
-    assert!(rt; fault_of(rt.alloc(), 144) == Some(same));
+    assert!(rt; rehearsed(rt.alloc(), &[7; 144], b"").err() == Some(same));
 }

@@ -15,6 +15,7 @@ use merkle_path::Tree;
 use reference_value::{Cells, RefFault};
 use slot_file::{Header, prepare};
 use std::alloc::Global;
+use std::process::Abort;
 use trustee_node::Totals;
 
 /// A request for the signature of `hello` by trustees 1 and 2.
@@ -85,59 +86,35 @@ struct Scene {
 }
 
 /// The parameter set of the typecodes 5 and 3.
-fn params() -> Option<Params>
-    ensures { IfSome result (λ params. (params.n ≡ 32) × (params.h ≡ 5)) }
+fn params(rt: &impl Abort) -> Params
+    ensures { (result.n ≡ 32) × (result.h ≡ 5) }
 {
-    let params = Params::of_codes(5, 3).ok()?;
-    if params.h == 5 && params.n == 32 {
-        Some(params)
-    } else {
-        None
-    }
-}
-
-/// The plan of coalitions of 2 of 3 trustees.
-fn plan() -> Option<Plan>
-    ensures { IfSome result (λ plan. plan.h ≡ 5) }
-{
-    Plan::new(3, 2, 5).ok()
-}
-
-/// A tree of zeros.
-fn tree(alloc: Global, params: &Params) -> Option<Tree>
-    requires { (params.now.n ≡ 32) × (params.now.h ≡ 5) }
-    ensures { IfSome result (λ tree. (tree.n ≡ 32) × (tree.h ≡ 5)) }
-{
-    Tree::of_nodes(alloc, params, &[0; 32 * 63]).ok()
-}
-
-/// The only address: trustee 1 is to be dialled where nobody is.
-fn addresses(alloc: Global) -> Option<Vec<Address>> {
-    let mut addresses = Vec::new(alloc);
-    let place = String::from_str(alloc, "nowhere").ok()?;
-    addresses.push(Address { member: 1, place }).ok()?;
-    Some(addresses)
+    let params = Params::of_codes(5, 3).expect(rt, "typecodes");
+    assert!(rt; params.h == 5 && params.n == 32);
+    params
 }
 
 impl Scene {
-    /// Makes the scene.
-    fn new(alloc: Global) -> Option<Scene> {
-        let params = params()?;
-        let plan = plan()?;
-        let tree = tree(alloc, &params)?;
-        let addresses = addresses(alloc)?;
-        let root = Val::cut(&[0; 32], 32);
+    /// Makes the scene. Trustee 1 is to be dialled where nobody is.
+    fn new(rt: &impl Abort, alloc: Global) -> Scene {
+        let params = params(rt);
+        let plan = Plan::new(3, 2, 5).expect(rt, "a plan");
+        let tree = Tree::of_nodes(alloc, &params, &[0; 32 * 63]).expect(rt, "memory");
+        let place = String::from_str(alloc, "nowhere").expect(rt, "memory");
+        let mut addresses = Vec::new(alloc);
+        let pushed = addresses.push(Address { member: 1, place });
+        assert!(rt; pushed.is_ok());
         let key = PublicKey {
             params,
             id: [0x1D; 16],
-            root,
+            root: Val::cut(&[0; 32], 32),
         };
-        Some(Scene {
+        Scene {
             key,
             plan,
             tree,
             addresses,
-        })
+        }
     }
 
     /// What the aggregator signs with.
@@ -198,7 +175,7 @@ fn cells(alloc: Global, desk: &Desk) -> Result<Vec<Unread>, NoMemory>
 #[test]
 fn a_request_at_a_port_is_answered(rt: HostRuntime) -> Result<(), NoMemory> {
     let alloc = rt.alloc();
-    let scene = Scene::new(alloc).expect(&rt, "a scene");
+    let scene = Scene::new(&rt, alloc);
     let table = scene.table(alloc).expect(&rt, "a table");
     let desk = scene.desk();
     let mut cells = cells(alloc, &desk)?;

@@ -1,5 +1,5 @@
-//! Tests of the sessions: of the frames, of a session alone, of the services, of the tool's base, words and `show`, and
-//! of a summary.
+//! Tests of what serves sessions: of trustees and clients at ports, and of the tool's clocks, of its enrolment, of
+//! `show` and its listings, and of the line of a summary.
 #![tactic(auto)]
 
 #[cfg(test)]
@@ -7,22 +7,16 @@ mod client_ports;
 #[cfg(test)]
 mod clocks;
 #[cfg(test)]
-mod dealing;
-#[cfg(test)]
 mod enrolment;
 #[cfg(test)]
-mod frames;
+mod listings;
 #[cfg(test)]
-mod meeting;
+mod made_files;
 #[cfg(test)]
 mod ports;
-#[cfg(test)]
-mod sessions;
 #[cfg(test)]
 mod show;
 #[cfg(test)]
 mod summary;
 #[cfg(test)]
 mod trustee_ports;
-#[cfg(test)]
-mod words;

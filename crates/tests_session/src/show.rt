@@ -1,8 +1,8 @@
 //! Tests of what no contract says: that a store in memory is asked, and each line and each refusal of `show` once, as
 //! the page of formats has the bytes.
 
+use crate::made_files::file_of;
 use std::alloc::Global;
-use std::process::Abort;
 use stream_memory::MemStore;
 use tool_base::Ending;
 use tool_show::show_file;
@@ -26,12 +26,16 @@ const OF_PLAN: [u8; 27] = [
 /// The same of the leaf table of a key of codes 5 and 3.
 const OF_TABLE: [u8; 27] = OF_TREE;
 
-/// The codes 5 and 3, the identifier, and 32 bytes 0xAB for a root.
-const KEY: [u8; 56] = [
-    0, 0, 0, 5, 0, 0, 0, 3, 0, 1, 2, 3, 4, 5, 6, 7, 8, 9, 10, 11, 12, 13, 14, 15, 0xAB, 0xAB, 0xAB,
-    0xAB, 0xAB, 0xAB, 0xAB, 0xAB, 0xAB, 0xAB, 0xAB, 0xAB, 0xAB, 0xAB, 0xAB, 0xAB, 0xAB, 0xAB, 0xAB,
-    0xAB, 0xAB, 0xAB, 0xAB, 0xAB, 0xAB, 0xAB, 0xAB, 0xAB, 0xAB, 0xAB, 0xAB, 0xAB,
+/// The codes 5 and 3, and the identifier.
+const KEY: [u8; 24] = [
+    0, 0, 0, 5, 0, 0, 0, 3, 0, 1, 2, 3, 4, 5, 6, 7, 8, 9, 10, 11, 12, 13, 14, 15,
 ];
+
+/// The bytes of a root.
+const ROOT: [u8; 32] = [0xAB; 32];
+
+/// All of them but one.
+const CUT_ROOT: [u8; 31] = [0xAB; 31];
 
 /// The id of `abc`, behind an open gate A.
 const LEASED: [u8; 40] = [
@@ -40,30 +44,175 @@ const LEASED: [u8; 40] = [
     0x61, 0xF2, 0x00, 0x15, 0xAD,
 ];
 
-/// Writes over part of a file.
-fn put(rt: &impl Abort, file: &mut Vec<u8>, place: usize, bytes: &[u8]) {
-    assert!(rt; place <= file.len() && bytes.len() <= file.len() - place);
-    file[place..place + bytes.len()].copy_from_slice(bytes);
-}
+/// The line of a share.
+const SHARE: &str =
+    "share member 3 of 5 threshold 3 codes 5 3 key 000102030405060708090a0b0c0d0e0f\n";
 
-/// A file of so many bytes with these five at its front and these behind them, and zeros to its end.
-fn file(
-    rt: &impl Abort,
-    alloc: Global,
-    front: &[u8; 5],
-    behind: &[u8; 27],
-    length: usize,
-) -> Vec<u8> {
-    let mut bytes = vec![in alloc; 0; length].expect(rt, "memory");
-    put(rt, &mut bytes, 0, front);
-    put(rt, &mut bytes, 5, behind);
-    bytes
-}
+/// The line of a tree.
+const TREE: &str = concat!(
+    "tree codes 5 3 key 000102030405060708090a0b0c0d0e0f",
+    " root abababababababababababababababababababababababababababababababab\n",
+);
 
-/// A file of these bytes.
-fn bytes_of(rt: &impl Abort, alloc: Global, bytes: &[u8]) -> Vec<u8> {
-    Vec::from_slice(alloc, bytes).expect(rt, "memory")
-}
+/// The line of a reference.
+const REFERENCE: &str = concat!(
+    "reference of 2 threshold 2 codes 10 5 key 000102030405060708090a0b0c0d0e0f",
+    " bytes 310048\n",
+);
+
+/// The line of commitments.
+const COMMITMENTS: &str = concat!(
+    "commitments of 2 threshold 2 codes 10 5 key 000102030405060708090a0b0c0d0e0f",
+    " bytes 821280\n",
+);
+
+/// The line of a key.
+const ONE_LEVEL: &str = concat!(
+    "key codes 5 3 key 000102030405060708090a0b0c0d0e0f",
+    " root abababababababababababababababababababababababababababababababab\n",
+);
+
+/// The line of a key of two levels.
+const TWO_LEVELS: &str = concat!(
+    "hss key levels 2 codes 5 3 key 000102030405060708090a0b0c0d0e0f",
+    " root abababababababababababababababababababababababababababababababab\n",
+);
+
+/// The line of a leaf table.
+const TABLE: &str =
+    "table codes 5 3 key 000102030405060708090a0b0c0d0e0f leaves 32 leased 1 burnt 0\n";
+
+/// The lines of a leaf table.
+const LEAVES: &str = concat!(
+    "table codes 5 3 key 000102030405060708090a0b0c0d0e0f leaves 32 leased 1 burnt 0\n",
+    "leaf 0 leased 3:ba7816bf8f01cfea414140de5dae2223b00361a396177a9cb410ff61f20015ad\n",
+);
+
+/// The lines of refusals.
+const FAULT_1: &str = "error 4 file file fault 1\n";
+
+const FAULT_2: &str = "error 4 file file fault 2\n";
+
+const FAULT_4: &str = "error 4 file file fault 4\n";
+
+const FAULT_5: &str = "error 4 file file fault 5\n";
+
+const FAULT_6: &str = "error 4 file file fault 6\n";
+
+/// What a file is to be, its length, what is put at which places of it, and the status and the line of `show file`.
+const SHOWN: [(&str, usize, &[(usize, &[u8])], u8, &str); 21] = [
+    ("a share", 64, &[(0, b"TLSH\x01"), (5, &OF_SHARE)], 0, SHARE),
+    (
+        "a long share",
+        65,
+        &[(0, b"TLSH\x01"), (5, &OF_SHARE)],
+        4,
+        FAULT_5,
+    ),
+    (
+        "a share of version 2",
+        64,
+        &[(0, b"TLSH\x02"), (5, &OF_SHARE)],
+        4,
+        FAULT_2,
+    ),
+    (
+        "a tree",
+        2048,
+        &[(0, b"TLTR\x01"), (5, &OF_TREE), (32, &ROOT)],
+        0,
+        TREE,
+    ),
+    (
+        "a marked tree",
+        2048,
+        &[(0, b"TLTR\x01"), (5, &OF_SHARE)],
+        4,
+        FAULT_6,
+    ),
+    (
+        "a reference",
+        310_048,
+        &[(0, b"TLRF\x01"), (5, &OF_PLAN)],
+        0,
+        REFERENCE,
+    ),
+    (
+        "a cut reference",
+        310_047,
+        &[(0, b"TLRF\x01"), (5, &OF_PLAN)],
+        4,
+        FAULT_5,
+    ),
+    (
+        "a reference with no plan",
+        64,
+        &[(0, b"TLRF\x01"), (5, &OF_TREE)],
+        4,
+        FAULT_4,
+    ),
+    (
+        "commitments",
+        821_280,
+        &[(0, b"TLCM\x01"), (5, &OF_PLAN)],
+        0,
+        COMMITMENTS,
+    ),
+    (
+        "cut commitments",
+        821_279,
+        &[(0, b"TLCM\x01"), (5, &OF_PLAN)],
+        4,
+        FAULT_5,
+    ),
+    ("letters", 4, &[(0, b"TLCM")], 4, FAULT_5),
+    ("a key", 56, &[(0, &KEY), (24, &ROOT)], 0, ONE_LEVEL),
+    (
+        "a key of two levels",
+        60,
+        &[(0, &[0, 0, 0, 2]), (4, &KEY), (28, &ROOT)],
+        0,
+        TWO_LEVELS,
+    ),
+    ("a cut key", 55, &[(0, &KEY), (24, &CUT_ROOT)], 4, FAULT_1),
+    (
+        "a leaf table",
+        4224,
+        &[(0, b"\xa7\0\0\0\x01"), (5, &OF_TABLE), (128, &LEASED)],
+        0,
+        TABLE,
+    ),
+    (
+        "a closed table",
+        4224,
+        &[(0, b"\0\0\0\0\x01"), (5, &OF_TABLE)],
+        13,
+        "error 13 journal fault 2\n",
+    ),
+    (
+        "a cut journal",
+        5247,
+        &[(0, b"\xa7\0\0\0\x02"), (5, &OF_SHARE)],
+        13,
+        "error 13 journal fault 1\n",
+    ),
+    (
+        "a damaged table",
+        4224,
+        &[(0, b"\xa7\0\0\0\x01"), (5, &OF_TABLE), (168, &[0xC2])],
+        13,
+        "error 13 journal fault 6\n",
+    ),
+    ("no byte", 0, &[], 4, FAULT_1),
+    ("three letters", 3, &[(0, b"TLS")], 4, FAULT_1),
+    (
+        "a file of version 4",
+        4224,
+        &[(0, b"\xa7\0\0\0\x04"), (5, &OF_TABLE)],
+        4,
+        FAULT_1,
+    ),
+];
 
 /// A store of one file `file`.
 fn store_of(alloc: Global, bytes: Vec<u8>) -> Option<MemStore> {
@@ -88,125 +237,23 @@ fn has_line(alloc: Global, end: &Ending, want: &str) -> bool {
     }
 }
 
-/// Whether `show file` has this status and this line.
-fn says(alloc: Global, bytes: Vec<u8>, status: u8, want: &str) -> bool {
-    match shown(alloc, bytes, "file", false) {
+/// Whether `show` has this status and this line.
+fn says(alloc: Global, bytes: Vec<u8>, name: &str, leaves: bool, status: u8, want: &str) -> bool {
+    match shown(alloc, bytes, name, leaves) {
         Some(end) => end.status() == status && has_line(alloc, &end, want),
         None => false,
     }
 }
 
 #[test]
-fn a_share(rt: HostRuntime) {
+fn files_are_shown_or_refused(rt: HostRuntime) {
     let alloc = rt.alloc();
-    let line = "share member 3 of 5 threshold 3 codes 5 3 key 000102030405060708090a0b0c0d0e0f\n";
-    let share = file(&rt, alloc, b"TLSH\x01", &OF_SHARE, 64);
-    assert!(&rt; says(alloc, share, 0, line));
-    let long = file(&rt, alloc, b"TLSH\x01", &OF_SHARE, 65);
-    assert!(&rt; says(alloc, long, 4, "error 4 file file fault 5\n"));
-    let other = file(&rt, alloc, b"TLSH\x02", &OF_SHARE, 64);
-    assert!(&rt; says(alloc, other, 4, "error 4 file file fault 2\n"));
-}
-
-#[test]
-fn a_tree(rt: HostRuntime) {
-    let alloc = rt.alloc();
-    let line = concat!(
-        "tree codes 5 3 key 000102030405060708090a0b0c0d0e0f",
-        " root abababababababababababababababababababababababababababababababab\n",
-    );
-    let mut tree = file(&rt, alloc, b"TLTR\x01", &OF_TREE, 2048);
-    put(&rt, &mut tree, 32, &KEY[24..]);
-    assert!(&rt; says(alloc, tree, 0, line));
-    let marked = file(&rt, alloc, b"TLTR\x01", &OF_SHARE, 2048);
-    assert!(&rt; says(alloc, marked, 4, "error 4 file file fault 6\n"));
-}
-
-#[test]
-fn a_reference(rt: HostRuntime) {
-    let alloc = rt.alloc();
-    let line = concat!(
-        "reference of 2 threshold 2 codes 10 5 key 000102030405060708090a0b0c0d0e0f",
-        " bytes 310048\n",
-    );
-    let reference = file(&rt, alloc, b"TLRF\x01", &OF_PLAN, 310_048);
-    assert!(&rt; says(alloc, reference, 0, line));
-    let cut = file(&rt, alloc, b"TLRF\x01", &OF_PLAN, 310_047);
-    assert!(&rt; says(alloc, cut, 4, "error 4 file file fault 5\n"));
-    let planless = file(&rt, alloc, b"TLRF\x01", &OF_TREE, 64);
-    assert!(&rt; says(alloc, planless, 4, "error 4 file file fault 4\n"));
-}
-
-#[test]
-fn commitments(rt: HostRuntime) {
-    let alloc = rt.alloc();
-    let line = concat!(
-        "commitments of 2 threshold 2 codes 10 5 key 000102030405060708090a0b0c0d0e0f",
-        " bytes 821280\n",
-    );
-    let whole = file(&rt, alloc, b"TLCM\x01", &OF_PLAN, 821_280);
-    assert!(&rt; says(alloc, whole, 0, line));
-    let cut = file(&rt, alloc, b"TLCM\x01", &OF_PLAN, 821_279);
-    assert!(&rt; says(alloc, cut, 4, "error 4 file file fault 5\n"));
-    let letters = bytes_of(&rt, alloc, b"TLCM");
-    assert!(&rt; says(alloc, letters, 4, "error 4 file file fault 5\n"));
-}
-
-#[test]
-fn keys(rt: HostRuntime) {
-    let alloc = rt.alloc();
-    let one = concat!(
-        "key codes 5 3 key 000102030405060708090a0b0c0d0e0f",
-        " root abababababababababababababababababababababababababababababababab\n",
-    );
-    let two = concat!(
-        "hss key levels 2 codes 5 3 key 000102030405060708090a0b0c0d0e0f",
-        " root abababababababababababababababababababababababababababababababab\n",
-    );
-    assert!(&rt; says(alloc, bytes_of(&rt, alloc, &KEY), 0, one));
-    let mut levels = bytes_of(&rt, alloc, &[0; 60]);
-    put(&rt, &mut levels, 0, &[0, 0, 0, 2]);
-    put(&rt, &mut levels, 4, &KEY);
-    assert!(&rt; says(alloc, levels, 0, two));
-    let cut = bytes_of(&rt, alloc, &KEY[..55]);
-    assert!(&rt; says(alloc, cut, 4, "error 4 file file fault 1\n"));
-}
-
-#[test]
-fn a_leaf_table(rt: HostRuntime) {
-    let alloc = rt.alloc();
-    let line = "table codes 5 3 key 000102030405060708090a0b0c0d0e0f leaves 32 leased 1 burnt 0\n";
-    let lines = concat!(
-        "table codes 5 3 key 000102030405060708090a0b0c0d0e0f leaves 32 leased 1 burnt 0\n",
-        "leaf 0 leased 3:ba7816bf8f01cfea414140de5dae2223b00361a396177a9cb410ff61f20015ad\n",
-    );
-    let mut table = file(&rt, alloc, b"\xa7\0\0\0\x01", &OF_TABLE, 4224);
-    put(&rt, &mut table, 128, &LEASED);
-    assert!(&rt; says(alloc, bytes_of(&rt, alloc, &table), 0, line));
-    let end = shown(alloc, table, "file", true).expect(&rt, "memory");
-    assert!(&rt; has_line(alloc, &end, lines));
-}
-
-#[test]
-fn files_of_slots_that_do_not_load(rt: HostRuntime) {
-    let alloc = rt.alloc();
-    let closed = file(&rt, alloc, b"\0\0\0\0\x01", &OF_TABLE, 4224);
-    assert!(&rt; says(alloc, closed, 13, "error 13 journal fault 2\n"));
-    let cut = file(&rt, alloc, b"\xa7\0\0\0\x02", &OF_SHARE, 5247);
-    assert!(&rt; says(alloc, cut, 13, "error 13 journal fault 1\n"));
-    let mut damaged = file(&rt, alloc, b"\xa7\0\0\0\x01", &OF_TABLE, 4224);
-    put(&rt, &mut damaged, 168, &[0xC2]);
-    assert!(&rt; says(alloc, damaged, 13, "error 13 journal fault 6\n"));
-}
-
-#[test]
-fn other_files(rt: HostRuntime) {
-    let alloc = rt.alloc();
-    let fault = "error 4 file file fault 1\n";
-    assert!(&rt; says(alloc, Vec::new(alloc), 4, fault));
-    assert!(&rt; says(alloc, bytes_of(&rt, alloc, b"TLS"), 4, fault));
-    let other = file(&rt, alloc, b"\xa7\0\0\0\x04", &OF_TABLE, 4224);
-    assert!(&rt; says(alloc, other, 4, fault));
-    let end = shown(alloc, Vec::new(alloc), "other", false).expect(&rt, "memory");
-    assert!(&rt; end.status() == 3);
+    for (name, length, parts, status, want) in SHOWN {
+        let file = file_of(&rt, alloc, length, parts);
+        assert!(&rt; says(alloc, file, "file", false, status, want), "{name}");
+    }
+    let leased: [(usize, &[u8]); 3] = [(0, b"\xa7\0\0\0\x01"), (5, &OF_TABLE), (128, &LEASED)];
+    let table = file_of(&rt, alloc, 4224, &leased);
+    assert!(&rt; says(alloc, table, "file", true, 0, LEAVES));
+    assert!(&rt; says(alloc, Vec::new(alloc), "other", false, 3, "error 3 store\n"));
 }

@@ -11,6 +11,7 @@ use opening_journal::Journal;
 use share_files::{Share, read_share};
 use slot_file::prepare;
 use std::alloc::Global;
+use std::process::Abort;
 use tool_base::header_of;
 use tool_trustee::{Clocks, MemClocks};
 use trustee_core::Trustee;
@@ -44,6 +45,11 @@ const REPLY: [u8; 97] = [
 /// The bytes of a journal of 32 leaves.
 const JOURNAL: usize = 5248;
 
+/// The share.
+fn share(rt: &impl Abort) -> Share {
+    read_share(&SHARE).expect(rt, "share")
+}
+
 /// A trustee of the share, whose journal is empty.
 fn trustee(alloc: Global, share: &Share) -> Option<Trustee<MemDisk>>
     ensures { IfSome result (λ trustee. share_of trustee ≡ share.now) }
@@ -58,7 +64,7 @@ fn trustee(alloc: Global, share: &Share) -> Option<Trustee<MemDisk>>
 #[test]
 fn an_ask_at_a_port_is_answered(rt: HostRuntime) -> Result<(), NoMemory> {
     let alloc = rt.alloc();
-    let share = read_share(&SHARE).expect(&rt, "share");
+    let share = share(&rt);
     let trustee = trustee(alloc, &share).expect(&rt, "trustee");
     let mut ports = two_ports(alloc, &[&ASK, &[]])?;
     let clocks = MemClocks::new(0).clocks(alloc, 2)?;

@@ -16,11 +16,19 @@ use trustee_core::Trustee;
 /// How many calls of the disk a load makes: one sync, the length, the header, and 32 reads of 32 slots each.
 const LOAD_CALLS: u64 = 35;
 
+/// Loads the book of a disk, if there is one.
+fn load(alloc: Global, disk: MemDisk) -> Result<Book<MemDisk>, CacheLoad> {
+    match Book::load(alloc, disk, &header(3, 3)) {
+        Ok(book) => Ok(book),
+        Err((_, fault)) => Err(fault),
+    }
+}
+
 /// Loads the book of a disk.
 fn loaded(rt: &impl Abort, alloc: Global, disk: MemDisk) -> Book<MemDisk> {
-    match Book::load(alloc, disk, &header(3, 3)) {
+    match load(alloc, disk) {
         Ok(book) => book,
-        Err((_, fault)) => panic!(rt; "load: {fault}"),
+        Err(fault) => panic!(rt; "load: {fault}"),
     }
 }
 
@@ -141,10 +149,7 @@ fn a_full_book_lists_no_more(rt: HostRuntime) {
 /// Whether a free file with another byte at a place is refused for this.
 fn is_refused(rt: &impl Abort, alloc: Global, place: u64, byte: u8, why: CacheLoad) -> bool {
     let disk = free_file(rt, alloc, &header(3, 3), 1024);
-    match Book::load(alloc, with_byte(rt, disk, place, byte), &header(3, 3)) {
-        Ok(_) => false,
-        Err((_, fault)) => fault == why,
-    }
+    load(alloc, with_byte(rt, disk, place, byte)).err() == Some(why)
 }
 
 #[test]

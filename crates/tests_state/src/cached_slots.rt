@@ -22,11 +22,19 @@ struct Cache {
 }
 
 impl Cache {
+    /// Loads the file of a disk, if it loads.
+    fn load(alloc: Global, disk: MemDisk) -> Result<Cache, CacheLoad> {
+        match CachedSlots::load(alloc, disk, &header(1, 3), 8) {
+            Ok(slots) => Ok(Cache { slots }),
+            Err((_, fault)) => Err(fault),
+        }
+    }
+
     /// Loads the file of a disk.
     fn open(rt: &impl Abort, alloc: Global, disk: MemDisk) -> Cache {
-        match CachedSlots::load(alloc, disk, &header(1, 3), 8) {
-            Ok(slots) => Cache { slots },
-            Err((_, fault)) => panic!(rt; "load: {fault}"),
+        match Cache::load(alloc, disk) {
+            Ok(cache) => cache,
+            Err(fault) => panic!(rt; "load: {fault}"),
         }
     }
 
@@ -118,10 +126,7 @@ fn a_doubt_stays_where_the_disk_fails(rt: HostRuntime) {
 
 /// Whether the file of a disk is refused for this.
 fn is_refused(alloc: Global, disk: MemDisk, why: CacheLoad) -> bool {
-    match CachedSlots::load(alloc, disk, &header(1, 3), 8) {
-        Ok(_) => false,
-        Err((_, fault)) => fault == why,
-    }
+    Cache::load(alloc, disk).err() == Some(why)
 }
 
 #[test]

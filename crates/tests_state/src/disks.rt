@@ -3,7 +3,7 @@
 ghost use Rattle.std.specs.Prelude.{◌≡◌};
 
 use disk_trait::{Disk, MemDisk};
-use slot_file::{Header, prepare};
+use slot_file::{Header, PrepareFault, prepare};
 use std::alloc::Global;
 use std::process::Abort;
 
@@ -36,10 +36,15 @@ pub(crate) fn holding(rt: &impl Abort, alloc: Global, bytes: &[u8]) -> MemDisk {
     MemDisk::of_bytes(alloc, bytes, bytes.len(), usize::MAX).expect(rt, "memory")
 }
 
+/// Makes a file of so many free slots on an empty disk.
+pub(crate) fn make(disk: &mut MemDisk, header: &Header, count: u32) -> Result<(), PrepareFault> {
+    prepare(disk, header, count)
+}
+
 /// A file of so many free slots, on a disk that was not called yet.
 pub(crate) fn free_file(rt: &impl Abort, alloc: Global, header: &Header, count: u32) -> MemDisk {
     let mut disk = empty(rt, alloc, count);
-    assert!(rt; prepare(&mut disk, header, count) == Ok(()));
+    assert!(rt; make(&mut disk, header, count) == Ok(()));
     holding(rt, alloc, disk.bytes())
 }
 

@@ -73,12 +73,25 @@ struct Leaves {
 }
 
 impl Leaves {
+    /// Loads the journal of a disk as that of a trustee, if it loads.
+    fn load(
+        rt: &impl Abort,
+        alloc: Global,
+        disk: MemDisk,
+        number: u8,
+    ) -> Result<Leaves, JournalLoad> {
+        let params = params(rt);
+        match Journal::load(alloc, disk, &header(2, number), &params) {
+            Ok(journal) => Ok(Leaves { journal }),
+            Err((_, fault)) => Err(fault),
+        }
+    }
+
     /// Loads the journal of a disk.
     fn open(rt: &impl Abort, alloc: Global, disk: MemDisk) -> Leaves {
-        let params = params(rt);
-        match Journal::load(alloc, disk, &header(2, 3), &params) {
-            Ok(journal) => Leaves { journal },
-            Err((_, fault)) => panic!(rt; "load: {fault}"),
+        match Leaves::load(rt, alloc, disk, 3) {
+            Ok(leaves) => leaves,
+            Err(fault) => panic!(rt; "load: {fault}"),
         }
     }
 
@@ -234,10 +247,7 @@ fn a_doubtful_entry_is_settled(rt: HostRuntime) {
 
 /// Whether the journal of a trustee is refused for this.
 fn is_refused(rt: &impl Abort, alloc: Global, disk: MemDisk, number: u8, why: JournalLoad) -> bool {
-    match Journal::load(alloc, disk, &header(2, number), &params(rt)) {
-        Ok(_) => false,
-        Err((_, fault)) => fault == why,
-    }
+    Leaves::load(rt, alloc, disk, number).err() == Some(why)
 }
 
 #[test]

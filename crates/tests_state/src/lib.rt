@@ -10,8 +10,6 @@ mod disks;
 #[cfg(test)]
 mod journals;
 #[cfg(test)]
-mod listings;
-#[cfg(test)]
 mod shares;
 #[cfg(test)]
 mod slots;

@@ -4,12 +4,10 @@ ghost use Rattle.std.specs.Prelude.{◌≡◌, ◌≢◌, ◌<◌};
 ghost use Rattle.slot_file.specs.Slots.{count_of, header_of};
 
 use crate::disks::{
-    crashed, empty, failing_file, free_file, header, holding, stopping_file, with_byte,
+    crashed, empty, failing_file, free_file, header, holding, make, stopping_file, with_byte,
 };
 use disk_trait::{DiskFault, MemDisk};
-use slot_file::{
-    CopyFault, Doubt, Header, LoadFault, PrepareFault, Slot, Slots, copy_slots, prepare,
-};
+use slot_file::{CopyFault, Doubt, Header, LoadFault, PrepareFault, Slot, Slots, copy_slots};
 use std::alloc::Global;
 use std::process::Abort;
 
@@ -43,14 +41,22 @@ fn moment_of(version: u8) -> u64
 }
 
 impl File {
-    /// Opens the file of a disk.
-    fn open(rt: &impl Abort, disk: MemDisk, version: u8) -> File {
+    /// Opens the file of a disk, if it opens as one of this version.
+    fn load(disk: MemDisk, version: u8) -> Result<File, LoadFault> {
         match Slots::load(disk, &header(version, 3), 32) {
-            Ok(slots) => File {
+            Ok(slots) => Ok(File {
                 slots,
                 moment: moment_of(version),
-            },
-            Err((_, fault)) => panic!(rt; "load: {fault:?}"),
+            }),
+            Err((_, fault)) => Err(fault),
+        }
+    }
+
+    /// Opens the file of a disk.
+    fn open(rt: &impl Abort, disk: MemDisk, version: u8) -> File {
+        match File::load(disk, version) {
+            Ok(file) => file,
+            Err(fault) => panic!(rt; "load: {fault:?}"),
         }
     }
 
@@ -127,10 +133,7 @@ impl File {
 
 /// Why the file of a disk does not open as one of version 2.
 fn load_fault(disk: MemDisk) -> Option<LoadFault> {
-    match Slots::load(disk, &header(2, 3), 32) {
-        Ok(_) => None,
-        Err((_, fault)) => Some(fault),
-    }
+    File::load(disk, 2).err()
 }
 
 /// Whether a disk holds a ready file of a version, of so many bytes.
@@ -144,7 +147,7 @@ fn is_made_free(rt: &impl Abort, alloc: Global, version: u8, size: usize) -> boo
     let mut disk = free_file(rt, alloc, &header(version, 3), 32);
     let ready = is_ready(&disk, version, size);
     let length = size as u64;
-    let again = prepare(&mut disk, &header(version, 3), 32);
+    let again = make(&mut disk, &header(version, 3), 32);
     let mut file = File::open(rt, disk, version);
     let free = file.has(0, Slot::Free);
     ready & free & (again == Err(PrepareFault::NotEmpty { length })) & file.has(31, Slot::Free)
@@ -343,7 +346,7 @@ fn is_whole(rt: &impl Abort, alloc: Global, disk: MemDisk, pick: u64) -> Option<
 fn makes_or_not(rt: &impl Abort, alloc: Global, call: u64, pick: u64, want: bool) -> bool {
     let mut disk = empty(rt, alloc, 32);
     disk.stop_at(call);
-    let done = prepare(&mut disk, &header(2, 3), 32);
+    let done = make(&mut disk, &header(2, 3), 32);
     (done == Err(PrepareFault::Device)) & (is_whole(rt, alloc, disk, pick) == Some(want))
 }
 

@@ -46,11 +46,19 @@ fn plan_of(rt: &impl Abort, n: u8, k: u8, h: u8) -> Plan
     Plan::new(n, k, h).expect(rt, "a plan")
 }
 
+/// Loads the table of a disk, if it loads.
+fn load<D: Disk + Drop>(alloc: Global, disk: D, plan: &Plan) -> Result<Table<D>, CacheLoad> {
+    match Table::load(alloc, disk, &header(1, 0), plan) {
+        Ok(table) => Ok(table),
+        Err((_, fault)) => Err(fault),
+    }
+}
+
 /// Loads the table of a disk.
 fn loaded<D: Disk + Drop>(rt: &impl Abort, alloc: Global, disk: D, plan: &Plan) -> Table<D> {
-    match Table::load(alloc, disk, &header(1, 0), plan) {
+    match load(alloc, disk, plan) {
         Ok(table) => table,
-        Err((_, fault)) => panic!(rt; "load: {fault:?}"),
+        Err(fault) => panic!(rt; "load: {fault:?}"),
     }
 }
 
@@ -75,21 +83,33 @@ fn after_crash(rt: &impl Abort, alloc: Global, table: Table<MemDisk>, pick: u64)
     small(rt, alloc, crashed(rt, alloc, table.end(), pick))
 }
 
+/// Leases a leaf of a coalition, by its bits, and burns it where a member is said to have reported it.
+fn enter<D: Disk>(
+    table: &mut Table<D>,
+    bits: u16,
+    message: &MessageId,
+    by: Option<u8>,
+) -> Result<u32, TableFault> {
+    let leaf = match table.lease(Members::of_bits(bits), message) {
+        Ok(leaf) => leaf,
+        Err(fault) => return Err(fault),
+    };
+    if let Some(by) = by
+        && let Err(fault) = table.burn(leaf, message, by)
+    {
+        return Err(fault);
+    }
+    Ok(leaf)
+}
+
 /// Leases a leaf of a coalition, by its bits.
 fn lease<D: Disk>(table: &mut Table<D>, bits: u16, message: &MessageId) -> Result<u32, TableFault> {
-    table.lease(Members::of_bits(bits), message)
+    enter(table, bits, message, None)
 }
 
 /// Leases a leaf of trustees 1 and 3 for message `ONE`, and burns it as reported by a member.
 fn burn<D: Disk>(table: &mut Table<D>, by: u8) -> Result<u32, TableFault> {
-    let leaf = match table.lease(Members::of_bits(FIRST_AND_THIRD), &ONE) {
-        Ok(leaf) => leaf,
-        Err(fault) => return Err(fault),
-    };
-    match table.burn(leaf, &ONE, by) {
-        Ok(()) => Ok(leaf),
-        Err(fault) => Err(fault),
-    }
+    enter(table, FIRST_AND_THIRD, &ONE, Some(by))
 }
 
 /// Whether these are the entries.
@@ -210,16 +230,16 @@ fn a_doubtful_entry_is_settled(rt: HostRuntime) {
 }
 
 /// Whether a coalition has these leaves from its first on, each `step` after the last, and no more.
-fn has_leaves(table: &mut Table<MemDisk>, members: Members, c: u32, step: u32, count: u32) -> bool
+fn has_leaves(table: &mut Table<MemDisk>, bits: u16, c: u32, step: u32, count: u32) -> bool
     requires { (c ≤ 1024) × (step ≤ 1024) × (count ≤ 4) }
 {
     for i in 0..count {
         let leaf = c + i * step;
-        if table.lease(members, &numbered(leaf)) != Ok(leaf) {
+        if lease(table, bits, &numbered(leaf)) != Ok(leaf) {
             return false;
         }
     }
-    table.lease(members, &ONE) == Err(TableFault::NoLeaf { coalition: c })
+    lease(table, bits, &ONE) == Err(TableFault::NoLeaf { coalition: c })
 }
 
 // 1,024 leaves for six of twelve trustees, of whom there are 924 coalitions.
@@ -230,7 +250,7 @@ fn a_hundred_of_924_coalitions_have_two_leaves(rt: HostRuntime) {
     let mut table = loaded(&rt, rt.alloc(), disk, &plan);
     for (c, count) in [(99, 2), (100, 1), (923, 1)] {
         assert!(rt; c < plan.count());
-        assert!(rt; has_leaves(&mut table, plan.members(c), c, 924, count));
+        assert!(rt; has_leaves(&mut table, plan.members(c).bits(), c, 924, count));
     }
 }
 
@@ -268,8 +288,6 @@ fn other_files_are_refused(rt: HostRuntime) {
     let disk = free_file(&rt, rt.alloc(), &header(1, 0), 32);
     let disk = with_byte(&rt, disk, 296, 0xC2);
     let (slot, a, b) = (1, 0, 0xC2);
-    match Table::load(rt.alloc(), disk, &header(1, 0), &plan_of(&rt, 3, 2, 5)) {
-        Ok(_) => panic!(rt; "a damaged table"),
-        Err((_, fault)) => assert!(rt; fault == CacheLoad::Damaged { slot, a, b }),
-    }
+    let fault = load(rt.alloc(), disk, &plan_of(&rt, 3, 2, 5)).err();
+    assert!(rt; fault == Some(CacheLoad::Damaged { slot, a, b }));
 }

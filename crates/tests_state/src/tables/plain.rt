@@ -3,7 +3,7 @@
 ghost use Rattle.std.specs.Prelude.{◌≡◌, ◌<◌, IfSome};
 ghost use Rattle.coalition_map.specs.Coalitions.{count_of};
 
-use super::{loaded, numbered, plan_of};
+use super::{enter, loaded, numbered, plan_of};
 use crate::disks::{free_file, header};
 use coalition_map::Plan;
 use disk_trait::MemDisk;
@@ -56,28 +56,7 @@ fn plain(plan: &Plan, leaves: &[Leaf; 32], c: u32, message: u32) -> Option<u32>
     }
 }
 
-/// What a table answers that is asked for a leaf of coalition `c`, which is burnt then where that is wanted.
-fn asked(
-    table: &mut Table<MemDisk>,
-    plan: &Plan,
-    c: u32,
-    message: u32,
-    burns: bool,
-) -> Result<u32, TableFault>
-    requires { c < count_of plan.now }
-{
-    let id = numbered(message);
-    let leaf = match table.lease(plan.members(c), &id) {
-        Ok(leaf) => leaf,
-        Err(fault) => return Err(fault),
-    };
-    if burns && let Err(fault) = table.burn(leaf, &id, 1) {
-        return Err(fault);
-    }
-    Ok(leaf)
-}
-
-/// What the plain search answers, with the same done to its leaves.
+/// What the plain search answers that is asked for a leaf of coalition `c`, which is burnt then where that is wanted.
 fn plain_asked(
     plan: &Plan,
     leaves: &mut [Leaf; 32],
@@ -98,7 +77,7 @@ fn plain_asked(
     Ok(leaf)
 }
 
-/// Whether the table answers as the plain search.
+/// Whether the table answers as the plain search, with the same done to its leaf.
 fn is_plain(
     table: &mut Table<MemDisk>,
     plan: &Plan,
@@ -111,7 +90,8 @@ fn is_plain(
     requires coalition { c < count_of plan.now }
 {
     let want = plain_asked(plan, leaves, c, message, burns);
-    asked(table, plan, c, message, burns) == want
+    let by = if burns { Some(1) } else { None };
+    enter(table, plan.members(c).bits(), &numbered(message), by) == want
 }
 
 /// Leases leaves of each coalition in turn until there are none. Each lease is asked for twice, and the leaf of every

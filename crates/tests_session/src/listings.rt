@@ -1,5 +1,6 @@
 //! Listings of files of slots: each line as the page of formats has the bytes, and each refusal.
 
+use crate::made_files::{file_of, put};
 use std::alloc::Global;
 use std::process::Abort;
 use tool_show::{ListingFault, list_slots};
@@ -24,14 +25,8 @@ const TABLE: usize = 4224;
 
 const BOOK: usize = 131_200;
 
-/// Writes over part of a file.
-fn put(rt: &impl Abort, file: &mut Vec<u8>, place: usize, bytes: &[u8]) {
-    assert!(rt; place <= file.len() && bytes.len() <= file.len() - place);
-    file[place..place + bytes.len()].copy_from_slice(bytes);
-}
-
-/// A file of this version and number, of so many bytes, whose slots are all free but for what is put at these places.
-fn file(
+/// A file of this version and number, of so many bytes, whose slots are all free but for these parts.
+fn slots(
     rt: &impl Abort,
     alloc: Global,
     version: u8,
@@ -39,12 +34,9 @@ fn file(
     length: usize,
     parts: &[(usize, &[u8])],
 ) -> Vec<u8> {
-    let mut bytes = vec![in alloc; 0; length].expect(rt, "memory");
-    put(rt, &mut bytes, 0, &[0xA7, 0, 0, 0, version, number]);
-    put(rt, &mut bytes, 6, &KEY);
-    for (place, part) in parts {
-        put(rt, &mut bytes, *place, *part);
-    }
+    let head = [0xA7, 0, 0, 0, version, number];
+    let mut bytes = file_of(rt, alloc, length, &[(0, &head), (6, &KEY)]);
+    put(rt, &mut bytes, parts);
     bytes
 }
 
@@ -52,28 +44,25 @@ fn file(
 fn journal(rt: &impl Abort, alloc: Global, moment: u64) -> Vec<u8> {
     let moment = moment.to_be_bytes();
     let parts: [(usize, &[u8]); 4] = [(288, &ABC), (768, &ABC), (808, &[0xC2]), (876, &moment)];
-    file(rt, alloc, 2, 3, JOURNAL, &parts)
+    slots(rt, alloc, 2, 3, JOURNAL, &parts)
 }
 
-/// Whether the listing of these bytes is this.
+/// What is listed of these bytes.
+fn listed(alloc: Global, bytes: Vec<u8>, leaves: bool) -> Result<String, ListingFault> {
+    list_slots(alloc, bytes, leaves)
+}
+
+/// Whether these bytes are listed, with a line for each leaf or without, by this text.
 fn lists(alloc: Global, bytes: Vec<u8>, leaves: bool, want: &str) -> bool {
-    match list_slots(alloc, bytes, leaves) {
+    match listed(alloc, bytes, leaves) {
         Ok(text) => text.as_str() == want,
         Err(_) => false,
     }
 }
 
-/// Whether the listing of these bytes is refused by this.
-fn refuses(alloc: Global, bytes: Vec<u8>, want: ListingFault) -> bool {
-    match list_slots(alloc, bytes, true) {
-        Ok(_) => false,
-        Err(fault) => fault == want,
-    }
-}
-
 /// Whether the last moment of a journal's line is this.
 fn has_last(rt: &impl Abort, alloc: Global, moment: u64, want: &str) -> bool {
-    match list_slots(alloc, journal(rt, alloc, moment), false) {
+    match listed(alloc, journal(rt, alloc, moment), false) {
         Ok(text) => text.as_str().ends_with(want),
         Err(_) => false,
     }
@@ -131,10 +120,10 @@ const LISTINGS: [(u8, u8, usize, &[(usize, &[u8])], &str); 4] = [
 fn files_of_slots(rt: HostRuntime) {
     let alloc = rt.alloc();
     for (version, number, length, parts, want) in LISTINGS {
-        let bytes = file(&rt, alloc, version, number, length, parts);
+        let bytes = slots(&rt, alloc, version, number, length, parts);
         assert!(&rt; lists(alloc, bytes, true, want), "{want}");
     }
-    let fresh = file(&rt, alloc, 2, 3, JOURNAL, &[]);
+    let fresh = slots(&rt, alloc, 2, 3, JOURNAL, &[]);
     assert!(&rt; lists(alloc, fresh, false, FRESH));
 }
 
@@ -215,10 +204,10 @@ const REFUSED: [(&str, u8, u8, usize, &[(usize, &[u8])], ListingFault); 6] = [
 fn other_files(rt: HostRuntime) {
     let alloc = rt.alloc();
     for (name, version, number, length, parts, want) in REFUSED {
-        let bytes = file(&rt, alloc, version, number, length, parts);
-        assert!(&rt; refuses(alloc, bytes, want), "{name}");
+        let bytes = slots(&rt, alloc, version, number, length, parts);
+        assert!(&rt; listed(alloc, bytes, true).err() == Some(want), "{name}");
     }
-    let mut short = file(&rt, alloc, 2, 3, 32, &[]);
+    let mut short = slots(&rt, alloc, 2, 3, 32, &[]);
     let _ = short.pop();
-    assert!(&rt; refuses(alloc, short, ListingFault::NotASlotFile));
+    assert!(&rt; listed(alloc, short, true).err() == Some(ListingFault::NotASlotFile));
 }

@@ -1,14 +1,15 @@
 //! Tests of what no clause says: that whole sessions give the signatures of another implementation, and each refusal.
 
-use crate::dealing::{ID, MESSAGE};
-use crate::meeting::Meeting;
+use crate::meeting::{LEAVES, MESSAGE, Meeting};
+use crate::values::ID;
 use disk_trait::MemDisk;
 use lms_bytes::bytes::put;
 use lms_bytes::{Ask, MessageId, Second, Val};
-use reference_value::{Paged, leaf_bytes};
+use reference_value::Paged;
 use session_core::{KeptValue, SessionFault, Step};
 use sha2::{Digest, Sha256};
 use std::alloc::Global;
+use std::process::Abort;
 
 /// The replies of round one: of trustees 3, 1 and 2, of trustee 4, who is no member, and of trustee 3 once more.
 const FIRST: [(u8, Step); 5] = [
@@ -67,7 +68,7 @@ fn run(meeting: &mut Meeting) -> bool {
 #[test]
 fn a_session_signs_as_another_implementation_does(rt: HostRuntime) {
     for (lms, ots, want) in SIGNED {
-        let mut meeting = Meeting::dealt(rt.alloc(), lms, ots).expect(&rt, "a session");
+        let mut meeting = Meeting::dealt(&rt, rt.alloc(), lms, ots);
         assert!(rt; run(&mut meeting));
         let signed = meeting.finish(rt.alloc()).expect(&rt, "a randomizer");
         let signature = signed.expect(&rt, "a signature");
@@ -87,7 +88,7 @@ fn a_changed_reference_gives_no_signature(rt: HostRuntime) {
         got: Val::of(got),
         want: Val::of(want),
     };
-    let mut meeting = Meeting::dealt(rt.alloc(), 10, 7).expect(&rt, "a session");
+    let mut meeting = Meeting::dealt(&rt, rt.alloc(), 10, 7);
     // Behind the randomizer and three tags lie the values of chain 0, and the digest's first digit is 4.
     meeting.spoil(24 + 96 + 24 * 4);
     assert!(rt; run(&mut meeting));
@@ -96,8 +97,13 @@ fn a_changed_reference_gives_no_signature(rt: HostRuntime) {
 }
 
 /// What `turn` says of a session in which trustee 1 alone has answered, by a refusal.
-fn turn_after_refusal(alloc: Global, code: u8, body: &[u8]) -> Option<Result<(), SessionFault>> {
-    let mut meeting = Meeting::blank(alloc)?;
+fn turn_after_refusal(
+    rt: &impl Abort,
+    alloc: Global,
+    code: u8,
+    body: &[u8],
+) -> Option<Result<(), SessionFault>> {
+    let mut meeting = Meeting::blank(rt, alloc);
     meeting.take(1, code, body);
     meeting.turn()
 }
@@ -130,7 +136,7 @@ fn refusals_are_told_apart(rt: HostRuntime) {
     ];
     for (code, body, want) in cases {
         assert!(rt;
-            turn_after_refusal(rt.alloc(), code, body) == Some(Err(want)),
+            turn_after_refusal(&rt, rt.alloc(), code, body) == Some(Err(want)),
             "code {code}"
         );
     }
@@ -138,8 +144,13 @@ fn refusals_are_told_apart(rt: HostRuntime) {
 
 /// What `finish` says of a session over a reference of zeros in which trustees 1, 2 and 3 have answered round one with
 /// zeros, and trustee 1 round two by a refusal.
-fn fault_of_later_refusal(alloc: Global, code: u8, body: &[u8]) -> Option<SessionFault> {
-    let mut meeting = Meeting::blank(alloc)?;
+fn fault_of_later_refusal(
+    rt: &impl Abort,
+    alloc: Global,
+    code: u8,
+    body: &[u8],
+) -> Option<SessionFault> {
+    let mut meeting = Meeting::blank(rt, alloc);
     for member in 1..4 {
         meeting.take(member, 0, &[0; 24]);
     }
@@ -174,7 +185,7 @@ fn refusals_of_round_two_are_told_apart(rt: HostRuntime) {
     ];
     for (code, body, want) in cases {
         assert!(rt;
-            fault_of_later_refusal(rt.alloc(), code, body) == Some(want),
+            fault_of_later_refusal(&rt, rt.alloc(), code, body) == Some(want),
             "code {code}"
         );
     }
@@ -208,7 +219,7 @@ fn round_one_tells_what_it_asks_and_keeps(rt: HostRuntime) {
     // The mask that another implementation had of trustee 2.
     let mask =
         b"\x2e\x88\xf5\x5e\xc3\xf9\x50\xe6\xba\x46\xf4\x98\xb8\x94\x4c\x4b\x48\xe0\x8e\x73\x94\x2a\x5b\xfe";
-    let mut meeting = Meeting::blank(rt.alloc()).expect(&rt, "a session");
+    let mut meeting = Meeting::blank(&rt, rt.alloc());
     assert!(rt; meeting.ask(&Val::of(&[0; 24])) == Some(Ok(ask_with(None))));
     assert!(rt; keeps_none(&meeting, 1, 2));
     assert!(rt; answer_first(&mut meeting));
@@ -233,7 +244,7 @@ fn round_two_tells_what_it_asks_and_keeps(rt: HostRuntime) {
         tag: *tag,
         digest: Val::of(digest),
     };
-    let mut meeting = Meeting::dealt(rt.alloc(), 10, 7).expect(&rt, "a session");
+    let mut meeting = Meeting::dealt(&rt, rt.alloc(), 10, 7);
     assert!(rt; answer_first(&mut meeting));
     assert!(rt; meeting.turn() == Some(Ok(())));
     assert!(rt; meeting.ask(&Val::of(digest)) == Some(Ok(ask_with(Some(second)))));
@@ -245,11 +256,11 @@ fn round_two_tells_what_it_asks_and_keeps(rt: HostRuntime) {
 }
 
 /// A reference of zeros on a disk whose first read fails.
-fn failing_disk(alloc: Global, leaves: usize) -> Option<MemDisk> {
-    let file = vec![in alloc; 0; leaves.checked_add(32)?].ok()?;
-    let mut disk = MemDisk::of_bytes(alloc, &file, file.len(), usize::MAX).ok()?;
+fn failing_disk(rt: &impl Abort, alloc: Global) -> MemDisk {
+    let file = vec![in alloc; 0; 32 + LEAVES].expect(rt, "memory");
+    let mut disk = MemDisk::of_bytes(alloc, &file, file.len(), usize::MAX).expect(rt, "memory");
     disk.fail_once(0);
-    Some(disk)
+    disk
 }
 
 /// Ends round one over a reference on this disk.
@@ -261,9 +272,8 @@ fn turn_over(meeting: &mut Meeting, disk: MemDisk) -> Option<Result<(), SessionF
 
 #[test]
 fn a_read_that_fails_leaves_the_session(rt: HostRuntime) {
-    let mut meeting = Meeting::blank(rt.alloc()).expect(&rt, "a session");
-    let leaves = leaf_bytes(&meeting.params, meeting.plan.k()) * 32;
-    let disk = failing_disk(rt.alloc(), leaves).expect(&rt, "a disk");
+    let mut meeting = Meeting::blank(&rt, rt.alloc());
+    let disk = failing_disk(&rt, rt.alloc());
     assert!(rt; answer_first(&mut meeting));
     assert!(rt; turn_over(&mut meeting, disk) == Some(Err(SessionFault::Reference)));
     assert!(rt; meeting.session.randomizer().is_none());

@@ -1,6 +1,0 @@
-use Rattle.std.proofs.Common.{◌≡◌, length}
-use Rattle.std.proofs.lemmas.List.Elements.{All-replicate}
-use Rattle.tests_session.proofs.dealing.tree_of.Goals as goal
-
-pub loop-q-init : goal.loop-q-init
-loop-q-init c = All-replicate (λ value. length value ≡ c.args.params.now.n) 32 c.args.seed.now c.requires.seed
