@@ -1,5 +1,5 @@
 -- A port that tells nothing of its content hangs a link up.
-use Rattle.std.proofs.Common.{◌≡◌, ◌≢◌, ◌+◌, ◌≤◌, ◌++◌, ℕ, List, [], Option, min, refl, sym, append-nil, arith}
+use Rattle.std.proofs.Common.{◌≢◌, ◌+◌, ◌≤◌, ℕ, List, [], Option, min, refl, sym, append-nil, arith}
 use Rattle.std.proofs.lemmas.Bool.{false≢true}
 use Rattle.stream_host.specs.Untold.{untold_port}
 use Rattle.stream_io.specs.Net.{HangsUp}

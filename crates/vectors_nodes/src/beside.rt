@@ -26,9 +26,8 @@ const MIDDLE: usize = 300;
 /// How often a link looks whether the other one was answered, before it fails.
 const LOOKS: u64 = 1_000_000_000;
 
-/// A port at which one link waits, which gives these bytes.
+/// A port in memory at which one link waits, which gives these bytes.
 fn port(alloc: Global, given: &[u8]) -> Option<MemPort> {
-    let given = Vec::from_slice(alloc, given).ok()?;
     let mut script = PortScript::new(alloc);
     script.waiting.push(link(alloc, given)?).ok()?;
     let place = String::from_str(alloc, "here").ok()?;
@@ -37,30 +36,22 @@ fn port(alloc: Global, given: &[u8]) -> Option<MemPort> {
 
 /// What was written to the link that was hung up at a port is this.
 fn is_answered(port: Option<&WaitingPort>, want: &[u8]) -> bool {
-    port.and_then(|port| port.kept().talk(0))
-        .is_some_and(|talk| talk.written() == want)
-}
-
-/// Trustee 1's share, what it is asked in a session, and what it replies.
-#[derive(Drop)]
-struct Given {
-    share: Share,
-    asks: Vec<u8>,
-    replies: Vec<u8>,
-}
-
-impl Given {
-    /// Reads the files.
-    fn read(rt: HostRuntime) -> Option<Given> {
-        let share = read_share(&file(rt, "5-3.share1")?).ok()?;
-        let asks = file(rt, "5-3.asks1")?;
-        let replies = file(rt, "5-3.replies1")?;
-        Some(Given {
-            share,
-            asks,
-            replies,
-        })
+    let Some(port) = port else {
+        return false;
+    };
+    match port.kept().talk(0) {
+        Some(talk) => talk.written() == want,
+        None => false,
     }
+}
+
+/// What a link waits for until the other one was answered.
+fn hold_of(bell: &Bell, before: Option<Before>) -> Option<Hold<'_>> {
+    Some(Hold {
+        before: before?,
+        bell,
+        rings: 1,
+    })
 }
 
 /// The ports of both workers, at which one link each waits. The first link waits for the second where this says so.
@@ -72,31 +63,20 @@ fn ports_of<'a>(
 ) -> Option<Vec<WaitingPort<'a>>>
     ensures { IfSome result (λ ports. vec_len ports ≡ 2) }
 {
-    let hold = before.map(|before| Hold {
-        before,
-        bell,
-        rings: 1,
-    });
     let ring = Ring {
         bell,
         written: REPLY,
     };
-    let first = WaitingPort::new(port(alloc, asks)?, hold, None);
+    let first = WaitingPort::new(port(alloc, asks)?, hold_of(bell, before), None);
     let second = WaitingPort::new(port(alloc, asks.get(..ASK)?)?, None, Some(ring));
-    let mut ports = Vec::new(alloc);
-    ports.push(first).ok()?;
-    ports.push(second).ok()?;
-    Some(ports)
+    vec![in alloc; first, second].ok()
 }
 
 /// The clocks of both workers.
 fn clocks_of(alloc: Global) -> Option<Vec<Still>>
     ensures { IfSome result (λ clocks. vec_len clocks ≡ 2) }
 {
-    let mut clocks = Vec::new(alloc);
-    clocks.push(Still).ok()?;
-    clocks.push(Still).ok()?;
-    Some(clocks)
+    vec![in alloc; Still, Still].ok()
 }
 
 /// Serves the links that wait at two ports.
@@ -115,6 +95,21 @@ fn serve(
     Some(())
 }
 
+/// Trustee 1's share.
+fn share_of(rt: HostRuntime) -> Option<Share> {
+    read_share(&file(rt, "5-3.share1")?).ok()
+}
+
+/// Which of the links at two ports were answered with the right bytes.
+fn answered(rt: HostRuntime, ports: &[WaitingPort]) -> Option<(bool, bool)> {
+    let replies = file(rt, "5-3.replies1")?;
+    let reply = replies.get(..REPLY)?;
+    Some((
+        is_answered(ports.get(0), &replies),
+        is_answered(ports.get(1), reply),
+    ))
+}
+
 /// Serves both links, and says which of them were answered with the right bytes.
 fn serve_both(
     threads: &(impl Threads + Wait + Sync),
@@ -122,14 +117,25 @@ fn serve_both(
     bell: &Bell,
     before: Option<Before>,
 ) -> Option<(bool, bool)> {
-    let given = Given::read(rt)?;
-    let mut ports = ports_of(rt.alloc(), &given.asks, bell, before)?;
-    serve(threads, rt.alloc(), &given.share, &mut ports)?;
-    let reply = given.replies.get(..REPLY)?;
-    Some((
-        is_answered(ports.get(0), &given.replies),
-        is_answered(ports.get(1), reply),
-    ))
+    let share = share_of(rt)?;
+    let mut ports = ports_of(rt.alloc(), &file(rt, "5-3.asks1")?, bell, before)?;
+    serve(threads, rt.alloc(), &share, &mut ports)?;
+    answered(rt, &ports)
+}
+
+/// Serves both links, and prints which of them were answered with the right bytes.
+fn print_run(
+    threads: &(impl Threads + Wait + Sync),
+    rt: HostRuntime,
+    name: &str,
+    before: Option<Before>,
+) -> io::Result<()> {
+    match serve_both(threads, rt, &Bell::new(LOOKS), before) {
+        Some((first, second)) => println!(rt;
+            "{name}: first as given: {first}, second as given: {second}"
+        ),
+        None => println!(rt; "{name}: not served"),
+    }
 }
 
 /// All that is run.
@@ -137,17 +143,7 @@ pub(crate) fn print_runs(
     threads: &(impl Threads + Wait + Sync),
     rt: HostRuntime,
 ) -> io::Result<()> {
-    for (name, before) in [
-        ("no link waits", None),
-        ("an ask waits", Some(Before::Reading(MIDDLE))),
-        ("a reply waits", Some(Before::Writing)),
-    ] {
-        match serve_both(threads, rt, &Bell::new(LOOKS), before) {
-            Some((first, second)) => println!(rt;
-                "{name}: first as given: {first}, second as given: {second}"
-            )?,
-            None => println!(rt; "{name}: not served")?,
-        }
-    }
-    Ok(())
+    print_run(threads, rt, "no link waits", None)?;
+    print_run(threads, rt, "an ask waits", Some(Before::Reading(MIDDLE)))?;
+    print_run(threads, rt, "a reply waits", Some(Before::Writing))
 }

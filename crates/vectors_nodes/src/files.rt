@@ -1,10 +1,10 @@
-//! The files of the other implementation's sessions.
+//! The files that the program reads.
 
 use stream_host::FileStore;
 use stream_io::Store;
 
 /// No file here is longer.
-const FILE_LIMIT: u64 = 1 << 16;
+const FILE_LIMIT: u64 = 1 << 20;
 
 /// The bytes of a file, nothing where it cannot be read.
 pub(crate) fn file(rt: HostRuntime, name: &str) -> Option<Vec<u8>> {

@@ -4,13 +4,12 @@
 //! and how many were not. Then it reads a long message in pieces.
 mod reading;
 
+use crate::files::file;
 use lms_bytes::Params;
 use reading::reading;
 use std::alloc::{AllocError, Global};
 use std::io::{self, ErrorKind};
 use std::str;
-use stream_host::FileStore;
-use stream_io::Store;
 use stream_memory::MemSource;
 
 /// A row of the table.
@@ -22,19 +21,47 @@ struct Row<'a> {
     want: &'a str,
 }
 
+/// The parameter set of these typecodes.
+fn params_of(lms: &str, ots: &str) -> Option<Params> {
+    Params::of_codes(lms.parse().ok()?, ots.parse().ok()?).ok()
+}
+
+/// A cell of a line; the last one is all that stands behind the fourth tab.
+fn cell(line: &str, index: usize) -> Option<&str> {
+    line.splitn(5, '\t').nth(index)
+}
+
 /// The row that a line is.
 fn row_of(line: &str) -> Option<Row<'_>> {
-    let (lms, rest) = line.split_once('\t')?;
-    let (ots, rest) = rest.split_once('\t')?;
-    let (reader, rest) = rest.split_once('\t')?;
-    let (bytes, want) = rest.split_once('\t')?;
-    let params = Params::of_codes(lms.parse().ok()?, ots.parse().ok()?).ok()?;
     Some(Row {
-        params,
-        reader,
-        bytes,
-        want,
+        reader: cell(line, 2)?,
+        bytes: cell(line, 3)?,
+        want: cell(line, 4)?,
+        params: params_of(cell(line, 0)?, cell(line, 1)?)?,
     })
+}
+
+/// What is read of these bytes in these pieces. Every reading is a call of this function, since what costs a proof is a
+/// call over a source of this very type.
+fn read(
+    alloc: Global,
+    params: &Params,
+    reader: &str,
+    bytes: Vec<u8>,
+    pieces: Vec<usize>,
+) -> Result<String, AllocError> {
+    let length = bytes.len();
+    let mut source = MemSource::new(bytes, pieces, Vec::new(alloc));
+    reading(alloc, params, reader, &mut source, length)
+}
+
+/// Pieces of so many bytes each for all of a length, or none.
+fn pieces_of(alloc: Global, length: usize, piece: usize) -> Result<Vec<usize>, AllocError> {
+    let mut pieces = Vec::new(alloc);
+    if piece > 0 {
+        pieces.resize(length, piece)?;
+    }
+    Ok(pieces)
 }
 
 /// Whether the row's bytes, in pieces of at most so many, are read as the row says.
@@ -43,14 +70,17 @@ fn agrees(alloc: Global, row: &Row, piece: usize) -> Result<bool, AllocError> {
     let Ok(bytes) = hex::decode(alloc, text) else {
         return Ok(false);
     };
-    let length = bytes.len();
-    let mut pieces = Vec::new(alloc);
-    if piece > 0 {
-        pieces.resize(length, piece)?;
-    }
-    let mut source = MemSource::new(bytes, pieces, Vec::new(alloc));
-    let got = reading(alloc, &row.params, row.reader, &mut source, length)?;
+    let pieces = pieces_of(alloc, bytes.len(), piece)?;
+    let got = read(alloc, &row.params, row.reader, bytes, pieces)?;
     Ok(got.as_str() == row.want)
+}
+
+/// Whether a line's bytes are read as it says, from one piece and from pieces of one byte.
+fn line_agrees(alloc: Global, line: &str) -> Result<bool, AllocError> {
+    let Some(row) = row_of(line) else {
+        return Ok(false);
+    };
+    Ok(agrees(alloc, &row, 0)? && agrees(alloc, &row, 1)?)
 }
 
 /// A message of 1,048,576 zero bytes by its id: its length, and its SHA-256 by another program.
@@ -63,51 +93,69 @@ fn long_ask(alloc: Global) -> Result<Vec<u8>, AllocError> {
     Ok(bytes)
 }
 
-/// What is read of that ask in these pieces.
-fn long_reading(alloc: Global, params: &Params, pieces: Vec<usize>) -> Result<String, AllocError> {
-    let bytes = long_ask(alloc)?;
-    let length = bytes.len();
-    let mut source = MemSource::new(bytes, pieces, Vec::new(alloc));
-    reading(alloc, params, "ask", &mut source, length)
+/// Pieces of 1, 63, 64 and 65 bytes in turn, for all of it.
+fn long_pieces(alloc: Global) -> Result<Vec<usize>, AllocError> {
+    let mut pieces = Vec::new(alloc);
+    for _ in 0..6_000 {
+        pieces.extend_from_slice(&[1, 63, 64, 65])?;
+    }
+    Ok(pieces)
 }
 
-/// Whether that ask is read alike from one piece and from pieces of 1, 63, 64 and 65 bytes in turn, with its id.
+/// What is read of that ask in these pieces.
+fn read_long(alloc: Global, params: &Params, pieces: Vec<usize>) -> Result<String, AllocError> {
+    read(alloc, params, "ask", long_ask(alloc)?, pieces)
+}
+
+/// Whether two readings of that ask are alike, with its id.
+fn are_alike(whole: &str, cut: &str) -> bool {
+    whole == cut && whole.contains(LONG_ID)
+}
+
+/// Whether that ask is read alike from one piece and from many.
 fn agrees_on_long(alloc: Global) -> Result<bool, AllocError> {
     let Ok(params) = Params::of_codes(5, 3) else {
         return Ok(false);
     };
-    let mut pieces = Vec::new(alloc);
-    for _ in 0..6_000 {
-        for size in [1, 63, 64, 65] {
-            pieces.push(size)?;
-        }
-    }
-    let whole = long_reading(alloc, &params, Vec::new(alloc))?;
-    let cut = long_reading(alloc, &params, pieces)?;
-    Ok(whole == cut && whole.as_str().contains(LONG_ID))
+    let whole = read_long(alloc, &params, Vec::new(alloc))?;
+    let cut = read_long(alloc, &params, long_pieces(alloc)?)?;
+    Ok(are_alike(&whole, &cut))
 }
 
-/// Prints the number of each row of a table that is read otherwise than it says, and how many are not.
-fn print_table(rt: HostRuntime, name: &str) -> io::Result<()> {
-    let mut store = FileStore::new(rt);
-    let Ok(bytes) = store.read_all(rt.alloc(), name, 1 << 20) else {
-        return Err(io::Error::from(ErrorKind::NotFound));
-    };
-    let Ok(table) = str::from_utf8(&bytes) else {
-        return Err(io::Error::from(ErrorKind::InvalidData));
-    };
+/// Prints the number of a row that is read otherwise than it says, and tells whether it is read as it says.
+fn print_row(rt: HostRuntime, name: &str, number: usize, line: &str) -> io::Result<bool> {
+    let agrees = line_agrees(rt.alloc(), line)?;
+    if !agrees {
+        println!(rt; "{name}: row {number} is read otherwise")?;
+    }
+    Ok(agrees)
+}
+
+/// Prints the number of each row of a table that is read otherwise than it says, and counts the others.
+fn print_rows(rt: HostRuntime, name: &str, table: &str) -> io::Result<u32> {
     let mut agreed: u32 = 0;
     for (number, line) in table.lines().enumerate().skip(1) {
-        let same = match row_of(line) {
-            Some(row) => agrees(rt.alloc(), &row, 0)? && agrees(rt.alloc(), &row, 1)?,
-            None => false,
-        };
-        if same {
+        if print_row(rt, name, number, line)? {
             agreed = agreed.saturating_add(1);
-        } else {
-            println!(rt; "{name}: row {number} is read otherwise")?;
         }
     }
+    Ok(agreed)
+}
+
+/// Reads the rows of a table, prints the numbers of those that are read otherwise than they say, and counts the others.
+fn print_file(rt: HostRuntime, name: &str) -> io::Result<u32> {
+    let Some(bytes) = file(rt, name) else {
+        return Err(io::Error::from(ErrorKind::NotFound));
+    };
+    match str::from_utf8(&bytes) {
+        Ok(table) => print_rows(rt, name, table),
+        Err(_) => Err(io::Error::from(ErrorKind::InvalidData)),
+    }
+}
+
+/// Reads a table, and prints what came of it.
+fn print_table(rt: HostRuntime, name: &str) -> io::Result<()> {
+    let agreed = print_file(rt, name)?;
     println!(rt; "{name}: {agreed} rows are read as the table says")
 }
 

@@ -3,11 +3,11 @@
 #![tactic(auto)]
 
 mod beside;
+mod disks;
 mod files;
 mod frames;
 mod links;
 mod meeting;
-mod tables;
 mod trustee;
 mod turns;
 

@@ -12,7 +12,7 @@ use aggregator_node::serve_clients;
 use coalition_map::Members;
 use disk_trait::MemDisk;
 use leaf_table::{Lease, Table};
-use lms_bytes::PublicKey;
+use lms_bytes::{Params, PublicKey};
 use lms_verify::{Verdict, verify};
 use ports::{Meeting, MeetingPort};
 use round_frames::{Outcome, next_result, write_request};
@@ -53,6 +53,16 @@ fn request(alloc: Global, message: &[u8]) -> Option<Vec<u8>>
     Vec::from_slice(alloc, sink.written()).ok()
 }
 
+/// The signature that was answered, if one was.
+fn signature_in(alloc: Global, params: &Params, answered: &[u8]) -> Option<Vec<u8>> {
+    let answered = Vec::from_slice(alloc, answered).ok()?;
+    let mut source = MemSource::new(answered, Vec::new(alloc), Vec::new(alloc));
+    match next_result(alloc, params, &mut source) {
+        Ok(Outcome::Signature(bytes)) => Some(bytes),
+        _ => None,
+    }
+}
+
 /// The leaf of the signature of this message that was answered at a port, if it is accepted.
 fn signed_leaf<W: Wait>(
     alloc: Global,
@@ -60,16 +70,22 @@ fn signed_leaf<W: Wait>(
     port: Option<&MeetingPort<W>>,
     message: &[u8],
 ) -> Option<u32> {
-    let answered = Vec::from_slice(alloc, port?.answered()?).ok()?;
-    let mut source = MemSource::new(answered, Vec::new(alloc), Vec::new(alloc));
-    let outcome = next_result(alloc, &key.params, &mut source).ok()?;
-    let Outcome::Signature(bytes) = outcome else {
-        return None;
-    };
-    match verify(key, message, &bytes) {
+    let signature = signature_in(alloc, &key.params, port?.answered())?;
+    match verify(key, message, &signature) {
         Verdict::Accepted { leaf } => Some(leaf),
         _ => None,
     }
+}
+
+/// The leaves of both signatures that were answered.
+fn signed_leaves<W: Wait>(
+    alloc: Global,
+    key: &PublicKey,
+    ports: &[MeetingPort<W>],
+) -> [Option<u32>; 2] {
+    let first = signed_leaf(alloc, key, ports.get(0), FIRST);
+    let second = signed_leaf(alloc, key, ports.get(1), SECOND);
+    [first, second]
 }
 
 /// The ports of both workers, at which one client each waits.
@@ -81,10 +97,26 @@ fn ports_of<'a, W: Wait>(
 {
     let first = MeetingPort::new(meeting, request(alloc, FIRST)?);
     let second = MeetingPort::new(meeting, request(alloc, SECOND)?);
-    let mut ports = Vec::new(alloc);
-    ports.push(first).ok()?;
-    ports.push(second).ok()?;
-    Some(ports)
+    vec![in alloc; first, second].ok()
+}
+
+/// Serves the clients at two ports, and gives the table that came back.
+fn serve<'a, R: Threads + Wait + Sync>(
+    rt: &R,
+    alloc: Global,
+    scene: &Scene,
+    ports: &mut Vec<MeetingPort<'a, R>>,
+) -> Option<Table<MemDisk>>
+    requires { vec_len ports.old ≡ 2 }
+{
+    let mut cells = Vec::new(alloc);
+    cells.push(scene.cells(alloc)?).ok()?;
+    cells.push(scene.cells(alloc)?).ok()?;
+    let table = scene.table(alloc)?;
+    let desk = scene.desk();
+    let (table, served) = serve_clients(rt, alloc, &desk, table, &mut cells, ports, 1);
+    served.ok()?;
+    Some(table)
 }
 
 /// Serves both clients.
@@ -95,17 +127,9 @@ fn serve_both<'a, R: Threads + Wait + Sync>(
     meeting: &'a Meeting<'a, R>,
 ) -> Option<Met> {
     let mut ports = ports_of(alloc, meeting)?;
-    let mut cells = Vec::new(alloc);
-    cells.push(scene.cells(alloc)?).ok()?;
-    cells.push(scene.cells(alloc)?).ok()?;
-    let table = scene.table(alloc)?;
-    let desk = scene.desk();
-    let (table, served) = serve_clients(rt, alloc, &desk, table, &mut cells, &mut ports, 1);
-    served.ok()?;
-    let first = signed_leaf(alloc, desk.key, ports.get(0), FIRST);
-    let second = signed_leaf(alloc, desk.key, ports.get(1), SECOND);
+    let table = serve(rt, alloc, scene, &mut ports)?;
     Some(Met {
-        signed: [first, second],
+        signed: signed_leaves(alloc, &scene.dealt.public, &ports),
         table,
     })
 }
@@ -122,25 +146,43 @@ fn meet<R: Threads + Wait + Sync>(threads: &R, rt: HostRuntime) -> Option<Met> {
     serve_both(threads, rt.alloc(), &scene, &meeting)
 }
 
+/// Prints whether a signature was accepted.
+fn print_verdict(rt: HostRuntime, signed: Option<u32>) -> io::Result<()> {
+    let verdict = if signed.is_some() {
+        "accepted"
+    } else {
+        "not accepted"
+    };
+    println!(rt; "{verdict}")
+}
+
 /// Prints what came of both requests: the lesser leaf first, whichever client was given it.
-fn print_met(rt: HostRuntime, met: &Met) -> io::Result<()> {
-    if let [Some(one), Some(other)] = met.signed {
-        let (first, last) = (one.min(other), one.max(other));
-        println!(rt; "signed leaves {first} and {last}")?;
+fn print_signed(rt: HostRuntime, signed: [Option<u32>; 2]) -> io::Result<()> {
+    let [first, second] = signed;
+    if let (Some(one), Some(other)) = (first, second) {
+        let (less, more) = (one.min(other), one.max(other));
+        println!(rt; "signed leaves {less} and {more}")?;
     }
-    for signed in met.signed {
-        match signed {
-            Some(_) => println!(rt; "accepted")?,
-            None => println!(rt; "not accepted")?,
-        }
-    }
-    for lease in met.table.entries() {
-        match lease {
-            Lease::Leased { leaf, .. } => println!(rt; "leased leaf {leaf}")?,
-            Lease::Burnt { leaf } => println!(rt; "burnt leaf {leaf}")?,
-        }
+    print_verdict(rt, first)?;
+    print_verdict(rt, second)
+}
+
+/// Prints what a table holds.
+fn print_leases(rt: HostRuntime, leases: &[Lease]) -> io::Result<()> {
+    for lease in leases {
+        let (word, leaf) = match lease {
+            Lease::Leased { leaf, .. } => ("leased", leaf),
+            Lease::Burnt { leaf } => ("burnt", leaf),
+        };
+        println!(rt; "{word} leaf {leaf}")?;
     }
     Ok(())
+}
+
+/// Prints what came of both requests.
+fn print_met(rt: HostRuntime, met: &Met) -> io::Result<()> {
+    print_signed(rt, met.signed)?;
+    print_leases(rt, met.table.entries())
 }
 
 /// Runs the meeting, and prints what came of it.

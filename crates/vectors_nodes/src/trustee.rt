@@ -4,17 +4,18 @@ ghost use Rattle.std.specs.Prelude.{◌≡◌, IfSome, true};
 ghost use Rattle.opening_journal.specs.Journal.{header_of, params_of};
 ghost use Rattle.trustee_core.specs.Trustee.{journal_header, share_of};
 
+use crate::disks::fresh_disk;
 use crate::links::link;
 use crate::turns::only_pass;
 use disk_trait::{Disk, MemDisk};
 use opening_journal::Journal;
 use share_files::Share;
-use slot_file::{Header, prepare};
+use slot_file::Header;
 use std::alloc::Global;
 use std::sync::Wait;
 use stream_io::{Sink, Source};
 use trustee_core::{Clock, Trustee};
-use trustee_node::{Served, serve_connection};
+use trustee_node::serve_connection;
 use turn_lock::TurnLock;
 
 /// The bytes of a journal of 32 leaves.
@@ -53,8 +54,7 @@ fn empty_journal(alloc: Global, share: &Share) -> Option<Journal<MemDisk>>
     ensures params { IfSome result (λ journal. params_of journal ≡ share.now.params) }
 {
     let header = header(share);
-    let mut disk = MemDisk::new(alloc, JOURNAL, usize::MAX).ok()?;
-    prepare(&mut disk, &header, 32).ok()?;
+    let disk = fresh_disk(alloc, &header, JOURNAL)?;
     Journal::load(alloc, disk, &header, &share.params).ok()
 }
 
@@ -72,15 +72,15 @@ fn serve_over<D: Disk + Drop, L: Source + Sink>(
     trustee: Trustee<D>,
     share: &Share,
     link: &mut L,
-) -> Option<Served>
+) -> Option<()>
     requires { share_of trustee ≡ share.now }
 {
     let Ok((lock, passes)) = TurnLock::new(alloc, trustee, 1, 0) else {
         return None;
     };
     let mut pass = only_pass(&lock, passes)?;
-    let served = serve_connection(waits, &lock, &mut pass, share, None, &mut Still, link);
-    Some(served)
+    serve_connection(waits, &lock, &mut pass, share, None, &mut Still, link);
+    Some(())
 }
 
 /// What a trustee of this share whose journal is empty replies to these asks, or nothing where memory ran out.
@@ -91,7 +91,7 @@ pub(crate) fn replies(
     asks: &[u8],
 ) -> Option<Vec<u8>> {
     let trustee = trustee(alloc, share)?;
-    let mut link = link(alloc, Vec::from_slice(alloc, asks).ok()?)?;
+    let mut link = link(alloc, asks)?;
     serve_over(waits, alloc, trustee, share, &mut link)?;
     Vec::from_slice(alloc, link.conversation().written()).ok()
 }

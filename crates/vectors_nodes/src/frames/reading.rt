@@ -1,36 +1,43 @@
 //! Readings as the table writes them.
 
-use lms_bytes::{Ask, MessageId, Params, ReplyHead};
-use round_frames::{FrameFault, Outcome, next_ask, next_reply, next_request, next_result};
+use coalition_map::Members;
+use lms_bytes::{Ask, Params, ReplyHead};
+use round_frames::{Failure, FrameFault, Outcome, next_ask, next_reply, next_request, next_result};
 use std::alloc::{AllocError, Global};
 use stream_io::Source;
-use stream_memory::MemSource;
+
+/// The name of what was read, or the fault.
+type Read = Result<&'static str, FrameFault>;
 
 /// What a reader reads of a source that has so many bytes, and how many of them it took, or the fault.
-pub(crate) fn reading(
+pub(crate) fn reading<S: Source>(
     alloc: Global,
     params: &Params,
     reader: &str,
-    source: &mut MemSource,
+    source: &mut S,
     length: usize,
 ) -> Result<String, AllocError> {
-    let values = match reader {
-        "ask" => ask_values(alloc, params, source)?,
-        "reply" => reply_values(alloc, params, source)?,
-        "request" => request_values(alloc, source)?,
-        _ => result_values(alloc, params, source)?,
-    };
-    match values {
-        Ok((outcome, values)) => {
-            let taken = length.saturating_sub(left(source));
-            format!(in alloc; "{outcome}\t{taken}\t{values}")
-        }
+    let mut line = String::new(alloc);
+    let read = read_line(alloc, params, reader, source, &mut line)?;
+    let taken = length.saturating_sub(left(source));
+    reading_text(alloc, read, taken, &line)
+}
+
+/// A reading by what was read, how many bytes that took, and its values.
+fn reading_text(
+    alloc: Global,
+    read: Read,
+    taken: usize,
+    values: &str,
+) -> Result<String, AllocError> {
+    match read {
+        Ok(name) => format!(in alloc; "{name}\t{taken}\t{values}"),
         Err(fault) => fault_text(alloc, fault),
     }
 }
 
 /// How many bytes a source has left, up to many.
-fn left(source: &mut MemSource) -> usize {
+fn left<S: Source>(source: &mut S) -> usize {
     let mut room = [0; 64];
     let mut count: usize = 0;
     for _ in 0..1_000_000 {
@@ -42,125 +49,205 @@ fn left(source: &mut MemSource) -> usize {
     count
 }
 
-/// A fault by its number and its name.
+/// A fault by its number, its name, and the number that was read where it has one.
 fn fault_text(alloc: Global, fault: FrameFault) -> Result<String, AllocError> {
+    let name = fault_name(fault);
+    match fault_number(fault) {
+        Some(got) => format!(in alloc; "fault\t{name} {got}"),
+        None => format!(in alloc; "fault\t{name} "),
+    }
+}
+
+/// The number that was read and refused.
+fn fault_number(fault: FrameFault) -> Option<u32> {
     match fault {
-        FrameFault::End => String::from_str(alloc, "fault\t1\tEnd "),
-        FrameFault::Cut => String::from_str(alloc, "fault\t2\tCut "),
-        FrameFault::Magic => String::from_str(alloc, "fault\t3\tMagic "),
-        FrameFault::Kind { got } => format!(in alloc; "fault\t4\tKind {got}"),
-        FrameFault::TooLong { got } => format!(in alloc; "fault\t5\tTooLong {got}"),
-        FrameFault::Shape => String::from_str(alloc, "fault\t6\tShape "),
-        FrameFault::ReadFault => String::from_str(alloc, "fault\t7\tReadFault "),
-        FrameFault::NoMemory => String::from_str(alloc, "fault\t8\tNoMemory "),
+        FrameFault::Kind { got } => Some(u32::from(got)),
+        FrameFault::TooLong { got } => Some(got),
+        _ => None,
     }
 }
 
-/// The name of what was read, and its values; or the fault.
-type Values = Result<(&'static str, String), FrameFault>;
+/// The number and the name of a fault.
+fn fault_name(fault: FrameFault) -> &'static str {
+    match fault {
+        FrameFault::End => "1\tEnd",
+        FrameFault::Cut => "2\tCut",
+        FrameFault::Magic => "3\tMagic",
+        FrameFault::Kind { .. } => "4\tKind",
+        FrameFault::TooLong { .. } => "5\tTooLong",
+        FrameFault::Shape => "6\tShape",
+        FrameFault::ReadFault => "7\tReadFault",
+        FrameFault::NoMemory => "8\tNoMemory",
+    }
+}
 
-/// The values of an ask.
-fn ask_values(
+/// Has a reader read, and adds the values to an empty line.
+fn read_line<S: Source>(
     alloc: Global,
     params: &Params,
-    source: &mut MemSource,
-) -> Result<Values, AllocError> {
+    reader: &str,
+    source: &mut S,
+    line: &mut String,
+) -> Result<Read, AllocError> {
+    match reader {
+        "ask" => read_ask(alloc, params, source, line),
+        "reply" => read_reply(alloc, params, source, line),
+        "request" => read_request(alloc, source, line),
+        _ => read_result(alloc, params, source, line),
+    }
+}
+
+/// Reads an ask, and adds its values.
+fn read_ask<S: Source>(
+    alloc: Global,
+    params: &Params,
+    source: &mut S,
+    line: &mut String,
+) -> Result<Read, AllocError> {
     match next_ask(params, source) {
-        Ok(ask) => Ok(Ok(("ask", ask_text(alloc, &ask)?))),
-        Err(fault) => Ok(Err(fault)),
+        Ok(ask) => add_ask(alloc, line, &ask)?,
+        Err(fault) => return Ok(Err(fault)),
     }
+    Ok(Ok("ask"))
 }
 
-/// An ask as a line.
-fn ask_text(alloc: Global, ask: &Ask) -> Result<String, AllocError> {
-    let key = hex::encode(alloc, &ask.key)?;
-    let leaf = ask.leaf;
-    let message = id_text(alloc, &ask.message)?;
-    let Some(second) = &ask.second else {
-        return format!(in alloc; "{key} {leaf} {message} -");
-    };
-    let c = hex::encode(alloc, second.c.bytes())?;
-    let tag = hex::encode(alloc, &second.tag)?;
-    let digest = hex::encode(alloc, second.digest.bytes())?;
-    format!(in alloc; "{key} {leaf} {message} {c} {tag} {digest}")
-}
-
-/// Bytes in hexadecimal digits, and `-` where there are none.
-fn hex_text(alloc: Global, bytes: &[u8]) -> Result<String, AllocError> {
-    if bytes.is_empty() {
-        return String::from_str(alloc, "-");
-    }
-    hex::encode(alloc, bytes)
-}
-
-/// A message id: its length and its hash.
-fn id_text(alloc: Global, id: &MessageId) -> Result<String, AllocError> {
-    let length = hex::encode(alloc, &id.length.to_be_bytes())?;
-    let hash = hex::encode(alloc, &id.hash)?;
-    format!(in alloc; "{length}{hash}")
-}
-
-/// The values of a reply.
-fn reply_values(
+/// Reads a reply, and adds its values.
+fn read_reply<S: Source>(
     alloc: Global,
     params: &Params,
-    source: &mut MemSource,
-) -> Result<Values, AllocError> {
+    source: &mut S,
+    line: &mut String,
+) -> Result<Read, AllocError> {
     let mut body = [0; 8480];
     match next_reply(params, source, &mut body) {
-        Ok((head, length)) => Ok(Ok(("reply", reply_text(alloc, &head, &body[..length])?))),
-        Err(fault) => Ok(Err(fault)),
+        Ok((head, length)) => add_reply(alloc, line, &head, &body[..length])?,
+        Err(fault) => return Ok(Err(fault)),
     }
+    Ok(Ok("reply"))
 }
 
-/// A reply as a line.
-fn reply_text(alloc: Global, head: &ReplyHead, body: &[u8]) -> Result<String, AllocError> {
-    let key = hex::encode(alloc, &head.key)?;
-    let (leaf, member) = (head.leaf, head.member);
-    let message = id_text(alloc, &head.message)?;
-    let (round, code) = (head.round, head.code);
-    let c = hex::encode(alloc, head.c.bytes())?;
-    let body = hex_text(alloc, body)?;
-    format!(in alloc; "{key} {leaf} {member} {message} {round} {c} {code} {body}")
-}
-
-/// The values of a request.
-fn request_values(alloc: Global, source: &mut MemSource) -> Result<Values, AllocError> {
+/// Reads a request, and adds its values.
+fn read_request<S: Source>(
+    alloc: Global,
+    source: &mut S,
+    line: &mut String,
+) -> Result<Read, AllocError> {
     match next_request(alloc, source) {
-        Ok((members, message)) => {
-            let mut text = String::new(alloc);
-            for t in 1..=16 {
-                if members.has(t) {
-                    let comma = if text.is_empty() { "" } else { "," };
-                    text = format!(in alloc; "{text}{comma}{t}")?;
-                }
-            }
-            let message = hex_text(alloc, &message)?;
-            if text.is_empty() {
-                text = String::from_str(alloc, "-")?;
-            }
-            Ok(Ok(("request", format!(in alloc; "{text} {message}")?)))
-        }
-        Err(fault) => Ok(Err(fault)),
+        Ok((members, message)) => add_request(alloc, line, members, &message)?,
+        Err(fault) => return Ok(Err(fault)),
     }
+    Ok(Ok("request"))
 }
 
-/// The values of a result.
-fn result_values(
+/// Reads a result, and adds its values.
+fn read_result<S: Source>(
     alloc: Global,
     params: &Params,
-    source: &mut MemSource,
-) -> Result<Values, AllocError> {
+    source: &mut S,
+    line: &mut String,
+) -> Result<Read, AllocError> {
     match next_result(alloc, params, source) {
-        Ok(Outcome::Signature(bytes)) => Ok(Ok(("signature", hex::encode(alloc, &bytes)?))),
-        Ok(Outcome::Failure(failure)) => {
-            let (status, member) = (failure.status, failure.member);
-            let (round, leaf) = (failure.round, failure.leaf);
-            Ok(Ok((
-                "failure",
-                format!(in alloc; "{status} {member} {round} {leaf}")?,
-            )))
-        }
+        Ok(outcome) => add_outcome(alloc, line, &outcome),
         Err(fault) => Ok(Err(fault)),
     }
+}
+
+/// Adds the values of an ask.
+fn add_ask(alloc: Global, line: &mut String, ask: &Ask) -> Result<(), AllocError> {
+    add_bytes(alloc, line, &ask.key)?;
+    add_number(alloc, line, ask.leaf)?;
+    add_bytes(alloc, line, &ask.message.to_bytes())?;
+    let Some(second) = &ask.second else {
+        return add_word(line, "-");
+    };
+    add_bytes(alloc, line, second.c.bytes())?;
+    add_bytes(alloc, line, &second.tag)?;
+    add_bytes(alloc, line, second.digest.bytes())
+}
+
+/// Adds the values of a reply.
+fn add_reply(
+    alloc: Global,
+    line: &mut String,
+    head: &ReplyHead,
+    body: &[u8],
+) -> Result<(), AllocError> {
+    add_bytes(alloc, line, &head.key)?;
+    add_number(alloc, line, head.leaf)?;
+    add_number(alloc, line, u32::from(head.member))?;
+    add_bytes(alloc, line, &head.message.to_bytes())?;
+    add_number(alloc, line, u32::from(head.round))?;
+    add_bytes(alloc, line, head.c.bytes())?;
+    add_number(alloc, line, u32::from(head.code))?;
+    add_bytes(alloc, line, body)
+}
+
+/// Adds the number of a member, behind a comma where the line is not empty.
+fn add_member(alloc: Global, line: &mut String, member: u8) -> Result<(), AllocError> {
+    if !line.is_empty() {
+        line.push(',')?;
+    }
+    line.push_str(&format!(in alloc; "{member}")?)
+}
+
+/// Adds the values of a request to an empty line: the numbers of the members, with commas between them, and the
+/// message.
+fn add_request(
+    alloc: Global,
+    line: &mut String,
+    members: Members,
+    message: &[u8],
+) -> Result<(), AllocError> {
+    for t in 1..=16 {
+        if members.has(t) {
+            add_member(alloc, line, t)?;
+        }
+    }
+    if line.is_empty() {
+        line.push('-')?;
+    }
+    add_bytes(alloc, line, message)
+}
+
+/// Adds the values of a result, and names it.
+fn add_outcome(alloc: Global, line: &mut String, outcome: &Outcome) -> Result<Read, AllocError> {
+    match outcome {
+        Outcome::Signature(bytes) => {
+            add_bytes(alloc, line, bytes)?;
+            Ok(Ok("signature"))
+        }
+        Outcome::Failure(failure) => {
+            add_failure(alloc, line, failure)?;
+            Ok(Ok("failure"))
+        }
+    }
+}
+
+/// Adds the values of a failure.
+fn add_failure(alloc: Global, line: &mut String, failure: &Failure) -> Result<(), AllocError> {
+    add_number(alloc, line, u32::from(failure.status))?;
+    add_number(alloc, line, u32::from(failure.member))?;
+    add_number(alloc, line, u32::from(failure.round))?;
+    add_number(alloc, line, failure.leaf)
+}
+
+/// Adds bytes in hexadecimal digits, and `-` where there are none.
+fn add_bytes(alloc: Global, line: &mut String, bytes: &[u8]) -> Result<(), AllocError> {
+    if bytes.is_empty() {
+        return add_word(line, "-");
+    }
+    add_word(line, &hex::encode(alloc, bytes)?)
+}
+
+/// Adds a number.
+fn add_number(alloc: Global, line: &mut String, number: u32) -> Result<(), AllocError> {
+    add_word(line, &format!(in alloc; "{number}")?)
+}
+
+/// Adds a word, behind a blank where the line is not empty.
+fn add_word(line: &mut String, word: &str) -> Result<(), AllocError> {
+    if !line.is_empty() {
+        line.push(' ')?;
+    }
+    line.push_str(word)
 }

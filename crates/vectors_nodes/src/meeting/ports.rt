@@ -11,7 +11,7 @@ use share_files::Share;
 use std::alloc::Global;
 use std::sync::Wait;
 use stream_io::{Accepted, Failed, Port, Sink, Source, Stream};
-use stream_memory::{Before, Bell, Hold, WaitingLink};
+use stream_memory::Bell;
 
 /// How often the last member is dialled before it answers.
 const BOTH: u64 = 2;
@@ -40,16 +40,13 @@ impl<'a, W: Wait> Meeting<'a, W> {
         Some(share)
     }
 
-    /// What a link to this trustee waits for before it answers.
-    fn hold(&'a self, share: &Share) -> Option<Hold<'a>> {
-        if share.member != LAST {
+    /// What the trustee of this share replies to these asks, or nothing where it does not answer. It begins anew each
+    /// time, and answers what it was asked before as it did then.
+    fn replies(&self, share: &Share, asks: &[u8]) -> Option<Vec<u8>> {
+        if share.member == LAST && !self.bell.hears(BOTH) {
             return None;
         }
-        Some(Hold {
-            before: Before::Reading(0),
-            bell: &self.bell,
-            rings: BOTH,
-        })
+        replies(self.waits, self.alloc, share, asks)
     }
 }
 
@@ -94,8 +91,7 @@ impl<'a, W: Wait> MeetingLink<'a, W> {
         Failed
     }
 
-    /// Has a trustee answer where all that it gave was read, and says whether it did. It begins anew each time, and
-    /// answers what it was asked before as it did then. A client gives no more.
+    /// Has a trustee answer where all that it gave was read, and says whether it did. A client gives no more.
     fn hear(&mut self) -> bool
         ensures { self.new.faults ≡ self.old.faults }
     {
@@ -105,8 +101,7 @@ impl<'a, W: Wait> MeetingLink<'a, W> {
         if self.place < self.given.len() {
             return true;
         }
-        let meeting = self.meeting;
-        match replies(meeting.waits, meeting.alloc, share, &self.written) {
+        match self.meeting.replies(share, &self.written) {
             Some(given) if self.place <= given.len() => {
                 self.given = given;
                 true
@@ -166,12 +161,12 @@ impl<W: Wait> Sink for MeetingLink<'_, W> {
     }
 }
 
-/// A port at which one client is accepted, whose link it keeps once that is hung up.
+/// A port at which one client is accepted: what it asks, and what it was answered once its link was hung up.
 #[derive(Drop)]
 pub(crate) struct MeetingPort<'a, W: Wait> {
     meeting: &'a Meeting<'a, W>,
-    waiting: Option<MeetingLink<'a, W>>,
-    kept: Option<MeetingLink<'a, W>>,
+    asked: Option<Vec<u8>>,
+    answered: Vec<u8>,
     faults: u64,
 }
 
@@ -180,16 +175,15 @@ impl<'a, W: Wait> MeetingPort<'a, W> {
     pub(crate) fn new(meeting: &'a Meeting<'a, W>, asked: Vec<u8>) -> MeetingPort<'a, W> {
         MeetingPort {
             meeting,
-            waiting: Some(MeetingLink::new(meeting, None, asked)),
-            kept: None,
+            asked: Some(asked),
+            answered: Vec::new(meeting.alloc),
             faults: 0,
         }
     }
 
-    /// What the client was answered, where its link was hung up.
-    pub(crate) fn answered(&self) -> Option<&[u8]> {
-        let client = self.kept.as_ref()?;
-        Some(&client.written)
+    /// What the client was answered: nothing before its link was hung up.
+    pub(crate) fn answered(&self) -> &[u8] {
+        &self.answered
     }
 }
 
@@ -204,7 +198,7 @@ impl<W: Wait> Faults for MeetingPort<'_, W> {
 }
 
 impl<'a, W: Wait + Sync> Port for MeetingPort<'a, W> {
-    type Link = WaitingLink<'a, MeetingLink<'a, W>>;
+    type Link = MeetingLink<'a, W>;
 
     ghost state = { λ s. untold_port (Some (codes "here")) s.faults 0 };
 
@@ -213,11 +207,9 @@ impl<'a, W: Wait + Sync> Port for MeetingPort<'a, W> {
     }
 
     fn accept(&mut self) -> Accepted<Self::Link> {
-        match self.waiting.take() {
-            Some(client) if client.faults == 0 => {
-                Accepted::Link(WaitingLink::new(client, None, None))
-            }
-            _ => Accepted::End,
+        match self.asked.take() {
+            Some(asked) => Accepted::Link(MeetingLink::new(self.meeting, None, asked)),
+            None => Accepted::End,
         }
     }
 
@@ -227,18 +219,16 @@ impl<'a, W: Wait + Sync> Port for MeetingPort<'a, W> {
             return Err(Failed);
         };
         let given = Vec::new(self.meeting.alloc);
-        let link = MeetingLink::new(self.meeting, Some(share), given);
-        Ok(WaitingLink::new(link, self.meeting.hold(share), None))
+        Ok(MeetingLink::new(self.meeting, Some(share), given))
     }
 
     #[tactic(auto, using(crate::proofs::HangingUp::hangs_up))]
     fn hang_up(&mut self, link: Self::Link) {
-        if link.faults() != 0 {
+        if link.faults != 0 {
             self.faults = self.faults.saturating_add(1);
         }
-        let (link, _) = link.end();
         if link.share.is_none() {
-            self.kept = Some(link);
+            self.answered = link.written;
         }
     }
 

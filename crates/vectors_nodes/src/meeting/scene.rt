@@ -3,16 +3,20 @@
 ghost use Rattle.std.specs.Prelude.{◌≡◌, IfSome};
 ghost use Rattle.leaf_table.specs.Table.{plan_of};
 
-use crate::tables::table_of;
+use crate::disks::fresh_disk;
 use aggregator_session::{Address, Desk};
 use coalition_map::Plan;
 use dealer::{Dealt, deal};
 use disk_trait::MemDisk;
 use leaf_table::Table;
-use lms_bytes::Params;
+use lms_bytes::{Params, PublicKey};
 use reference_value::{Cells, Paged};
 use share_files::HEAD;
+use slot_file::Header;
 use std::alloc::Global;
+
+/// The bytes of a table of 32 leaves.
+const TABLE: usize = 4224;
 
 /// What an aggregator signs with, and the shares of the trustees. The place of a trustee is its number.
 #[derive(Drop)]
@@ -43,9 +47,7 @@ impl Scene {
             ⟦<Paged<MemDisk> as Cells>⟧.set own ≡ self.now.dealt.public.params) }
         ensures plan { IfSome result (λ own. ⟦<Paged<MemDisk> as Cells>⟧.plan own ≡ self.now.plan) }
     {
-        let mut bytes = vec![in alloc; 0; HEAD].ok()?;
-        bytes.extend_from_slice(&self.dealt.reference).ok()?;
-        let disk = MemDisk::of_bytes(alloc, &bytes, bytes.len(), usize::MAX).ok()?;
+        let disk = reference_disk(alloc, &self.dealt.reference)?;
         Some(Paged::new(&self.dealt.public.params, &self.plan, disk))
     }
 
@@ -67,8 +69,30 @@ impl Scene {
     pub(crate) fn table(&self, alloc: Global) -> Option<Table<MemDisk>>
         ensures { IfSome result (λ table. plan_of table ≡ self.now.plan) }
     {
-        table_of(alloc, &self.dealt.public, &self.plan)
+        let header = header(&self.dealt.public);
+        let disk = fresh_disk(alloc, &header, TABLE)?;
+        Table::load(alloc, disk, &header, &self.plan).ok()
     }
+}
+
+/// The header of a key's table.
+fn header(key: &PublicKey) -> Header
+    ensures { result.version ≡ 1 }
+{
+    Header {
+        version: 1,
+        number: 0,
+        lms: key.params.lms,
+        ots: key.params.ots,
+        id: key.id,
+    }
+}
+
+/// A disk with the file of a reference.
+fn reference_disk(alloc: Global, reference: &[u8]) -> Option<MemDisk> {
+    let mut bytes = vec![in alloc; 0; HEAD].ok()?;
+    bytes.extend_from_slice(reference).ok()?;
+    MemDisk::of_bytes(alloc, &bytes, bytes.len(), usize::MAX).ok()
 }
 
 /// The dealing of this entropy.
