@@ -9,10 +9,10 @@ mod drills;
 mod runs;
 mod scene;
 mod script;
+mod tool;
 mod witnesses;
 
-use scene::read_all;
-use script::play;
+use script::print_script;
 use std::io;
 
 /// The scripts, each a file of the system, in their order.
@@ -27,9 +27,7 @@ const SCRIPTS: &[&str] = &[
 
 fn main(rt: HostRuntime) -> io::Result<()> {
     for name in SCRIPTS {
-        let files = read_all(rt, "index")?;
-        let world = play(&rt, rt.alloc(), files, name)?;
-        print!(rt; "{}", world.said())?;
+        print_script(&rt, rt, name)?;
     }
     drills::print_runs(rt)?;
     witnesses::print_runs(&rt, rt)

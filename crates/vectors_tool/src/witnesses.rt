@@ -1,137 +1,169 @@
 //! Runs for which the premises of laws hold together. Each is the witness of a law, and a line says whether it is one.
+//! A script makes the files that they are over.
 
 mod steady;
 
-use crate::scene::{read_files, run, words_of};
+use crate::scene::{push_file, words_of};
+use crate::script::{print_played, world_here};
 use laws_signing::witness::{Peer, lost_steadily, served_steadily, well_signed};
 use memory::NoMemory;
-use std::alloc::Global;
+use std::alloc::{AllocError, Global};
 use std::io;
 use std::sync::Wait;
 use std::thread::Threads;
 use steady::ran_steadily;
 use stream_memory::MemStore;
-use tool_words::{Command, command_of};
-use vectors_scripts::{Files, LINE, file, made, net_at_here, store_of};
+use tool_words::{Command, SignWords, TrusteeWords, command_of};
+use vectors_scripts::{Files, World, file, made};
+
+/// The script that makes the files.
+const SCRIPT: &str = "runs.witnesses";
+
+/// The words of `trustee` here.
+const TRUSTEE: &str = "trustee share1 new here 1 1";
 
 /// The words of `sign` here.
 const SIGN: &str = "sign A table message out 1=one 2=two 3=three";
 
-/// The files that `sign` reads.
-const FILES: [&str; 5] = ["A.pub", "A.tree", "A.ref", "message", "table"];
+/// The files that `trustee` reads.
+const TRUSTEE_FILES: &[&str] = &["share1", "new"];
 
-/// A store of these files of the system, over which these commands were then run.
-fn store_after<R: Threads + Wait + Sync>(
-    threads: &R,
-    rt: HostRuntime,
-    names: &[&'static str],
-    commands: &[&str],
-) -> io::Result<MemStore> {
-    let alloc = rt.alloc();
-    let mut store = store_of(alloc, read_files(rt, names)?, &[])?;
-    for command in commands {
-        let mut net = made(net_at_here(alloc, Vec::new(alloc)))?;
-        run(threads, alloc, &mut store, &mut net, command, LINE)?;
-    }
-    Ok(store)
-}
+/// The files that `sign` reads.
+const SIGN_FILES: &[&str] = &["A.pub", "A.tree", "A.ref", "message", "table"];
 
 /// These files of a store.
-fn files_of(alloc: Global, store: &MemStore, names: &[&str]) -> Result<Files, NoMemory> {
+fn files_of(alloc: Global, store: &MemStore, names: &[&str]) -> Result<Files, AllocError> {
     let mut files = Vec::new(alloc);
     for name in names {
         let bytes = Vec::from_slice(alloc, file(store, name))?;
-        files.push((String::from_str(alloc, name)?, bytes))?;
+        push_file(alloc, &mut files, name, bytes)?;
     }
     Ok(files)
 }
 
+/// Serves a trustee of these words both asks of a session.
+fn serve<R: Threads + Wait + Sync>(
+    threads: &R,
+    alloc: Global,
+    store: &MemStore,
+    words: &TrusteeWords,
+) -> Result<bool, NoMemory> {
+    let files = files_of(alloc, store, TRUSTEE_FILES)?;
+    served_steadily(threads, alloc, words, files, file(store, "asks"))
+}
+
 /// Serves a trustee both asks of a session, over a journal with no entry.
-fn served<R: Threads + Wait + Sync>(threads: &R, rt: HostRuntime) -> io::Result<bool> {
-    let alloc = rt.alloc();
-    let store = store_after(threads, rt, &["share1", "asks"], &["enrol share1 new"])?;
-    let files = made(files_of(alloc, &store, &["share1", "new"]))?;
-    let words = words_of(alloc, "trustee share1 new here 1 1")?;
-    let Some(Command::Trustee(words)) = command_of(alloc, words.as_slice()) else {
-        return Ok(false);
-    };
-    let asks = file(&store, "asks");
-    made(served_steadily(threads, alloc, &words, files, asks))
+fn served<R: Threads + Wait + Sync>(
+    threads: &R,
+    alloc: Global,
+    store: &MemStore,
+) -> Result<bool, NoMemory> {
+    let words = words_of(alloc, TRUSTEE)?;
+    match command_of(alloc, words.as_slice()) {
+        Some(Command::Trustee(words)) => serve(threads, alloc, store, &words),
+        _ => Ok(false),
+    }
 }
 
 /// Runs a trustee whose net offers its place, over a journal with no entry.
-fn ran<R: Threads + Wait + Sync>(threads: &R, rt: HostRuntime) -> io::Result<bool> {
-    let alloc = rt.alloc();
-    let store = store_after(threads, rt, &["share1"], &["enrol share1 new"])?;
-    let files = made(files_of(alloc, &store, &["share1", "new"]))?;
-    let words = words_of(alloc, "trustee share1 new here 1 1")?;
+fn ran<R: Threads + Wait + Sync>(
+    threads: &R,
+    alloc: Global,
+    store: &MemStore,
+) -> Result<bool, NoMemory> {
+    let words = words_of(alloc, TRUSTEE)?;
+    let files = files_of(alloc, store, TRUSTEE_FILES)?;
     let places = words_of(alloc, "here")?;
-    made(ran_steadily(threads, alloc, words.as_slice(), files, places))
-}
-
-/// A store of the files of a dealing and of a session.
-fn dealt<R: Threads + Wait + Sync>(threads: &R, rt: HostRuntime) -> io::Result<MemStore> {
-    store_after(
-        threads,
-        rt,
-        &["entropy", "message", "replies1", "replies2", "replies3"],
-        &["deal entropy 5 3 5 3 A", "enrol A.ref table"],
-    )
+    ran_steadily(threads, alloc, words.as_slice(), files, places)
 }
 
 /// Signs where the first trustee's link ends before a reply.
-fn lost(alloc: Global, store: &MemStore) -> io::Result<bool> {
-    let files = made(files_of(alloc, store, &FILES))?;
-    let words = words_of(alloc, SIGN)?;
-    let Some(Command::Sign(words)) = command_of(alloc, words.as_slice()) else {
-        return Ok(false);
-    };
+fn lost(alloc: Global, store: &MemStore, words: &SignWords) -> Result<bool, NoMemory> {
+    let files = files_of(alloc, store, SIGN_FILES)?;
     let peers = [Peer {
         place: "one",
         bytes: &[],
     }];
-    made(lost_steadily(alloc, &words, files, &peers))
+    lost_steadily(alloc, words, files, &peers)
+}
+
+/// The peer at this place, who sends this file of a store.
+fn peer_of<'a>(store: &'a MemStore, place: &'a str, name: &str) -> Peer<'a> {
+    Peer {
+        place,
+        bytes: file(store, name),
+    }
 }
 
 /// Signs with trustees who reply as another implementation's did.
-fn signed(alloc: Global, store: &MemStore) -> io::Result<bool> {
-    let files = made(files_of(alloc, store, &FILES))?;
-    let words = words_of(alloc, SIGN)?;
-    let Some(Command::Sign(words)) = command_of(alloc, words.as_slice()) else {
-        return Ok(false);
-    };
+fn signed(alloc: Global, store: &MemStore, words: &SignWords) -> Result<bool, NoMemory> {
+    let files = files_of(alloc, store, SIGN_FILES)?;
     let peers = [
-        Peer {
-            place: "one",
-            bytes: file(store, "replies1"),
-        },
-        Peer {
-            place: "two",
-            bytes: file(store, "replies2"),
-        },
-        Peer {
-            place: "three",
-            bytes: file(store, "replies3"),
-        },
+        peer_of(store, "one", "replies1"),
+        peer_of(store, "two", "replies2"),
+        peer_of(store, "three", "replies3"),
     ];
-    made(well_signed(alloc, &words, files, &peers))
+    well_signed(alloc, words, files, &peers)
 }
 
-/// Whether the premises hold, in a word.
+/// Signs in both ways.
+fn lost_and_signed(
+    alloc: Global,
+    store: &MemStore,
+    words: &SignWords,
+) -> Result<(bool, bool), NoMemory> {
+    let lost = lost(alloc, store, words)?;
+    Ok((lost, signed(alloc, store, words)?))
+}
+
+/// Signs by the words of `sign` in both ways.
+fn sign_runs(alloc: Global, store: &MemStore) -> Result<(bool, bool), NoMemory> {
+    let words = words_of(alloc, SIGN)?;
+    match command_of(alloc, words.as_slice()) {
+        Some(Command::Sign(words)) => lost_and_signed(alloc, store, &words),
+        _ => Ok((false, false)),
+    }
+}
+
+/// Whether the premises of `steady_trustee`, `steady`, `causes` and `completeness` hold of their runs.
+fn held<R: Threads + Wait + Sync>(
+    threads: &R,
+    alloc: Global,
+    store: &MemStore,
+) -> Result<[bool; 4], NoMemory> {
+    let served = served(threads, alloc, store)?;
+    let ran = ran(threads, alloc, store)?;
+    let (lost, signed) = sign_runs(alloc, store)?;
+    Ok([served, ran, lost, signed])
+}
+
+/// Whether premises hold, in words.
 fn word(hold: bool) -> &'static str {
     if hold { "hold" } else { "do not hold" }
 }
 
+/// Prints whether the premises of these laws hold, in this order.
+fn print_held(rt: HostRuntime, held: [bool; 4]) -> io::Result<()> {
+    let [served, ran, lost, signed] = held;
+    let (served, ran) = (word(served), word(ran));
+    let (lost, signed) = (word(lost), word(signed));
+    println!(rt; "premises of steady_trustee {served}\npremises of steady {ran}")?;
+    println!(rt; "premises of causes {lost}\npremises of completeness {signed}")
+}
+
+/// Makes the files in a world, and prints of each run over them whether the premises of its law hold.
+fn print_all<R: Threads + Wait + Sync>(
+    threads: &R,
+    rt: HostRuntime,
+    world: &mut World,
+) -> io::Result<()> {
+    print_played(threads, rt, world, SCRIPT)?;
+    let held = made(held(threads, world.alloc, &world.store))?;
+    print_held(rt, held)
+}
+
 /// All that is run.
 pub(crate) fn print_runs<R: Threads + Wait + Sync>(threads: &R, rt: HostRuntime) -> io::Result<()> {
-    let alloc = rt.alloc();
-    let served = word(served(threads, rt)?);
-    println!(rt; "premises of steady_trustee {served}")?;
-    let ran = word(ran(threads, rt)?);
-    println!(rt; "premises of steady {ran}")?;
-    let store = dealt(threads, rt)?;
-    let lost = word(lost(alloc, &store)?);
-    println!(rt; "premises of causes {lost}")?;
-    let signed = word(signed(alloc, &store)?);
-    println!(rt; "premises of completeness {signed}")
+    let mut world = world_here(rt)?;
+    print_all(threads, rt, &mut world)
 }

@@ -4,10 +4,10 @@
 ghost use Rattle.std.specs.Prelude.{◌≡◌, ◌≤◌, ℕ, true, IsSome, IsTrue, Ok, length, map, string_bytes};
 ghost use Rattle.tool_base.specs.World.{output_run};
 ghost use Rattle.tool_run.specs.Worlds.{outside_of, world_of};
-ghost use Rattle.tool_run.specs.ToolRun.{ToolRun};
 ghost use Rattle.vectors_tool.specs.Witness.{SteadyRun};
 ghost use Rattle.tool_words.specs.Words.{command_of};
 
+use crate::tool::run_over;
 use disk_trait::Faults;
 use memory::NoMemory;
 use std::alloc::Global;
@@ -15,7 +15,7 @@ use std::sync::Wait;
 use std::thread::Threads;
 use stream_io::{Net, Sink, Store, Stream};
 use stream_memory::{MemNet, MemSink, MemStore};
-use tool_run::{Clocks, MemClocks, run_tool};
+use tool_run::{Clocks, MemClocks};
 use tool_words::command_of;
 
 /// Room for the line of a command here.
@@ -49,26 +49,6 @@ pub(crate) fn ran_steadily<R: Threads + Wait + Sync>(
     let mut time = MemClocks::new(0);
     let _ = run_over(rt, alloc, words, &mut store, &mut net, &mut time, &mut out);
     Ok(is_whole(&out))
-}
-
-/// Does what the words ask for, over objects in memory, and answers the status.
-fn run_over<R: Threads + Wait + Sync>(
-    rt: &R,
-    alloc: Global,
-    words: &[String],
-    store: &mut MemStore,
-    net: &mut MemNet,
-    time: &mut MemClocks,
-    out: &mut MemSink,
-) -> u8
-    ensures { ToolRun (map string_bytes words.now)
-        (world_of (outside_of (⟦<MemStore as Store>⟧.state store.old) (⟦<MemNet as Net>⟧.state net.old)
-        (⟦<MemClocks as Clocks>⟧.state time.old)) (outside_of (⟦<MemStore as Store>⟧.state store.new)
-        (⟦<MemNet as Net>⟧.state net.new) (⟦<MemClocks as Clocks>⟧.state time.new))
-        (output_run ⟦<MemSink as Faults>⟧.steady ⟦<MemSink as Sink>⟧.room ⟦<MemSink as Stream>⟧.talk out.old out.new))
-        result }
-{
-    run_tool(rt, alloc, words, store, net, time, out)
 }
 
 /// Whether the words are a command's.
