@@ -1,5 +1,5 @@
 -- One request of a client, read, signed and answered.
-use Rattle.std.proofs.Common.{◌≡◌, ◌≢◌, ◌++◌, ℕ, List, [], ◌∷◌, length, Option, Some, Result, Ok, Err, IfOk, MatchResult, IsTrue, sym, ap, ◌∙◌}
+use Rattle.std.proofs.Common.{◌≡◌, ◌≢◌, ◌++◌, ℕ, List, [], ◌∷◌, length, Option, Some, Result, Ok, Err, IfOk, MatchResult, IsTrue, sym, ap, ◌∙◌, subst}
 use Rattle.aggregator_session.specs.Desks.{DeskState}
 use Rattle.aggregator_session.specs.Tasks as tasks
 use Rattle.aggregator_session.specs.declared.fault.SignFault.{SignFault}
@@ -21,6 +21,14 @@ use Rattle.stream_io.specs.Talk.{OnlyWrote, Talk, WrotePart}
 use Rattle.stream_io.specs.declared.failed.Failed.{Failed}
 use Rattle.node_workers.specs.declared.served.ServedEnd.{ServedEnd}
 use Rattle.node_workers.specs.declared.served.ServedEnd.TheVariants.{WriteFailed}
+
+-- answers of the same kind and of other kinds
+module _ {V E : Type 0} where
+  pub ok_never : (value : V) (fault : E) → ◌≡◌ {A = Result V E} (Ok value) (Err fault) → ⊥
+  ok_never value fault is = absurd (cc)
+
+  pub err_is : (fault other : E) → ◌≡◌ {A = Result V E} (Err fault) (Err other) → fault ≡ other
+  err_is fault other is = cc
 
 -- what is said of an answer is said of its signature
 pub accepted_as : (key : PublicKey) (message : List ℕ) (result : Result Signed SignFault) → IfOk result (λ signed. AcceptsAt key message signed.bytes.items signed.leaf)
@@ -65,6 +73,11 @@ module _ (desk : DeskState) (reference : ReferenceState) (old : Stand) where
       rw (is.0, is.1) (no_room mid talk room (record { wrote = wrote; only = only; count = cause.succeeded }))
   room_answered mid talk (Err failed) replies ended room wrote only cause is =
       rw (is.0, is.1) (no_room_unanswered mid talk room (record { wrote = wrote; only = only; rose = cause.failed }))
+
+-- what is said of a request with a message of this value
+pub signed_at : (desk : DeskState) (reference : ReferenceState) (old new : Stand) (request : Request) (given : List ℕ) → given ≡ request.message
+    → IsSigned desk reference old new (record request { message = given }) → IsSigned desk reference old new request
+signed_at desk reference old new request given is signed = subst (λ (message : List ℕ). IsSigned desk reference old new (record request { message = message })) is signed
 
 exact_then : (desk : DeskState) (old new : ReferenceState) → SameReference old new → IsExact desk old → IsExact desk new
 exact_then desk old new same is = record {

@@ -8,7 +8,7 @@ use Rattle.aggregator_node.specs.Ports.{IsPortRun, Place, PortRun, ServedClients
 use Rattle.leaf_table.specs.declared.lease.Lease.{Lease}
 use Rattle.leaf_table.specs.declared.table.TableName.{TableName}
 use Rattle.aggregator_session.specs.Desks.{DeskState}
-use Rattle.aggregator_session.specs.Tables.{TableSeen}
+use Rattle.aggregator_session.specs.Tables.{TableOnward, TableSeen}
 use Rattle.stream_io.specs.declared.totals.Totals.{Totals}
 use Rattle.node_workers.proofs.Logs.{small-ticket}
 use Rattle.turn_lock.specs.Lock.{Lock}
@@ -27,6 +27,12 @@ pub record ClosedBy (lock : Lock Lease TableName) (pass : Seen Lease TableName) 
   pub number : new.faults ≡ pass.floor
   pub name : Some new.name ≡ pass.name
   pub whole : IsWhole lock pass
+
+same-name : (name other : TableName) → Some name ≡ Some other → name ≡ other
+same-name name other is = cc
+
+never-falls : (old new floor first rises : ℕ) → new ≡ floor → floor ≡ first + rises → first ≡ old → old ≤ new
+never-falls old new floor first rises is rose begun = omega arith
 
 module _ (desk : DeskState) (asked : ℕ) (lock : Lock Lease TableName) (old new : TableSeen) (pass : Seen Lease TableName) (olds news : List Place) (totals : Totals)
     (opened : OpenedBy lock old) (closed : ClosedBy lock pass new) where
@@ -63,3 +69,13 @@ module _ (desk : DeskState) (asked : ℕ) (lock : Lock Lease TableName) (old new
             ∙ (λ i. count_by test (opened.log i) + count_by test (own i));
         totals_are = all.totals_are;
       }
+
+  pub onward : Gathered desk asked lock pass olds news totals → TableOnward old new
+  onward all = record {
+    name = same-name new.name old.name (closed.name ∙ all.done.same.name ∙ opened.name);
+    faults = never-falls old.faults new.faults pass.floor lock.opening_number pass.rises closed.number closed.whole.rises opened.number;
+  }
+
+-- as many passes as ports
+pub passes-fit : {count many : ℕ} → count ≡ many → (1 ≤ many) × (many ≤ 64) → (1 ≤ count) × (count ≤ 4096)
+passes-fit is some = (let least = some.0 in omega (arith, is, least), let most = some.1 in omega (arith, is, most))

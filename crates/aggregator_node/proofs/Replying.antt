@@ -1,5 +1,6 @@
 -- How long replies are, and what room they leave.
-use Rattle.std.proofs.Common.{◌≡◌, ◌≢◌, ◌+◌, ◌*◌, ◌-◌, ◌<◌, ◌≤◌, ◌++◌, ℕ, List, length, Option, Some, Result, Ok, Err, IfOk, IsOk, refl, sym, ap, ◌∙◌, arith, length-append}
+use Rattle.std.proofs.Common.{◌≡◌, ◌≢◌, ◌+◌, ◌*◌, ◌<◌, ◌≤◌, ◌++◌, ℕ, List, length, Option, Some, Result, Ok, Err, IfOk, IsOk, refl, sym, ap, ◌∙◌, arith, length-append}
+use Rattle.std.proofs.Math.Nat.{add-mul, mul-le-mul_right}
 use Rattle.aggregator_node.proofs.Answering.{Answered}
 use Rattle.aggregator_node.specs.Clients.{StepEnds, end_after, longest_reply, reply_frame}
 use Rattle.aggregator_node.specs.Failures.{failure_of}
@@ -22,6 +23,9 @@ use Rattle.node_workers.specs.Ends.{end_by}
 use Rattle.node_workers.specs.declared.served.ServedEnd.{ServedEnd}
 use Rattle.node_workers.specs.declared.served.ServedEnd.TheVariants.{Frame, Full, Worn, WriteFailed}
 
+one-less : (n p : ℕ) → n * (p + 1) ≡ n * p + n
+one-less n p = grind arith
+
 signature-size : (params : Params) (bytes : List ℕ) (q : ℕ) (c y path : List ℕ) → HasLayout params bytes q c y path → length bytes ≡ signature_length params
 signature-size params bytes q c y path has =
     let head = u32str q ++ u32str params.ots in
@@ -31,7 +35,7 @@ signature-size params bytes q c y path has =
     let two = length-append (head ++ c) y in
     let three = length-append ((head ++ c) ++ y) (u32str params.lms) in
     let all = length-append (((head ++ c) ++ y) ++ u32str params.lms) path in
-    let product : params.n * (params.p + 1) ≡ params.n * params.p + params.n = grind arith in
+    let product = one-less params.n params.p in
     let c_length = has.c_length in
     let y_length = has.y_length in
     let path_length = has.path_length in
@@ -125,14 +129,50 @@ step-unread fault end by sound = record {
   writes = λ steady fits failed. let same : end ≡ WriteFailed = cc in end-read fault (sym by ∙ same);
 }
 
+pub one-more : (n size : ℕ) → (n + 1) * size ≡ n * size + size
+one-more n size = omega (arith, add-mul n 1 size)
+
 -- the room behind some of the replies
 pub room-left : (n size had has : ℕ) → n < 65536 → 65536 * size ≤ had → had ≤ has + n * size → size ≤ has
 room-left n size had has lt fits kept =
-    let more = 65536 - (n + 1) in
-    let split : n + 1 + more ≡ 65536 = omega (arith, lt) in
-    let all : (n + 1 + more) * size ≡ n * size + size + more * size = grind arith in
-    let same : 65536 * size ≡ (n + 1 + more) * size = ap (λ (m : ℕ). m * size) (sym split) in
-    omega (arith, fits, kept, all, same)
+    let under : n + 1 ≤ 65536 = omega (arith, lt) in
+    let most : (n + 1) * size ≤ 65536 * size = mul-le-mul_right size under in
+    omega (arith, fits, kept, most, one-more n size)
 
-pub one-more : (n size : ℕ) → (n + 1) * size ≡ n * size + size
-one-more n size = grind arith
+-- the room that is left, by the rooms that the talks tell
+module _ {tells had told has : ℕ} (before : tells ≡ had) (after : told ≡ has) (kept : tells ≤ told) where
+  pub room-kept : (most : ℕ) → had ≤ has + most
+  room-kept most = omega arith
+
+  pub room-wrote : (left size most : ℕ) → has ≤ left + size → size ≤ most → had ≤ left + most
+  room-wrote left size most wrote short = omega arith
+
+  pub room-fits : {size most : ℕ} → size ≤ most → most ≤ had → size ≤ has
+  room-fits short fits = omega arith
+
+pub room-more : (had has left counter size : ℕ) → had ≤ has + counter * size → has ≤ left + size → had ≤ left + (counter + 1) * size
+room-more had has left counter size kept here = let product = one-more counter size in omega (arith, kept, here, product)
+
+pub room-start : (had size : ℕ) → had ≤ had + 0 * size
+room-start had size = omega arith
+
+-- the replies so far
+module _ {frames counter : ℕ} (many : frames ≡ counter) where
+  pub frames-one : (replies : ℕ) → replies ≡ 1 → frames + replies ≡ counter + 1
+  frames-one replies one = omega arith
+
+  pub frames-below : (replies : ℕ) → replies ≤ 1 → counter < 65536 → frames + replies ≤ 65536
+  frames-below replies most before = omega arith
+
+  pub frames-most : counter ≤ 65536 → frames ≤ 65536
+  frames-most end = omega arith
+
+  pub frames-full : 65536 ≤ counter → counter ≤ 65536 → frames ≡ 65536
+  frames-full last end = omega arith
+
+-- a full connection was neither cut nor left unanswered
+pub full-read : Full ≡ Frame frame.ReadFault → ⊥
+full-read is = absurd (cc)
+
+pub full-written : Full ≡ WriteFailed → ⊥
+full-written is = absurd (cc)

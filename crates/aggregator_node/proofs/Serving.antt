@@ -1,9 +1,9 @@
 -- A connection: what its requests made of pass, reference and port.
-use Rattle.std.proofs.Common.{◌≡◌, ◌+◌, ◌^◌, ◌≤◌, ℕ, List, Option, None, Some, Result, Ok, Err, length, refl, ap, ◌∙◌, arith, length-append}
+use Rattle.std.proofs.Common.{◌≡◌, ◌+◌, ◌^◌, ◌≤◌, ◌++◌, ℕ, List, [], Option, None, Some, Result, Ok, Err, length, refl, ap, ◌∙◌, subst, arith, length-append}
 use Rattle.aggregator_session.specs.Desks.{DeskState}
 use Rattle.aggregator_session.specs.declared.fault.SignFault.{SignFault}
 use Rattle.aggregator_session.specs.declared.fault.SignFault.TheVariants as sign
-use Rattle.aggregator_node.specs.Clients.{Answers, ReferenceState, Request, SameReference, Serves, Stand, end_after}
+use Rattle.aggregator_node.specs.Clients.{Answers, HasAnswered, HasServed, ReferenceState, Request, SameReference, Serves, Stand, end_after}
 use Rattle.aggregator_node.specs.Clients as clients
 use Rattle.aggregator_node.proofs.Answering.{answers_told}
 use Rattle.aggregator_node.proofs.Requests.{Goes, goes-none, goes-one, goes-then}
@@ -16,7 +16,7 @@ use Rattle.stream_io.specs.Net.{PortOnward, PortState}
 use Rattle.node_workers.proofs.Onward.{onward-same, onward-then}
 use Rattle.node_workers.specs.Ends.{end_by}
 use Rattle.node_workers.specs.declared.served.ServedEnd.{ServedEnd}
-use Rattle.node_workers.specs.declared.served.ServedEnd.TheVariants.{Worn}
+use Rattle.node_workers.specs.declared.served.ServedEnd.TheVariants.{Full, Worn}
 
 -- a port at which no link was accepted
 pub record Dialled (old new : PortState) : Type 0 where
@@ -138,3 +138,41 @@ serves-told desk before reference old new requests replies end same (clients.mor
     clients.more old mid new asked others many later end (answers_told desk before reference old mid asked many None same answers)
     (serves-told desk before reference mid new others later end same served)
 serves-told desk before reference old new requests replies end same (clients.full at) = clients.full old
+
+add-none : (n : ℕ) → n + 0 ≡ n
+add-none n = omega arith
+
+none-add : (n : ℕ) → n ≡ 0 + n
+none-add n = omega arith
+
+add-more : (n replies later : ℕ) → n + (replies + later) ≡ n + replies + later
+add-more n replies later = omega arith
+
+-- what comes of a connection from its start, by what comes of it from where it stands
+pub leads-none : {desk : DeskState} {reference : ReferenceState} {start : Stand} (requests : List Request) (replies : ℕ) (end : ServedEnd) (last : Stand)
+    → Serves desk reference start requests replies end last → HasServed desk reference start last (0 + replies) end
+leads-none {desk} {reference} {start} requests replies end last served =
+    subst (λ (n : ℕ). HasServed desk reference start last n end) (none-add replies) (record { requests = requests; serves = served })
+
+module _ {desk : DeskState} {before reference : ReferenceState} {start old new : Stand} (frames replies : ℕ) {ended : Option ServedEnd}
+    (goes : (requests : List Request) (many : ℕ) (end : ServedEnd) (last : Stand) → Serves desk before old requests many end last → HasServed desk before start last (frames + many) end)
+    (same : SameReference before reference) (a : HasAnswered desk reference old new replies ended) where
+  told : Answers desk before old a.requests replies ended new
+  told = answers_told desk before reference old new a.requests replies ended same a.answers
+
+  pub leads-end : {end : ServedEnd} → ended ≡ Some end → HasServed desk before start new (frames + replies) end
+  leads-end {end} is = goes a.requests replies end new
+      (clients.ended old new a.requests replies end (subst (λ (o : Option ServedEnd). Answers desk before old a.requests replies o new) is told))
+
+  pub leads-more : ended ≡ None → (requests : List Request) (many : ℕ) (end : ServedEnd) (last : Stand) → Serves desk before new requests many end last
+      → HasServed desk before start last (frames + replies + many) end
+  leads-more is requests many end last served =
+      subst (λ (n : ℕ). HasServed desk before start last n end) (add-more frames replies many)
+      (goes (a.requests ++ requests) (replies + many) end last
+      (clients.more old new last a.requests requests replies many end (subst (λ (o : Option ServedEnd). Answers desk before old a.requests replies o new) is told) served))
+
+pub leads-full : {desk : DeskState} {reference : ReferenceState} {start old : Stand} (frames : ℕ)
+    → ((requests : List Request) (many : ℕ) (end : ServedEnd) (last : Stand) → Serves desk reference old requests many end last → HasServed desk reference start last (frames + many) end)
+    → HasServed desk reference start old frames Full
+leads-full {desk} {reference} {start} {old} frames goes =
+    subst (λ (n : ℕ). HasServed desk reference start old n Full) (add-none frames) (goes [] 0 Full old (clients.full old))

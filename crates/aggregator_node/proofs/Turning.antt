@@ -53,6 +53,10 @@ pub idle-again : (lock : Lock Lease TableName) (plan : PlanNumbers) (old new : S
 idle-again lock plan old new is same idle =
     (same.lock ∙ is.0, idle, subst (λ (o : Option TableName). IfSome o (λ name. name.plan ≡ plan)) (sym same.name) is.2)
 
+pub idle-given : (lock : Lock Lease TableName) (plan : PlanNumbers) (old mid new : Seen Lease TableName) → IsIdle lock plan old → SameDone old mid → SameDrawn mid new → new.in_turn ≡ false
+    → IsIdle lock plan new
+idle-given lock plan old mid new is done drawn idle = idle-again lock plan old new is (same-then old mid new done.same drawn.same) idle
+
 pub took-gave : (lock : Lock Lease TableName) (old mid new : Seen Lease TableName) (before after : TableSeen)
     → Takes before.state.entries before.faults before.name old mid → DrawsOne lock old mid → SameDone old mid
     → Gives after.state.entries after.faults mid new → SameDrawn mid new → (before.faults ≡ 0 → before.state.doubt ≡ None) → Turned old new before after

@@ -1,12 +1,12 @@
 -- A worker, connection by connection.
 use Rattle.aggregator_session.specs.Desks.{DeskState}
-use Rattle.std.proofs.Common.{◌≡◌, ◌+◌, ◌*◌, ◌-◌, ◌^◌, ◌≤◌, ℕ, Bool, true, false, true≢false, min, List, [], ◌∷◌, ◌++◌, length, refl, sym, ap, ◌∙◌, subst, arith, append-nil, length-append}
+use Rattle.std.proofs.Common.{◌≡◌, ◌+◌, ◌*◌, ◌-◌, ◌^◌, ◌≤◌, ◌<◌, ℕ, Bool, true, false, true≢false, min, List, [], ◌∷◌, ◌++◌, length, refl, sym, ap, ◌∙◌, subst, arith, append-nil, length-append}
 use Rattle.std.proofs.lemmas.Grind.{flat_map-append}
 use Rattle.std.proofs.lemmas.List.Sums.{sum_by-append}
 use Rattle.aggregator_node.specs.Clients.{ReferenceState, Request, SameReference}
 use Rattle.aggregator_node.specs.Connections.{Connection, Leaves, WorkerParts, ServesLink, Works, left, next, requests_of}
 use Rattle.aggregator_node.specs.Connections.{frames_of}
-use Rattle.aggregator_node.specs.Workers.{HasServedLink, WorkEnds, Worked, WorkerState, accept_failed, no_further}
+use Rattle.aggregator_node.specs.Workers.{HasServedLink, WorkEnds, Worked, WorkerState, accept_failed, no_further, served_all}
 use Rattle.aggregator_node.proofs.Serving.{serves-few, serves-port, serves-told, serves-worn}
 use Rattle.node_workers.proofs.Onward.{onward-same, onward-then}
 use Rattle.stream_io.specs.Net.{Accepts, PortOnward, PortState, SameLinks}
@@ -46,6 +46,20 @@ requests-more : (served : List Connection) (one : Connection) → requests_of (s
 requests-more served one =
     flat_map-append (λ (c : Connection). c.requests) served (one ∷ []) ∙ ap (λ (l : List Request). requests_of served ++ l) (append-nil one.requests)
 
+-- the numbers of one connection more
+few-more : (served : List Connection) (one : Connection) → length (requests_of served) ≤ 65537 * length served → one.served.frames ≤ 65536 → length one.requests ≤ one.served.frames + 1
+    → length (requests_of (served ++ one ∷ [])) ≤ 65537 * length (served ++ one ∷ [])
+few-more served one before most here =
+    let all = ap length (requests-more served one) in
+    omega (arith, before, most, here, all, length-append (requests_of served) one.requests, length-append served (one ∷ []))
+
+connections-more : (served : List Connection) (one : Connection) (connections : ℕ) → connections ≡ length served → connections + 1 ≡ length (served ++ one ∷ [])
+connections-more served one connections is = omega (arith, is, length-append served (one ∷ []))
+
+frames-more : (served : List Connection) (one : Connection) (had frames : ℕ) → had ≡ min (frames_of served) (2 ^ 32 - 1) → frames ≡ min (had + one.served.frames) (2 ^ 32 - 1)
+    → frames ≡ min (frames_of (served ++ one ∷ [])) (2 ^ 32 - 1)
+frames-more served one had frames before sum = omega (arith, before, sum, sum_by-append (λ (c : Connection). c.served.frames) served (one ∷ []))
+
 -- a count that stays
 pub rises-nowhere : (failed : Bool) (before now : ℕ) → failed ≡ false → now ≡ before → RisesWhere (failed ≡ true) before now
 rises-nowhere failed before now never same =
@@ -66,6 +80,16 @@ pub record Working (desk : DeskState) (old new : WorkerState) : Type 0 where
 pub ends-none : (asked : ℕ) (new : WorkerState) (old : PortState) (failed : Bool) → new.failed ≡ failed → NoLink old new.parts.port failed → WorkEnds asked new
 ends-none asked new old true is none = accept_failed is (none.unsteady refl)
 ends-none asked new old false is none = no_further (none.none_waits refl) is
+
+-- a worker ends where it served as many as it was to
+as-many : (connections counter asked : ℕ) → connections ≡ counter → counter ≤ asked → asked ≤ counter → connections ≡ asked
+as-many connections counter asked is most least = omega arith
+
+pub ends-all : (asked counter : ℕ) (new : WorkerState) → new.connections ≡ counter → counter ≤ asked → asked ≤ counter → new.failed ≡ false → WorkEnds asked new
+ends-all asked counter new is most least sound = served_all (as-many new.connections counter asked is most least) sound
+
+pub one-below : (connections counter asked : ℕ) → connections ≡ counter → counter < asked → connections + 1 ≤ asked
+one-below connections counter asked is below = omega arith
 
 -- a worker that has done nothing yet
 abbrev pub begun : WorkerState → WorkerState
@@ -107,18 +131,12 @@ module _ (desk : DeskState) where
       record {
         served = a.served ++ one ∷ [];
         links = links-more desk old.reference old.parts mid.parts parts one a.served a.links serves;
-        few = (
-            let before = a.few in
-            let most = b.ends.most in
-            let here = serves-few desk mid.reference _ _ _ _ _ b.serves in
-            let all = ap length (requests-more a.served one) in
-            omega (arith, before, most, here, all, length-append (requests_of a.served) b.requests, length-append a.served (one ∷ []))
-            );
+        few = few-more a.served one a.few b.ends.most (serves-few desk mid.reference _ _ _ _ _ b.serves);
         same = same-then old.reference mid.reference reference a.same same;
         onward = onward-then old.parts.port mid.parts.port parts.port a.onward serves.onward;
         accepting = b.hung_up.kept.accept_count ∙ dialled.accepting ∙ quiet ∙ a.accepting;
-        connections = (let c = a.connections in omega (arith, c, length-append a.served (one ∷ [])));
-        frames = (let t = a.frames in omega (arith, t, sum, sum_by-append (λ (c : Connection). c.served.frames) a.served (one ∷ [])));
+        connections = connections-more a.served one mid.connections a.connections;
+        frames = frames-more a.served one mid.frames frames a.frames sum;
       }
 
   -- a link that ended by a worn pass

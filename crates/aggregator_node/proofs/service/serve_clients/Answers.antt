@@ -1,7 +1,7 @@
-use Rattle.std.proofs.Common.{◌≡◌, ◌∙◌, All, length, sym, subst, arith}
+use Rattle.std.proofs.Common.{◌≡◌, ◌∙◌, All, length, refl, sym, subst, arith}
 use Rattle.aggregator_node.specs.Ports.{places_of}
 use Rattle.aggregator_node.specs.Workers.{worker_state}
-use Rattle.aggregator_node.proofs.Finishing.{ends-served}
+use Rattle.aggregator_node.proofs.Finishing.{ends-served, onward, passes-fit}
 use Rattle.aggregator_node.proofs.Running.{done-of, idle-after, joined-all, ready-begun}
 use Rattle.aggregator_node.proofs.Standing.{places-many}
 use Rattle.aggregator_node.proofs.Starting.{begun-of}
@@ -70,3 +70,47 @@ returns-clause-served g c =
     record { log = end.log; number = end.number; name = end.named; whole = end.whole }
     (c.gather-pass.ensures.gathered (desk_state c.args.desk.now) c.args.connections _ done)
     (let many = places-many g.X.Cells g.X.Faults port ports.items cells.items same in let n = ports.ok.0 in let few = c.requires.ports.1 in omega (arith, many, n, few))
+
+pub new-requires-clause-passes : goal.new-requires-clause-passes
+new-requires-clause-passes g c = passes-fit c.len-count.ensures c.requires.ports
+
+pub close-requires-clause-lock : goal.close-requires-clause-lock
+close-requires-clause-lock g c = c.gather-pass.ensures.pass.0
+
+pub close-requires-clause-idle : goal.close-requires-clause-idle
+close-requires-clause-idle g c = c.gather-pass.ensures.pass.1
+
+pub returns-clause-onward : goal.returns-clause-onward
+returns-clause-onward g c =
+    let port = g.P.Port.state in
+    let workers = c.make_workers-workers.result in
+    let ports = c.args.ports.now in
+    let cells = c.args.cells.now in
+    let same : length ports.items ≡ length cells.items = sym ports.ok.0 ∙ sym c.requires.many ∙ cells.ok.0 in
+    let e = c.serve.ensures in
+    let done = done-of port g.X.Cells g.X.Faults c.args.desk.now c.args.connections c.in-Ok-new.made.0 ports.items cells.items workers.items c.as_mut_slice.result.now
+    c.serve.new.workers workers.len c.make_workers-workers.ensures.workers same c.as_mut_slice.ensures.value c.serve.auto.workers
+    workers.ok.0 c.ranges.connections.fits e.worked e.most e.ends in
+    let places = places_of g.X.Cells g.X.Faults port in
+    let opening = c.in-Ok-new.ensures.opening in
+    let end = c.close.ensures in
+    onward (desk_state c.args.desk.now) c.args.connections c.in-Ok-new.made.0 (table_seen c.args.table) (table_seen c.close.result) c.gather-pass.result.0
+    (places ports.items cells.items) (places c.gather-pass.new.ports.items c.gather-pass.new.cells.items) c.gather-pass.result.1
+    record { log = opening.0; number = opening.1; name = opening.2; first = c.in-Ok-new.ensures.numbers.0 }
+    record { log = end.log; number = end.number; name = end.named; whole = end.whole }
+    (c.gather-pass.ensures.gathered (desk_state c.args.desk.now) c.args.connections _ done)
+
+pub returns-clause-count : goal.returns-clause-count
+returns-clause-count g c =
+    let count = c.gather-pass.ensures.count in
+    let made = c.make_workers-workers.ensures.count in
+    (count.0 ∙ made, count.1 ∙ made ∙ sym c.requires.many)
+
+pub returns-in_default-clause-refused : goal.returns-in_default-clause-refused
+returns-in_default-clause-refused g c = (refl, refl, refl)
+
+pub returns-in_default-clause-count : goal.returns-in_default-clause-count
+returns-in_default-clause-count g c = (refl, refl)
+
+pub returns-in-Err-clause-count : goal.returns-in-Err-clause-count
+returns-in-Err-clause-count g c = (refl, refl)

@@ -7,7 +7,7 @@ use Rattle.aggregator_session.specs.Tables.{table_seen}
 use Rattle.aggregator_session.proofs.Signing.{entered-as}
 use Rattle.lms_bytes.specs.MessageId.{message_id_bytes}
 use Rattle.aggregator_node.proofs.Keeping.{kept}
-use Rattle.aggregator_node.proofs.Turning.{burns-on, none-taken, one_lease, sure, took-gave}
+use Rattle.aggregator_node.proofs.Turning.{burns-on, idle-again, idle-given, none-taken, one_lease, sure, took-gave}
 use Rattle.aggregator_node.proofs.turns.burn_in_turn.Goals as goal
 
 pub returns-in_default-clause-turn : goal.returns-in_default-clause-turn
@@ -35,3 +35,11 @@ returns-clause-turn g c =
     let turn = took-gave c.args.lock.now old mid new before after c.in-Ok.ensures.taken c.take.ensures.draws c.take.ensures.stays c.give.ensures.gives c.give.ensures.stays (sure c.in-Ok.table) in
     let d = c.burn.ensures in
     asked c.args.member before after turn (record { answer = c.burn.result; event = d.event; entered = entered-as d.enters })
+
+pub returns-in_default-clause-pass : goal.returns-in_default-clause-pass
+returns-in_default-clause-pass g c =
+    idle-again c.args.lock.now c.args.plan.now c.args.pass.now c.take.new.pass c.requires.pass c.take.ensures.stays.same c.in_default.ensures.worn.turn
+
+pub returns-clause-pass : goal.returns-clause-pass
+returns-clause-pass g c =
+    idle-given c.args.lock.now c.args.plan.now c.args.pass.now c.take.new.pass c.give.new.pass c.requires.pass c.take.ensures.stays c.give.ensures.stays c.give.ensures.gives.turn

@@ -5,7 +5,7 @@ use Rattle.leaf_table.specs.Table.{state_of}
 use Rattle.leaf_table.specs.declared.lease.Lease.{Lease}
 use Rattle.aggregator_session.specs.Tables.{table_seen}
 use Rattle.aggregator_node.proofs.Signing.{asks}
-use Rattle.aggregator_node.proofs.Turning.{leases-on, none-taken, sure, took-gave}
+use Rattle.aggregator_node.proofs.Turning.{idle-again, idle-given, leases-on, none-taken, sure, took-gave}
 use Rattle.aggregator_node.proofs.turns.lease_in_turn.Goals as goal
 
 pub returns-in_default-clause-turn : goal.returns-in_default-clause-turn
@@ -39,3 +39,15 @@ returns-in-Err-clause-turn g c =
     let turn = took-gave c.args.lock.now old mid new before after c.in-Ok.ensures.taken c.take.ensures.draws c.take.ensures.stays c.give.ensures.gives c.give.ensures.stays (sure c.in-Ok.table) in
     let d = c.in-Err.ensures in
     asked before after (Err c.in-Err.fault) turn (asks d.event tt tt d.enters)
+
+pub returns-in_default-clause-pass : goal.returns-in_default-clause-pass
+returns-in_default-clause-pass g c =
+    idle-again c.args.lock.now c.args.plan.now c.args.pass.now c.take.new.pass c.requires.pass c.take.ensures.stays.same c.in_default.ensures.worn.turn
+
+pub returns-in-Ok-leased-clause-pass : goal.returns-in-Ok-leased-clause-pass
+returns-in-Ok-leased-clause-pass g c =
+    idle-given c.args.lock.now c.args.plan.now c.args.pass.now c.take.new.pass c.give.new.pass c.requires.pass c.take.ensures.stays c.give.ensures.stays c.give.ensures.gives.turn
+
+pub returns-in-Err-clause-pass : goal.returns-in-Err-clause-pass
+returns-in-Err-clause-pass g c =
+    idle-given c.args.lock.now c.args.plan.now c.args.pass.now c.take.new.pass c.give.new.pass c.requires.pass c.take.ensures.stays c.give.ensures.stays c.give.ensures.gives.turn
