@@ -1,7 +1,16 @@
 mod Accepting
+mod Answered
+mod Coming
+mod Desks
+mod Every
 mod Finding
 mod Found
+mod Ids
+mod LeaseTurns
+mod Leased
+mod Left
 mod Losing
 mod Offering
+mod Prefixes
 mod Serving
 mod Steady

@@ -1,4 +1,5 @@
-//! What is left of any command of the tool where nothing outside fails.
+//! What is left of any command of the tool where nothing outside fails, and what follows from serving clients.
 #![tactic(auto)]
 
+pub mod clients;
 pub mod laws;

@@ -12,15 +12,6 @@ pub mod RoundTwo
 pub mod Seats
 pub mod Sessions
 pub mod Tasks
-pub mod Prefixes
-pub mod Leased
-pub mod Ids
-pub mod Left
-pub mod Coming
-pub mod Desks
-pub mod LeaseTurns
-pub mod Answered
-pub mod Every
 pub mod Heard
 pub mod Rooms
 pub mod Runs

@@ -8,10 +8,10 @@ use Rattle.aggregator_session.specs.Runs.{CellsRead}
 use Rattle.aggregator_session.specs.declared.fault.SignFault.{SignFault}
 use Rattle.aggregator_session.specs.declared.fault.SignFault.TheVariants as sign
 use Rattle.aggregator_session.specs.declared.fault.Why.TheVariants.{DialFailed}
-use Rattle.laws_signing.specs.Requests.{IsComplete, IsDealtDesk, IsDealtTable, IsWell, RanWith, answer, no_memory, signed, worn}
+use Rattle.laws_commands.specs.Requests.{IsComplete, IsDealtDesk, IsDealtTable, IsWell, RanWith, answer, no_memory, signed, worn}
 use Rattle.laws_signing.proofs.Ended.{all-gave-before}
-use Rattle.laws_signing.proofs.Desks.{key-is, leaves-are, places, plan-is, tree-same}
-use Rattle.laws_signing.proofs.LeaseTurns.{TurnFinds, turn-finds, turn_bare, turn_failed, turn_found, turn_worn}
+use Rattle.laws_commands.proofs.Desks.{key-is, leaves-are, places, plan-is, tree-same}
+use Rattle.laws_commands.proofs.LeaseTurns.{TurnFinds, turn-finds, turn_bare, turn_failed, turn_found, turn_worn}
 use Rattle.aggregator_node.specs.Clients.{IsExact, IsSigned, Request, Stand}
 use Rattle.aggregator_node.specs.Signing.{SignsInTurns}
 use Rattle.aggregator_node.specs.Signing as signing

@@ -1,9 +1,9 @@
 //! What follows from the definitions. No function here does anything.
 
 ghost use Rattle.aggregator_session.specs.Desks.{DeskState};
-ghost use Rattle.laws_signing.specs.Every.{AllAnswered};
-ghost use Rattle.laws_signing.specs.Requests.{IsComplete, IsDealtDesk, IsDealtRun, IsDealtTable, IsWell};
-ghost use Rattle.laws_signing.specs.Uses.{LeasesAreLeft};
+ghost use Rattle.laws_commands.specs.Every.{AllAnswered};
+ghost use Rattle.laws_commands.specs.Requests.{IsComplete, IsDealtDesk, IsDealtRun, IsDealtTable, IsWell};
+ghost use Rattle.laws_commands.specs.Uses.{LeasesAreLeft};
 ghost use Rattle.aggregator_node.specs.Clients.{IsSigned, Request, Stand};
 ghost use Rattle.aggregator_node.specs.Ports.{Place};
 ghost use Rattle.lms_verify.specs.UndividedKey.{UndividedKey};

@@ -2,7 +2,7 @@
 use Rattle.std.proofs.Common.{◌≡◌, ℕ, List, All, Contains, None, get_or, refl, sym, ap, ◌∙◌}
 use Rattle.aggregator_session.specs.Addresses.{place_of}
 use Rattle.aggregator_session.specs.Desks.{DeskState}
-use Rattle.laws_signing.specs.Requests.{IsDealtDesk}
+use Rattle.laws_commands.specs.Requests.{IsDealtDesk}
 use Rattle.aggregator_node.specs.Ports.{Place}
 use Rattle.dealer.specs.Dealt.{dealt_tree}
 use Rattle.dealer.specs.Files.{public_file, reference_file, tree_file}

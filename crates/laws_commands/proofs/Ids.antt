@@ -4,7 +4,7 @@ use Rattle.std.proofs.lemmas.List.{drop_at, take_at}
 use Rattle.std.proofs.lemmas.Nat.{from_be_bytes-to_be_bytes_4}
 use Rattle.aggregator_session.specs.Desks.{DeskState}
 use Rattle.aggregator_session.specs.declared.fault.SignFault.{SignFault}
-use Rattle.laws_signing.specs.Uses.{AnsweredWith, CameTo, ServedWith, SignedWith, Uses, WorkedWith}
+use Rattle.laws_commands.specs.Uses.{AnsweredWith, CameTo, ServedWith, SignedWith, Uses, WorkedWith}
 use Rattle.aggregator_node.specs.Clients.{Answers, IsSigned, ReferenceState, Request, Serves, Stand}
 use Rattle.aggregator_node.specs.Clients as clients
 use Rattle.aggregator_node.specs.Logs.{Shows}

@@ -1,6 +1,6 @@
-use Rattle.laws_signing.proofs.Coming.{request-comes}
-use Rattle.laws_signing.proofs.Left.{use-left, uses-apart}
-use Rattle.laws_signing.proofs.clients.leases_left.Goals as goal
+use Rattle.laws_commands.proofs.Coming.{request-comes}
+use Rattle.laws_commands.proofs.Left.{use-left, uses-apart}
+use Rattle.laws_commands.proofs.clients.leases_left.Goals as goal
 
 pub returns : goal.returns
 returns g c = λ words net header desk end run. record {

@@ -1,9 +1,9 @@
 -- What the leases of requests leave in the file of a table.
 use Rattle.aggregator_session.specs.Desks.{DeskState}
 use Rattle.std.proofs.Common.{◌≡◌, ◌<◌, ◌^◌, ℕ, List, [], ◌∷◌, length, inl, inr, refl, sym, subst, append-nil, arith}
-use Rattle.laws_signing.specs.Uses.{LeafIsLeft, Uses}
-use Rattle.laws_signing.proofs.Ids.{same-id, used-short}
-use Rattle.laws_signing.proofs.Leased.{LeasedIn, same-message, stands-leased, used-leased}
+use Rattle.laws_commands.specs.Uses.{LeafIsLeft, Uses}
+use Rattle.laws_commands.proofs.Ids.{same-id, used-short}
+use Rattle.laws_commands.proofs.Leased.{LeasedIn, same-message, stands-leased, used-leased}
 use Rattle.aggregator_node.specs.Clients.{Request}
 use Rattle.coalition_map.specs.Coalitions.{PlanNumbers}
 use Rattle.leaf_table.specs.Entries.{OneLease, map_of}

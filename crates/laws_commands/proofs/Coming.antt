@@ -3,7 +3,7 @@ use Rattle.std.proofs.Common.{◌≡◌, ◌⊎◌, ◌<◌, ℕ, zero, suc, Lis
 use Rattle.std.proofs.lemmas.List.Elements.{Contains-append_cases}
 use Rattle.aggregator_session.specs.Desks.{DeskState}
 use Rattle.aggregator_session.specs.declared.fault.SignFault.{SignFault}
-use Rattle.laws_signing.specs.Uses.{AnsweredWith, CameTo, Comes, IsUnleased, ServedWith, SignedWith, Uses, WorkedWith}
+use Rattle.laws_commands.specs.Uses.{AnsweredWith, CameTo, Comes, IsUnleased, ServedWith, SignedWith, Uses, WorkedWith}
 use Rattle.aggregator_node.specs.Clients.{Answers, IsSigned, ReferenceState, Request, Serves, Stand}
 use Rattle.aggregator_node.specs.Clients as clients
 use Rattle.aggregator_node.specs.Logs.{Shows}

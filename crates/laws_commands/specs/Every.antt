@@ -1,6 +1,6 @@
 -- What every request at all ports of a run comes to, if all is well for it.
 use Rattle.std.specs.Prelude.{◌<◌, ℕ, List, Option, length}
-use Rattle.laws_signing.specs.Requests.{IsAnswer, IsWell}
+use Rattle.laws_commands.specs.Requests.{IsAnswer, IsWell}
 use Rattle.aggregator_node.specs.Clients.{Answers, IsSigned, ReferenceState, Request, Serves, Stand}
 use Rattle.aggregator_node.specs.Clients as clients
 use Rattle.aggregator_node.specs.Ports.{Place, PortRun, ServedClients}

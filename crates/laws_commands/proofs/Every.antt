@@ -4,10 +4,10 @@ use Rattle.std.proofs.lemmas.List.{get_or-map, length-map}
 use Rattle.aggregator_session.specs.Desks.{DeskState}
 use Rattle.aggregator_session.specs.declared.fault.SignFault.{SignFault}
 use Rattle.aggregator_session.specs.declared.fault.SignFault.TheVariants as sign
-use Rattle.laws_signing.specs.Every.{AllAnswered, EachServed, EachWorked, IsAnswered, OneAnswered}
-use Rattle.laws_signing.specs.Requests.{IsAnswer, IsComplete, IsDealtDesk, IsDealtRun, IsDealtTable, answer, worn}
-use Rattle.laws_signing.proofs.Answered.{request-complete}
-use Rattle.laws_signing.proofs.Desks.{plan-is}
+use Rattle.laws_commands.specs.Every.{AllAnswered, EachServed, EachWorked, IsAnswered, OneAnswered}
+use Rattle.laws_commands.specs.Requests.{IsAnswer, IsComplete, IsDealtDesk, IsDealtRun, IsDealtTable, answer, worn}
+use Rattle.laws_commands.proofs.Answered.{request-complete}
+use Rattle.laws_commands.proofs.Desks.{plan-is}
 use Rattle.aggregator_node.specs.Clients.{Answers, IsSigned, Request, Serves, Stand}
 use Rattle.aggregator_node.specs.Clients as clients
 use Rattle.aggregator_node.specs.Ports.{Place, PortRun, requests_in}
