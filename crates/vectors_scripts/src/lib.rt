@@ -1,20 +1,22 @@
-//! Scripts that run the tool over files, links and disks in memory, and print what comes of it. `script` reads them,
-//! and `verbs` does their lines, all but those that run a command, which are the program's.
+//! Scripts that run the tool over files, links and disks in memory, and print what comes of it. `play` plays them,
+//! `verbs` does their lines, all but those that run a command: `runs` has the program do these.
 #![tactic(auto)]
 
 mod answers;
 mod files;
+mod given;
 mod links;
+mod play;
 mod prints;
 mod runs;
 mod scene;
 mod script;
+mod slots;
 mod verbs;
 mod world;
 
-pub use links::take_net;
-pub use runs::{keep_answer, tell_ran, wait_asked};
-pub use scene::{Files, LINE, file, made, net_at_here, store_of};
-pub use script::lines_of;
-pub use verbs::do_verb;
-pub use world::{World, new_world};
+pub use given::{push_file, words_of};
+pub use play::{print_played, print_scripts, world_here};
+pub use scene::{Files, file, made};
+pub use slots::print_disks;
+pub use world::World;

@@ -73,7 +73,7 @@ pub(crate) fn deafen(world: &mut World, call: &str) -> io::Result<()> {
 }
 
 /// The net of the next run.
-pub fn take_net(world: &mut World) -> io::Result<MemNet> {
+pub(crate) fn take_net(world: &mut World) -> io::Result<MemNet> {
     let alloc = world.alloc;
     let ports = mem::replace(&mut world.ports, Vec::new(alloc));
     made(net_at_here(alloc, ports))

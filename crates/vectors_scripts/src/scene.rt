@@ -9,7 +9,7 @@ use stream_memory::{MemNet, MemStore, PortScript};
 pub type Files = Vec<(String, Vec<u8>)>;
 
 /// Room for any lines of the tool that are printed by scripts.
-pub const LINE: usize = 1000;
+pub(crate) const LINE: usize = 1000;
 
 /// What was made, where there was memory for it.
 pub fn made<T>(value: Result<T, NoMemory>) -> io::Result<T> {
@@ -17,7 +17,7 @@ pub fn made<T>(value: Result<T, NoMemory>) -> io::Result<T> {
 }
 
 /// A store with these files. The listed calls fail.
-pub fn store_of(alloc: Global, files: Files, failing: &[u64]) -> io::Result<MemStore> {
+pub(crate) fn store_of(alloc: Global, files: Files, failing: &[u64]) -> io::Result<MemStore> {
     let failing = Vec::from_slice(alloc, failing)?;
     made(MemStore::of_files(alloc, files, failing))
 }
@@ -28,7 +28,7 @@ pub fn file<'a>(store: &'a MemStore, name: &str) -> &'a [u8] {
 }
 
 /// A net that offers the place `here`, with these ports.
-pub fn net_at_here(alloc: Global, ports: Vec<PortScript>) -> Result<MemNet, NoMemory> {
+pub(crate) fn net_at_here(alloc: Global, ports: Vec<PortScript>) -> Result<MemNet, NoMemory> {
     let mut places = Vec::new(alloc);
     places.push(String::from_str(alloc, "here")?)?;
     Ok(MemNet::new(places, ports, Vec::new(alloc)))

@@ -87,7 +87,7 @@ fn add_part(world: &mut World, all: &mut Lines, part: &str) -> io::Result<()> {
 }
 
 /// The lines of the script of this name, which is one of the world's files, in the order in which they are done.
-pub fn lines_of(world: &mut World, name: &str) -> io::Result<Vec<String>> {
+pub(crate) fn lines_of(world: &mut World, name: &str) -> io::Result<Vec<String>> {
     let parts = text_of(world, name)?;
     let mut all = Vec::new(world.alloc);
     for part in parts.split("\n\n") {

@@ -106,7 +106,7 @@ fn tell(world: &mut World, verb: &str, rest: &str) -> io::Result<()> {
 }
 
 /// Does a line whose verb is none of those that run a command.
-pub fn do_verb(world: &mut World, verb: &str, rest: &str) -> io::Result<()> {
+pub(crate) fn do_verb(world: &mut World, verb: &str, rest: &str) -> io::Result<()> {
     match verb {
         "file" => make_file(world, rest),
         "store" => make_store(world, rest),

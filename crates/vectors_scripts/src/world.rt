@@ -23,9 +23,9 @@ pub struct World {
     /// The ports of the next run.
     pub(crate) ports: Vec<PortScript>,
     /// The net of the last run.
-    pub net: MemNet,
+    pub(crate) net: MemNet,
     /// For how many bytes a link has room, how many one write to it takes, and room for what a command prints.
-    pub rooms: (usize, usize, usize),
+    pub(crate) rooms: (usize, usize, usize),
     /// What lines have printed, and what was printed in the turn before.
     pub(crate) page: String,
     last: String,
@@ -36,7 +36,7 @@ pub struct World {
 }
 
 /// A world with these files from the start, and nothing else in it.
-pub fn new_world(alloc: Global, given: Files) -> io::Result<World> {
+pub(crate) fn new_world(alloc: Global, given: Files) -> io::Result<World> {
     Ok(World {
         alloc,
         given,
@@ -106,7 +106,7 @@ impl World {
     }
 
     /// Adds a line that was wrong to what lines have printed.
-    pub fn judge(&mut self, line: &str) -> io::Result<()> {
+    pub(crate) fn judge(&mut self, line: &str) -> io::Result<()> {
         if self.wrong {
             self.wrong = false;
             writeln!(self.page, "wrong: {line}")?;
@@ -137,7 +137,7 @@ impl World {
     }
 
     /// What the script prints.
-    pub fn said(&self) -> &str {
+    pub(crate) fn said(&self) -> &str {
         &self.said
     }
 }

@@ -1,19 +1,21 @@
 //! Runs the tool as a user does, over files and links in memory: `verify`, `rehearse` and `deal`; the commands of a
 //! trustee; `sign`; `aggregate`; `hss check`; `drill`; and runs for which the premises of laws hold. What it is given
-//! and what must come of it is from another implementation. What is run stands in scripts, which are data:
-//! `script` reads them, and `vectors_scripts` does their lines. It prints what each command prints, the status behind
-//! it, and how the files and the bytes on links are like those that are wanted.
+//! and what must come of it is from another implementation. What is run stands in scripts, which are data, and which
+//! `vectors_scripts` plays. It prints what each command prints, the status behind it, and how the files and the bytes
+//! on links are like those that are wanted.
 #![tactic(auto)]
 
 mod drills;
-mod runs;
-mod scene;
-mod script;
 mod tool;
 mod witnesses;
 
-use script::print_script;
 use std::io;
+use std::sync::Wait;
+use std::thread::Threads;
+use stream_memory::{MemNet, MemSink, MemStore};
+use tool::run_over;
+use tool_run::MemClocks;
+use vectors_scripts::{print_played, print_scripts, world_here};
 
 /// The scripts, each a file of the system, in their order.
 const SCRIPTS: &[&str] = &[
@@ -25,10 +27,25 @@ const SCRIPTS: &[&str] = &[
     "runs.faults",
 ];
 
-fn main(rt: HostRuntime) -> io::Result<()> {
-    for name in SCRIPTS {
-        print_script(&rt, rt, name)?;
-    }
+/// The script that makes the files of the witnesses.
+const WITNESSES: &str = "runs.witnesses";
+
+/// The moment at which each clock of a script begins.
+const START: u64 = 1000;
+
+/// Plays all scripts, and runs what no script runs.
+fn print_all<R: Threads + Wait + Sync>(threads: &R, rt: HostRuntime) -> io::Result<()> {
+    let run = |words: &[String], store: &mut MemStore, net: &mut MemNet, out: &mut MemSink| {
+        let mut time = MemClocks::new(START);
+        run_over(threads, rt.alloc(), words, store, net, &mut time, out)
+    };
+    print_scripts(&run, rt, SCRIPTS)?;
     drills::print_runs(rt)?;
-    witnesses::print_runs(&rt, rt)
+    let mut world = world_here(rt)?;
+    print_played(&run, rt, &mut world, WITNESSES)?;
+    witnesses::print_runs(threads, rt, &world.store)
+}
+
+fn main(rt: HostRuntime) -> io::Result<()> {
+    print_all(&rt, rt)
 }

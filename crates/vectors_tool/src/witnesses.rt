@@ -1,10 +1,8 @@
 //! Runs for which the premises of laws hold together. Each is the witness of a law, and a line says whether it is one.
-//! A script makes the files that they are over.
+//! The files that they are over are those that a script made.
 
 mod steady;
 
-use crate::scene::{push_file, words_of};
-use crate::script::{print_played, world_here};
 use laws_signing::witness::{Peer, lost_steadily, served_steadily, well_signed};
 use memory::NoMemory;
 use std::alloc::{AllocError, Global};
@@ -14,10 +12,7 @@ use std::thread::Threads;
 use steady::ran_steadily;
 use stream_memory::MemStore;
 use tool_words::{Command, SignWords, TrusteeWords, command_of};
-use vectors_scripts::{Files, World, file, made};
-
-/// The script that makes the files.
-const SCRIPT: &str = "runs.witnesses";
+use vectors_scripts::{Files, file, made, push_file, words_of};
 
 /// The words of `trustee` here.
 const TRUSTEE: &str = "trustee share1 new here 1 1";
@@ -151,19 +146,11 @@ fn print_held(rt: HostRuntime, held: [bool; 4]) -> io::Result<()> {
     println!(rt; "premises of causes {lost}\npremises of completeness {signed}")
 }
 
-/// Makes the files in a world, and prints of each run over them whether the premises of its law hold.
-fn print_all<R: Threads + Wait + Sync>(
+/// Prints of each run over the files of a store whether the premises of its law hold.
+pub(crate) fn print_runs<R: Threads + Wait + Sync>(
     threads: &R,
     rt: HostRuntime,
-    world: &mut World,
+    store: &MemStore,
 ) -> io::Result<()> {
-    print_played(threads, rt, world, SCRIPT)?;
-    let held = made(held(threads, world.alloc, &world.store))?;
-    print_held(rt, held)
-}
-
-/// All that is run.
-pub(crate) fn print_runs<R: Threads + Wait + Sync>(threads: &R, rt: HostRuntime) -> io::Result<()> {
-    let mut world = world_here(rt)?;
-    print_all(threads, rt, &mut world)
+    print_held(rt, made(held(threads, rt.alloc(), store))?)
 }

@@ -1,10 +1,10 @@
-//! What scripts and witnesses are given.
+//! The words of a text, and files of the system.
 
+use crate::scene::Files;
 use std::alloc::{AllocError, Global};
 use std::io::{self, ErrorKind};
 use stream_host::FileStore;
 use stream_io::Store;
-use vectors_scripts::Files;
 
 /// No file that is read from the system is longer.
 const FILE_LIMIT: u64 = 1 << 26;
@@ -16,7 +16,7 @@ fn add_word(alloc: Global, words: &mut Vec<String>, word: &str) -> Result<(), Al
 }
 
 /// The words of a text, with a space between each two.
-pub(crate) fn words_of(alloc: Global, text: &str) -> Result<Vec<String>, AllocError> {
+pub fn words_of(alloc: Global, text: &str) -> Result<Vec<String>, AllocError> {
     let mut words = Vec::new(alloc);
     for word in text.split(' ') {
         add_word(alloc, &mut words, word)?;
@@ -33,7 +33,7 @@ fn read(rt: HostRuntime, name: &str) -> io::Result<Vec<u8>> {
 }
 
 /// Adds a file of this name and these bytes.
-pub(crate) fn push_file(
+pub fn push_file(
     alloc: Global,
     files: &mut Files,
     name: &str,
