@@ -1,11 +1,11 @@
 -- One more event.
-use Rattle.std.proofs.Common.{◌≡◌, ◌≤◌, ℕ, ◌+◌, ◌*◌, ◌==◌, Bool, true, false, Result, Ok, Err, IfOk, refl, sym, ◌∙◌, ap, arith, add-one, if◌then◌else◌}
+use Rattle.std.proofs.Common.{◌≡◌, ◌≤◌, ℕ, ◌+◌, ◌*◌, ◌%◌, ◌<◌, ◌==◌, Bool, true, false, Result, Ok, Err, IfOk, refl, sym, ◌∙◌, ap, arith, add-one, if◌then◌else◌}
 use Rattle.std.proofs.lemmas.Bool.Decides.{nat_tests}
 use Rattle.drill.specs.Summaries.{events_in}
 use Rattle.drill_schedule.specs.Draws.{event_at, events_of, state_at}
 use Rattle.drill_schedule.specs.declared.event.Event.{Event}
 use Rattle.drill_schedule.specs.Events.{is_cut, is_restart}
-use Rattle.drill.specs.Tallies.{CountsOne, HasCounted}
+use Rattle.drill.specs.Tallies.{CountsOne, HasCounted, IsWithin}
 use Rattle.drill.specs.declared.tally.Tally.{Tally}
 
 pub events-none : (kind : Event → Bool) (number : ℕ) → events_of kind number 0 ≡ 0
@@ -52,3 +52,23 @@ counts-more number i old new was one =
 pub ok-too : {A E : Type 0} (P : A → Type 0) (Q : Type 0) (r : Result A E) → Q → IfOk r P → IfOk r (λ a. Q × P a)
 ok-too P Q (Ok a) q p = (q, p)
 ok-too P Q (Err e) q p = tt
+
+-- what was asked stays within a higher bound, where only a restart is counted
+pub within-more : (bound most : ℕ) (old new : Tally) → IsWithin bound old → bound ≤ most → new.asks ≡ old.asks → new.granted ≡ old.granted → new.cuts ≡ old.cuts → IsWithin most new
+within-more bound most old new within more asks granted cuts =
+    let low = within.asks in
+    let parts = within.parts in
+    record { asks = omega (arith, low, more, asks); parts = omega (arith, parts, asks, granted, cuts) }
+
+-- a drawn number stands for one of the sessions
+pub drawn-below : (drawn sessions count : ℕ) → count ≡ sessions → 0 < sessions → drawn % sessions < count
+drawn-below drawn sessions count is some = omega (arith, is, some)
+
+-- what follows of a value from one fact, or from two, follows of an answer
+pub ok-so : {A E : Type 0} (P R : A → Type 0) (r : Result A E) → ((a : A) → P a → R a) → IfOk r P → IfOk r R
+ok-so P R (Ok a) so p = so a p
+ok-so P R (Err e) so p = tt
+
+pub ok-both : {A E : Type 0} (P Q R : A → Type 0) (r : Result A E) → ((a : A) → P a → Q a → R a) → IfOk r P → IfOk r Q → IfOk r R
+ok-both P Q R (Ok a) so p q = so a p q
+ok-both P Q R (Err e) so p q = tt

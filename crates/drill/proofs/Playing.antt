@@ -1,12 +1,14 @@
 -- Events that are played, and what the schedule says of them.
-use Rattle.std.proofs.Common.{◌≡◌, ◌<◌, ◌≤◌, ◌+◌, ◌*◌, ◌%◌, ℕ, List, length, get_or, refl, sym, ap, subst, arith, add-one}
+use Rattle.std.proofs.Common.{◌≡◌, ◌<◌, ◌≤◌, ◌+◌, ◌*◌, ◌%◌, ℕ, List, length, get_or, if◌then◌else◌, refl, sym, ap, subst, arith, add-one}
 use Rattle.drill_schedule.specs.Draws.{event_at}
+use Rattle.drill_schedule.specs.Events.{is_cut}
 use Rattle.drill_schedule.specs.declared.draws.Schedule.{Schedule}
 use Rattle.drill_schedule.specs.declared.event.Event.{Event}
 use Rattle.drill_schedule.specs.declared.event.Event.TheVariants.{Cut, Dropped, Restart, Step, Twice}
 use Rattle.drill_trustees.specs.Trustees.{leaf_at}
 use Rattle.reference_value.specs.Dealing.{Dealing}
 use Rattle.drill.specs.Courses.{Drops, Follows, HasPlayed, IsGood, Plays, StaysGood, Stepped, asks_in, replies_in, uses_of}
+use Rattle.drill.specs.Drills.{AtMost, StaysFor}
 use Rattle.drill.specs.Schedules.{Progress, after_event, cut_asks, cut_in, extra_asks, extra_in, no_progress, progress_of}
 use Rattle.drill.specs.Seats.{AreWaiting}
 use Rattle.drill.specs.declared.desk.Desk.{Desk}
@@ -77,6 +79,28 @@ module _ (desk : Desk) (d : Dealing) (i : ℕ) (old : Drill) (good : IsGood desk
         omega arith;
     cut = λ p f. omega (arith, uncut);
   }
+
+-- an event that puts one ask puts at most two
+pub stays-more : (desk : Desk) (old new : Drill) (asks : Asks) → StaysFor desk old new 1 asks → StaysFor desk old new 2 asks
+stays-more desk old new asks stays = record {
+  is_for = stays.is_for;
+  count = stays.count;
+  bound = record { put = (let put = stays.bound.put in omega (arith, put)); parts = stays.bound.parts };
+}
+
+pub none-asked : (bound : ℕ) → AtMost bound (record { put = 0; granted = 0; cut = 0 })
+none-asked bound = record { put = omega arith; parts = omega arith }
+
+-- no disk stops, or one in an event of that kind
+pub uncut : (event : Event) (cut : ℕ) → cut ≡ 0 → cut ≤ (if is_cut event then 1 else 0)
+uncut event cut none = omega (arith, none)
+
+pub cut-once : (event : Event) (asks : Asks) → event ≡ Cut → AtMost 1 asks → asks.cut ≤ (if is_cut event then 1 else 0)
+cut-once event asks is most =
+    let put = most.put in
+    let parts = most.parts in
+    let once : asks.cut ≤ 1 = omega (arith, put, parts) in
+    subst (λ (e : Event). asks.cut ≤ (if is_cut e then 1 else 0)) (sym is) once
 
 -- ---- one more event
 

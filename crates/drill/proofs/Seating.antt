@@ -4,7 +4,7 @@ use Rattle.std.proofs.lemmas.Bool.{cases_eq}
 use Rattle.std.proofs.lemmas.List.{get_or-set_other, get_or-set_same, length-set}
 use Rattle.coalition_map.specs.Coalitions.{PlanNumbers}
 use Rattle.lms_bytes.specs.declared.public_key.PublicKey.{PublicKey}
-use Rattle.drill.specs.Seats.{AllFit, Fits}
+use Rattle.drill.specs.Seats.{AllFit, AreWaiting, Fits}
 use Rattle.drill.specs.Drills.{IsFor}
 use Rattle.drill.specs.declared.desk.Desk.{Desk}
 use Rattle.drill.specs.declared.seat.Seat.{Seat}
@@ -13,6 +13,10 @@ use Rattle.drill.specs.declared.state.Drill.{Drill}
 -- a seat of a drill for a desk is of the session of its number
 pub fits-here : (desk : Desk) (drill : Drill) (i : ℕ) (seat : Seat) → IsFor desk drill → i < length drill.seats.items → seat ≡ get_or drill.seats.items i seat → Fits desk.dealt.public desk.plan i seat
 fits-here desk drill i seat is_for within was = subst (λ (s : Seat). Fits desk.dealt.public desk.plan i s) (sym was) (is_for.seats i seat within)
+
+-- a seat of a session that waits is of any
+pub waiting-fit : (key : PublicKey) (plan : PlanNumbers) (seats : List Seat) → AreWaiting seats → AllFit key plan seats
+waiting-fit key plan seats waiting i none inside = subst (λ (s : Seat). Fits key plan i s) (sym (waiting i none inside)) tt
 
 pub set-fits : (key : PublicKey) (plan : PlanNumbers) (xs : List Seat) (i : ℕ) (d s : Seat) → AllFit key plan xs → i < length xs → Fits key plan i s
     → AllFit key plan (set (set xs i d) i s)

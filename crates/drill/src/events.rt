@@ -316,22 +316,10 @@ pub(crate) fn play(
         → IfOk result (λ pair. Plays desk.now own.dealing event i drill pair.0 pair.1) }
 {
     match event {
-        Event::Step => {
-            let (drill, asks) = step(alloc, desk, drill, i)?;
-            Ok((drill, asks))
-        }
-        Event::Twice => {
-            let (drill, asks) = ask_twice(alloc, desk, drill, i)?;
-            Ok((drill, asks))
-        }
-        Event::Dropped => {
-            let (drill, asks) = ask_and_drop(desk, drill, i)?;
-            Ok((drill, asks))
-        }
-        Event::Cut => {
-            let (drill, asks) = cut(alloc, desk, drill, i, pick)?;
-            Ok((drill, asks))
-        }
+        Event::Step => step(alloc, desk, drill, i),
+        Event::Twice => ask_twice(alloc, desk, drill, i),
+        Event::Dropped => ask_and_drop(desk, drill, i),
+        Event::Cut => cut(alloc, desk, drill, i, pick),
         Event::Restart => Ok((restarted(alloc, desk, drill, pick)?, NO_ASKS)),
     }
 }

@@ -1,6 +1,8 @@
 //! The run of a drill.
 
 ghost use Rattle.std.specs.Prelude.{◌≡◌, ◌≤◌, ◌<◌, ◌+◌, ℕ, length, slice_index_or, All, IfOk};
+ghost use Rattle.dealer.specs.Dealt.{IsDealt};
+ghost use Rattle.dealer.specs.Entropy.{dealing_of};
 ghost use Rattle.drill.specs.Courses.{AreFinished, HasEnded, HasPlayed, HasSigned, IsFinished, IsGood, IsSettled};
 ghost use Rattle.drill.specs.Courses.{IsWell, PlaysOn};
 ghost use Rattle.drill.specs.Disks.{AreDisks};
@@ -12,7 +14,7 @@ ghost use Rattle.drill.specs.Seats.{AreWaiting};
 ghost use Rattle.drill.specs.Summaries.{IsSummary, events_in};
 ghost use Rattle.drill.specs.Tallies.{CountsOne, HasCounted, IsWithin};
 ghost use Rattle.drill.specs.declared.seat.Seat.{Seat as Place};
-ghost use Rattle.drill_schedule.specs.Draws.{event_at, state_at};
+ghost use Rattle.drill_schedule.specs.Draws.{entropy_of, event_at, state_at};
 ghost use Rattle.drill_trustees.specs.Trustees.{AreJournals};
 ghost use Rattle.leaf_table.specs.Table.{plan_of};
 
@@ -119,8 +121,7 @@ fn play_events(
     if sessions == 0 {
         return Ok((drill, NOTHING));
     }
-    let (drill, tally) = play_all(alloc, desk, drill, generator, sessions, events)?;
-    Ok((drill, tally))
+    play_all(alloc, desk, drill, generator, sessions, events)
 }
 
 /// Lets session `i` take steps until it has ended: a lease and four asks.
@@ -220,6 +221,41 @@ fn drilled_of(alloc: Global, summary: Summary, drill: Drill) -> Result<Drilled, 
     })
 }
 
+/// Runs the drill of a key that was dealt, of which the generator has drawn the entropy.
+fn run_dealt(
+    alloc: Global,
+    desk: &Desk,
+    generator: &mut Generator,
+    sessions: u32,
+    events: u32,
+) -> Result<Drilled, NoMemory>
+    requires sessions { sessions ≤ 10000 }
+    requires events { events ≤ 100000 }
+    ensures summary { (number : ℕ) → generator.old.state ≡ state_at number 176
+        → IsDealt (dealing_of desk.now.dealt.public.params desk.now.plan (entropy_of number)) desk.now.dealt
+        → IfOk result (λ drilled. IsSummary number sessions events drilled.summary) }
+    ensures disks { (number : ℕ) → generator.old.state ≡ state_at number 176
+        → IsDealt (dealing_of desk.now.dealt.public.params desk.now.plan (entropy_of number)) desk.now.dealt
+        → DifferentIds sessions → IfOk result (AreDisks number sessions) }
+{
+    let drill = start(alloc, desk, sessions)?;
+    let (drill, mut tally) = play_events(alloc, desk, drill, generator, sessions, events)?;
+    let drill = finish_all(alloc, desk, drill, &mut tally, sessions)?;
+    let (signed, refused) = count_ends(&drill.seats);
+    let summary = Summary {
+        sessions,
+        signed,
+        refused,
+        asks: tally.asks,
+        granted: tally.granted,
+        cuts: tally.cuts,
+        restarts: tally.restarts,
+        most: drill.openings.most(),
+    };
+    let drilled = drilled_of(alloc, summary, drill)?;
+    Ok(drilled)
+}
+
 /// Makes a schedule of asks, losses, repeats, cuts within writes and restarts from a number, and runs it: each session
 /// signs a message of its own with a key that is dealt to three trustees, of whom two sign together.
 pub fn run_drill(
@@ -236,20 +272,5 @@ pub fn run_drill(
     let mut generator = Generator { state: number };
     let entropy = draw_entropy(&mut generator);
     let desk = deal_drill(alloc, &entropy)?;
-    let drill = start(alloc, &desk, sessions)?;
-    let (drill, mut tally) = play_events(alloc, &desk, drill, &mut generator, sessions, events)?;
-    let drill = finish_all(alloc, &desk, drill, &mut tally, sessions)?;
-    let (signed, refused) = count_ends(&drill.seats);
-    let summary = Summary {
-        sessions,
-        signed,
-        refused,
-        asks: tally.asks,
-        granted: tally.granted,
-        cuts: tally.cuts,
-        restarts: tally.restarts,
-        most: drill.openings.most(),
-    };
-    let drilled = drilled_of(alloc, summary, drill)?;
-    Ok(drilled)
+    run_dealt(alloc, &desk, &mut generator, sessions, events)
 }

@@ -79,10 +79,11 @@ pub(crate) fn start(alloc: Global, desk: &Desk, sessions: u32) -> Result<Drill, 
     ensures good { (own : HasDealing desk.now.plan desk.now.dealt) → DifferentIds sessions
         → IfOk result (IsGood desk.now own.dealing) }
 {
+    // The trustees hold the most, and are made last, so that no failure has to drop them.
     Ok(Drill {
-        trustees: Trustees::new(alloc, &desk.dealt.shares)?,
-        table: new_table(alloc, desk)?,
         seats: waiting(alloc, sessions)?,
+        table: new_table(alloc, desk)?,
+        trustees: Trustees::new(alloc, &desk.dealt.shares)?,
         openings: Openings::new(alloc),
     })
 }

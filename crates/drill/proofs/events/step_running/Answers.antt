@@ -1,8 +1,9 @@
-use Rattle.std.proofs.Common.{◌∙◌}
+use Rattle.std.proofs.Common.{◌∙◌, refl}
 use Rattle.drill.specs.Courses.{world}
 use Rattle.drill.proofs.Asked.{granted-digest}
 use Rattle.drill.proofs.Noting.{keeps-all, noted, second-there}
 use Rattle.drill.proofs.Starting.{ask-moves, not-all, put-granted}
+use Rattle.drill.proofs.Playing.{none-asked}
 use Rattle.drill.proofs.events.step_running.Goals as goal
 
 pub answered-requires-clause-digest : goal.answered-requires-clause-digest
@@ -44,3 +45,30 @@ returns-clause-openings c = λ own map count inside different shares course awai
       keeps = keeps-all _ _ next.member next.ask put.notes;
       some = λ has. put.some granted.granted (second-there desk own.dealing i map _ _ s next c.in_ok-seat.seat course granted.next_is goes has);
     }
+
+pub next_ask-requires-clause-key : goal.next_ask-requires-clause-key
+next_ask-requires-clause-key c = c.requires.of.key_is
+
+pub next_ask-requires-clause-plan : goal.next_ask-requires-clause-plan
+next_ask-requires-clause-plan c = c.requires.of.plan_is
+
+pub put_ask-requires-clause-member : goal.put_ask-requires-clause-member
+put_ask-requires-clause-member c = c.in-Some.ensures.within
+
+pub put_ask-requires-clause-sizes : goal.put_ask-requires-clause-sizes
+put_ask-requires-clause-sizes c = c.in-Some.ensures.sizes
+
+pub answered-requires-clause-of : goal.answered-requires-clause-of
+answered-requires-clause-of c = c.requires.of
+
+pub returns-in_default-clause-to : goal.returns-in_default-clause-to
+returns-in_default-clause-to c = record { fits = c.requires.of; bound = none-asked 1; cut = refl }
+
+pub returns-in_default-clause-shares : goal.returns-in_default-clause-shares
+returns-in_default-clause-shares c = λ t trustee. refl
+
+pub returns-clause-to : goal.returns-clause-to
+returns-clause-to c = record { fits = c.in_ok-seat.ensures.fits; bound = c.one-asks.ensures.bound; cut = c.one-asks.ensures.cut }
+
+pub returns-clause-shares : goal.returns-clause-shares
+returns-clause-shares c = c.in_ok-trustees.ensures.shares

@@ -1,10 +1,11 @@
-use Rattle.std.proofs.Common.{IfOk, sym, subst}
+use Rattle.std.proofs.Common.{IfOk, refl, sym, subst}
 use Rattle.drill_trustees.specs.Trustees.{leaf_at}
 use Rattle.drill.specs.Courses.{IsGoing, IsSettled, Steps, uses_of, world}
 use Rattle.drill.specs.declared.seat.Seat.{Seat as Place}
 use Rattle.drill.specs.declared.seat.Seat.TheVariants.{Refused, Signed}
 use Rattle.drill.proofs.Counting.{ok-too}
 use Rattle.drill.proofs.Starting.{has-ended}
+use Rattle.drill.proofs.Playing.{none-asked}
 use Rattle.drill.proofs.events.step_seat.Goals as goal
 
 pub returns-in-Running-clause-goes : goal.returns-in-Running-clause-goes
@@ -41,3 +42,15 @@ returns-in-Running-clause-openings c = λ own count inside different may before.
 pub returns-in_ok-seat-in-Waiting-clause-openings : goal.returns-in_ok-seat-in-Waiting-clause-openings
 returns-in_ok-seat-in-Waiting-clause-openings c = λ own count inside different may before.
     record { own = before.own; keeps = before.keeps; some = λ has. absurd (c.in_ok-seat-in-Waiting.ensures.unsigned has) }
+
+pub returns-in-Running-clause-to : goal.returns-in-Running-clause-to
+returns-in-Running-clause-to c = c.step_running.ensures.to
+
+pub returns-in_ok-seat-in-Waiting-clause-to : goal.returns-in_ok-seat-in-Waiting-clause-to
+returns-in_ok-seat-in-Waiting-clause-to c = record { fits = c.in_ok-seat-in-Waiting.ensures.fits; bound = none-asked 1; cut = refl }
+
+pub returns-in-Signed-clause-to : goal.returns-in-Signed-clause-to
+returns-in-Signed-clause-to c = record { fits = tt; bound = none-asked 1; cut = refl }
+
+pub returns-in-Refused-clause-to : goal.returns-in-Refused-clause-to
+returns-in-Refused-clause-to c = record { fits = tt; bound = none-asked 1; cut = refl }

@@ -1,4 +1,4 @@
-use Rattle.std.proofs.Common.{◌≡◌, ℕ, refl, sym, subst, arith}
+use Rattle.std.proofs.Common.{◌≡◌, ℕ, IfOk, refl, sym, subst, arith}
 use Rattle.drill.proofs.Counting.{counts-none, events-few, events-some}
 use Rattle.drill.proofs.Playing.{none-played}
 use Rattle.drill.specs.Courses.{HasPlayed}
@@ -16,7 +16,7 @@ returns-then-sessions-eq0-clause-counted c = λ number is.
 pub returns-clause-counted : goal.returns-clause-counted
 returns-clause-counted c = λ number is.
     let all = events-some c.args.sessions c.args.events (λ none. omega arith) in
-    subst (λ (k : ℕ). HasCounted number k c.in_ok-drill.tally) (sym all) (c.in_ok-drill.ensures.counted number is)
+    subst (λ (k : ℕ). IfOk c.play_all.result (λ pair. HasCounted number k pair.1)) (sym all) (c.play_all.ensures.counted number is)
 
 pub returns-then-sessions-eq0-clause-well : goal.returns-then-sessions-eq0-clause-well
 returns-then-sessions-eq0-clause-well c = λ own number is good waiting.
@@ -29,4 +29,4 @@ returns-then-sessions-eq0-clause-well c = λ own number is good waiting.
 pub returns-clause-well : goal.returns-clause-well
 returns-clause-well c = λ own number is good waiting.
     let all = events-some c.args.sessions c.args.events (λ none. omega arith) in
-    subst (λ (k : ℕ). HasPlayed c.args.desk.now own.dealing number c.args.sessions k c.in_ok-drill.drill c.in_ok-drill.tally) (sym all) (c.in_ok-drill.ensures.well own number is good waiting)
+    subst (λ (k : ℕ). IfOk c.play_all.result (λ pair. HasPlayed c.args.desk.now own.dealing number c.args.sessions k pair.0 pair.1)) (sym all) (c.play_all.ensures.well own number is good waiting)

@@ -27,3 +27,15 @@ returns-clause-goes c = λ own old granted.
     (record { key_is = same.key ∙ of.key_is; plan_is = same.plan ∙ of.plan_is; message_is = same.message ∙ of.message_is }) taken in
     subst (λ (steps : ℕ). IfOk c.advance.result (GoesTo desk own.dealing i old.uses (leaf_at new) steps)) (took-steps s after same.c took.filled)
     (c.advance.ensures.goes own old.uses (leaf_at new) took.course)
+
+pub advance-requires-clause-message : goal.advance-requires-clause-message
+advance-requires-clause-message c = c.requires.message
+
+pub advance-requires-clause-of : goal.advance-requires-clause-of
+advance-requires-clause-of c =
+    let same = c.take_masks.ensures.same in
+    let of = c.requires.of in
+    record { key_is = same.key ∙ of.key_is; plan_is = same.plan ∙ of.plan_is; message_is = same.message ∙ of.message_is }
+
+pub returns-clause-fits : goal.returns-clause-fits
+returns-clause-fits c = c.advance.ensures.fits
