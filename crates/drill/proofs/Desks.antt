@@ -1,5 +1,5 @@
 -- The dealing of a drill: its plan, what it gives, and that it is never refused.
-use Rattle.std.proofs.Common.{◌≡◌, ℕ, zero, suc, ◌+◌, ◌*◌, ◌-◌, ◌%◌, ◌≤◌, ◌<◌, List, [], ◌∷◌, length, map, drop, get_or, set, refl, sym, ◌∙◌, ap, All, arith, length-append}
+use Rattle.std.proofs.Common.{◌≡◌, ℕ, zero, suc, ◌+◌, ◌*◌, ◌-◌, ◌%◌, ◌≤◌, ◌<◌, List, [], ◌∷◌, length, map, drop, get_or, set, refl, sym, ◌∙◌, ap, subst, All, arith, length-append}
 use Rattle.std.proofs.lemmas.List.{get_or-drop, get_or-set_other, get_or-set_same, get_or-take, length-map, length-set}
 use Rattle.std.specs.List.{range_with_len}
 use Rattle.coalition_map.specs.Coalitions.{IsPlan, PlanNumbers, count_of, subsets}
@@ -16,6 +16,7 @@ use Rattle.drill_schedule.specs.Draws.{bytes_of, draw_at, entropy_of}
 use Rattle.lms_bytes.proofs.Parts.{length-bytes_at}
 use Rattle.drill.specs.Disks.{IsDealing}
 use Rattle.drill.specs.Keys.{HasDealing}
+use Rattle.drill.specs.declared.desk.Desk.{Desk}
 
 -- the plan of a drill
 abbrev pub three : PlanNumbers
@@ -160,6 +161,17 @@ pub own-drawn : (params : Params) (plan : PlanNumbers) (entropy : List ℕ) (num
     → (is : IsDealt (dealing_of params plan entropy) dealt) → params.lms ≡ 5 → params.ots ≡ 3 → plan ≡ three → IsDealing number (own-dealing params plan entropy number dealt n drawn is).dealing
 unfolding own-dealing
 own-drawn params plan entropy number dealt n drawn is lms ots plan_is = record { lms = lms; ots = ots; drawn = λ j. dealing_of params (plan_is j) (drawn j) }
+
+-- the shares of a desk are for hash values of 32 bytes and a tree of height 5
+pub shares-n : (desk : Desk) (given : List Share) → given ≡ desk.dealt.shares.items → All (λ (share : Share). share.params.n ≡ 32) given
+shares-n desk given is =
+    subst (λ (l : List Share). All (λ (share : Share). share.params.n ≡ 32) l) (sym is)
+    (λ i none inside. ap (λ (p : Params). p.n) (desk.shares i none inside) ∙ desk.hash_length)
+
+pub shares-h : (desk : Desk) (given : List Share) → given ≡ desk.dealt.shares.items → All (λ (share : Share). share.params.h ≡ 5) given
+shares-h desk given is =
+    subst (λ (l : List Share). All (λ (share : Share). share.params.h ≡ 5) l) (sym is)
+    (λ i none inside. ap (λ (p : Params). p.h) (desk.shares i none inside) ∙ desk.height)
 
 pub coalition-below : (i : ℕ) → i % 3 < count_of three
 unfolding subsets

@@ -1,13 +1,15 @@
--- A seat that is taken out, and put back.
-use Rattle.std.proofs.Common.{◌<◌, ℕ, List, length, ◌≡◌, get_or, set, sym, ◌∙◌, subst, inl, inr, arith}
+-- A seat that is taken out and put back, and seats that wait.
+use Rattle.std.proofs.Common.{◌<◌, ◌+◌, ◌++◌, [], ◌∷◌, refl, ap, length-append, ℕ, List, length, ◌≡◌, get_or, set, sym, ◌∙◌, subst, inl, inr, arith}
 use Rattle.std.proofs.lemmas.Bool.{cases_eq}
 use Rattle.std.proofs.lemmas.List.{get_or-set_other, get_or-set_same, length-set}
+use Rattle.std.proofs.lemmas.List.Elements.{All-append, All-cons, All-nil}
 use Rattle.coalition_map.specs.Coalitions.{PlanNumbers}
 use Rattle.lms_bytes.specs.declared.public_key.PublicKey.{PublicKey}
 use Rattle.drill.specs.Seats.{AllFit, AreWaiting, Fits}
 use Rattle.drill.specs.Drills.{IsFor}
 use Rattle.drill.specs.declared.desk.Desk.{Desk}
 use Rattle.drill.specs.declared.seat.Seat.{Seat}
+use Rattle.drill.specs.declared.seat.Seat.TheVariants.{Waiting}
 use Rattle.drill.specs.declared.state.Drill.{Drill}
 
 -- a seat of a drill for a desk is of the session of its number
@@ -17,6 +19,23 @@ fits-here desk drill i seat is_for within was = subst (λ (s : Seat). Fits desk.
 -- a seat of a session that waits is of any
 pub waiting-fit : (key : PublicKey) (plan : PlanNumbers) (seats : List Seat) → AreWaiting seats → AllFit key plan seats
 waiting-fit key plan seats waiting i none inside = subst (λ (s : Seat). Fits key plan i s) (sym (waiting i none inside)) tt
+
+-- so many sessions wait
+pub record Wait (seats : List Seat) (many : ℕ) : Type 0 where
+  pub count : length seats ≡ many
+  pub waiting : AreWaiting seats
+
+abbrev waits : Seat → Type 0
+waits seat = seat ≡ Waiting
+
+pub waiting-none : (seats : List Seat) → seats ≡ [] → Wait seats 0
+waiting-none seats none = record { count = ap (λ (l : List Seat). length l) none; waiting = subst AreWaiting (sym none) (All-nil waits) }
+
+pub waiting-more : (old new : List Seat) (many : ℕ) → new ≡ old ++ Waiting ∷ [] → length old ≡ many → AreWaiting old → Wait new (many + 1)
+waiting-more old new many more count waiting = record {
+  count = (let both = length-append old (Waiting ∷ []) in let now = ap (λ (l : List Seat). length l) more in omega (arith, both, now, count));
+  waiting = subst AreWaiting (sym more) (All-append waits old (Waiting ∷ []) waiting (All-cons waits Waiting [] refl (All-nil waits)));
+}
 
 pub set-fits : (key : PublicKey) (plan : PlanNumbers) (xs : List Seat) (i : ℕ) (d s : Seat) → AllFit key plan xs → i < length xs → Fits key plan i s
     → AllFit key plan (set (set xs i d) i s)

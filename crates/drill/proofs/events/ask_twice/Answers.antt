@@ -8,7 +8,7 @@ use Rattle.drill.specs.declared.seat.Seat.{Seat}
 use Rattle.drill.specs.declared.seat.Seat.TheVariants.{Refused}
 use Rattle.drill.specs.declared.state.Drill.{Drill}
 use Rattle.drill.proofs.Following.{next-known}
-use Rattle.drill.proofs.Playing.{none-twice, some-twice}
+use Rattle.drill.proofs.Playing.{none-asked, none-twice, some-twice}
 use Rattle.drill.proofs.Seated.{get_or-any}
 use Rattle.drill.proofs.Seating.{fits-here}
 use Rattle.drill.proofs.events.ask_twice.Goals as goal
@@ -40,3 +40,27 @@ returns-clause-goes c = λ own good.
     some-twice c.args.desk.now own.dealing c.args.i c.args.drill good c.requires.within c.in_ok-drill.drill c.in_ok-drill-2.drill c.in_ok-drill.first c.in_ok-drill-2.second c.sum.result
     (n ∙ ap (λ (b : Bool). if b then 0 else 1) c.if-is_none.false) first second (record { good = second.stays.good; parts = c.sum.ensures.parts first.stays.parts second.stays.parts }) c.sum.ensures.put
     (let one = c.in_ok-drill.ensures.cut in let two = c.in_ok-drill-2.ensures.cut in let both = c.sum.ensures.cut in omega (arith, one, two, both))
+
+pub returns-then-is_none-clause-stays : goal.returns-then-is_none-clause-stays
+returns-then-is_none-clause-stays c = record { is_for = c.requires.is_for; count = refl; bound = none-asked 2 }
+
+pub step-requires-clause-is_for : goal.step-requires-clause-is_for
+step-requires-clause-is_for c = c.in_ok-drill.ensures.stays.is_for
+
+pub step-requires-clause-within : goal.step-requires-clause-within
+step-requires-clause-within c =
+    let count = c.in_ok-drill.ensures.stays.count in
+    let within = c.requires.within in
+    omega (arith, count, within)
+
+pub sum-requires-clause-first : goal.sum-requires-clause-first
+sum-requires-clause-first c = c.in_ok-drill.ensures.stays.bound
+
+pub sum-requires-clause-second : goal.sum-requires-clause-second
+sum-requires-clause-second c = c.in_ok-drill-2.ensures.stays.bound
+
+pub returns-clause-stays : goal.returns-clause-stays
+returns-clause-stays c =
+    let first = c.in_ok-drill.ensures.stays in
+    let second = c.in_ok-drill-2.ensures.stays in
+    record { is_for = second.is_for; count = second.count ∙ first.count; bound = c.sum.ensures.bound }

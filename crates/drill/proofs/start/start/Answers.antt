@@ -1,8 +1,9 @@
-use Rattle.std.proofs.Common.{List, subst}
+use Rattle.std.proofs.Common.{◌∙◌, List, length, ap, subst}
 use Rattle.drill_trustees.specs.Trustees.{AreNew}
 use Rattle.share_files.specs.declared.share.Share.{Share}
 use Rattle.drill.proofs.Beginning.{begins}
 use Rattle.drill.proofs.Seating.{waiting-fit}
+use Rattle.drill.proofs.Desks.{shares-h, shares-n}
 use Rattle.drill.proofs.start.start.Goals as goal
 
 pub returns-clause-good : goal.returns-clause-good
@@ -20,3 +21,12 @@ returns-clause-count c = c.in_ok-waiting.ensures.count
 
 pub returns-clause-waiting : goal.returns-clause-waiting
 returns-clause-waiting c = c.in_ok-waiting.ensures.waiting
+
+pub new-requires-clause-count : goal.new-requires-clause-count
+new-requires-clause-count c = ap (λ (l : List Share). length l) c.deref.ensures.value ∙ c.args.desk.now.count
+
+pub new-requires-clause-hash_length : goal.new-requires-clause-hash_length
+new-requires-clause-hash_length c = shares-n c.args.desk.now _ c.deref.ensures.value
+
+pub new-requires-clause-height : goal.new-requires-clause-height
+new-requires-clause-height c = shares-h c.args.desk.now _ c.deref.ensures.value
