@@ -17,6 +17,7 @@ use Rattle.opening_journal.proofs.Held.{holds}
 use Rattle.opening_journal.proofs.Maps.{map_of-other, map_of-same}
 use Rattle.share_files.specs.declared.share.Share.{Share}
 use Rattle.slot_file.specs.declared.header.Header.{Header}
+use Rattle.slot_file.specs.declared.header.LoadFault.{LoadFault}
 use Rattle.trustee_core.specs.Trustee.{journal_header, journal_of, share_of}
 use Rattle.trustee_core.specs.declared.trustee.Trustee.{Trustee}
 use Rattle.lms_bytes.specs.declared.ask.Ask.{Ask}
@@ -48,13 +49,35 @@ module _ {D : Type 0} {p : pages.Ghosts D} {f : faults.Ghosts D} where
       sym one ∙ ap (λ (s : Params). state_in_file s.n (p.reads (disk_of journal)) q) size ∙ ap (λ (b : List ℕ). state_in_file params.n b q) (loaded.unwritten.same told)
 
 -- a journal's file is refused for want of memory and for a disk that failed alone
-pub refused-well : (header : Header) (count : ℕ) (file : List ℕ) (why : JournalLoad) → IsJournalFile header count file → LoadRefused header count file why
+refused-well : (header : Header) (count : ℕ) (file : List ℕ) (why : JournalLoad) → IsJournalFile header count file → LoadRefused header count file why
     → (why ≡ load.Device → ⊥) → (why ≡ load.NoMemory → ⊥) → ⊥
 refused-well header count file why is (other_file fault opens) device memory = let e = sym is.opens ∙ opens in cc
 refused-well header count file why is (damaged leaf a b opens first) device memory =
     let e = sym (is.whole leaf first.within) ∙ ap is_damaged first.here in cc
 refused-well header count file why is refused.device device memory = device refl
 refused-well header count file why is (no_memory opens) device memory = memory refl
+
+slots-refused : (header : Header) (count : ℕ) (file : List ℕ) (why : JournalLoad) (fault : LoadFault) → IsJournalFile header count file → LoadRefused header count file why
+    → why ≡ load.Slots fault → ⊥
+slots-refused header count file why fault is refused slots = refused-well header count file why is refused (λ device. cc) (λ memory. cc)
+
+damaged-refused : (header : Header) (count : ℕ) (file : List ℕ) (why : JournalLoad) (leaf a b : ℕ) → IsJournalFile header count file → LoadRefused header count file why
+    → why ≡ load.Damaged leaf a b → ⊥
+damaged-refused header count file why leaf a b is refused damage = refused-well header count file why is refused (λ device. cc) (λ memory. cc)
+
+-- the file of a trustee's journal is no other file, and no slot of it is damaged
+module _ (share : Share) (h : share.params.h ≡ 5) (file : List ℕ) (is : IsJournalFile (journal_header share) 32 file) (header : Header) (same : header ≡ journal_header share)
+    (why : JournalLoad) (refused : LoadRefused header (2 ^ share.params.h) file why) where
+  here-refused : LoadRefused (journal_header share) 32 file why
+  here-refused =
+      subst (λ (count : ℕ). LoadRefused (journal_header share) count file why) (ap (λ (k : ℕ). 2 ^ k) h)
+      (subst (λ (x : Header). LoadRefused x (2 ^ share.params.h) file why) same refused)
+
+  pub no-slots : {fault : LoadFault} → why ≡ load.Slots fault → ⊥
+  no-slots {fault} slots = slots-refused (journal_header share) 32 file why fault is here-refused slots
+
+  pub no-damage : {leaf a b : ℕ} → why ≡ load.Damaged leaf a b → ⊥
+  no-damage {leaf} {a} {b} damage = damaged-refused (journal_header share) 32 file why leaf a b is here-refused damage
 
 -- what a trustee's file says of its leaves
 module _ {D : Type 0} {p : pages.Ghosts D} {f : faults.Ghosts D} (trustee : Trustee D p f) (share : Share) (own : share_of trustee ≡ share)

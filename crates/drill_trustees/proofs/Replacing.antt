@@ -1,6 +1,7 @@
 -- Three trustees of which one is replaced.
-use Rattle.std.proofs.Common.{◌≡◌, ◌≢◌, ◌<◌, ◌≤◌, ◌-◌, ℕ, zero, suc, List, [], ◌∷◌, length, get_or, refl, sym, ◌∙◌, ap, subst, inl, inr, arith}
+use Rattle.std.proofs.Common.{◌≡◌, ◌≢◌, ◌<◌, ◌≤◌, ◌-◌, ℕ, zero, suc, List, [], ◌∷◌, length, get_or, refl, sym, ◌∙◌, ap, subst, inl, inr, All, arith}
 use Rattle.std.proofs.lemmas.Bool.{cases_eq}
+use Rattle.std.proofs.lemmas.List.Elements.{All-get_or}
 use Rattle.lms_bytes.specs.declared.ask.Ask.{Ask}
 use Rattle.opening_journal.specs.Entries.{IsFree, LeafState}
 use Rattle.share_files.specs.declared.share.Share.{Share}
@@ -99,6 +100,14 @@ default-free (x ∷ xs) (suc i) d e inside = default-free xs i d e (omega arith)
 
 given-at : (given : List Share) (k : ℕ) (m : Member) (s none : Share) → length given ≡ 3 → k < 3 → m.share ≡ s → s ≡ get_or given k s → m.share ≡ get_or given k none
 given-at given k m s none size low is there = is ∙ there ∙ default-free given k s none (omega arith)
+
+-- the shares of three trustees
+module _ (given : List Share) (size : length given ≡ 3) where
+  pub inside-three : (k : ℕ) → k < 3 → k < length given
+  inside-three k low = omega arith
+
+  pub of-three : (P : Share → Type 0) (k : ℕ) (s : Share) → k < 3 → s ≡ get_or given k s → All P given → P s
+  of-three P k s low there all = subst P (sym there) (All-get_or P given k s (inside-three k low) all)
 
 -- three trustees of these shares that have answered nothing
 module _ (given : List Share) (a b c : Member) (x y z : Share) (size : length given ≡ 3) (ax : a.share ≡ x) (by : b.share ≡ y) (cz : c.share ≡ z)

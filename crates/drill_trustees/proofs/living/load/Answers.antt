@@ -1,6 +1,6 @@
 use Rattle.std.proofs.Common.{◌<◌, ◌^◌, ℕ, refl, ap, ◌∙◌}
 use Rattle.opening_journal.specs.Entries.{state_in_file}
-use Rattle.drill_trustees.proofs.Journals.{loaded-leaves, refused-well}
+use Rattle.drill_trustees.proofs.Journals.{loaded-leaves, no-damage, no-slots}
 use Rattle.drill_trustees.proofs.living.load.Goals as goal
 
 pub returns-in-Ok-clause-leaves : goal.returns-in-Ok-clause-leaves
@@ -12,12 +12,8 @@ returns-in-Ok-clause-leaves c = λ q within.
 
 pub unreachable-requires : goal.unreachable-requires
 unreachable-requires c =
-    let has = rw (c.header_of.ensures, c.requires.height) at (c.in-Err.ensures.refused refl) in
-    let is = c.in-Slots.is in
-    refused-well _ _ _ _ c.requires.file has (λ e. cc) (λ e. cc)
+    no-slots c.args.share.now c.requires.height c.args.disk.bytes c.requires.file c.header_of.result c.header_of.ensures c.in-Err.fault (c.in-Err.ensures.refused refl) c.in-Slots.is
 
 pub unreachable-requires-in-Damaged : goal.unreachable-requires-in-Damaged
 unreachable-requires-in-Damaged c =
-    let has = rw (c.header_of.ensures, c.requires.height) at (c.in-Err.ensures.refused refl) in
-    let is = c.in-Damaged.is in
-    refused-well _ _ _ _ c.requires.file has (λ e. cc) (λ e. cc)
+    no-damage c.args.share.now c.requires.height c.args.disk.bytes c.requires.file c.header_of.result c.header_of.ensures c.in-Err.fault (c.in-Err.ensures.refused refl) c.in-Damaged.is

@@ -6,7 +6,7 @@ use Rattle.opening_journal.specs.Loading.{IsJournalFile}
 use Rattle.trustee_core.specs.Trustee.{journal_header}
 use Rattle.drill_trustees.specs.Members.{CutSets, leaf_in}
 use Rattle.drill_trustees.proofs.Asking.{cut-same, may-same, stopped-before}
-use Rattle.drill_trustees.proofs.Journals.{file-of, leaves-of, loaded-leaves, refused-well}
+use Rattle.drill_trustees.proofs.Journals.{file-of, leaves-of, loaded-leaves, no-damage, no-slots}
 use Rattle.drill_trustees.proofs.Results.{ok-map}
 use Rattle.drill_trustees.proofs.member.Member.cut.Goals as goal
 
@@ -16,9 +16,7 @@ unreachable-requires c =
     let e = c.end-disk.ensures in
     let bytes = ap (λ (d : MemState). d.bytes) c.in_ok-stopping.ensures ∙ c.bytes.ensures ∙ ap (λ (d : MemState). d.bytes) e.disk in
     let file = subst (λ (b : List ℕ). IsJournalFile (journal_header m.share) 32 b) (sym bytes) (file-of m.trustee m.share m.own m.hash_length m.height e.header e.params _ (e.holds.reads refl)) in
-    let has = rw (c.header_of.ensures, m.height) at (c.in-Err.ensures.refused refl) in
-    let is = c.in-Slots.is in
-    refused-well _ _ _ _ file has (λ x. cc) (λ x. cc)
+    no-slots m.share m.height c.in_ok-stopping.stopping.bytes file c.header_of.result c.header_of.ensures c.in-Err.fault (c.in-Err.ensures.refused refl) c.in-Slots.is
 
 pub unreachable-requires-in-Damaged : goal.unreachable-requires-in-Damaged
 unreachable-requires-in-Damaged c =
@@ -26,9 +24,7 @@ unreachable-requires-in-Damaged c =
     let e = c.end-disk.ensures in
     let bytes = ap (λ (d : MemState). d.bytes) c.in_ok-stopping.ensures ∙ c.bytes.ensures ∙ ap (λ (d : MemState). d.bytes) e.disk in
     let file = subst (λ (b : List ℕ). IsJournalFile (journal_header m.share) 32 b) (sym bytes) (file-of m.trustee m.share m.own m.hash_length m.height e.header e.params _ (e.holds.reads refl)) in
-    let has = rw (c.header_of.ensures, m.height) at (c.in-Err.ensures.refused refl) in
-    let is = c.in-Damaged.is in
-    refused-well _ _ _ _ file has (λ x. cc) (λ x. cc)
+    no-damage m.share m.height c.in_ok-stopping.stopping.bytes file c.header_of.result c.header_of.ensures c.in-Err.fault (c.in-Err.ensures.refused refl) c.in-Damaged.is
 
 pub returns-in-Ok-clause-sets : goal.returns-in-Ok-clause-sets
 returns-in-Ok-clause-sets c = λ may.
