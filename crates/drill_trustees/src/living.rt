@@ -7,7 +7,7 @@ ghost use Rattle.drill_trustees.specs.declared.member.Answer.{Answer};
 ghost use Rattle.drill_trustees.specs.Members.{CutSets, HasJournal, MayAsk, SameLeaves, Sets, answer_to, leaf_in};
 ghost use Rattle.drill_trustees.specs.Members.{state_after};
 ghost use Rattle.opening_journal.specs.Entries.{IsFree, map_of, state_in_file};
-ghost use Rattle.opening_journal.specs.Journal.{header_of as journal_header_of, params_of, state_of};
+ghost use Rattle.opening_journal.specs.Journal.{IsSteady, header_of as journal_header_of, params_of, state_of};
 ghost use Rattle.opening_journal.specs.Loading.{IsJournalFile};
 ghost use Rattle.trustee_core.specs.Grants.{ask_of};
 ghost use Rattle.trustee_core.specs.Trustee.{journal_header};
@@ -44,6 +44,35 @@ fn header_of(share: &Share) -> Header
     }
 }
 
+/// The journal of a share on this disk; `None` where the disk failed while it was loaded.
+fn load_journal(
+    alloc: Global,
+    share: &Share,
+    disk: MemDisk,
+) -> Result<Option<Journal<MemDisk>>, NoMemory>
+    requires file { IsJournalFile (journal_header share.now) 32 disk.bytes }
+    requires hash_length { share.now.params.n ≡ 32 }
+    requires height { share.now.params.h ≡ 5 }
+    ensures header { IfOk result (λ found.
+        IfSome found (λ journal. journal_header_of journal ≡ journal_header share.now)) }
+    ensures params { IfOk result (λ found. IfSome found (λ journal. params_of journal ≡ share.now.params)) }
+    ensures settled { IfOk result (λ found. IfSome found (λ journal. (state_of journal).doubt ≡ None)) }
+    ensures leaves { IfOk result (λ found. IfSome found (λ journal.
+        (q : ℕ) → q < 32 → map_of (state_of journal).entries q ≡ state_in_file 32 disk.bytes q)) }
+    ensures steady { IsTrue (is_steady disk) → IfOk result (λ found. IfSome found IsSteady) }
+    ensures some { IsTrue (is_steady disk) → IfOk result IsSome }
+{
+    match Journal::load(alloc, disk, &header_of(share), &share.params) {
+        Ok(journal) => Ok(Some(journal)),
+        Err((_, fault)) => match fault {
+            JournalLoad::Device => Ok(None),
+            JournalLoad::NoMemory => Err(NoMemory),
+            JournalLoad::Slots(_) => unreachable!(),
+            JournalLoad::Damaged { .. } => unreachable!(),
+        },
+    }
+}
+
 /// The trustee of a share whose journal is on this disk.
 fn load(alloc: Global, share: &Share, disk: MemDisk) -> Result<Member, NoMemory>
     requires steady { IsTrue (is_steady disk) }
@@ -53,17 +82,12 @@ fn load(alloc: Global, share: &Share, disk: MemDisk) -> Result<Member, NoMemory>
     ensures share { IfOk result (λ member. member.share ≡ share.now) }
     ensures leaves { IfOk result (λ member. (q : ℕ) → q < 32 → leaf_in member q ≡ state_in_file 32 disk.bytes q) }
 {
-    match Journal::load(alloc, disk, &header_of(share), &share.params) {
-        Ok(journal) => Ok(Member {
+    match load_journal(alloc, share, disk)? {
+        Some(journal) => Ok(Member {
             share: *share,
             trustee: Trustee::new(*share, journal),
         }),
-        Err((_, fault)) => match fault {
-            JournalLoad::NoMemory => Err(NoMemory),
-            JournalLoad::Slots(_) => unreachable!(),
-            JournalLoad::Damaged { .. } => unreachable!(),
-            JournalLoad::Device => unreachable!(),
-        },
+        None => unreachable!(),
     }
 }
 
@@ -95,6 +119,15 @@ fn steady_copy(alloc: Global, disk: &MemDisk) -> Result<MemDisk, NoMemory>
     ensures steady { IfOk result (λ copy. IsTrue (is_steady copy)) }
 {
     MemDisk::of_bytes(alloc, disk.bytes(), disk.capacity(), usize::MAX)
+}
+
+/// A disk of the same bytes that stops at the device call of number `pick` modulo 4 of the next ask.
+fn stopping_copy(alloc: Global, disk: &MemDisk, pick: u32) -> Result<MemDisk, NoMemory>
+    ensures { IfOk result (λ copy. copy.bytes ≡ disk.now.bytes) }
+{
+    // Loading makes one sync.
+    let calls = 1 + pick as usize % 4;
+    MemDisk::of_bytes(alloc, disk.bytes(), disk.capacity(), calls)
 }
 
 /// What a crash of this pick leaves of a disk.
@@ -175,17 +208,10 @@ impl Member {
     {
         let Member { share, trustee } = self;
         let disk = trustee.end();
-        // Loading makes one sync.
-        let calls = 1 + pick as usize % 4;
-        let stopping = MemDisk::of_bytes(alloc, disk.bytes(), disk.capacity(), calls)?;
-        match Journal::load(alloc, stopping, &header_of(&share), &share.params) {
-            Ok(journal) => ask_stopping(alloc, &share, journal, ask, pick),
-            Err((_, fault)) => match fault {
-                JournalLoad::Device => Ok((load(alloc, &share, disk)?, Answer::Stopped)),
-                JournalLoad::NoMemory => Err(NoMemory),
-                JournalLoad::Slots(_) => unreachable!(),
-                JournalLoad::Damaged { .. } => unreachable!(),
-            },
+        let stopping = stopping_copy(alloc, &disk, pick)?;
+        match load_journal(alloc, &share, stopping)? {
+            Some(journal) => ask_stopping(alloc, &share, journal, ask, pick),
+            None => Ok((load(alloc, &share, disk)?, Answer::Stopped)),
         }
     }
 
