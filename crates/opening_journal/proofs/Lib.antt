@@ -1,5 +1,6 @@
 mod Answered
 mod BodyBytes
+mod Entering
 pub mod Held
 mod Holding
 mod Putting
