@@ -25,7 +25,7 @@ use Rattle.slot_file.specs.declared.slot.Slot.{Slot}
 err-as : {V W E : Type 0} (x y : E) → ◌≡◌ {A = Result W E} (Err x) (Err y) → ◌≡◌ {A = Result V E} (Err x) (Err y)
 err-as x y is = ap Err (cc)
 
-ok-never : {V E : Type 0} (value : V) (x : E) → ◌≡◌ {A = Result V E} (Ok value) (Err x) → ⊥
+pub ok-never : {V E : Type 0} (value : V) (x : E) → ◌≡◌ {A = Result V E} (Ok value) (Err x) → ⊥
 ok-never value x is = absurd (cc)
 
 -- a leaf's fault is none of the disk's

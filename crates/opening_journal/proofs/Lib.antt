@@ -5,4 +5,5 @@ pub mod Held
 mod Holding
 mod Putting
 mod Refused
+mod Settling
 pub mod Maps
