@@ -2,13 +2,22 @@
 use Rattle.std.proofs.Common.{◌≡◌, ℕ, List, [], All, Option, refl, arith}
 use Rattle.std.proofs.lemmas.List.Elements.{All-cons}
 use Rattle.lms_bytes.specs.declared.ask.Ask.{Ask}
+use Rattle.lms_bytes.specs.declared.message.MessageId.{MessageId}
 use Rattle.opening_journal.specs.Opening.{settled_with}
 use Rattle.opening_journal.specs.Entries.{JournalState}
 use Rattle.share_files.specs.declared.share.Share.{Share}
 use Rattle.trustee_core.specs.Lives.{Answered, Lives}
 use Rattle.trustee_core.specs.Lives as lives
+use Rattle.trustee_core.specs.Decisions.{Answer}
 use Rattle.trustee_core.specs.Approvals.{BookAnswer, BookAnswered, BookDecides, BookLives, IsApproved, decided_in, if_decided}
 use Rattle.trustee_core.specs.Approvals as book
+
+-- an answer of one kind is none of the other, and says what it was
+pub denied-never : (message : MessageId) (answer : Answer) → book.Denied message ≡ book.Decided answer → ⊥
+denied-never message answer is = absurd (cc)
+
+pub decided-is : (answer other : Answer) → book.Decided answer ≡ book.Decided other → answer ≡ other
+decided-is answer other is = cc
 
 -- lives with no answer, and then others
 then : (share : Share) (before after last : JournalState) (none answers : List Answered) → none ≡ [] → Lives share before none after

@@ -1,5 +1,5 @@
 -- Decisions add to the end of the list.
-use Rattle.std.proofs.Common.{◌≡◌, ◌≢◌, ℕ, List, [], ◌∷◌, ◌++◌, Result, Ok, length, inl, inr, refl, sym, ap, arith, length-append}
+use Rattle.std.proofs.Common.{◌≡◌, ◌≢◌, ℕ, List, [], ◌∷◌, ◌++◌, Option, None, Some, Result, Ok, length, inl, inr, refl, sym, ap, arith, length-append}
 use Rattle.std.proofs.lemmas.List.{append-nil}
 use Rattle.lms_bytes.specs.declared.ask.Ask.{Ask}
 use Rattle.lms_bytes.specs.declared.message.MessageId.{MessageId}
@@ -12,6 +12,13 @@ use Rattle.opening_journal.specs.declared.faults.JournalFault.{JournalFault}
 use Rattle.share_files.specs.declared.share.Share.{Share}
 use Rattle.trustee_core.specs.Decisions.{Answer, Decides, first, second, tested}
 use Rattle.trustee_core.specs.Growth.{Extends}
+
+-- an ask of round one has no pair, and one of round two has one
+pub no-pair : {T : Type 0} {pair : Option T} {value : T} → pair ≡ None → pair ≡ Some value → ⊥
+no-pair none some = absurd (cc)
+
+pub same-pair : {T : Type 0} {pair : Option T} {value other : T} → pair ≡ Some value → pair ≡ Some other → value ≡ other
+same-pair mine some = cc
 
 nothing-added : (before : JournalState) (entries : List Entry) → SettlesTo before entries → Extends before entries
 nothing-added before entries settles = record { settled = entries; added = []; settles = settles; entries_are = sym (append-nil entries); few = omega arith }
