@@ -1,5 +1,6 @@
 -- What binding and opening make of a journal: it is settled, and then answers or puts an entry.
-use Rattle.std.proofs.Common.{◌≡◌, ◌≢◌, ◌<◌, ◌^◌, ℕ, List, length, Result, Ok, Err, IsTrue, false, refl, sym, ap, ◌∙◌, subst}
+use Rattle.std.proofs.Common.{◌≡◌, ◌≢◌, ◌<◌, ◌^◌, ℕ, List, length, Result, Ok, Err, IsTrue, false, refl, sym, ap, ◌∙◌}
+use Rattle.std.proofs.Common.{subst}
 use Rattle.disk_trait.specs.declared.disk.Pages as pages
 use Rattle.disk_trait.specs.declared.faults.Faults as faults
 use Rattle.lms_bytes.specs.MessageId.{message_id_bytes}
@@ -12,7 +13,8 @@ use Rattle.opening_journal.specs.declared.entry.Entry.{Entry}
 use Rattle.opening_journal.specs.declared.faults.Entered.{Entered}
 use Rattle.opening_journal.specs.declared.faults.Entered.TheVariants.{New, Old}
 use Rattle.opening_journal.specs.declared.faults.JournalFault.{JournalFault}
-use Rattle.opening_journal.specs.declared.faults.JournalFault.TheVariants.{Device, Damaged, NotBound, Spent, OtherDigest}
+use Rattle.opening_journal.specs.declared.faults.JournalFault.TheVariants.{Device, Damaged, NotBound, Spent}
+use Rattle.opening_journal.specs.declared.faults.JournalFault.TheVariants.{OtherDigest}
 use Rattle.opening_journal.specs.declared.journal.Journal.{Journal}
 use Rattle.slot_file.proofs.Held.{holds as cache_holds}
 use Rattle.slot_file.proofs.Unwritten.{same-then}
@@ -29,14 +31,16 @@ pub ok-never : {V E : Type 0} (value : V) (x : E) → ◌≡◌ {A = Result V E}
 ok-never value x is = absurd (cc)
 
 -- a leaf's fault is none of the disk's
-pub binds-sound : (message : MessageId) (state : LeafState) (fault : JournalFault) → BindsAs message state (Err fault) → ◌≢◌ {A = Result Entered JournalFault} (Err fault) (Err Device)
+pub binds-sound : (message : MessageId) (state : LeafState) (fault : JournalFault)
+    → BindsAs message state (Err fault) → ◌≢◌ {A = Result Entered JournalFault} (Err fault) (Err Device)
 binds-sound message state fault answers is = subst (BindsAs message state) is answers
 
 pub binds-whole : (message : MessageId) (state : LeafState) (fault : JournalFault) → BindsAs message state (Err fault)
     → (leaf a b : ℕ) → ◌≢◌ {A = Result Entered JournalFault} (Err fault) (Err (Damaged leaf a b))
 binds-whole message state fault answers leaf a b is = subst (BindsAs message state) is answers
 
-module _ (message : MessageId) (c digest : List ℕ) (state : LeafState) (fault : JournalFault) (answers : OpensAs message c digest state (Err fault)) where
+module _ (message : MessageId) (c digest : List ℕ) (state : LeafState) (fault : JournalFault)
+    (answers : OpensAs message c digest state (Err fault)) where
   pub opens-sound : ◌≢◌ {A = Result Entered JournalFault} (Err fault) (Err Device)
   opens-sound is = subst (OpensAs message c digest state) is answers
 
@@ -50,7 +54,8 @@ pub old-whole : (leaf a b : ℕ) → ◌≢◌ {A = Result Entered JournalFault}
 old-whole leaf a b is = ok-never Old (Damaged leaf a b) is
 
 -- a put is made or fails by the disk
-pub put-ends : (entries : List Entry) (entry : Entry) (result : Result Entered JournalFault) (after : JournalState) → Makes entries entry result after
+pub put-ends : (entries : List Entry) (entry : Entry) (result : Result Entered JournalFault) (after : JournalState)
+    → Makes entries entry result after
     → result ≢ Ok New → result ≢ Err Device → ⊥
 put-ends entries entry (Ok New) after makes new device = new refl
 put-ends entries entry (Ok Old) after makes new device = makes
@@ -77,22 +82,28 @@ module _ {D : Type 0} {p : pages.Ghosts D} {f : faults.Ghosts D} {old mid : Jour
       leaf-is = ap (state_of_slot (params_of mid).n) is ∙ mid.held.slots leaf leaf-counted
 
       -- one that answers New may be entered
-      pub leaf-binds : (message : MessageId) (entered : Entered) → entered ≡ New → BindsAs message (state_of_slot (params_of mid).n slot) (Ok entered)
+      pub leaf-binds : (message : MessageId) (entered : Entered) → entered ≡ New
+          → BindsAs message (state_of_slot (params_of mid).n slot) (Ok entered)
           → map_of (state_of mid).entries leaf ≡ IsFree
       leaf-binds message entered new answers =
-          sym leaf-is ∙ subst (λ (e : Entered). BindsAs message (state_of_slot (params_of mid).n slot) (Ok e)) new answers
+          sym leaf-is ∙ subst (λ (e : Entered). BindsAs message (state_of_slot (params_of mid).n slot) (Ok e))
+          new answers
 
-      pub leaf-opens : (message : MessageId) (c digest : List ℕ) (entered : Entered) → entered ≡ New → OpensAs message c digest (state_of_slot (params_of mid).n slot) (Ok entered)
+      pub leaf-opens : (message : MessageId) (c digest : List ℕ) (entered : Entered) → entered ≡ New
+          → OpensAs message c digest (state_of_slot (params_of mid).n slot) (Ok entered)
           → map_of (state_of mid).entries leaf ≡ IsBound (message_id_bytes message)
       leaf-opens message c digest entered new answers =
-          sym leaf-is ∙ subst (λ (e : Entered). OpensAs message c digest (state_of_slot (params_of mid).n slot) (Ok e)) new answers
+          sym leaf-is ∙ subst (λ (e : Entered). OpensAs message c digest (state_of_slot (params_of mid).n slot) (Ok e))
+          new answers
 
   pub sized : (bytes : List ℕ) → length bytes ≡ (params_of old).n → length bytes ≡ (params_of mid).n
   sized bytes size = size ∙ ap (λ (q : Params). q.n) (sym stays.params)
 
   -- what the calls say of the disk
-  module _ {V : Type 0} {result : Result V JournalFault} (told : IsTold old → (leaf a b : ℕ) → result ≢ Err (Damaged leaf a b))
-      (succeeds : IsSteady old → IsTold old → result ≢ Err Device) (cause : RisesAt (faults_of old) (faults_of mid) result (Err Device)) where
+  module _ {V : Type 0} {result : Result V JournalFault}
+      (told : IsTold old → (leaf a b : ℕ) → result ≢ Err (Damaged leaf a b))
+      (succeeds : IsSteady old → IsTold old → result ≢ Err Device)
+      (cause : RisesAt (faults_of old) (faults_of mid) result (Err Device)) where
     pub enters-unsettled : (fault : JournalFault) → result ≡ Err fault → Enters old mid (Err fault)
     enters-unsettled fault is = record {
       told = λ tells leaf a b same. told tells leaf a b (is ∙ err-as fault (Damaged leaf a b) same);
@@ -109,7 +120,8 @@ module _ {D : Type 0} {p : pages.Ghosts D} {f : faults.Ghosts D} {old mid : Jour
       no-rise : faults_of mid ≡ faults_of old
       no-rise = cause.others (λ same. ok-never value Device (sym settled ∙ same))
 
-      pub enters-answered : (answer : Result Entered JournalFault) → ((leaf a b : ℕ) → answer ≢ Err (Damaged leaf a b)) → answer ≢ Err Device → Enters old mid answer
+      pub enters-answered : (answer : Result Entered JournalFault)
+          → ((leaf a b : ℕ) → answer ≢ Err (Damaged leaf a b)) → answer ≢ Err Device → Enters old mid answer
       enters-answered answer whole sound = record {
         told = λ tells. whole;
         succeeds = λ steady tells. sound;
@@ -121,8 +133,10 @@ module _ {D : Type 0} {p : pages.Ghosts D} {f : faults.Ghosts D} {old mid : Jour
           → Makes (state_of mid).entries entry answer (state_of new) → (IsSteady mid → IsTold mid → answer ≢ Err Device)
           → RisesAt (faults_of mid) (faults_of new) answer (Err Device) → Stays mid new → Enters old new answer
       enters-put {new} {answer} entry makes sound rises next = record {
-        told = λ tells leaf a b same. subst (λ (r : Result Entered JournalFault). Makes (state_of mid).entries entry r (state_of new)) same makes;
-        succeeds = λ steady tells. sound (subst IsTrue (sym stays.disk.steady) steady) (subst IsTrue (sym stays.disk.told) tells);
+        told = λ tells leaf a b same.
+            subst (λ (r : Result Entered JournalFault). Makes (state_of mid).entries entry r (state_of new)) same makes;
+        succeeds = λ steady tells.
+            sound (subst IsTrue (sym stays.disk.steady) steady) (subst IsTrue (sym stays.disk.told) tells);
         cause = subst (λ (count : ℕ). RisesAt count (faults_of new) answer (Err Device)) no-rise rises;
         stays = record {
           params = next.params ∙ stays.params;

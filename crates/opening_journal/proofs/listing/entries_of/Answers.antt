@@ -35,7 +35,8 @@ module _ {leaf count : ℕ} (slots : List Slot) (is : count ≡ length slots) wh
       all-first : HasFirst (entries_of_slot n) map_of (state_of_slot n) IsFree IsLegalList slots (length slots) entries
       all-first =
           let ended : leaf ≡ length slots = omega (arith, past, most, is) in
-          subst (λ (k : ℕ). HasFirst (entries_of_slot n) map_of (state_of_slot n) IsFree IsLegalList slots k entries) ended first
+          subst (λ (k : ℕ). HasFirst (entries_of_slot n) map_of (state_of_slot n) IsFree IsLegalList slots k entries)
+          ended first
 
       all-room : length entries + room_in slots ≤ capacity
       all-room = omega (arith, all-first.room, ap room_in (take-length slots), fits)
@@ -65,26 +66,34 @@ slot-requires g c = here (state_of c.args.slots.now).slots c.count-count.ensures
 
 pub add_slot-requires-clause-room : goal.add_slot-requires-clause-room
 add_slot-requires-clause-room g c =
-    two-more (state_of c.args.slots.now).slots c.count-count.ensures c.args.n c.loop-leaf.entries.items (vec_capacity c.loop-leaf.entries) c.loop-leaf.invariant.capacity c.loop-leaf.invariant.first c.loop-leaf-test.true
+    two-more (state_of c.args.slots.now).slots c.count-count.ensures c.args.n c.loop-leaf.entries.items
+    (vec_capacity c.loop-leaf.entries) c.loop-leaf.invariant.capacity c.loop-leaf.invariant.first
+    c.loop-leaf-test.true
 
 pub add_slot-requires-clause-whole : goal.add_slot-requires-clause-whole
 add_slot-requires-clause-whole g c =
-    ap is_damaged c.slot.ensures ∙ c.requires.whole c.loop-leaf.leaf (here (state_of c.args.slots.now).slots c.count-count.ensures c.loop-leaf-test.true)
+    ap is_damaged c.slot.ensures ∙ c.requires.whole c.loop-leaf.leaf
+    (here (state_of c.args.slots.now).slots c.count-count.ensures c.loop-leaf-test.true)
 
 pub add_slot-requires-clause-free : goal.add_slot-requires-clause-free
 add_slot-requires-clause-free g c =
-    still-free (state_of c.args.slots.now).slots c.count-count.ensures c.args.n c.loop-leaf.entries.items (vec_capacity c.loop-leaf.entries) c.loop-leaf.invariant.capacity c.loop-leaf.invariant.first
+    still-free (state_of c.args.slots.now).slots c.count-count.ensures c.args.n c.loop-leaf.entries.items
+    (vec_capacity c.loop-leaf.entries) c.loop-leaf.invariant.capacity c.loop-leaf.invariant.first
 
 pub add_slot-requires-clause-legal : goal.add_slot-requires-clause-legal
 add_slot-requires-clause-legal g c = c.loop-leaf.invariant.first.is_legal
 
 pub returns-clause-items : goal.returns-clause-items
 returns-clause-items g c =
-    (all-first (state_of c.args.slots.now).slots c.count-count.ensures c.args.n c.loop-leaf.entries.items (vec_capacity c.loop-leaf.entries) c.loop-leaf.invariant.capacity c.loop-leaf.invariant.first c.loop-leaf-test.false c.loop-leaf.auto.leaf-end).items
+    (all-first (state_of c.args.slots.now).slots c.count-count.ensures c.args.n c.loop-leaf.entries.items
+    (vec_capacity c.loop-leaf.entries) c.loop-leaf.invariant.capacity c.loop-leaf.invariant.first
+    c.loop-leaf-test.false c.loop-leaf.auto.leaf-end).items
 
 pub returns-clause-have : goal.returns-clause-have
 returns-clause-have g c =
-    (all-first (state_of c.args.slots.now).slots c.count-count.ensures c.args.n c.loop-leaf.entries.items (vec_capacity c.loop-leaf.entries) c.loop-leaf.invariant.capacity c.loop-leaf.invariant.first c.loop-leaf-test.false c.loop-leaf.auto.leaf-end).have
+    (all-first (state_of c.args.slots.now).slots c.count-count.ensures c.args.n c.loop-leaf.entries.items
+    (vec_capacity c.loop-leaf.entries) c.loop-leaf.invariant.capacity c.loop-leaf.invariant.first
+    c.loop-leaf-test.false c.loop-leaf.auto.leaf-end).have
 
 pub returns-clause-legal : goal.returns-clause-legal
 returns-clause-legal g c =
@@ -92,4 +101,6 @@ returns-clause-legal g c =
 
 pub returns-clause-room : goal.returns-clause-room
 returns-clause-room g c =
-    all-room (state_of c.args.slots.now).slots c.count-count.ensures c.args.n c.loop-leaf.entries.items (vec_capacity c.loop-leaf.entries) c.loop-leaf.invariant.capacity c.loop-leaf.invariant.first c.loop-leaf-test.false c.loop-leaf.auto.leaf-end
+    all-room (state_of c.args.slots.now).slots c.count-count.ensures c.args.n c.loop-leaf.entries.items
+    (vec_capacity c.loop-leaf.entries) c.loop-leaf.invariant.capacity c.loop-leaf.invariant.first
+    c.loop-leaf-test.false c.loop-leaf.auto.leaf-end

@@ -1,6 +1,7 @@
 use Rattle.std.proofs.Common.{Err, Ok, subst}
 use Rattle.opening_journal.proofs.Answered.{binds-old, binds-put, binds-refused, binds-unsettled}
-use Rattle.opening_journal.proofs.Entering.{binds-sound, binds-whole, enters-answered, enters-put, enters-unsettled, leaf-binds, leaf-counted, leaf-is, leaf-whole}
+use Rattle.opening_journal.proofs.Entering.{binds-sound, binds-whole, enters-answered, enters-put, enters-unsettled}
+use Rattle.opening_journal.proofs.Entering.{leaf-binds, leaf-counted, leaf-is, leaf-whole}
 use Rattle.opening_journal.proofs.Entering.{leaf-within, old-sound, old-whole, put-ends}
 use Rattle.opening_journal.specs.Answers.{BindsAs}
 use Rattle.opening_journal.specs.Entries.{LeafState, state_of_slot}
@@ -16,7 +17,8 @@ pub returns-in-Ok-New-clause-event : goal.returns-in-Ok-New-clause-event
 returns-in-Ok-New-clause-event g c =
     let mid = c.settle.new.self in
     let here =
-    leaf-binds c.settle.ensures.stays c.args.leaf c.requires c.slot.result.now c.slot.ensures c.args.message.now c.in-Ok-New.field-0 c.in-Ok-New.field-0-is c.in-Ok-New.ensures in
+    leaf-binds c.settle.ensures.stays c.args.leaf c.requires c.slot.result.now c.slot.ensures c.args.message.now
+    c.in-Ok-New.field-0 c.in-Ok-New.field-0-is c.in-Ok-New.ensures in
     binds-put (state_of c.args.self.now) (state_of mid) c.args.leaf c.args.message.now (state_of c.put.new.self) c.put.result c.in_default.ensures.event here c.put.ensures.event
 
 pub returns-in-Ok-Old-clause-event : goal.returns-in-Ok-Old-clause-event
@@ -49,7 +51,8 @@ put-requires-clause-within g c = leaf-within c.settle.ensures.stays c.args.leaf 
 
 pub put-requires-clause-adds : goal.put-requires-clause-adds
 put-requires-clause-adds g c =
-    leaf-binds c.settle.ensures.stays c.args.leaf c.requires c.slot.result.now c.slot.ensures c.args.message.now c.in-Ok-New.field-0 c.in-Ok-New.field-0-is c.in-Ok-New.ensures
+    leaf-binds c.settle.ensures.stays c.args.leaf c.requires c.slot.result.now c.slot.ensures c.args.message.now
+    c.in-Ok-New.field-0 c.in-Ok-New.field-0-is c.in-Ok-New.ensures
 
 pub returns-in-Err-clause-idle : goal.returns-in-Err-clause-idle
 returns-in-Err-clause-idle g c = λ none new device. c.settle.ensures.idle none
@@ -61,7 +64,8 @@ pub returns-in-Err-binding-clause-idle : goal.returns-in-Err-binding-clause-idle
 returns-in-Err-binding-clause-idle g c = λ none new device. c.settle.ensures.idle none
 
 pub returns-in-Ok-New-clause-idle : goal.returns-in-Ok-New-clause-idle
-returns-in-Ok-New-clause-idle g c = λ none new device. absurd (put-ends _ _ c.put.result _ c.put.ensures.event new device)
+returns-in-Ok-New-clause-idle g c = λ none new device.
+    absurd (put-ends _ _ c.put.result _ c.put.ensures.event new device)
 
 pub returns-in-Err-clause-enters : goal.returns-in-Err-clause-enters
 returns-in-Err-clause-enters g c =
@@ -86,4 +90,5 @@ pub returns-in-Ok-New-clause-enters : goal.returns-in-Ok-New-clause-enters
 returns-in-Ok-New-clause-enters g c =
     let call = c.settle.ensures in
     let made = c.put.ensures in
-    enters-put call.stays call.told call.succeeds call.cause c.in_default.is _ made.event made.succeeds made.cause made.stays
+    enters-put call.stays call.told call.succeeds call.cause c.in_default.is _ made.event made.succeeds made.cause
+    made.stays

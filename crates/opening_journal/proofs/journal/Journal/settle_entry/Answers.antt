@@ -1,4 +1,5 @@
-use Rattle.std.proofs.Common.{◌≡◌, None, Result, Ok, Err, inl, inr, refl, sym, ◌∙◌, ap, subst, arith, length, rules, vec_len}
+use Rattle.std.proofs.Common.{◌≡◌, None, Result, Ok, Err, inl, inr, refl, sym, ◌∙◌, ap, subst, arith, length, rules}
+use Rattle.std.proofs.Common.{vec_len}
 use Rattle.slot_file.specs.Cache.{header_of, state_of}
 use Rattle.slot_file.specs.State.{settled_with, with_made}
 use Rattle.slot_file.specs.Calls.{Settles as SlotsSettle}
@@ -33,7 +34,8 @@ invariant_of-self g c =
     let call = c.settle.ensures in
     let within = (holds self.slots).within (put_of entry) (self.held.some entry c.requires) in
     let version = (header_of self.slots).version in
-    let event = subst (λ (s : Settled). SlotsSettle version cache (Ok s) new) c.in-Ok-Made.field-0-is c.in-Ok-Made.ensures.event in
+    let event = subst (λ (s : Settled). SlotsSettle version cache (Ok s) new) c.in-Ok-Made.field-0-is
+    c.in-Ok-Made.ensures.event in
     let same = put-is self.params.n cache self.entries.items self.doubt entry event.0 self.held c.requires event.1 in
     let is : new ≡ settled_with (with_made cache.slots (put_of entry)) = event.2 ∙ ap (λ (d : Doubted). settled_with (with_made cache.slots d)) same in
     let still = put-made self entry within (self.held.adds entry c.requires) new c.push_reserved.new.self.items None (self.held.after entry c.requires) is c.push_reserved.ensures.items refl in
@@ -74,7 +76,8 @@ returns-in-Err g c =
     let fault = c.in-Err.fault in
     let why = c.journal_fault.result in
     let why_is = c.journal_fault.ensures in
-    let event = subst (λ (r : Result Settled SettleFault). SlotsSettle (header_of self.slots).version (state_of self.slots) r (state_of c.settle.new.self)) c.in-Err.is call.event in
+    let event = subst (λ (r : Result Settled SettleFault). SlotsSettle (header_of self.slots).version
+    (state_of self.slots) r (state_of c.settle.new.self)) c.in-Err.is call.event in
     record {
       event = subst (λ (y : JournalFault). Settles (journal_state self) (Err y) (journal_state self)) (sym why_is)
           (settles-fault self c.args.entry.now c.requires fault (state_of c.settle.new.self) event);
