@@ -53,7 +53,8 @@ pub fault-late : (fault : JournalFault) (why : Refusal) → why ≡ refusal_of f
 fault-late fault why is low = late fault (subst (λ (y : Refusal). refusal_code y ≤ 5) is low)
 
 -- a refusal by the journal is for the device where the journal's fault is
-pub refused-device : {S T : Type 0} {result : Result S JournalFault} (fault : JournalFault) (why : Refusal) → why ≡ refusal_of fault → result ≡ Err fault
+pub refused-device : {S T : Type 0} {result : Result S JournalFault} (fault : JournalFault) (why : Refusal)
+    → why ≡ refusal_of fault → result ≡ Err fault
     → ◌≢◌ {A = Result T Refusal} (Err why) (Err Device) → result ≢ Err journal.Device
 refused-device fault why is was other same =
     let device : fault ≡ journal.Device = cc in other (ap Err (is ∙ ap refusal_of device))
@@ -62,10 +63,12 @@ refused-device fault why is was other same =
 pub granted-never : {T E : Type 0} {value : T} {why : E} → ◌≡◌ {A = Result T E} (Ok value) (Err why) → ⊥
 granted-never is = absurd (cc)
 
-pub entered-never : {T E : Type 0} {result : Result T E} {value : T} {why : E} → result ≡ Ok value → result ≡ Err why → ⊥
+pub entered-never : {T E : Type 0} {result : Result T E} {value : T} {why : E}
+    → result ≡ Ok value → result ≡ Err why → ⊥
 entered-never is fails = absurd (cc)
 
-pub rises-granted : {S T : Type 0} {before now : ℕ} {result : Result S JournalFault} {value : S} (grant : T) → result ≡ Ok value
+pub rises-granted : {S T : Type 0} {before now : ℕ} {result : Result S JournalFault} {value : S} (grant : T)
+    → result ≡ Ok value
     → RisesAt before now result (Err journal.Device) → RisesAt {R = Result T Refusal} before now (Ok grant) (Err Device)
 rises-granted grant is call = record {
   later = call.later;

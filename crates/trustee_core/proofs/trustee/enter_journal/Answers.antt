@@ -34,19 +34,23 @@ returns-in-Some-clause-opens g c = λ pair some.
     subst (λ (p : Second). Opens (state_of c.args.journal.now) c.args.ask.now.leaf c.args.ask.now.message p.c p.digest c.args.moment c.open_leaf.result (state_of c.open_leaf.new.self)) same c.open_leaf.ensures.event
 
 pub bind-requires : goal.bind-requires
-bind-requires g c = subst (λ (q : Params). c.args.ask.now.leaf < 2 ^ q.h) (sym c.requires.params) c.requires.ask.own.leaf
+bind-requires g c =
+    subst (λ (q : Params). c.args.ask.now.leaf < 2 ^ q.h) (sym c.requires.params) c.requires.ask.own.leaf
 
 pub open_leaf-requires-clause-leaf : goal.open_leaf-requires-clause-leaf
-open_leaf-requires-clause-leaf g c = subst (λ (q : Params). c.args.ask.now.leaf < 2 ^ q.h) (sym c.requires.params) c.requires.ask.own.leaf
+open_leaf-requires-clause-leaf g c =
+    subst (λ (q : Params). c.args.ask.now.leaf < 2 ^ q.h) (sym c.requires.params) c.requires.ask.own.leaf
 
 pub open_leaf-requires-clause-c : goal.open_leaf-requires-clause-c
 open_leaf-requires-clause-c g c =
-    let sized = subst (λ (o : Option Second). IfSome o (λ pair. length pair.c ≡ c.args.share.now.params.n)) c.in-Some.is c.requires.ask.c in
+    let sized = subst (λ (o : Option Second). IfSome o (λ pair. length pair.c ≡ c.args.share.now.params.n))
+    c.in-Some.is c.requires.ask.c in
     sized ∙ ap (λ (q : Params). q.n) (sym c.requires.params)
 
 pub open_leaf-requires-clause-digest : goal.open_leaf-requires-clause-digest
 open_leaf-requires-clause-digest g c =
-    let sized = subst (λ (o : Option Second). IfSome o (λ pair. length pair.digest ≡ c.args.share.now.params.n)) c.in-Some.is c.requires.ask.digest in
+    let sized = subst (λ (o : Option Second). IfSome o (λ pair. length pair.digest ≡ c.args.share.now.params.n))
+    c.in-Some.is c.requires.ask.digest in
     sized ∙ ap (λ (q : Params). q.n) (sym c.requires.params)
 
 pub returns-in-None-clause-idle : goal.returns-in-None-clause-idle

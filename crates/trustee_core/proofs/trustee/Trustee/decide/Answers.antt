@@ -3,7 +3,8 @@ use Rattle.opening_journal.specs.Journal.{disk_of}
 use Rattle.slot_file.proofs.Unwritten.{same-none}
 use Rattle.trustee_core.specs.Decisions.{refusal_of, tested}
 use Rattle.trustee_core.specs.declared.refusal.Refusal.TheVariants.{Damaged}
-use Rattle.trustee_core.proofs.Refusals.{entered-never, fault-damaged, fault-device, fault-late, granted-never, refused-device, rises-granted, rises-refusal, tests-damaged}
+use Rattle.trustee_core.proofs.Refusals.{entered-never, fault-damaged, fault-device, fault-late, granted-never}
+use Rattle.trustee_core.proofs.Refusals.{refused-device, rises-granted, rises-refusal, tests-damaged}
 use Rattle.trustee_core.proofs.Refusals.{tests-device}
 use Rattle.trustee_core.proofs.trustee.Trustee.decide.Goals as goal
 
@@ -40,7 +41,12 @@ returns-in-Err-enter-clause-decided g c =
 
 pub enter-requires : goal.enter-requires
 enter-requires g c = record {
-  ask = record { own = c.in_default.ensures.own; tag = c.in_default.ensures.tag; c = c.requires.c; digest = c.requires.digest };
+  ask = record {
+    own = c.in_default.ensures.own;
+    tag = c.in_default.ensures.tag;
+    c = c.requires.c;
+    digest = c.requires.digest;
+  };
 }
 
 pub returns-in-Err-clause-tested : goal.returns-in-Err-clause-tested
@@ -50,7 +56,8 @@ pub returns-in-Err-clause-idle : goal.returns-in-Err-clause-idle
 returns-in-Err-clause-idle g c = λ none device same. refl
 
 pub returns-in-Err-enter-clause-tested : goal.returns-in-Err-enter-clause-tested
-returns-in-Err-enter-clause-tested g c = λ early. absurd (fault-late c.in-Err-enter.fault c.refusal_of.result c.refusal_of.ensures early)
+returns-in-Err-enter-clause-tested g c = λ early.
+    absurd (fault-late c.in-Err-enter.fault c.refusal_of.result c.refusal_of.ensures early)
 
 pub returns-in-Err-enter-clause-idle : goal.returns-in-Err-enter-clause-idle
 returns-in-Err-enter-clause-idle g c = λ none other same.
