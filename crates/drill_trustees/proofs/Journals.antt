@@ -49,7 +49,8 @@ module _ {D : Type 0} {p : pages.Ghosts D} {f : faults.Ghosts D} where
       sym one ∙ ap (λ (s : Params). state_in_file s.n (p.reads (disk_of journal)) q) size ∙ ap (λ (b : List ℕ). state_in_file params.n b q) (loaded.unwritten.same told)
 
 -- a journal's file is refused for want of memory and for a disk that failed alone
-refused-well : (header : Header) (count : ℕ) (file : List ℕ) (why : JournalLoad) → IsJournalFile header count file → LoadRefused header count file why
+refused-well : (header : Header) (count : ℕ) (file : List ℕ) (why : JournalLoad) → IsJournalFile header count file
+    → LoadRefused header count file why
     → (why ≡ load.Device → ⊥) → (why ≡ load.NoMemory → ⊥) → ⊥
 refused-well header count file why is (other_file fault opens) device memory = let e = sym is.opens ∙ opens in cc
 refused-well header count file why is (damaged leaf a b opens first) device memory =
@@ -57,16 +58,21 @@ refused-well header count file why is (damaged leaf a b opens first) device memo
 refused-well header count file why is refused.device device memory = device refl
 refused-well header count file why is (no_memory opens) device memory = memory refl
 
-slots-refused : (header : Header) (count : ℕ) (file : List ℕ) (why : JournalLoad) (fault : LoadFault) → IsJournalFile header count file → LoadRefused header count file why
+slots-refused : (header : Header) (count : ℕ) (file : List ℕ) (why : JournalLoad) (fault : LoadFault)
+    → IsJournalFile header count file → LoadRefused header count file why
     → why ≡ load.Slots fault → ⊥
-slots-refused header count file why fault is refused slots = refused-well header count file why is refused (λ device. cc) (λ memory. cc)
+slots-refused header count file why fault is refused slots =
+    refused-well header count file why is refused (λ device. cc) (λ memory. cc)
 
-damaged-refused : (header : Header) (count : ℕ) (file : List ℕ) (why : JournalLoad) (leaf a b : ℕ) → IsJournalFile header count file → LoadRefused header count file why
+damaged-refused : (header : Header) (count : ℕ) (file : List ℕ) (why : JournalLoad) (leaf a b : ℕ)
+    → IsJournalFile header count file → LoadRefused header count file why
     → why ≡ load.Damaged leaf a b → ⊥
-damaged-refused header count file why leaf a b is refused damage = refused-well header count file why is refused (λ device. cc) (λ memory. cc)
+damaged-refused header count file why leaf a b is refused damage =
+    refused-well header count file why is refused (λ device. cc) (λ memory. cc)
 
 -- the file of a trustee's journal is no other file, and no slot of it is damaged
-module _ (share : Share) (h : share.params.h ≡ 5) (file : List ℕ) (is : IsJournalFile (journal_header share) 32 file) (header : Header) (same : header ≡ journal_header share)
+module _ (share : Share) (h : share.params.h ≡ 5) (file : List ℕ) (is : IsJournalFile (journal_header share) 32 file)
+    (header : Header) (same : header ≡ journal_header share)
     (why : JournalLoad) (refused : LoadRefused header (2 ^ share.params.h) file why) where
   here-refused : LoadRefused (journal_header share) 32 file why
   here-refused =

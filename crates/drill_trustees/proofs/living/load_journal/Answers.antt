@@ -12,8 +12,10 @@ returns-in-Ok-clause-leaves c = λ q within.
 
 pub unreachable-requires : goal.unreachable-requires
 unreachable-requires c =
-    no-slots c.args.share.now c.requires.height c.args.disk.bytes c.requires.file c.header_of.result c.header_of.ensures c.in-Err.fault (c.in-Err.ensures.refused refl) c.in-Slots.is
+    no-slots c.args.share.now c.requires.height c.args.disk.bytes c.requires.file c.header_of.result
+    c.header_of.ensures c.in-Err.fault (c.in-Err.ensures.refused refl) c.in-Slots.is
 
 pub unreachable-requires-in-Damaged : goal.unreachable-requires-in-Damaged
 unreachable-requires-in-Damaged c =
-    no-damage c.args.share.now c.requires.height c.args.disk.bytes c.requires.file c.header_of.result c.header_of.ensures c.in-Err.fault (c.in-Err.ensures.refused refl) c.in-Damaged.is
+    no-damage c.args.share.now c.requires.height c.args.disk.bytes c.requires.file c.header_of.result
+    c.header_of.ensures c.in-Err.fault (c.in-Err.ensures.refused refl) c.in-Damaged.is

@@ -41,5 +41,6 @@ returns-in_ok-load-in-None-clause-sets c = λ may.
     let new = c.in_ok-load-in-None.field-0 in
     let was = leaves-of m.trustee m.share m.own m.hash_length m.height e.header e.params _ m.settled (e.holds.reads refl) in
     let same : (q : ℕ) → q < 32 → leaf_in m q ≡ leaf_in new q = λ q within.
-    sym (was q within) ∙ ap (λ (d : MemState). state_in_file 32 d.bytes q) (sym e.disk) ∙ sym (c.in_ok-load-in-None.ensures.leaves q within) in
+    sym (was q within) ∙ ap (λ (d : MemState). state_in_file 32 d.bytes q) (sym e.disk)
+    ∙ sym (c.in_ok-load-in-None.ensures.leaves q within) in
     stopped-before m.share (leaf_in m) (leaf_in new) c.args.ask.now m.height same may

@@ -23,30 +23,36 @@ bounds-shares-0 c = inside-three c.args.shares.now c.requires.count 0 first-of-t
 
 pub new-requires-clause-hash_length : goal.new-requires-clause-hash_length
 new-requires-clause-hash_length c =
-    of-three c.args.shares.now c.requires.count (λ (share : Share). share.params.n ≡ 32) 0 c.index-shares-0.result first-of-three c.index-shares-0.is c.requires.hash_length
+    of-three c.args.shares.now c.requires.count (λ (share : Share). share.params.n ≡ 32) 0 c.index-shares-0.result
+    first-of-three c.index-shares-0.is c.requires.hash_length
 
 pub new-requires-clause-height : goal.new-requires-clause-height
 new-requires-clause-height c =
-    of-three c.args.shares.now c.requires.count (λ (share : Share). share.params.h ≡ 5) 0 c.index-shares-0.result first-of-three c.index-shares-0.is c.requires.height
+    of-three c.args.shares.now c.requires.count (λ (share : Share). share.params.h ≡ 5) 0 c.index-shares-0.result
+    first-of-three c.index-shares-0.is c.requires.height
 
 pub bounds-shares-1 : goal.bounds-shares-1
 bounds-shares-1 c = inside-three c.args.shares.now c.requires.count 1 second-of-three
 
 pub new-requires-2-clause-hash_length : goal.new-requires-2-clause-hash_length
 new-requires-2-clause-hash_length c =
-    of-three c.args.shares.now c.requires.count (λ (share : Share). share.params.n ≡ 32) 1 c.index-shares-1.result second-of-three c.index-shares-1.is c.requires.hash_length
+    of-three c.args.shares.now c.requires.count (λ (share : Share). share.params.n ≡ 32) 1 c.index-shares-1.result
+    second-of-three c.index-shares-1.is c.requires.hash_length
 
 pub new-requires-2-clause-height : goal.new-requires-2-clause-height
 new-requires-2-clause-height c =
-    of-three c.args.shares.now c.requires.count (λ (share : Share). share.params.h ≡ 5) 1 c.index-shares-1.result second-of-three c.index-shares-1.is c.requires.height
+    of-three c.args.shares.now c.requires.count (λ (share : Share). share.params.h ≡ 5) 1 c.index-shares-1.result
+    second-of-three c.index-shares-1.is c.requires.height
 
 pub bounds-shares-2 : goal.bounds-shares-2
 bounds-shares-2 c = inside-three c.args.shares.now c.requires.count 2 third-of-three
 
 pub new-requires-3-clause-hash_length : goal.new-requires-3-clause-hash_length
 new-requires-3-clause-hash_length c =
-    of-three c.args.shares.now c.requires.count (λ (share : Share). share.params.n ≡ 32) 2 c.index-shares-2.result third-of-three c.index-shares-2.is c.requires.hash_length
+    of-three c.args.shares.now c.requires.count (λ (share : Share). share.params.n ≡ 32) 2 c.index-shares-2.result
+    third-of-three c.index-shares-2.is c.requires.hash_length
 
 pub new-requires-3-clause-height : goal.new-requires-3-clause-height
 new-requires-3-clause-height c =
-    of-three c.args.shares.now c.requires.count (λ (share : Share). share.params.h ≡ 5) 2 c.index-shares-2.result third-of-three c.index-shares-2.is c.requires.height
+    of-three c.args.shares.now c.requires.count (λ (share : Share). share.params.h ≡ 5) 2 c.index-shares-2.result
+    third-of-three c.index-shares-2.is c.requires.height
