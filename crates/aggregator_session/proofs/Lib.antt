@@ -17,3 +17,4 @@ pub mod Ending
 pub mod Running
 pub mod Signing
 pub mod Standing
+pub mod Numbers

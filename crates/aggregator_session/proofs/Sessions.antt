@@ -1,6 +1,8 @@
 -- How a session ends.
 use Rattle.std.proofs.Common.{◌≡◌, ◌⊎◌, ◌≤◌, ℕ, Bool, true, false, ◌==◌, ◌&&◌, List, [], ◌∷◌, length, map, IsTrue, Option, Some, None, IfErr, IfSome, Result, Ok, Err, refl, sym, ap, subst, ◌∙◌, arith, inl, inr, if◌then◌else◌}
 use Rattle.aggregator_session.proofs.Frames.{framed-as, frames-of}
+use Rattle.aggregator_session.proofs.Numbers.{ok-never}
+use Rattle.aggregator_session.specs.Causes.{ReferenceCauses}
 use Rattle.aggregator_session.specs.Desks.{DeskState}
 use Rattle.aggregator_session.specs.Faults.{sign_fault}
 use Rattle.aggregator_session.specs.Hearing.{Asked, IsLoss, awaited, kept_in, unwritten}
@@ -27,6 +29,7 @@ use Rattle.lms_verify.specs.UndividedKey.{UndividedKey}
 use Rattle.reference_value.specs.Dealing.{Dealing, leaf_randomizer, reference}
 use Rattle.session_core.specs.Dealing.{FirstMasks, IsOfDealing}
 use Rattle.session_core.specs.Judging.{first_fault, kept_message, opened_fault, refusal_fault, round_fault, seat_fault, spent_fault}
+use Rattle.session_core.specs.Rounds.{TurnsTo}
 use Rattle.session_core.specs.Seats.{Seat}
 use Rattle.session_core.specs.State.{State, seats_of}
 use Rattle.session_core.specs.Verdicts.{AreMasks, FinishFails, Turned, Unread, digest_of, joined_bytes, joined_c}
@@ -259,3 +262,24 @@ none-of (Some f) not = absurd (not f refl)
 module _ {C : Type 0} {set_of : C → Params} {plan_of : C → PlanNumbers} {is_told is_steady : C → Bool} {leaves_of : C → List ℕ} {x y : C} where
   pub stays-same : y ≡ x → StayAs set_of plan_of is_told is_steady leaves_of x y
   stays-same is = record { set = ap set_of is; plan = ap plan_of is; told = ap is_told is; steady = ap is_steady is; leaves = λ told. ap leaves_of is }
+
+-- the same by what the calls say of the cells before and after
+module _ {C : Type 0} (k : cells.Ghosts C) {x y : C} {addresses : List Address} {before now : ℕ} {port : PortState}
+    {members : List ℕ} {talks : List Talk} {n : ℕ} {end : Result (Unit {0}) SignFault} where
+  pub opens-by : y ≡ x → (s kept turned : State) → members ≡ leaf_members s.plan s.leaf
+      → First addresses (first_frame s) port s members talks kept end → end ≡ Ok tt → (n ≡ length members) ⊎ (AreMasks kept.first → ⊥) → length talks ≡ n → TurnsTo k y kept turned
+      → Opens addresses (record { told = k.told x; leaves = k.leaves x; before = before; now = now }) port s turned
+      talks
+  opens-by is s kept turned all run ok whole many turns =
+      opens addresses _ port s kept turned members talks n end all run ok whole many turns.turned
+      (joined-as k.told k.leaves x y kept turned is turns.joined)
+      (dealt-as k.told k.leaves x y kept turned is turns.dealt)
+
+-- a value is no fault of the reference
+module _ {C V : Type 0} {k : cells.Ghosts C} {f : faults.Ghosts C} {x y : C} where
+  pub cells-ok : (value : V) → CellsStay k f x y → ReferenceCauses k f x y (Ok value)
+  cells-ok value stays = record {
+    rises = λ is. absurd (ok-never value (Session Reference) is);
+    succeeds = λ exact is. ok-never value (Session Reference) is;
+    stays = stays;
+  }

@@ -1,14 +1,15 @@
 use Rattle.std.specs.Prelude.{IsSome}
-use Rattle.std.proofs.Common.{List, ℕ, Option, ◌≡◌, ◌+◌, ◌<◌, ◌≤◌, true, false, length, refl, sym, ap, subst, ◌∙◌, arith}
-use Rattle.std.proofs.lemmas.List.{get_or-set_other, length-set}
+use Rattle.std.proofs.Common.{List, ℕ, Option, ◌≡◌, ◌+◌, ◌≤◌, true, false, length, refl, sym, ap, subst, ◌∙◌}
+use Rattle.std.proofs.lemmas.List.{length-set}
 use Rattle.std.proofs.lemmas.List.Elements.{All-set}
 use Rattle.std.proofs.lemmas.Result.{err_from_is_err_and}
 use Rattle.aggregator_session.proofs.Frames.{asked-as, frames-of}
 use Rattle.aggregator_session.proofs.Rounds.{ok-is, second-done, second-ends, second-more, second-refuses}
+use Rattle.aggregator_session.proofs.Numbers.{count-then, holds-behind, inside, same-le}
 use Rattle.aggregator_session.proofs.Digests.{same-digest}
-use Rattle.aggregator_session.proofs.Sessions.{err-as, exact-stays}
+use Rattle.aggregator_session.proofs.Sessions.{cells-ok, err-as, exact-stays}
 use Rattle.aggregator_session.proofs.Standing.{member-of, stands-as}
-use Rattle.aggregator_session.proofs.Tasks.{lost-as, same-then}
+use Rattle.aggregator_session.proofs.Tasks.{lost-as, rose-later, same-then}
 use Rattle.reference_value.proofs.Staying.{stays-then}
 use Rattle.aggregator_session.proofs.session.ask_again.Goals as goal
 
@@ -43,15 +44,11 @@ members-preserved g c =
       many = length-set c.members.links.items c.members.i c.ask_once_more.new.link ∙ v.many;
       steady = λ all.
           let before = v.steady all in
-          let inside : c.members.i < length c.members.links.items = (let x = v.many in let y = c.members-test.true in omega arith) in
           All-set is_steady c.members.links.items c.members.i c.ask_once_more.new.link
-          (a.steady ∙ (ap (λ (l : _). g.L.Faults.steady l) c.index_mut.ensures.value ∙ before c.members.i c.index_mut.result.now inside)) before;
-      rooms = λ all k d low lt.
-          let inside = length-set c.members.links.items c.members.i c.ask_once_more.new.link in
-          subst is_wide (sym (get_or-set_other c.members.links.items c.members.i k c.ask_once_more.new.link d (λ e. absurd (omega (arith, e, low)))))
-          (v.rooms all k d (omega (arith, low)) (omega (arith, lt, inside)));
+          (a.steady ∙ (ap (λ (l : _). g.L.Faults.steady l) c.index_mut.ensures.value ∙ before c.members.i c.index_mut.result.now (inside _ _ _ v.many c.members-test.true))) before;
+      rooms = λ all. holds-behind is_wide c.members.links.items c.members.i c.ask_once_more.new.link (v.rooms all);
       same = same-then _ _ _ v.same a.same;
-      count = (let x = v.count in let y = a.count in omega arith);
+      count = count-then _ _ _ v.count a.count;
       stays = stays-then v.stays a.cells.stays;
     }
 
@@ -67,14 +64,14 @@ returns-in_err-ask_once_more-clause-links g c =
     let p = err_from_is_err_and c.from_residual.result c.from_residual.ensures.1 in
     let is_wide = λ (link : _). 92 + length c.args.task.now.message.now ≤ g.L.Sink.room link in
     let value = c.index_mut.ensures.value in
-    let inside : c.members.i < length c.members.links.items = (let x = v.many in let y = c.members-test.true in omega arith) in
+    let lt = inside _ _ _ v.many c.members-test.true in
     let links = c.ask_once_more.ensures.links in
     record {
       dialled = λ lost. links.dialled (lost-as _ _ _ _ _ p.1 p.2 c.in_err-ask_once_more.was lost);
-      reads = λ all lost. links.reads (ap (λ (l : _). g.L.Faults.steady l) value ∙ v.steady all c.members.i c.index_mut.result.now inside)
+      reads = λ all lost. links.reads (ap (λ (l : _). g.L.Faults.steady l) value ∙ v.steady all c.members.i c.index_mut.result.now lt)
           (lost-as _ _ _ _ _ p.1 p.2 c.in_err-ask_once_more.was lost);
-      writes = λ all wide lost. links.writes (ap (λ (l : _). g.L.Faults.steady l) value ∙ v.steady all c.members.i c.index_mut.result.now inside)
-          (subst is_wide (sym value) (v.rooms wide c.members.i c.index_mut.result.now (omega arith) inside))
+      writes = λ all wide lost. links.writes (ap (λ (l : _). g.L.Faults.steady l) value ∙ v.steady all c.members.i c.index_mut.result.now lt)
+          (subst is_wide (sym value) (v.rooms wide c.members.i c.index_mut.result.now (same-le _) lt))
           (lost-as _ _ _ _ _ p.1 p.2 c.in_err-ask_once_more.was lost);
     }
 
@@ -104,21 +101,13 @@ returns-in_err-ask_once_more-clause-cells g c =
     let p = err_from_is_err_and c.from_residual.result c.from_residual.ensures.1 in
     let a = c.ask_once_more.ensures.cells in
     record {
-      rises = λ is. (let rose = a.rises (err-as _ _ _ _ _ p.1 p.2 c.in_err-ask_once_more.was is) in let le = v.count in omega (arith, rose, le));
+      rises = λ is. rose-later _ _ _ v.count (a.rises (err-as _ _ _ _ _ p.1 p.2 c.in_err-ask_once_more.was is));
       succeeds = λ exact is. a.succeeds (exact-stays v.stays exact) (err-as _ _ _ _ _ p.1 p.2 c.in_err-ask_once_more.was is);
       stays = stays-then v.stays a.stays;
     }
 
 pub returns-then-not-branch-clause-cells : goal.returns-then-not-branch-clause-cells
-returns-then-not-branch-clause-cells g c = record {
-  rises = λ is. absurd (cc);
-  succeeds = λ exact is. absurd (cc);
-  stays = stays-then c.members.invariant.stays c.ask_once_more.ensures.cells.stays;
-}
+returns-then-not-branch-clause-cells g c = cells-ok _ (stays-then c.members.invariant.stays c.ask_once_more.ensures.cells.stays)
 
 pub returns-clause-cells : goal.returns-clause-cells
-returns-clause-cells g c = record {
-  rises = λ is. absurd (cc);
-  succeeds = λ exact is. absurd (cc);
-  stays = c.members.invariant.stays;
-}
+returns-clause-cells g c = cells-ok _ c.members.invariant.stays

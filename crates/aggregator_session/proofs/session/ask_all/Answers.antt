@@ -1,12 +1,14 @@
-use Rattle.std.proofs.Common.{rules, ◌≤◌, ℕ, List, [], sym, ap, subst, ◌∙◌, arith, inl, inr}
+use Rattle.std.proofs.Common.{ℕ, List, [], sym, ap, subst, ◌∙◌, inl, inr}
+use Rattle.std.proofs.lemmas.Bool.{false≢true}
 use Rattle.std.proofs.lemmas.List.{length-map}
 use Rattle.std.proofs.lemmas.Result.{err_from_is_err_and}
 use Rattle.session_core.specs.State.{State}
 use Rattle.session_core.specs.declared.faults.SessionFault.TheVariants.{Reference}
 use Rattle.aggregator_session.proofs.Standing.{same-asked, same-turned, stands-again, stands-as}
 use Rattle.aggregator_session.specs.Runs.{SameSession, judged_in_one, judged_in_two, lost_in_one, lost_in_two, signed}
-use Rattle.aggregator_session.proofs.Tasks.{dials-on, judged-none, lost-as, once-as, once-of}
-use Rattle.aggregator_session.proofs.Sessions.{count-as, dealt-as, err-as, exact-as, exact-stays, fails-as, fails-reference, first-as, first-not, joined-as, none-of, opens, run-as, same-err, second-end, sign-reference, stays-same, stops-later, stops-reference, whole-as}
+use Rattle.aggregator_session.proofs.Numbers.{count-on, count-then, first-fits, ok-err, second-fits}
+use Rattle.aggregator_session.proofs.Tasks.{dials-on, judged-none, lost-as, once-as, once-of, rose-later}
+use Rattle.aggregator_session.proofs.Sessions.{cells-ok, count-as, err-as, exact-as, exact-stays, fails-as, fails-reference, first-as, first-not, none-of, opens-by, run-as, same-err, second-end, sign-reference, stays-same, stops-later, stops-reference, whole-as}
 use Rattle.reference_value.proofs.Staying.{stays-as, stays-then}
 use Rattle.lms_bytes.specs.declared.public_key.PublicKey.{PublicKey}
 use Rattle.session_core.specs.Verdicts.{digest_of, joined_bytes}
@@ -35,12 +37,11 @@ returns-in_err-ask_again-clause-run g c =
     let p = err_from_is_err_and c.from_residual-in_err-ask_again.result c.from_residual-in_err-ask_again.ensures.1 in
     let d = c.dial_all.ensures in
     let t = c.in_ok-turn.ensures in
-    let many = length-map c.dial_all.new.links.items g.P.Link.Stream.talk in
+    let many = length-map c.dial_all.new.links.items g.P.Link.Stream.talk ∙ sym c.dial_all.new.links.ok.0 in
     let stays = stays-as d.cells t.onward.stays in
     rw (p.1, p.2) (lost_in_two _ _ c.turn.new.self c.ask_again.new.session c.in_err-ask_again.field-0.0
-    (opens _ _ _ c.args.session.now c.dial_all.new.session c.turn.new.self _ _ _ _ c.requires.task.stands.all d.run c.in_ok-dial_all.was c.in_ok-dial_all.ensures.whole (search rules) t.turns.turned
-    (joined-as g.R.Cells.told g.R.Cells.leaves _ _ c.dial_all.new.session c.turn.new.self d.cells t.turns.joined)
-    (dealt-as g.R.Cells.told g.R.Cells.leaves _ _ c.dial_all.new.session c.turn.new.self d.cells t.turns.dealt))
+    (opens-by g.R.Cells d.cells c.args.session.now c.dial_all.new.session c.turn.new.self c.requires.task.stands.all
+    d.run c.in_ok-dial_all.was c.in_ok-dial_all.ensures.whole many t.turns)
     (second-end _ _ _ _ _ _ _ _ stays.told stays.leaves c.requires.task.stands.all c.in_err-ask_again.was c.ask_again.ensures.run))
 
 pub finish_with-requires-clause-digest : goal.finish_with-requires-clause-digest
@@ -55,16 +56,15 @@ returns-in_err-finish_with-clause-run g c =
     let d = c.dial_all.ensures in
     let t = c.in_ok-turn.ensures in
     let a = c.ask_again.ensures in
-    let many = length-map c.dial_all.new.links.items g.P.Link.Stream.talk in
+    let many = length-map c.dial_all.new.links.items g.P.Link.Stream.talk ∙ sym c.dial_all.new.links.ok.0 in
     let stays = stays-as d.cells t.onward.stays in
     let later = stays-then stays a.cells.stays in
     let count = g.R.Faults.count in
-    let le : count c.args.cells.now ≤ count c.ask_again.new.cells = (let x = ap count d.cells in let y = t.onward.count in let z = a.count in omega arith) in
+    let le = count-then _ _ _ (count-on _ _ _ (ap count d.cells) t.onward.count) a.count in
     let digest = c.digest_of-digest.ensures ∙ same-digest c.turn.new.self c.ask_again.new.session c.args.task.now.message.now a.same in
     rw (p.1, p.2) (judged_in_two _ _ c.turn.new.self c.ask_again.new.session c.in_err-finish_with.field-0.0
-    (opens _ _ _ c.args.session.now c.dial_all.new.session c.turn.new.self _ _ _ _ c.requires.task.stands.all d.run c.in_ok-dial_all.was c.in_ok-dial_all.ensures.whole (search rules) t.turns.turned
-    (joined-as g.R.Cells.told g.R.Cells.leaves _ _ c.dial_all.new.session c.turn.new.self d.cells t.turns.joined)
-    (dealt-as g.R.Cells.told g.R.Cells.leaves _ _ c.dial_all.new.session c.turn.new.self d.cells t.turns.dealt))
+    (opens-by g.R.Cells d.cells c.args.session.now c.dial_all.new.session c.turn.new.self c.requires.task.stands.all
+    d.run c.in_ok-dial_all.was c.in_ok-dial_all.ensures.whole many t.turns)
     (second-end _ _ _ _ _ _ _ _ stays.told stays.leaves c.requires.task.stands.all c.in_ok-ask_again.was a.run)
     (fails-as _ c.args.task.now.message.now c.args.task.now.desk.now.tree.now _ _ _ _ _ _ _ _ later.told later.leaves le (c.in_err-finish_with.ensures.finishes c.args.task.now.message.now digest).joins.cause))
 
@@ -74,7 +74,7 @@ returns-clause-run g c =
     let t = c.in_ok-turn.ensures in
     let a = c.ask_again.ensures in
     let f = c.in_ok-finish_with.ensures in
-    let many = length-map c.dial_all.new.links.items g.P.Link.Stream.talk in
+    let many = length-map c.dial_all.new.links.items g.P.Link.Stream.talk ∙ sym c.dial_all.new.links.ok.0 in
     let stays = stays-as d.cells t.onward.stays in
     let later = stays-then stays a.cells.stays in
     let message = c.args.task.now.message.now in
@@ -83,12 +83,11 @@ returns-clause-run g c =
     let digest = c.digest_of-digest.ensures ∙ same-digest c.turn.new.self c.ask_again.new.session c.args.task.now.message.now a.same in
     let done = f.finishes message digest in
     signed _ _ c.turn.new.self kept _
-    (opens _ _ _ c.args.session.now c.dial_all.new.session c.turn.new.self _ _ _ _ c.requires.task.stands.all d.run c.in_ok-dial_all.was c.in_ok-dial_all.ensures.whole (search rules) t.turns.turned
-    (joined-as g.R.Cells.told g.R.Cells.leaves _ _ c.dial_all.new.session c.turn.new.self d.cells t.turns.joined)
-    (dealt-as g.R.Cells.told g.R.Cells.leaves _ _ c.dial_all.new.session c.turn.new.self d.cells t.turns.dealt))
+    (opens-by g.R.Cells d.cells c.args.session.now c.dial_all.new.session c.turn.new.self c.requires.task.stands.all
+    d.run c.in_ok-dial_all.was c.in_ok-dial_all.ensures.whole many t.turns)
     (second-end _ _ _ _ _ _ _ _ stays.told stays.leaves c.requires.task.stands.all c.in_ok-ask_again.was a.run)
     (record {
-      faultless = none-of _ (λ fault some. let no = (c.finish_with.ensures.finishes message digest).joins.fault fault some in let was = c.in_ok-finish_with.was in absurd (cc));
+      faultless = none-of _ (λ fault some. let no = (c.finish_with.ensures.finishes message digest).joins.fault fault some in ok-err _ _ _ c.in_ok-finish_with.was no);
       accepted = done.joins.accepted;
       joined = λ told. done.joins.joined (later.told ∙ told) ∙ ap (λ (l : List ℕ). joined_bytes kept l tree message) (later.leaves told);
       dealt = λ told d key answered. done.dealt d key (later.told ∙ told)
@@ -113,17 +112,14 @@ returns-in_err-turn-clause-cells g c =
     let count = g.R.Faults.count in
     record {
       rises = λ is.
-          let same = ap count d.cells in
           let both = stops-reference _ [] _ _ _ t.cause (same-err _ _ _ _ p.1 p.2 is) in
-          let rose = both.1 in
-          omega arith;
+          rose-later _ _ _ (count-as _ _ (ap count d.cells)) both.1;
       succeeds = λ exact is.
           let both = stops-reference _ [] _ _ _ t.cause (same-err _ _ _ _ p.1 p.2 is) in
           let e = exact-as d.cells exact in
           let set = ap g.R.Cells.set d.cells ∙ (c.requires.task.stands.set ∙ ap (λ (k : PublicKey). k.params) (sym d.same.key)) in
           let plan = ap g.R.Cells.plan d.cells ∙ (c.requires.task.stands.plan ∙ sym d.same.plan) in
-          let no = t.succeeds (record { steady = e.steady; told = e.told; whole = whole-as _ _ _ _ _ e.whole set plan }) both.0 in
-          absurd (cc);
+          false≢true (t.succeeds (record { steady = e.steady; told = e.told; whole = whole-as _ _ _ _ _ e.whole set plan }) both.0);
       stays = stays-as d.cells t.onward.stays;
     }
 
@@ -137,10 +133,7 @@ returns-in_err-ask_again-clause-cells g c =
     let count = g.R.Faults.count in
     record {
       rises = λ is.
-          let rose = a.rises (err-as _ _ _ _ _ p.1 p.2 c.in_err-ask_again.was is) in
-          let x = ap count d.cells in
-          let y = t.count in
-          omega arith;
+          rose-later _ _ _ (count-on _ _ _ (ap count d.cells) t.count) (a.rises (err-as _ _ _ _ _ p.1 p.2 c.in_err-ask_again.was is));
       succeeds = λ exact is. a.succeeds (exact-stays stays exact) (err-as _ _ _ _ _ p.1 p.2 c.in_err-ask_again.was is);
       stays = stays-then stays a.stays;
     }
@@ -153,15 +146,14 @@ returns-in_err-finish_with-clause-cells g c =
     let a = c.ask_again.ensures in
     let f = c.in_err-finish_with.ensures in
     let count = g.R.Faults.count in
-    let le : count c.args.cells.now ≤ count c.ask_again.new.cells = (let x = ap count d.cells in let y = t.onward.count in let z = a.count in omega arith) in
+    let le = count-then _ _ _ (count-on _ _ _ (ap count d.cells) t.onward.count) a.count in
     let digest = c.digest_of-digest.ensures ∙ same-digest c.turn.new.self c.ask_again.new.session c.args.task.now.message.now a.same in
     let joins = (f.finishes c.args.task.now.message.now digest).joins in
     let stays = stays-then (stays-as d.cells t.onward.stays) a.cells.stays in
     record {
       rises = λ is.
           let both = fails-reference _ c.args.task.now.message.now _ _ _ _ _ joins.cause (same-err _ _ _ _ p.1 p.2 is) in
-          let rose = both.1 in
-          omega arith;
+          rose-later _ _ _ le both.1;
       succeeds = λ exact is.
           let e = exact-stays stays exact in
           let key = a.same.key ∙ (ap (λ (x : State). x.key) t.turns.turned.same ∙ d.same.key) in
@@ -177,19 +169,12 @@ returns-in_err-finish_with-clause-cells g c =
 pub returns-clause-cells : goal.returns-clause-cells
 returns-clause-cells g c =
     let stays = stays-as c.dial_all.ensures.cells c.in_ok-turn.ensures.onward.stays in
-    record {
-      rises = λ is. absurd (cc);
-      succeeds = λ exact is. absurd (cc);
-      stays = stays-then (stays-then stays c.ask_again.ensures.cells.stays) c.in_ok-finish_with.ensures.onward.stays;
-    }
+    cells-ok _ (stays-then (stays-then stays c.ask_again.ensures.cells.stays) c.in_ok-finish_with.ensures.onward.stays)
 
 pub returns-clause-count : goal.returns-clause-count
 returns-clause-count g c =
-    let x = ap g.R.Faults.count c.dial_all.ensures.cells in
-    let y = c.in_ok-turn.ensures.onward.count in
-    let z = c.ask_again.ensures.count in
-    let u = c.in_ok-finish_with.ensures.onward.count in
-    omega arith
+    let turned = count-on _ _ _ (ap g.R.Faults.count c.dial_all.ensures.cells) c.in_ok-turn.ensures.onward.count in
+    count-then _ _ _ (count-then _ _ _ turned c.ask_again.ensures.count) c.in_ok-finish_with.ensures.onward.count
 
 pub returns-in_err-dial_all-clause-dials : goal.returns-in_err-dial_all-clause-dials
 returns-in_err-dial_all-clause-dials g c =
@@ -199,7 +184,7 @@ returns-in_err-dial_all-clause-dials g c =
       dialled = λ lost. d.dialled (lost-as _ _ _ _ _ p.1 p.2 c.in_err-dial_all.was lost);
       once = once-as _ _ _ _ _ _ c.in_err-dial_all.was (sym p.2) p.1 d.once;
       reads = λ steady lost. d.reads steady (lost-as _ _ _ _ _ p.1 p.2 c.in_err-dial_all.was lost);
-      writes = λ steady fits lost. d.writes steady (omega (arith, fits)) (lost-as _ _ _ _ _ p.1 p.2 c.in_err-dial_all.was lost);
+      writes = λ steady fits lost. d.writes steady (first-fits _ _ fits) (lost-as _ _ _ _ _ p.1 p.2 c.in_err-dial_all.was lost);
       only = d.only;
     }
 
@@ -218,7 +203,7 @@ returns-in_err-ask_again-clause-dials g c =
       once = once-of _ _ _ _ _ c.in_ok-dial_all.was d.dials.once;
       reads = λ steady lost. a.reads (d.links.steady steady) (lost-as _ _ _ _ _ p.1 p.2 c.in_err-ask_again.was lost);
       writes = λ steady fits lost. a.writes (d.links.steady steady)
-          (λ k d lt. let room = c.dial_all.ensures.links.rooms k d lt in omega (arith, room, fits))
+          (λ k d lt. second-fits _ _ _ (c.dial_all.ensures.links.rooms k d lt) fits)
           (lost-as _ _ _ _ _ p.1 p.2 c.in_err-ask_again.was lost);
       only = d.dials.only;
     }

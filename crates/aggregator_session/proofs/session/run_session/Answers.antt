@@ -1,8 +1,9 @@
-use Rattle.std.proofs.Common.{◌++◌, List, map, inl, inr, refl, ap, ◌∙◌, arith}
+use Rattle.std.proofs.Common.{◌++◌, List, map, inl, inr, refl, ap, ◌∙◌}
 use Rattle.std.proofs.lemmas.Result.{err_from_is_err_and}
 use Rattle.aggregator_session.specs.declared.fault.Why.TheVariants.{DialFailed, ReadFailed, WriteFailed}
 use Rattle.aggregator_session.proofs.Counting.{session-counts}
 use Rattle.aggregator_session.proofs.Lasts.{ended-faulty}
+use Rattle.aggregator_session.proofs.Numbers.{none-hung, once-hung, rose-then, same-le}
 use Rattle.aggregator_session.proofs.Running.{run-none}
 use Rattle.aggregator_session.proofs.Tasks.{bytes-lost, onward-then, rose-later}
 use Rattle.aggregator_session.proofs.session.run_session.Goals as goal
@@ -10,17 +11,17 @@ use Rattle.aggregator_session.proofs.session.run_session.Goals as goal
 pub returns-in_err-members-clause-ran : goal.returns-in_err-members-clause-ran
 returns-in_err-members-clause-ran g c =
     let p = err_from_is_err_and c.from_residual.result c.from_residual.ensures.1 in
-    rw (p.1, p.2) (run-none _ _ _ _ _ (omega arith))
+    rw (p.1, p.2) (run-none _ _ _ _ _ (same-le _))
 
 pub returns-in_err-room-clause-ran : goal.returns-in_err-room-clause-ran
 returns-in_err-room-clause-ran g c =
     let p = err_from_is_err_and c.from_residual-in_err-room.result c.from_residual-in_err-room.ensures.1 in
-    rw (p.1, p.2) (run-none _ _ _ _ _ (omega arith))
+    rw (p.1, p.2) (run-none _ _ _ _ _ (same-le _))
 
 pub returns-in_err-links-clause-ran : goal.returns-in_err-links-clause-ran
 returns-in_err-links-clause-ran g c =
     let p = err_from_is_err_and c.from_residual-in_err-links.result c.from_residual-in_err-links.ensures.1 in
-    rw (p.1, p.2) (run-none _ _ _ _ _ (omega arith))
+    rw (p.1, p.2) (run-none _ _ _ _ _ (same-le _))
 
 pub returns-clause-ran : goal.returns-clause-ran
 returns-clause-ran g c =
@@ -37,8 +38,8 @@ returns-clause-ran g c =
       later = a.count;
       rises = λ some. rose-later _ _ _ a.dials.only.onward.count (h.rises some);
       counts = record {
-        once = (let x = a.dials.once.once in let y = h.most in omega (arith, x, y));
-        same = λ not. (let x = a.dials.once.same (λ lost. not (bytes-lost DialFailed _ lost)) in let y = h.most in omega (arith, x, y));
+        once = once-hung _ _ _ _ a.dials.once.once h.most;
+        same = λ not. none-hung _ _ _ _ (a.dials.once.same (λ lost. not (bytes-lost DialFailed _ lost))) h.most;
       };
     }
 
@@ -48,7 +49,7 @@ returns-clause-port g c =
     let h = c.hang_up_all.ensures in
     let only = a.dials.only in
     record {
-      dialled = λ lost. (let rose = a.dials.dialled lost in let later = h.onward.count in omega (arith, rose, later));
+      dialled = λ lost. rose-then _ _ _ (a.dials.dialled lost) h.onward.count;
       unwritten = λ lost. rose-later _ _ _ only.onward.count
           (h.rises (ended-faulty _ _ h.ended (session-counts WriteFailed (inl refl) _ _ _ _ _ _ _ _ a.run lost)));
       unread = λ lost. rose-later _ _ _ only.onward.count

@@ -1,4 +1,4 @@
-use Rattle.std.proofs.Common.{Result, refl, sym, ap, subst, arith}
+use Rattle.std.proofs.Common.{Result, refl, sym, ap, subst}
 use Rattle.aggregator_session.specs.Causes.{PortCauses, ReferenceCauses}
 use Rattle.aggregator_session.specs.declared.fault.SignFault.{SignFault}
 use Rattle.aggregator_session.specs.declared.sign.Signed.{Signed}
@@ -12,12 +12,12 @@ returns-then-message-clause-signs g c = not-begun (ap signature_in c.not_begun.e
 
 pub returns-in-Err-clause-signs : goal.returns-in-Err-clause-signs
 returns-in-Err-clause-signs g c =
-    not-begun (ap signature_in c.not_begun-in-Err.ensures.0) c.not_begun-in-Err.ensures.1 (not_leased (table_seen c.lease.new.self) c.in-Err.fault (let long = c.if-message.false in omega arith) refl
+    not-begun (ap signature_in c.not_begun-in-Err.ensures.0) c.not_begun-in-Err.ensures.1 (not_leased (table_seen c.lease.new.self) c.in-Err.fault c.if-message.false refl
     (asks-as c.args.message.now c.of-id.ensures c.in-Err.ensures.event tt tt c.in-Err.ensures.enters)) refl
 
 pub returns-clause-signs : goal.returns-clause-signs
 returns-clause-signs g c =
-    leased-to c.signed_with.ensures.answer (let long = c.if-message.false in omega arith) c.of-id.ensures
+    leased-to c.signed_with.ensures.answer c.if-message.false c.of-id.ensures
     (asks-as c.args.message.now c.of-id.ensures c.in-Ok.ensures.event c.in-Ok.ensures.within c.in-Ok.ensures.leased c.in-Ok.ensures.enters)
     c.run_on-outcome.ensures.runs c.spent_by.ensures c.burn_spent.ensures.spends
 

@@ -1,0 +1,54 @@
+-- Counts, rooms and places, as numbers alone: a search among all that is known at a call takes far longer.
+use Rattle.std.proofs.Common.{◌≡◌, ◌≢◌, ◌+◌, ◌<◌, ◌≤◌, ℕ, List, Result, Ok, Err, get_or, length, set, subst, sym, arith}
+use Rattle.std.proofs.lemmas.List.{get_or-set_other, length-set}
+use Rattle.disk_trait.specs.Faults.{Rose}
+
+pub same-le : (n : ℕ) → n ≤ n
+same-le n = omega arith
+
+-- a count that stayed the same and then did not fall
+pub count-on : (a b c : ℕ) → b ≡ a → b ≤ c → a ≤ c
+count-on a b c same le = omega arith
+
+pub count-then : (a b c : ℕ) → a ≤ b → b ≤ c → a ≤ c
+count-then a b c first then = omega arith
+
+pub rose-then : (a b c : ℕ) → Rose a b → b ≤ c → Rose a c
+rose-then a b c rose le = omega arith
+
+-- one dial that failed, and the links that were hung up with faults
+pub once-hung : (a b c faulty : ℕ) → b ≤ a + 1 → c ≤ b + faulty → c ≤ a + faulty + 1
+once-hung a b c faulty once most = omega arith
+
+pub none-hung : (a b c faulty : ℕ) → b ≤ a → c ≤ b + faulty → c ≤ a + faulty
+none-hung a b c faulty once most = omega arith
+
+-- the room of all asks has that of the first, and behind the first that of the second
+pub first-fits : (message room : ℕ) → 156 + message ≤ room → 64 ≤ room
+first-fits message room fits = omega arith
+
+pub second-fits : (message room left : ℕ) → room ≤ left + 64 → 156 + message ≤ room → 92 + message ≤ left
+second-fits message room left kept fits = omega arith
+
+pub inside : (i many links : ℕ) → links ≡ many → i < many → i < links
+inside i many links same lt = omega arith
+
+-- what holds of the elements from a place on holds of those behind it, whatever is put there
+module _ {L : Type 0} (P : L → Type 0) (links : List L) (i : ℕ) (link : L) where
+  other-place : (k : ℕ) → i + 1 ≤ k → k ≢ i
+  other-place k low is = absurd (omega arith)
+
+  before-place : (k : ℕ) → i + 1 ≤ k → i ≤ k
+  before-place k low = omega arith
+
+  pub holds-behind : ((k : ℕ) (d : L) → i ≤ k → k < length links → P (get_or links k d))
+      → (k : ℕ) (d : L) → i + 1 ≤ k → k < length (set links i link) → P (get_or (set links i link) k d)
+  holds-behind all k d low lt = subst P (sym (get_or-set_other links i k link d (other-place k low)))
+      (all k d (before-place k low) (subst (λ (n : ℕ). k < n) (length-set links i link) lt))
+
+module _ {V E : Type 0} where
+  pub ok-err : (result : Result V E) (value : V) (fault : E) → result ≡ Ok value → result ≡ Err fault → ⊥
+  ok-err result value fault is other = absurd (cc)
+
+  pub ok-never : (value : V) (fault : E) → ◌≡◌ {A = Result V E} (Ok value) (Err fault) → ⊥
+  ok-never value fault is = absurd (cc)
