@@ -1,5 +1,5 @@
 -- Links that are hung up one after the other.
-use Rattle.std.proofs.Common.{◌≡◌, ◌≢◌, ◌<◌, ◌≤◌, ◌++◌, ℕ, List, [], ◌∷◌, drop, length, min, slice_index_or, refl, sym, ap, ◌∙◌, arith, append_assoc, append-nil}
+use Rattle.std.proofs.Common.{◌≡◌, ◌≢◌, ◌<◌, ◌≤◌, ◌++◌, ℕ, List, [], ◌∷◌, drop, length, map, min, slice_index_or, refl, sym, ap, subst, ◌∙◌, arith, append_assoc, append-nil}
 use Rattle.std.specs.List.{sum_by}
 use Rattle.std.proofs.lemmas.List.Sums.{sum_by-append, sum_by-cons}
 use mathlib.Core.Logic.{dite}
@@ -79,3 +79,10 @@ pub ended-faulty : (talks lasts : List Talk) → AllEnded talks lasts → counts
 ended-faulty talks lasts all some none =
     let one = some-last talks lasts all (dite (dec_le 1 (counts_of talks)) (λ is. is) (λ never. absurd (some (omega (arith, never))))) in
     omega (arith, one, none)
+
+-- what was hung up is all where no link is left
+pub hung-all : {L : Type 0} (talk : L → Talk) (links : List L) (old new : PortState) (all gone : List Talk)
+    → all ≡ gone ++ map talk links → length links ≡ 0 → HangsUpAll old gone new → HangsUpAll old all new
+hung-all talk [] old new all gone is none hung =
+    subst (λ (l : List Talk). HangsUpAll old l new) (sym (is ∙ append-nil gone)) hung
+hung-all talk (link ∷ links) old new all gone is none hung = absurd (omega (arith, none))

@@ -1,5 +1,5 @@
 -- Counts, rooms and places, as numbers alone: a search among all that is known at a call takes far longer.
-use Rattle.std.proofs.Common.{◌≡◌, ◌≢◌, ◌+◌, ◌<◌, ◌≤◌, ℕ, List, Result, Ok, Err, get_or, length, set, subst, sym, arith}
+use Rattle.std.proofs.Common.{◌≡◌, ◌≢◌, ◌+◌, ◌<◌, ◌≤◌, ℕ, suc, List, Result, Ok, Err, get_or, length, set, subst, sym, arith}
 use Rattle.std.proofs.lemmas.List.{get_or-set_other, length-set}
 use Rattle.disk_trait.specs.Faults.{Rose}
 
@@ -29,6 +29,19 @@ first-fits message room fits = omega arith
 
 pub second-fits : (message room left : ℕ) → room ≤ left + 64 → 156 + message ≤ room → 92 + message ≤ left
 second-fits message room left kept fits = omega arith
+
+pub one-over : (a b : ℕ) → a ≤ b → a ≤ b + 1
+one-over a b le = omega arith
+
+-- a loop that counts to its end, and the frames that are still to be read in one of eight
+pub all-gone : (size count end items : ℕ) → size + count ≡ end → end ≤ count → size ≡ items → items ≡ 0
+all-gone size count end items is done same = omega arith
+
+pub steps-more : (most n : ℕ) → most + (n + 1) ≡ 8 → suc most + n ≡ 8
+steps-more most n is = omega arith
+
+pub steps-done : (n : ℕ) → 8 ≤ n → n ≤ 8 → 0 + n ≡ 8
+steps-done n least most = omega arith
 
 pub inside : (i many links : ℕ) → links ≡ many → i < many → i < links
 inside i many links same lt = omega arith

@@ -4,7 +4,7 @@ use Rattle.std.specs.declared.alloc.Global.{Global}
 use Rattle.std.specs.declared.vec.Vec.{Vec}
 use Rattle.aggregator_session.specs.Causes.{PortCauses, ReferenceCauses}
 use Rattle.aggregator_session.specs.Faults.{LostBy}
-use Rattle.aggregator_session.specs.declared.fault.SignFault.TheVariants.{Session}
+use Rattle.aggregator_session.specs.declared.fault.SignFault.TheVariants.{NoMemory, Session}
 use Rattle.aggregator_session.specs.declared.fault.Why.{Why}
 use Rattle.aggregator_session.specs.declared.fault.Why.TheVariants.{DialFailed, ReadFailed, WriteFailed}
 use Rattle.aggregator_session.specs.declared.sign.Signed.{Signed}
@@ -76,6 +76,11 @@ cells-none c f own result none = record {
   succeeds = λ exact is. none is;
   stays = record { set = refl; plan = refl; told = refl; steady = refl; leaves = λ told. refl };
 }
+
+-- want of memory is no fault of the reference
+pub cells-refused : {C V : Type 0} (c : cells.Ghosts C) (f : faults.Ghosts C) (own : C)
+    → ReferenceCauses {V = V} c f own own (Err NoMemory)
+cells-refused c f own = cells-none c f own (Err NoMemory) (λ is. absurd (cc))
 
 -- what came of a session is what comes of the message
 module _ (outcome : Result (Vec ℕ Global) SignFault) where

@@ -5,6 +5,7 @@ use Rattle.aggregator_session.specs.declared.fault.SignFault.TheVariants.{Lost, 
 use Rattle.round_frames.specs.Replies.{Reply}
 use Rattle.session_core.specs.State.{State, round_of}
 use Rattle.aggregator_session.proofs.Hearing.{hear-answered, heard-why, hear-lost, hear-none, hear-passed, lost-cause, none-lost, only-then, quiet-cause, read-all, reads-as}
+use Rattle.aggregator_session.proofs.Numbers.{ok-never, steps-done, steps-more}
 use Rattle.aggregator_session.proofs.asks.hear.Goals as goal
 
 -- how many are still to be read
@@ -32,7 +33,7 @@ returns-then-is_answer-clause-heard g c =
             ∙ hear-answered s c.args.member (7 - n) mid new reply (reads-as _ _ mid new (Ok reply) c.requires.params (r.told (v.only.told ∙ told))) is);
         taken = is;
         lost = tt;
-        cause = quiet-cause _ old.count new.count (λ no. absurd (cc)) (r.cause.same (λ no. absurd (cc)) ∙ v.quiet);
+        cause = quiet-cause _ old.count new.count (ok-never _ _) (r.cause.same (ok-never _ _) ∙ v.quiet);
       };
       state = c.if-is_answer.ensures.state ∙ ap (λ (x : State). kept_in x (Ok reply)) v.session;
       told = refl;
@@ -83,9 +84,9 @@ loop-preserved g c =
       only = only-then old mid new v.only r.only;
       all = λ told. read-all mid new (Ok reply) _ (r.told (v.only.told ∙ told)) ∙ v.all told;
       heard = λ told most many.
-          let more : suc most + n ≡ 8 = omega arith in
+          let more = steps-more most n many in
           v.heard told (suc most) more ∙ hear-passed s c.args.member most mid new reply (reads-as _ _ mid new (Ok reply) c.requires.params (r.told (v.only.told ∙ told))) is;
-      quiet = r.cause.same (λ no. absurd (cc)) ∙ v.quiet;
+      quiet = r.cause.same (ok-never _ _) ∙ v.quiet;
       session = c.if-is_answer.ensures.state ∙ v.session;
       steady = r.steady ∙ v.steady;
     }
@@ -97,7 +98,7 @@ returns-clause-heard g c =
     let s = c.args.session.now in
     let old = talk c.args.link.now in
     let new = talk c.loop.link in
-    let done : 0 + c.loop.counter ≡ 8 = (let a = c.loop-test.false in let b = c.loop.auto.counter-end in omega arith) in
+    let done = steps-done c.loop.counter c.loop-test.false c.loop.auto.counter-end in
     let round : c.round-2.result ≡ round_of s = c.round-2.ensures.round ∙ ap round_of v.session in
     record {
       answer = Err (Stray c.args.member (round_of s));

@@ -1,6 +1,7 @@
-use Rattle.std.proofs.Common.{true, false, sym, ap, ◌∙◌, arith, inr}
+use Rattle.std.proofs.Common.{◌+◌, ◌≤◌, ℕ, true, false, length, sym, ap, subst, ◌∙◌, inr}
 use Rattle.std.proofs.lemmas.Result.{err_from_is_err_and}
 use Rattle.aggregator_session.proofs.Adding.{asked-more}
+use Rattle.aggregator_session.proofs.Numbers.{count-then, one-over}
 use Rattle.aggregator_session.proofs.Refusing.{called-refused}
 use Rattle.aggregator_session.proofs.Rounds.{first-done, first-ends, first-more, first-refuses, ok-is}
 use Rattle.aggregator_session.proofs.Standing.{member-of, stands-first}
@@ -54,11 +55,11 @@ members-preserved g c =
       run = first-more c.args.task.now.desk.now.addresses.now (first_frame c.args.session.now) (g.P.Port.state c.args.port.now) c.args.session.now c.args.task.now.members.now
           (g.P.Port.state c.members.port) c.members.session c.members.i 0 _ _ (g.P.Port.state c.dial_member.new.port) c.dial_member.new.session c.dial_member.result
           c.members-test.true v.run (called-as _ _ (frame-same _ _ v.same) d.called) (ok-is _ _ true c.in_ok-dial_member.was c.if-not-branch.false);
-      many = (let a = v.many in let b = c.in_ok-dial_member.ensures.room.1 in omega arith);
-      room = (let a = v.room in let b = d.room.0 in omega arith);
+      many = c.in_ok-dial_member.ensures.room.1 ∙ ap (λ (n : ℕ). n + 1) v.many;
+      room = subst (λ (n : ℕ). length c.args.task.now.members.now ≤ n) (sym d.room.0) v.room;
       links = asked-more g.P.Link.Faults.steady g.P.Link.Sink.room _ _ _ _ v.port.onward v.links d.links;
       port = dials-then _ _ _ v.port d.dials.only;
-      undialled = (let first = v.undialled in let last = d.dials.once.same (ok-not _ _ _ c.in_ok-dial_member.was) in omega arith);
+      undialled = count-then _ _ _ (d.dials.once.same (ok-not _ _ _ c.in_ok-dial_member.was)) v.undialled;
       same = same-then _ _ _ v.same d.called.same;
       cells = d.cells ∙ v.cells;
     }
@@ -68,12 +69,11 @@ returns-in_err-dial_member-clause-dials g c =
     let v = c.members.invariant in
     let p = err_from_is_err_and c.from_residual.result c.from_residual.ensures.1 in
     let d = c.dial_member.ensures.dials in
-    let later = v.port.onward.room in
     record {
       dialled = λ lost. rose-later _ _ _ v.port.onward.count (d.dialled (lost-as _ _ _ _ _ p.1 p.2 c.in_err-dial_member.was lost));
       once = rises-later _ _ _ v.undialled (once-as _ _ _ _ _ _ c.in_err-dial_member.was (sym p.2) p.1 d.once);
       reads = λ steady lost. d.reads (v.port.onward.steady ∙ steady) (lost-as _ _ _ _ _ p.1 p.2 c.in_err-dial_member.was lost);
-      writes = λ steady fits lost. d.writes (v.port.onward.steady ∙ steady) (omega (arith, fits, later)) (lost-as _ _ _ _ _ p.1 p.2 c.in_err-dial_member.was lost);
+      writes = λ steady fits lost. d.writes (v.port.onward.steady ∙ steady) (count-then _ _ _ fits v.port.onward.room) (lost-as _ _ _ _ _ p.1 p.2 c.in_err-dial_member.was lost);
       only = dials-then _ _ _ v.port d.only;
     }
 
@@ -94,7 +94,7 @@ returns-clause-dials g c =
     let v = c.members.invariant in
     record {
       dialled = λ lost. absurd lost;
-      once = record { once = (let most = v.undialled in omega arith); same = λ _. v.undialled };
+      once = record { once = one-over _ _ v.undialled; same = λ _. v.undialled };
       reads = λ steady lost. lost;
       writes = λ steady fits lost. lost;
       only = v.port;

@@ -1,5 +1,6 @@
 use Rattle.std.proofs.Common.{◌<◌, [], ◌∷◌, ◌++◌, List, length, map, refl, sym, ap, ◌∙◌, arith, append_assoc}
-use Rattle.aggregator_session.proofs.Lasts.{first-of, hung-more, hung-none}
+use Rattle.aggregator_session.proofs.Lasts.{first-of, hung-all, hung-more, hung-none}
+use Rattle.aggregator_session.proofs.Numbers.{all-gone}
 use Rattle.aggregator_session.proofs.session.hang_up_all.Goals as goal
 
 pub loop-init : goal.loop-init
@@ -27,3 +28,10 @@ loop-preserved g c =
       hung_up = hung-more (state c.args.port.now) (state c.loop.port) (state c.hang_up.new.self) v.gone one v.hung_up h.kept h.onward;
       many = (let many = v.many in let more = c.loop-test.true in let len = r.len in omega (arith, many, more, len));
     }
+
+pub returns : goal.returns
+returns g c =
+    let v = c.loop.invariant in
+    let links = c.loop.links in
+    hung-all g.P.Link.Stream.talk links.items _ _ _ v.gone v.all
+    (all-gone links.len c.loop.counter _ _ v.many c.loop-test.false links.ok.0) v.hung_up

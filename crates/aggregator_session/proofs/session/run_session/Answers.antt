@@ -5,6 +5,7 @@ use Rattle.aggregator_session.proofs.Counting.{session-counts}
 use Rattle.aggregator_session.proofs.Lasts.{ended-faulty}
 use Rattle.aggregator_session.proofs.Numbers.{none-hung, once-hung, rose-then, same-le}
 use Rattle.aggregator_session.proofs.Running.{run-none}
+use Rattle.aggregator_session.proofs.Signing.{cells-refused, port-none}
 use Rattle.aggregator_session.proofs.Tasks.{bytes-lost, onward-then, rose-later}
 use Rattle.aggregator_session.proofs.session.run_session.Goals as goal
 
@@ -59,3 +60,36 @@ returns-clause-port g c =
       onward = onward-then _ _ _ only.onward h.onward;
       accepting = h.accepting ∙ only.accepting;
     }
+
+pub returns-in_err-members-clause-port : goal.returns-in_err-members-clause-port
+returns-in_err-members-clause-port g c =
+    let p = err_from_is_err_and c.from_residual.result c.from_residual.ensures.1 in
+    rw (p.1, p.2) (port-none _ _ _ (λ why lost. lost))
+
+pub returns-in_err-members-clause-cells : goal.returns-in_err-members-clause-cells
+returns-in_err-members-clause-cells g c =
+    let p = err_from_is_err_and c.from_residual.result c.from_residual.ensures.1 in
+    rw (p.1, p.2) (cells-refused g.R.Cells g.R.Faults _)
+
+pub returns-in_err-room-clause-port : goal.returns-in_err-room-clause-port
+returns-in_err-room-clause-port g c =
+    let p = err_from_is_err_and c.from_residual-in_err-room.result c.from_residual-in_err-room.ensures.1 in
+    rw (p.1, p.2) (port-none _ _ _ (λ why lost. lost))
+
+pub returns-in_err-room-clause-cells : goal.returns-in_err-room-clause-cells
+returns-in_err-room-clause-cells g c =
+    let p = err_from_is_err_and c.from_residual-in_err-room.result c.from_residual-in_err-room.ensures.1 in
+    rw (p.1, p.2) (cells-refused g.R.Cells g.R.Faults _)
+
+pub returns-in_err-links-clause-port : goal.returns-in_err-links-clause-port
+returns-in_err-links-clause-port g c =
+    let p = err_from_is_err_and c.from_residual-in_err-links.result c.from_residual-in_err-links.ensures.1 in
+    rw (p.1, p.2) (port-none _ _ _ (λ why lost. lost))
+
+pub returns-in_err-links-clause-cells : goal.returns-in_err-links-clause-cells
+returns-in_err-links-clause-cells g c =
+    let p = err_from_is_err_and c.from_residual-in_err-links.result c.from_residual-in_err-links.ensures.1 in
+    rw (p.1, p.2) (cells-refused g.R.Cells g.R.Faults _)
+
+pub returns-clause-cells : goal.returns-clause-cells
+returns-clause-cells g c = c.ask_all-result.ensures.cells
