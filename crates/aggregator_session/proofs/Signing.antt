@@ -23,6 +23,8 @@ use Rattle.aggregator_session.specs.Ended.{LeasedTo, RunsTo, last_of}
 use Rattle.aggregator_session.specs.Signing.{Signature, SignsLeased, Spends, ToSign, leased, signed_with, spent_by}
 use Rattle.aggregator_session.specs.Tables.{AsksLeaf, Entered, TableSeen, name_of, table_seen}
 use Rattle.lms_bytes.specs.MessageId.{message_id, message_id_bytes}
+use Rattle.lms_bytes.specs.declared.public_key.PublicKey.{PublicKey}
+use Rattle.lms_verify.specs.Accepts.{AcceptsAt}
 use Rattle.lms_bytes.specs.declared.message.MessageId.{MessageId}
 use Rattle.session_core.specs.State.{State}
 use Rattle.stream_io.specs.Net.{PortState}
@@ -127,3 +129,19 @@ module _ {D : Type 0} {p : pages.Ghosts D} {f : faults.Ghosts D} (a b c : Table 
       count = omega (arith, one.disk.count, two.disk.count);
     };
   }
+
+-- a signature is accepted if the bytes of the session are
+pub signed-accepted : (outcome : Result (Vec ℕ Global) SignFault) (result : Result Signed SignFault) (key : PublicKey)
+    (message : List ℕ) (leaf : ℕ) → IfOk result (λ signed. (outcome ≡ Ok signed.bytes) × (signed.leaf ≡ leaf))
+    → IfOk outcome (λ bytes. AcceptsAt key message bytes.items leaf)
+    → IfOk result (λ signed. AcceptsAt key message signed.bytes.items signed.leaf)
+signed-accepted outcome (Ok signed) key message leaf of accepted =
+    subst (λ (q : ℕ). AcceptsAt key message signed.bytes.items q) (sym of.1)
+    (subst (λ (r : Result (Vec ℕ Global) SignFault). IfOk r (λ bytes. AcceptsAt key message bytes.items leaf)) of.0
+    accepted)
+signed-accepted outcome (Err fault) key message leaf of accepted = tt
+
+pub none-accepted : (result : Result Signed SignFault) (key : PublicKey) (message : List ℕ) (fault : SignFault)
+    → result ≡ Err fault → IfOk result (λ signed. AcceptsAt key message signed.bytes.items signed.leaf)
+none-accepted (Ok signed) key message fault is = absurd (cc)
+none-accepted (Err other) key message fault is = tt

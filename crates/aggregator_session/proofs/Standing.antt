@@ -32,6 +32,9 @@ module _ (task : Task) (s t : State) (p q : Params) (m n : PlanNumbers) (size ro
   pub stands-first : SameAsk s t → StandsFirst task s p m size → StandsFirst task t q n room
   stands-first same first = record { stands = stands-as same first.stands; round = same.c ∙ first.round }
 
+pub round-turned : (s t : State) → Turned s t → IsSome t.c
+round-turned s t turns = subst (λ (x : State). IsSome x.c) (sym turns.same) refl
+
 module _ (task : Task) (s t : State) (p : Params) (m : PlanNumbers) (size : ℕ) (turns : Turned s t) where
   -- the session went to round two
   stands-turned : Stands task s p m size → Stands task t p m size
@@ -50,7 +53,7 @@ module _ (task : Task) (s t : State) (p : Params) (m : PlanNumbers) (size : ℕ)
   pub stands-again : (digest : List ℕ) → digest ≡ digest_of t task.message.now → Stands task s p m size → StandsAgain task t p m size digest
   stands-again digest is st = record {
     stands = stands-turned st;
-    round = subst (λ (x : State). IsSome x.c) (sym turns.same) refl;
+    round = round-turned s t turns;
     digest_is = is;
   }
 

@@ -1,15 +1,17 @@
 -- What calls one after the other leave as it was.
-use Rattle.std.proofs.Common.{◌≡◌, ◌≤◌, ℕ, Bool, List, Result, Ok, Err, refl, sym, subst, ◌∙◌, arith}
+use Rattle.std.proofs.Common.{◌≡◌, ◌+◌, ◌≤◌, ℕ, Bool, List, Result, Ok, Err, refl, sym, subst, ◌∙◌, arith}
 use Rattle.std.specs.declared.alloc.Global.{Global}
 use Rattle.std.specs.declared.vec.Vec.{Vec}
 use Rattle.aggregator_session.specs.Causes.{DialCauses}
 use Rattle.aggregator_session.specs.Faults.{IsLostBy, LostBy, sign_fault}
+use Rattle.aggregator_session.proofs.Numbers.{one-over, same-le}
 use Rattle.aggregator_session.specs.Runs.{Dialling, HasCalled, bytes_in, first_frame}
 use Rattle.aggregator_session.specs.Tasks.{OnlyDials, RisesOnce}
 use Rattle.aggregator_session.specs.declared.desk.Address.{Address}
 use Rattle.aggregator_session.specs.declared.fault.SignFault.{SignFault}
+use Rattle.aggregator_session.specs.declared.fault.SignFault.TheVariants.{Lost}
 use Rattle.aggregator_session.specs.declared.fault.Why.{Why}
-use Rattle.aggregator_session.specs.declared.fault.Why.TheVariants.{DialFailed, ReadFailed, WriteFailed}
+use Rattle.aggregator_session.specs.declared.fault.Why.TheVariants.{DialFailed, NoAddress, ReadFailed, WriteFailed}
 use Rattle.disk_trait.specs.Faults.{Rose}
 use Rattle.session_core.specs.State.{SameAsk, State}
 use Rattle.session_core.specs.declared.faults.SessionFault.{SessionFault}
@@ -37,6 +39,9 @@ same-then a b c x y = record {
   message = y.message ∙ x.message;
   c = y.c ∙ x.c;
 }
+
+pub same-none : (a b : State) → b ≡ a → SameAsk a b
+same-none a b is = subst (SameAsk a) (sym is) (record { key = refl; plan = refl; leaf = refl; message = refl; c = refl })
 
 -- the ask of round one stays the same
 pub frame-same : (a b : State) → SameAsk a b → first_frame b ≡ first_frame a
@@ -111,4 +116,36 @@ dials-on n m before now r q x is none d = record {
   reads = λ steady lost. none ReadFailed lost;
   writes = λ steady fits lost. none WriteFailed lost;
   only = d.only;
+}
+
+-- a member without an address, of whom nobody was dialled, and one who was dialled in vain
+pub dials-nowhere : (n member : ℕ) (port : PortState)
+    → DialCauses {V = Bool} n port port (Err (Lost member 1 NoAddress))
+dials-nowhere n member port = record {
+  dialled = λ lost. absurd (let is = lost in cc);
+  once = record { once = one-over port.count port.count (same-le port.count); same = λ _. same-le port.count };
+  reads = λ steady lost. let is = lost in absurd (cc);
+  writes = λ steady fits lost. let is = lost in absurd (cc);
+  only = record {
+    onward = record {
+      told = refl;
+      steady = refl;
+      place = refl;
+      count = same-le port.count;
+      accept_count = same-le port.accept_count;
+      room = same-le port.room;
+    };
+    talks = refl;
+    accepting = refl;
+  };
+}
+
+pub dials-failed : (n member : ℕ) (before now : PortState) → Rose before.count now.count → now.count ≤ before.count + 1
+    → OnlyDials before now → DialCauses {V = Bool} n before now (Err (Lost member 1 DialFailed))
+dials-failed n member before now rose once only = record {
+  dialled = λ lost. rose;
+  once = record { once = once; same = λ not. absurd (not refl) };
+  reads = λ steady lost. let is = lost in absurd (cc);
+  writes = λ steady fits lost. let is = lost in absurd (cc);
+  only = only;
 }

@@ -1,11 +1,14 @@
-use Rattle.std.proofs.Common.{◌≡◌, ◌+◌, ◌-◌, ◌<◌, ℕ, suc, true, false, Ok, Err, take, refl, sym, ap, ◌∙◌, arith, inl, inr}
+use Rattle.std.proofs.Common.{◌≡◌, ◌+◌, ◌-◌, ◌<◌, ℕ, suc, true, false, Ok, Err, IsTrue, take, refl, sym, ap, subst, ◌∙◌, arith, inl, inr}
 use Rattle.aggregator_session.specs.Faults.{why_of}
-use Rattle.aggregator_session.specs.Hearing.{is_answer, kept_in}
+use Rattle.std.proofs.lemmas.Bool.{false≢true}
+use Rattle.aggregator_session.specs.Hearing.{is_answer, is_heard, kept_in}
 use Rattle.aggregator_session.specs.declared.fault.SignFault.TheVariants.{Lost, Stray}
+use Rattle.aggregator_session.specs.declared.fault.Why.{Why}
 use Rattle.round_frames.specs.Replies.{Reply}
 use Rattle.session_core.specs.State.{State, round_of}
-use Rattle.aggregator_session.proofs.Hearing.{hear-answered, heard-why, hear-lost, hear-none, hear-passed, lost-cause, none-lost, only-then, quiet-cause, read-all, reads-as}
+use Rattle.aggregator_session.proofs.Hearing.{hear-answered, heard-why, hear-lost, hear-none, hear-passed, lost-cause, none-lost, only-then, quiet-cause, read-all, read-failed, reads-as}
 use Rattle.aggregator_session.proofs.Numbers.{ok-never, steps-done, steps-more}
+use Rattle.aggregator_session.proofs.Tasks.{same-none, same-then}
 use Rattle.aggregator_session.proofs.asks.hear.Goals as goal
 
 -- how many are still to be read
@@ -113,3 +116,37 @@ returns-clause-heard g c =
       state = v.session;
       told = rw round refl;
     }
+
+pub returns-then-is_answer-clause-links : goal.returns-then-is_answer-clause-links
+returns-then-is_answer-clause-links g c =
+    record { dialled = λ lost. lost; reads = λ steady lost. lost; writes = λ steady fits lost. lost }
+
+pub returns-in-Err-clause-links : goal.returns-in-Err-clause-links
+returns-in-Err-clause-links g c =
+    let r = c.in-Err.ensures in
+    let fault = c.in-Err.fault in
+    let why = sym c.why_of.ensures in
+    let heard = λ (w : Why). IsTrue (is_heard w) in
+    record {
+      dialled = λ lost. false≢true (subst heard (why ∙ lost) (heard-why fault));
+      reads = λ steady lost. r.answers (c.loop.invariant.steady ∙ steady)
+          (ap Err (read-failed fault (λ is. r.no_memory (ap Err is)) (why ∙ lost)));
+      writes = λ steady fits lost. false≢true (subst heard (why ∙ lost) (heard-why fault));
+    }
+
+pub returns-clause-links : goal.returns-clause-links
+returns-clause-links g c =
+    record { dialled = λ lost. lost; reads = λ steady lost. lost; writes = λ steady fits lost. lost }
+
+pub returns-then-is_answer-clause-reference : goal.returns-then-is_answer-clause-reference
+returns-then-is_answer-clause-reference g c = ok-never _ _
+
+pub returns-then-is_answer-clause-same : goal.returns-then-is_answer-clause-same
+returns-then-is_answer-clause-same g c =
+    same-then _ _ _ (same-none _ _ c.loop.invariant.session) c.if-is_answer.ensures.same
+
+pub returns-in-Err-clause-same : goal.returns-in-Err-clause-same
+returns-in-Err-clause-same g c = same-none _ _ c.loop.invariant.session
+
+pub returns-clause-same : goal.returns-clause-same
+returns-clause-same g c = same-none _ _ c.loop.invariant.session

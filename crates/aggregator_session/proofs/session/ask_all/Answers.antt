@@ -1,10 +1,11 @@
-use Rattle.std.proofs.Common.{ℕ, List, [], sym, ap, subst, ◌∙◌, inl, inr}
+use Rattle.std.specs.Prelude.{IfSome, IsSome}
+use Rattle.std.proofs.Common.{◌≡◌, Option, length, ℕ, List, [], sym, ap, subst, ◌∙◌, inl, inr}
 use Rattle.std.proofs.lemmas.Bool.{false≢true}
 use Rattle.std.proofs.lemmas.List.{length-map}
 use Rattle.std.proofs.lemmas.Result.{err_from_is_err_and}
 use Rattle.session_core.specs.State.{State}
 use Rattle.session_core.specs.declared.faults.SessionFault.TheVariants.{Reference}
-use Rattle.aggregator_session.proofs.Standing.{same-asked, same-turned, stands-again, stands-as}
+use Rattle.aggregator_session.proofs.Standing.{round-turned, same-asked, same-turned, stands-again, stands-as}
 use Rattle.aggregator_session.specs.Runs.{SameSession, judged_in_one, judged_in_two, lost_in_one, lost_in_two, signed}
 use Rattle.aggregator_session.proofs.Numbers.{count-on, count-then, first-fits, ok-err, second-fits}
 use Rattle.aggregator_session.proofs.Tasks.{dials-on, judged-none, lost-as, once-as, once-of, rose-later}
@@ -278,3 +279,20 @@ returns-in_err-finish_with-clause-same g c = same-turned _ _ _ _ c.dial_all.ensu
 
 pub returns-clause-same : goal.returns-clause-same
 returns-clause-same g c = same-turned _ _ _ _ c.dial_all.ensures.same c.in_ok-turn.ensures.turns.turned c.ask_again.ensures.same
+
+pub dial_all-requires-clause-room : goal.dial_all-requires-clause-room
+dial_all-requires-clause-room g c κs within = (c.requires.none, c.requires.space)
+
+pub digest_of-digest-requires-clause-round : goal.digest_of-digest-requires-clause-round
+digest_of-digest-requires-clause-round g c = round-turned _ _ c.in_ok-turn.ensures.turns.turned
+
+pub digest_of-digest-requires-clause-c : goal.digest_of-digest-requires-clause-c
+digest_of-digest-requires-clause-c g c =
+    let d = c.dial_all.ensures in
+    let t = c.in_ok-turn.ensures.turns.turned in
+    subst (λ (s : State). IfSome s.c (λ (r : List ℕ). length r ≡ c.args.task.now.desk.now.key.now.params.n)) (sym t.same)
+    (t.c_length ∙ ap (λ (k : PublicKey). k.params.n) (d.same.key ∙ c.requires.task.stands.of_key))
+
+pub finish_with-requires-clause-round : goal.finish_with-requires-clause-round
+finish_with-requires-clause-round g c =
+    subst (λ (o : Option (List ℕ)). IsSome o) (sym c.ask_again.ensures.same.c) (round-turned _ _ c.in_ok-turn.ensures.turns.turned)

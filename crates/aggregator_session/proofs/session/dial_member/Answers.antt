@@ -1,4 +1,5 @@
 use Rattle.std.proofs.Common.{[], ◌∷◌, ℕ, List, Err, map, refl, sym, ap, subst, ◌∙◌, arith}
+use Rattle.std.proofs.lemmas.Bool.{false≢true}
 use Rattle.std.proofs.lemmas.List.{append-nil, map_push}
 use Rattle.aggregator_session.specs.Hearing.{Asked}
 use Rattle.aggregator_session.specs.Runs.{dialled, nowhere, undialled}
@@ -7,6 +8,7 @@ use Rattle.aggregator_session.specs.declared.fault.Why.TheVariants.{DialFailed, 
 use Rattle.aggregator_session.proofs.Adding.{adds-none, adds-one}
 use Rattle.aggregator_session.proofs.Standing.{may-ask}
 use Rattle.aggregator_session.proofs.Frames.{first-frame, first-length}
+use Rattle.aggregator_session.proofs.Tasks.{dials-failed, dials-nowhere}
 use Rattle.stream_io.specs.Net.{Dials}
 use Rattle.aggregator_session.proofs.session.dial_member.Goals as goal
 
@@ -84,3 +86,37 @@ returns-clause-dials g c =
 
 pub ask_member-answer-requires : goal.ask_member-answer-requires
 ask_member-answer-requires g c = record { ask = may-ask _ _ _ _ _ _ _ c.requires.task.stands c.in_ok-ask.ensures.ask }
+
+-- the ask of round one reads no cell, so it is made
+pub returns-in_err-ask-clause-called : goal.returns-in_err-ask-clause-called
+returns-in_err-ask-clause-called g c = absurd (false≢true (c.in_err-ask.ensures.first c.requires.task.round).0)
+
+pub returns-in_err-ask-clause-dials : goal.returns-in_err-ask-clause-dials
+returns-in_err-ask-clause-dials g c = absurd (false≢true (c.in_err-ask.ensures.first c.requires.task.round).0)
+
+pub returns-in_err-ask-clause-links : goal.returns-in_err-ask-clause-links
+returns-in_err-ask-clause-links g c = absurd (false≢true (c.in_err-ask.ensures.first c.requires.task.round).0)
+
+pub returns-in_err-ask-clause-cells : goal.returns-in_err-ask-clause-cells
+returns-in_err-ask-clause-cells g c = absurd (false≢true (c.in_err-ask.ensures.first c.requires.task.round).0)
+
+pub returns-in_err-ask-clause-room : goal.returns-in_err-ask-clause-room
+returns-in_err-ask-clause-room g c = absurd (false≢true (c.in_err-ask.ensures.first c.requires.task.round).0)
+
+pub returns-in_default-clause-dials : goal.returns-in_default-clause-dials
+returns-in_default-clause-dials g c = dials-nowhere _ _ _
+
+pub returns-in_default-dial-clause-dials : goal.returns-in_default-dial-clause-dials
+returns-in_default-dial-clause-dials g c =
+    let d = c.in_default-dial.ensures in
+    dials-failed _ _ _ _ d.cause.failed d.once
+    (record { onward = d.onward; talks = d.refused.talks; accepting = d.accepting })
+
+pub returns-in_default-clause-cells : goal.returns-in_default-clause-cells
+returns-in_default-clause-cells g c = (c.in_ok-ask.ensures.first c.requires.task.round).1
+
+pub returns-in_default-dial-clause-cells : goal.returns-in_default-dial-clause-cells
+returns-in_default-dial-clause-cells g c = (c.in_ok-ask.ensures.first c.requires.task.round).1
+
+pub returns-clause-cells : goal.returns-clause-cells
+returns-clause-cells g c = (c.in_ok-ask.ensures.first c.requires.task.round).1

@@ -1,10 +1,11 @@
-use Rattle.std.proofs.Common.{Result, refl, sym, ap, subst}
+use Rattle.std.proofs.Common.{◌<◌, ◌^◌, Result, refl, sym, ap, subst, ◌∙◌}
 use Rattle.aggregator_session.specs.Causes.{PortCauses, ReferenceCauses}
 use Rattle.aggregator_session.specs.declared.fault.SignFault.{SignFault}
 use Rattle.aggregator_session.specs.declared.sign.Signed.{Signed}
 use Rattle.aggregator_session.specs.Signing.{not_leased, signature_in, too_long}
 use Rattle.aggregator_session.specs.Tables.{table_seen}
-use Rattle.aggregator_session.proofs.Signing.{asks-as, cells-none, cells-signed, leased-to, not-begun, port-none, port-signed, table-then}
+use Rattle.aggregator_session.proofs.Signing.{asks-as, cells-none, cells-signed, leased-to, none-accepted, not-begun, port-none, port-signed, signed-accepted, table-then}
+use Rattle.coalition_map.specs.Coalitions.{PlanNumbers}
 use Rattle.aggregator_session.proofs.sign.run_leased.Goals as goal
 
 pub returns-then-message-clause-signs : goal.returns-then-message-clause-signs
@@ -54,3 +55,19 @@ returns-clause-cells g c =
 
 pub returns-clause-table : goal.returns-clause-table
 returns-clause-table g c = table-then c.args.table.now c.lease.new.self c.burn_spent.new.table c.in-Ok.ensures.enters.stays c.burn_spent.ensures.stays
+
+pub returns-then-message-clause-accepted : goal.returns-then-message-clause-accepted
+returns-then-message-clause-accepted g c = none-accepted _ _ _ _ c.not_begun.ensures.0
+
+pub returns-in-Err-clause-accepted : goal.returns-in-Err-clause-accepted
+returns-in-Err-clause-accepted g c = none-accepted _ _ _ _ c.not_begun-in-Err.ensures.0
+
+pub returns-clause-accepted : goal.returns-clause-accepted
+returns-clause-accepted g c =
+    signed-accepted c.run_on-outcome.result.outcome c.signed_with.result _ _ _ c.signed_with.ensures.ok
+    c.run_on-outcome.ensures.accepted
+
+pub run_on-outcome-requires-clause-leaf : goal.run_on-outcome-requires-clause-leaf
+run_on-outcome-requires-clause-leaf g c κs within =
+    subst (λ (plan : PlanNumbers). c.in-Ok.leaf < 2 ^ plan.h) (c.in-Ok.ensures.enters.stays.plan ∙ c.requires.plan)
+    c.in-Ok.ensures.within
