@@ -3,15 +3,9 @@ use Rattle.std.proofs.Common.{◌≡◌, ◌≢◌, ◌+◌, ◌<◌, ◌≤◌,
 use Rattle.std.proofs.lemmas.List.{get_or-set_other, length-set}
 use Rattle.disk_trait.specs.Faults.{Rose}
 
-pub same-le : (n : ℕ) → n ≤ n
-same-le n = omega arith
-
 -- a count that stayed the same and then did not fall
 pub count-on : (a b c : ℕ) → b ≡ a → b ≤ c → a ≤ c
 count-on a b c same le = omega arith
-
-pub count-then : (a b c : ℕ) → a ≤ b → b ≤ c → a ≤ c
-count-then a b c first then = omega arith
 
 pub rose-then : (a b c : ℕ) → Rose a b → b ≤ c → Rose a c
 rose-then a b c rose le = omega arith

@@ -4,7 +4,8 @@ use Rattle.std.specs.declared.alloc.Global.{Global}
 use Rattle.std.specs.declared.vec.Vec.{Vec}
 use Rattle.aggregator_session.specs.Causes.{DialCauses}
 use Rattle.aggregator_session.specs.Faults.{IsLostBy, LostBy, sign_fault}
-use Rattle.aggregator_session.proofs.Numbers.{one-over, same-le}
+use Rattle.std.proofs.Math.Nat.{le_refl}
+use Rattle.aggregator_session.proofs.Numbers.{one-over}
 use Rattle.aggregator_session.specs.Runs.{Dialling, HasCalled, bytes_in, first_frame}
 use Rattle.aggregator_session.specs.Tasks.{OnlyDials, RisesOnce}
 use Rattle.aggregator_session.specs.declared.desk.Address.{Address}
@@ -123,7 +124,7 @@ pub dials-nowhere : (n member : ℕ) (port : PortState)
     → DialCauses {V = Bool} n port port (Err (Lost member 1 NoAddress))
 dials-nowhere n member port = record {
   dialled = λ lost. absurd (let is = lost in cc);
-  once = record { once = one-over port.count port.count (same-le port.count); same = λ _. same-le port.count };
+  once = record { once = one-over port.count port.count (le_refl port.count); same = λ _. le_refl port.count };
   reads = λ steady lost. let is = lost in absurd (cc);
   writes = λ steady fits lost. let is = lost in absurd (cc);
   only = record {
@@ -131,9 +132,9 @@ dials-nowhere n member port = record {
       told = refl;
       steady = refl;
       place = refl;
-      count = same-le port.count;
-      accept_count = same-le port.accept_count;
-      room = same-le port.room;
+      count = le_refl port.count;
+      accept_count = le_refl port.accept_count;
+      room = le_refl port.room;
     };
     talks = refl;
     accepting = refl;

@@ -5,7 +5,8 @@ use Rattle.std.proofs.lemmas.List.Elements.{All-set}
 use Rattle.std.proofs.lemmas.Result.{err_from_is_err_and}
 use Rattle.aggregator_session.proofs.Frames.{asked-as, frames-of}
 use Rattle.aggregator_session.proofs.Rounds.{ok-is, second-done, second-ends, second-more, second-refuses}
-use Rattle.aggregator_session.proofs.Numbers.{count-then, holds-behind, inside, same-le}
+use Rattle.std.proofs.Math.Nat.{le_refl, le_trans}
+use Rattle.aggregator_session.proofs.Numbers.{holds-behind, inside}
 use Rattle.aggregator_session.proofs.Digests.{same-digest}
 use Rattle.aggregator_session.proofs.Sessions.{cells-ok, err-as, exact-stays}
 use Rattle.aggregator_session.proofs.Standing.{member-of, stands-as}
@@ -48,7 +49,7 @@ members-preserved g c =
           (a.steady ∙ (ap (λ (l : _). g.L.Faults.steady l) c.index_mut.ensures.value ∙ before c.members.i c.index_mut.result.now (inside _ _ _ v.many c.members-test.true))) before;
       rooms = λ all. holds-behind is_wide c.members.links.items c.members.i c.ask_once_more.new.link (v.rooms all);
       same = same-then _ _ _ v.same a.same;
-      count = count-then _ _ _ v.count a.count;
+      count = le_trans v.count a.count;
       stays = stays-then v.stays a.cells.stays;
     }
 
@@ -71,7 +72,7 @@ returns-in_err-ask_once_more-clause-links g c =
       reads = λ all lost. links.reads (ap (λ (l : _). g.L.Faults.steady l) value ∙ v.steady all c.members.i c.index_mut.result.now lt)
           (lost-as _ _ _ _ _ p.1 p.2 c.in_err-ask_once_more.was lost);
       writes = λ all wide lost. links.writes (ap (λ (l : _). g.L.Faults.steady l) value ∙ v.steady all c.members.i c.index_mut.result.now lt)
-          (subst is_wide (sym value) (v.rooms wide c.members.i c.index_mut.result.now (same-le _) lt))
+          (subst is_wide (sym value) (v.rooms wide c.members.i c.index_mut.result.now (le_refl _) lt))
           (lost-as _ _ _ _ _ p.1 p.2 c.in_err-ask_once_more.was lost);
     }
 

@@ -7,7 +7,8 @@ use Rattle.session_core.specs.State.{State}
 use Rattle.session_core.specs.declared.faults.SessionFault.TheVariants.{Reference}
 use Rattle.aggregator_session.proofs.Standing.{round-turned, same-asked, same-turned, stands-again, stands-as}
 use Rattle.aggregator_session.specs.Runs.{SameSession, judged_in_one, judged_in_two, lost_in_one, lost_in_two, signed}
-use Rattle.aggregator_session.proofs.Numbers.{count-on, count-then, first-fits, ok-err, second-fits}
+use Rattle.std.proofs.Math.Nat.{le_trans}
+use Rattle.aggregator_session.proofs.Numbers.{count-on, first-fits, ok-err, second-fits}
 use Rattle.aggregator_session.proofs.Tasks.{dials-on, judged-none, lost-as, once-as, once-of, rose-later}
 use Rattle.aggregator_session.proofs.Sessions.{cells-ok, count-as, err-as, exact-as, exact-stays, fails-as, fails-reference, first-as, first-not, none-of, opens-by, run-as, same-err, second-end, sign-reference, stays-same, stops-later, stops-reference, whole-as}
 use Rattle.reference_value.proofs.Staying.{stays-as, stays-then}
@@ -61,7 +62,7 @@ returns-in_err-finish_with-clause-run g c =
     let stays = stays-as d.cells t.onward.stays in
     let later = stays-then stays a.cells.stays in
     let count = g.R.Faults.count in
-    let le = count-then _ _ _ (count-on _ _ _ (ap count d.cells) t.onward.count) a.count in
+    let le = le_trans (count-on _ _ _ (ap count d.cells) t.onward.count) a.count in
     let digest = c.digest_of-digest.ensures ∙ same-digest c.turn.new.self c.ask_again.new.session c.args.task.now.message.now a.same in
     rw (p.1, p.2) (judged_in_two _ _ c.turn.new.self c.ask_again.new.session c.in_err-finish_with.field-0.0
     (opens-by g.R.Cells d.cells c.args.session.now c.dial_all.new.session c.turn.new.self c.requires.task.stands.all
@@ -147,7 +148,7 @@ returns-in_err-finish_with-clause-cells g c =
     let a = c.ask_again.ensures in
     let f = c.in_err-finish_with.ensures in
     let count = g.R.Faults.count in
-    let le = count-then _ _ _ (count-on _ _ _ (ap count d.cells) t.onward.count) a.count in
+    let le = le_trans (count-on _ _ _ (ap count d.cells) t.onward.count) a.count in
     let digest = c.digest_of-digest.ensures ∙ same-digest c.turn.new.self c.ask_again.new.session c.args.task.now.message.now a.same in
     let joins = (f.finishes c.args.task.now.message.now digest).joins in
     let stays = stays-then (stays-as d.cells t.onward.stays) a.cells.stays in
@@ -175,7 +176,7 @@ returns-clause-cells g c =
 pub returns-clause-count : goal.returns-clause-count
 returns-clause-count g c =
     let turned = count-on _ _ _ (ap g.R.Faults.count c.dial_all.ensures.cells) c.in_ok-turn.ensures.onward.count in
-    count-then _ _ _ (count-then _ _ _ turned c.ask_again.ensures.count) c.in_ok-finish_with.ensures.onward.count
+    le_trans (le_trans turned c.ask_again.ensures.count) c.in_ok-finish_with.ensures.onward.count
 
 pub returns-in_err-dial_all-clause-dials : goal.returns-in_err-dial_all-clause-dials
 returns-in_err-dial_all-clause-dials g c =

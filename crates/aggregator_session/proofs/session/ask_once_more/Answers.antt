@@ -4,7 +4,7 @@ use Rattle.std.proofs.lemmas.Result.{err_from_is_err_and}
 use Rattle.round_frames.specs.Asks.{ask_frame}
 use Rattle.aggregator_session.proofs.Standing.{may-ask}
 use Rattle.aggregator_session.proofs.Frames.{longest, second-frame}
-use Rattle.aggregator_session.proofs.Numbers.{count-then}
+use Rattle.std.proofs.Math.Nat.{le_trans}
 use Rattle.aggregator_session.proofs.Sessions.{whole-as}
 use Rattle.aggregator_session.specs.Runs.{asked, not_read}
 use Rattle.aggregator_session.proofs.session.ask_once_more.Goals as goal
@@ -29,7 +29,7 @@ returns-clause-links g c =
     record {
       dialled = links.dialled;
       reads = links.reads;
-      writes = λ steady fits lost. links.writes steady (count-then _ _ _ most fits) lost;
+      writes = λ steady fits lost. links.writes steady (le_trans most fits) lost;
     }
 
 pub ask_member-requires : goal.ask_member-requires

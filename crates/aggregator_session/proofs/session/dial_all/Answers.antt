@@ -1,7 +1,8 @@
 use Rattle.std.proofs.Common.{◌+◌, ◌≤◌, ℕ, true, false, length, sym, ap, subst, ◌∙◌, inr}
 use Rattle.std.proofs.lemmas.Result.{err_from_is_err_and}
 use Rattle.aggregator_session.proofs.Adding.{asked-more}
-use Rattle.aggregator_session.proofs.Numbers.{count-then, one-over}
+use Rattle.std.proofs.Math.Nat.{le_trans}
+use Rattle.aggregator_session.proofs.Numbers.{one-over}
 use Rattle.aggregator_session.proofs.Refusing.{called-refused}
 use Rattle.aggregator_session.proofs.Rounds.{first-done, first-ends, first-more, first-refuses, ok-is}
 use Rattle.aggregator_session.proofs.Standing.{member-of, stands-first}
@@ -59,7 +60,7 @@ members-preserved g c =
       room = subst (λ (n : ℕ). length c.args.task.now.members.now ≤ n) (sym d.room.0) v.room;
       links = asked-more g.P.Link.Faults.steady g.P.Link.Sink.room _ _ _ _ v.port.onward v.links d.links;
       port = dials-then _ _ _ v.port d.dials.only;
-      undialled = count-then _ _ _ (d.dials.once.same (ok-not _ _ _ c.in_ok-dial_member.was)) v.undialled;
+      undialled = le_trans (d.dials.once.same (ok-not _ _ _ c.in_ok-dial_member.was)) v.undialled;
       same = same-then _ _ _ v.same d.called.same;
       cells = d.cells ∙ v.cells;
     }
@@ -73,7 +74,7 @@ returns-in_err-dial_member-clause-dials g c =
       dialled = λ lost. rose-later _ _ _ v.port.onward.count (d.dialled (lost-as _ _ _ _ _ p.1 p.2 c.in_err-dial_member.was lost));
       once = rises-later _ _ _ v.undialled (once-as _ _ _ _ _ _ c.in_err-dial_member.was (sym p.2) p.1 d.once);
       reads = λ steady lost. d.reads (v.port.onward.steady ∙ steady) (lost-as _ _ _ _ _ p.1 p.2 c.in_err-dial_member.was lost);
-      writes = λ steady fits lost. d.writes (v.port.onward.steady ∙ steady) (count-then _ _ _ fits v.port.onward.room) (lost-as _ _ _ _ _ p.1 p.2 c.in_err-dial_member.was lost);
+      writes = λ steady fits lost. d.writes (v.port.onward.steady ∙ steady) (le_trans fits v.port.onward.room) (lost-as _ _ _ _ _ p.1 p.2 c.in_err-dial_member.was lost);
       only = dials-then _ _ _ v.port d.only;
     }
 

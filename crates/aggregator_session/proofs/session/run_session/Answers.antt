@@ -3,7 +3,8 @@ use Rattle.std.proofs.lemmas.Result.{err_from_is_err_and}
 use Rattle.aggregator_session.specs.declared.fault.Why.TheVariants.{DialFailed, ReadFailed, WriteFailed}
 use Rattle.aggregator_session.proofs.Counting.{session-counts}
 use Rattle.aggregator_session.proofs.Lasts.{ended-faulty}
-use Rattle.aggregator_session.proofs.Numbers.{none-hung, once-hung, rose-then, same-le}
+use Rattle.std.proofs.Math.Nat.{le_refl}
+use Rattle.aggregator_session.proofs.Numbers.{none-hung, once-hung, rose-then}
 use Rattle.aggregator_session.proofs.Running.{run-none}
 use Rattle.aggregator_session.proofs.Signing.{cells-refused, port-none}
 use Rattle.aggregator_session.proofs.Tasks.{bytes-lost, onward-then, rose-later}
@@ -12,17 +13,17 @@ use Rattle.aggregator_session.proofs.session.run_session.Goals as goal
 pub returns-in_err-members-clause-ran : goal.returns-in_err-members-clause-ran
 returns-in_err-members-clause-ran g c =
     let p = err_from_is_err_and c.from_residual.result c.from_residual.ensures.1 in
-    rw (p.1, p.2) (run-none _ _ _ _ _ (same-le _))
+    rw (p.1, p.2) (run-none _ _ _ _ _ (le_refl _))
 
 pub returns-in_err-room-clause-ran : goal.returns-in_err-room-clause-ran
 returns-in_err-room-clause-ran g c =
     let p = err_from_is_err_and c.from_residual-in_err-room.result c.from_residual-in_err-room.ensures.1 in
-    rw (p.1, p.2) (run-none _ _ _ _ _ (same-le _))
+    rw (p.1, p.2) (run-none _ _ _ _ _ (le_refl _))
 
 pub returns-in_err-links-clause-ran : goal.returns-in_err-links-clause-ran
 returns-in_err-links-clause-ran g c =
     let p = err_from_is_err_and c.from_residual-in_err-links.result c.from_residual-in_err-links.ensures.1 in
-    rw (p.1, p.2) (run-none _ _ _ _ _ (same-le _))
+    rw (p.1, p.2) (run-none _ _ _ _ _ (le_refl _))
 
 pub returns-clause-ran : goal.returns-clause-ran
 returns-clause-ran g c =
