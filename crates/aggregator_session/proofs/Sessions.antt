@@ -195,7 +195,8 @@ all-of n k kept (inl is) masks = is
 all-of n k kept (inr not) masks = absurd (not masks)
 
 pub opens : (addresses : List Address) (reads : CellsRead) (port : PortState) (s kept turned : State) (members : List ℕ) (talks : List Talk) (n : ℕ) (end : Result (Unit {0}) SignFault) → members ≡ leaf_members s.plan s.leaf
-    → First addresses (first_frame s) port s members talks kept end → end ≡ Ok tt → (n ≡ length members) ⊎ (AreMasks kept.first → ⊥) → length talks ≡ n → Turned kept turned
+    → First addresses (first_frame s) port s members talks kept end → end ≡ Ok tt
+    → (n ≡ length members) ⊎ (AreMasks kept.first → ⊥) → length talks ≡ n → Turned kept turned
     → (IsTrue reads.told → turned ≡ record kept { c = Some (joined_c kept reads.leaves) }) → (IsTrue reads.told → DealtC kept turned reads.leaves) → Opens addresses reads port s turned talks
 opens addresses reads port s kept turned members talks n end is run ok whole many turns c dealt = record {
   kept = kept;
@@ -267,7 +268,8 @@ module _ {C : Type 0} {set_of : C → Params} {plan_of : C → PlanNumbers} {is_
 module _ {C : Type 0} (k : cells.Ghosts C) {x y : C} {addresses : List Address} {before now : ℕ} {port : PortState}
     {members : List ℕ} {talks : List Talk} {n : ℕ} {end : Result (Unit {0}) SignFault} where
   pub opens-by : y ≡ x → (s kept turned : State) → members ≡ leaf_members s.plan s.leaf
-      → First addresses (first_frame s) port s members talks kept end → end ≡ Ok tt → (n ≡ length members) ⊎ (AreMasks kept.first → ⊥) → length talks ≡ n → TurnsTo k y kept turned
+      → First addresses (first_frame s) port s members talks kept end → end ≡ Ok tt
+      → (n ≡ length members) ⊎ (AreMasks kept.first → ⊥) → length talks ≡ n → TurnsTo k y kept turned
       → Opens addresses (record { told = k.told x; leaves = k.leaves x; before = before; now = now }) port s turned
       talks
   opens-by is s kept turned all run ok whole many turns =

@@ -42,7 +42,8 @@ same-then a b c x y = record {
 }
 
 pub same-none : (a b : State) → b ≡ a → SameAsk a b
-same-none a b is = subst (SameAsk a) (sym is) (record { key = refl; plan = refl; leaf = refl; message = refl; c = refl })
+same-none a b is =
+    subst (SameAsk a) (sym is) (record { key = refl; plan = refl; leaf = refl; message = refl; c = refl })
 
 -- the ask of round one stays the same
 pub frame-same : (a b : State) → SameAsk a b → first_frame b ≡ first_frame a

@@ -108,7 +108,8 @@ returns-in_err-ask_once_more-clause-cells g c =
     }
 
 pub returns-then-not-branch-clause-cells : goal.returns-then-not-branch-clause-cells
-returns-then-not-branch-clause-cells g c = cells-ok _ (stays-then c.members.invariant.stays c.ask_once_more.ensures.cells.stays)
+returns-then-not-branch-clause-cells g c =
+    cells-ok _ (stays-then c.members.invariant.stays c.ask_once_more.ensures.cells.stays)
 
 pub returns-clause-cells : goal.returns-clause-cells
 returns-clause-cells g c = cells-ok _ c.members.invariant.stays

@@ -135,7 +135,8 @@ returns-in_err-ask_again-clause-cells g c =
     let count = g.R.Faults.count in
     record {
       rises = λ is.
-          rose-later _ _ _ (count-on _ _ _ (ap count d.cells) t.count) (a.rises (err-as _ _ _ _ _ p.1 p.2 c.in_err-ask_again.was is));
+          rose-later _ _ _ (count-on _ _ _ (ap count d.cells) t.count)
+          (a.rises (err-as _ _ _ _ _ p.1 p.2 c.in_err-ask_again.was is));
       succeeds = λ exact is. a.succeeds (exact-stays stays exact) (err-as _ _ _ _ _ p.1 p.2 c.in_err-ask_again.was is);
       stays = stays-then stays a.stays;
     }
@@ -296,4 +297,5 @@ digest_of-digest-requires-clause-c g c =
 
 pub finish_with-requires-clause-round : goal.finish_with-requires-clause-round
 finish_with-requires-clause-round g c =
-    subst (λ (o : Option (List ℕ)). IsSome o) (sym c.ask_again.ensures.same.c) (round-turned _ _ c.in_ok-turn.ensures.turns.turned)
+    subst (λ (o : Option (List ℕ)). IsSome o) (sym c.ask_again.ensures.same.c)
+    (round-turned _ _ c.in_ok-turn.ensures.turns.turned)
