@@ -5,5 +5,6 @@ mod Links
 mod Added
 mod Loans
 mod Stable
+mod Unchanged
 mod Talks
 mod MemFiles

@@ -8,7 +8,7 @@ pub first_true : (first last : Bool) → (first && last) ≡ true → first ≡ 
 first_true true last both = refl
 first_true false last both = both
 
-last_true : (first last : Bool) → (first && last) ≡ true → last ≡ true
+pub last_true : (first last : Bool) → (first && last) ≡ true → last ≡ true
 last_true true last both = both
 last_true false last both = let no : false ≡ true = both in cc
 

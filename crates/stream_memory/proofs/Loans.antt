@@ -14,6 +14,7 @@ use Rattle.stream_memory.specs.MemStore.{Begun, are_steady, disk_in, disk_of, en
 use Rattle.stream_memory.specs.declared.entries.Entry.{Entry}
 use Rattle.stream_memory.specs.declared.entries.Slot.{Slot}
 use Rattle.stream_memory.specs.declared.entries.Slot.TheVariants.{Here, Out}
+use Rattle.stream_memory.proofs.Links.{first_true, last_true}
 use Rattle.stream_memory.proofs.Added.{found_among, read_among}
 use Rattle.stream_memory.proofs.Stable.{only_stable}
 
@@ -74,14 +75,6 @@ stored disk faults = record {
   reads = disk.bytes;
   may_leave = MayLeave disk;
 }
-
-pub last_true : (first last : Bool) → (first && last) ≡ true → last ≡ true
-last_true true last both = both
-last_true false last both = let no : false ≡ true = both in cc
-
-first_true : (first last : Bool) → (first && last) ≡ true → first ≡ true
-first_true true last both = refl
-first_true false last both = both
 
 steady_of : (entry : Entry) (later : Option Entry) (test : Bool) (slot : Slot) → steady_in entry.slot ≡ true
     → (option_map (λ it. it.slot) later ≡ Some slot → steady_in slot ≡ true)

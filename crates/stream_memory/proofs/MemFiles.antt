@@ -1,16 +1,11 @@
--- What writes do to a file in memory.
-use Rattle.std.proofs.Common.{◌≡◌, ◌+◌, ◌-◌, ◌≤◌, ℕ, Bool, true, false, Result, Ok, Err, OnOk, OnErr, if◌then◌else◌, List, length, drop, max, refl, ap, sym, ◌∙◌, arith, drop-drop}
+-- What writes do to a disk and a file in memory.
+use Rattle.std.proofs.Common.{◌≡◌, ◌+◌, ◌-◌, ◌≤◌, ℕ, Bool, true, false, OnOk, OnErr, List, length, drop, max, refl, ap, sym, ◌∙◌, arith, drop-drop}
 use Rattle.std.proofs.lemmas.Bool.Decides.{nat_tests}
 use Rattle.std.proofs.lemmas.List.{places}
 use Rattle.disk_trait.specs.Images.{written, Torn, Follows}
 use Rattle.disk_trait.specs.MemDisk.{MemState, write_fails}
-use Rattle.disk_trait.specs.declared.disk.DiskFault.{DiskFault}
 use Rattle.stream_memory.specs.MemFiles.{room_of}
-use Rattle.stream_memory.proofs.Stable.{after_write}
-
--- a call that fails or not
-abbrev pub outcome : Bool → Result (Unit {0}) DiskFault
-outcome fails = if fails then Err (record {}) else Ok tt
+use Rattle.stream_memory.proofs.Stable.{after_write, outcome}
 
 module _ (disk : MemState) (at : ℕ) (bytes : List ℕ) where
   pub write-bytes : (fails : Bool) → OnOk (outcome fails) ((after_write disk at bytes fails).bytes ≡ written disk.bytes at bytes)
@@ -23,6 +18,19 @@ module _ (disk : MemState) (at : ℕ) (bytes : List ℕ) where
 
   fits : write_fails disk at (length bytes) ≡ false → (at ≤ length disk.bytes) × (at + length bytes ≤ disk.capacity)
   fits is = (grind (arith, nat_tests, is), grind (arith, nat_tests, is))
+
+  pub write-within : (fails : Bool) → write_fails disk at (length bytes) ≡ fails → OnOk (outcome fails) (at ≤ length disk.bytes)
+  write-within true is = tt
+  write-within false is = (fits is).0
+
+  pub write-fits : (fails : Bool) → write_fails disk at (length bytes) ≡ fails
+      → OnOk (outcome fails) (at + length bytes ≤ disk.capacity)
+  write-fits true is = tt
+  write-fits false is = (fits is).1
+
+  pub write-torn : (fails : Bool) → OnErr (outcome fails) (Torn at (length bytes) disk.bytes (after_write disk at bytes fails).bytes)
+  write-torn true = record { before = refl; after = refl; no_shorter = omega arith; no_longer = omega arith }
+  write-torn false = tt
 
   longer : at ≤ length disk.bytes → length (written disk.bytes at bytes) ≡ max (length disk.bytes) (at + length bytes)
   longer within = grind (arith, places)

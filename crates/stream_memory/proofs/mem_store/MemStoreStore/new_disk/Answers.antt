@@ -4,7 +4,17 @@ use Rattle.stream_memory.specs.declared.entries.Slot.TheVariants.{Out}
 use Rattle.stream_io.specs.declared.store.Readers.TheVariants.{OwnerAlone}
 use Rattle.disk_trait.specs.MemDisk.{is_steady}
 use Rattle.stream_memory.proofs.Loans.{absent, as_said, as_steady, made, makes_steady, new_steady, read_still}
+use Rattle.stream_memory.proofs.Unchanged.{onward, same_store}
 use Rattle.stream_memory.proofs.mem_store.MemStoreStore.new_disk.Goals as goal
+
+pub returns-in_err-add-clause-refused : goal.returns-in_err-add-clause-refused
+returns-in_err-add-clause-refused c =
+    same_store c.args.self.now.entries.list.items c.add.new.self.list.items _ _ _ _ _ _ _ c.in_err-add.ensures.refused _
+
+pub returns-in_err-add-clause-onward : goal.returns-in_err-add-clause-onward
+returns-in_err-add-clause-onward c =
+    onward c.args.self.now.entries.list.items c.add.new.self.list.items _ _ _ _ _ _ _ _ _ c.in_err-add.ensures.refused
+    c.in_ok-make.ensures.failing c.in_ok-make.ensures.later
 
 pub returns-clause-made : goal.returns-clause-made
 returns-clause-made c =

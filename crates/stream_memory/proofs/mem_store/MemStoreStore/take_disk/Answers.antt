@@ -2,7 +2,8 @@ use Rattle.std.proofs.Common.{ap, arith, refl, sym, ◌∙◌}
 use Rattle.disk_trait.specs.MemDisk.{is_steady}
 use Rattle.stream_memory.specs.MemStore.{kind_of}
 use Rattle.stream_memory.specs.declared.entries.Slot.TheVariants.{Out}
-use Rattle.stream_memory.proofs.Loans.{here_of, last_true, same_for_all, taken}
+use Rattle.stream_memory.proofs.Links.{last_true}
+use Rattle.stream_memory.proofs.Loans.{here_of, same_for_all, taken}
 use Rattle.stream_memory.proofs.mem_store.MemStoreStore.take_disk.Goals as goal
 
 pub returns-in-Some-clause-taken : goal.returns-in-Some-clause-taken

@@ -2,7 +2,17 @@ use Rattle.std.proofs.Common.{arith, length, refl, sym, ◌∙◌}
 use Rattle.stream_memory.specs.MemStore.{new_disk}
 use Rattle.stream_memory.specs.declared.entries.Slot.TheVariants.{Here}
 use Rattle.stream_memory.proofs.Loans.{absent, as_said, as_steady, new_steady, read_still, written}
+use Rattle.stream_memory.proofs.Unchanged.{onward, same_store}
 use Rattle.stream_memory.proofs.mem_store.MemStoreStore.write_new.Goals as goal
+
+pub returns-in_err-add-clause-refused : goal.returns-in_err-add-clause-refused
+returns-in_err-add-clause-refused c =
+    same_store c.args.self.now.entries.list.items c.add.new.self.list.items _ _ _ _ _ _ _ c.in_err-add.ensures.refused _
+
+pub returns-in_err-add-clause-onward : goal.returns-in_err-add-clause-onward
+returns-in_err-add-clause-onward c =
+    onward c.args.self.now.entries.list.items c.add.new.self.list.items _ _ _ _ _ _ _ _ _ c.in_err-add.ensures.refused
+    c.in_ok-make.ensures.failing c.in_ok-make.ensures.later
 
 pub returns-clause-written : goal.returns-clause-written
 returns-clause-written c =

@@ -1,6 +1,12 @@
 use Rattle.disk_trait.specs.MemDisk.{sync_fails}
-use Rattle.stream_memory.proofs.Stable.{sync-images}
+use Rattle.stream_memory.proofs.Stable.{sync-images, sync-stable}
 use Rattle.stream_memory.proofs.stored_disk.StoredDiskDisk.sync.Goals as goal
+
+pub returns-clause-stable : goal.returns-clause-stable
+returns-clause-stable c =
+    let disk = c.args.self.now.disk in
+    λ honest told. rw (c.count.ensures.same, c.sync-answer.ensures.outcome, c.sync-answer.ensures.after)
+    (sync-stable disk (sync_fails disk))
 
 pub returns-clause-images : goal.returns-clause-images
 returns-clause-images c =

@@ -1,0 +1,11 @@
+use Rattle.std.proofs.Common.{refl, sym}
+use Rattle.stream_memory.proofs.Unchanged.{onward}
+use Rattle.stream_memory.proofs.mem_store.MemStoreStore.read_all.Goals as goal
+
+pub returns-clause-bytes : goal.returns-clause-bytes
+returns-clause-bytes c = λ told. rw c.in_ok-from_slice.ensures.items (sym c.in-Some.ensures)
+
+pub returns-clause-onward : goal.returns-clause-onward
+returns-clause-onward c =
+    let entries = c.args.self.now.entries.list.items in
+    onward entries entries _ _ _ _ _ _ _ _ _ refl c.in_ok-make.ensures.failing c.in_ok-make.ensures.later
