@@ -1,5 +1,7 @@
 -- The links of a port that wait: each is what the link is that it is made of.
-use Rattle.std.proofs.Common.{◌≡◌, ◌≤◌, ◌&&◌, ℕ, Bool, true, false, List, Option, refl, sym, subst, ◌∙◌}
+use Rattle.std.proofs.Common.{◌≡◌, ◌≤◌, ◌+◌, ◌-◌, ◌^◌, ◌&&◌, ℕ, Bool, true, false, List, Option, Result, Ok, Err, IsErr, min}
+use Rattle.std.proofs.Common.{refl, sym, subst, ◌∙◌, arith}
+use Rattle.disk_trait.specs.Faults.{HasCause}
 use Rattle.stream_io.specs.Net.{Accepts, Dials, IsNewLink, PortState}
 use Rattle.stream_io.specs.Talk.{Talk}
 use Rattle.stream_memory.specs.Waiting.{with_waits}
@@ -15,6 +17,22 @@ last_true false last both = let no : false ≡ true = both in cc
 both_true : (first last : Bool) → first ≡ true → last ≡ true → (first && last) ≡ true
 both_true true last one other = other
 both_true false last one other = one
+
+-- waits in vain are counted beside the faults of a call
+pub vain-cause : {T E : Type 0} (before now vain : ℕ) (result : Result T E) → HasCause before now result
+    → HasCause (min (before + vain) (2 ^ 64 - 1)) (min (now + vain) (2 ^ 64 - 1)) result
+vain-cause before now vain (Ok value) it =
+    record { later = rw it.succeeded (omega arith); succeeded = rw it.succeeded refl; failed = tt }
+vain-cause before now vain (Err fault) it =
+    let later = it.later in
+    let failed = it.failed in
+    record { later = omega (arith, later); succeeded = tt; failed = omega (arith, failed) }
+
+-- a fault that is passed on has the cause that it had
+pub passed-on : {T U E : Type 0} (before now : ℕ) (fault : E) (result : Result T E) → IsErr result
+    → HasCause {T = U} {E = E} before now (Err fault) → HasCause before now result
+passed-on before now fault (Ok value) is it = let no : false ≡ true = is in cc
+passed-on before now fault (Err other) is it = record { later = it.later; succeeded = tt; failed = it.failed }
 
 module _ (old new : PortState) (talk talk' : Talk) (steady steady' nothing : Bool) (takes takes' : ℕ) (same : talk' ≡ talk)
     (as_steady : steady' ≡ (steady && nothing)) (as_much : takes' ≡ takes) where

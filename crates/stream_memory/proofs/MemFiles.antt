@@ -1,5 +1,6 @@
 -- What writes do to a disk and a file in memory.
-use Rattle.std.proofs.Common.{◌≡◌, ◌+◌, ◌-◌, ◌≤◌, ℕ, Bool, true, false, OnOk, OnErr, List, length, drop, max, refl, ap, sym, ◌∙◌, arith, drop-drop}
+use Rattle.std.proofs.Common.{◌≡◌, ◌+◌, ◌-◌, ◌≤◌, ℕ, Bool, true, false, OnOk, OnErr, List, length, drop, max, refl}
+use Rattle.std.proofs.Common.{ap, sym, ◌∙◌, arith, drop-drop}
 use Rattle.std.proofs.lemmas.Bool.Decides.{nat_tests}
 use Rattle.std.proofs.lemmas.List.{places}
 use Rattle.disk_trait.specs.Images.{written, Torn, Follows}
@@ -19,7 +20,8 @@ module _ (disk : MemState) (at : ℕ) (bytes : List ℕ) where
   fits : write_fails disk at (length bytes) ≡ false → (at ≤ length disk.bytes) × (at + length bytes ≤ disk.capacity)
   fits is = (grind (arith, nat_tests, is), grind (arith, nat_tests, is))
 
-  pub write-within : (fails : Bool) → write_fails disk at (length bytes) ≡ fails → OnOk (outcome fails) (at ≤ length disk.bytes)
+  pub write-within : (fails : Bool) → write_fails disk at (length bytes) ≡ fails
+      → OnOk (outcome fails) (at ≤ length disk.bytes)
   write-within true is = tt
   write-within false is = (fits is).0
 
@@ -28,7 +30,8 @@ module _ (disk : MemState) (at : ℕ) (bytes : List ℕ) where
   write-fits true is = tt
   write-fits false is = (fits is).1
 
-  pub write-torn : (fails : Bool) → OnErr (outcome fails) (Torn at (length bytes) disk.bytes (after_write disk at bytes fails).bytes)
+  pub write-torn : (fails : Bool)
+      → OnErr (outcome fails) (Torn at (length bytes) disk.bytes (after_write disk at bytes fails).bytes)
   write-torn true = record { before = refl; after = refl; no_shorter = omega arith; no_longer = omega arith }
   write-torn false = tt
 

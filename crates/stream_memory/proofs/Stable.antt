@@ -1,5 +1,6 @@
 -- Disks in memory that are all stable, and what writes and syncs leave as it was.
-use Rattle.std.proofs.Common.{◌≡◌, ℕ, Bool, true, false, Result, Ok, Err, OnOk, List, length, replicate, if◌then◌else◌, refl, sym, subst, arith}
+use Rattle.std.proofs.Common.{◌≡◌, ℕ, Bool, true, false, Result, Ok, Err, OnOk, List, length, replicate, if◌then◌else◌}
+use Rattle.std.proofs.Common.{refl, sym, subst, arith}
 use Rattle.std.proofs.lemmas.List.{ext_get_or, get_or-replicate}
 use Rattle.disk_trait.specs.Images.{Only}
 use Rattle.disk_trait.specs.MemDisk.{MemState, IsImage, MayLeave, changed, is_steady, with_named, with_stable, with_written}

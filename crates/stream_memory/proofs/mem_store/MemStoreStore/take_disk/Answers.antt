@@ -4,6 +4,7 @@ use Rattle.stream_memory.specs.MemStore.{kind_of}
 use Rattle.stream_memory.specs.declared.entries.Slot.TheVariants.{Out}
 use Rattle.stream_memory.proofs.Links.{last_true}
 use Rattle.stream_memory.proofs.Loans.{here_of, same_for_all, taken}
+use Rattle.stream_memory.proofs.Unchanged.{onward}
 use Rattle.stream_memory.proofs.mem_store.MemStoreStore.take_disk.Goals as goal
 
 pub returns-in-Some-clause-taken : goal.returns-in-Some-clause-taken
@@ -24,3 +25,10 @@ returns-in-Some-clause-onward c =
       count = c.in_ok-make.ensures.later;
       disk_count = omega arith;
     }
+
+pub returns-in-None-clause-onward : goal.returns-in-None-clause-onward
+returns-in-None-clause-onward c =
+    let made = c.in_ok-make.ensures.later in
+    let failed = c.fail.ensures.later in
+    onward c.args.self.now.entries.list.items c.lend.new.self.list.items _ _ _ _ _ _ _ _ _ c.in-None.ensures.refused
+    (c.fail.ensures.failing ∙ c.in_ok-make.ensures.failing) (omega (arith, made, failed))
