@@ -1,6 +1,6 @@
 -- The links of a port that wait: each is what the link is that it is made of.
-use Rattle.std.proofs.Common.{◌≡◌, ◌≤◌, ◌+◌, ◌-◌, ◌^◌, ◌&&◌, ℕ, Bool, true, false, List, Option, Result, Ok, Err, IsErr, min}
-use Rattle.std.proofs.Common.{refl, sym, subst, ◌∙◌, arith}
+use Rattle.std.proofs.Common.{◌≡◌, ◌≤◌, ◌+◌, ◌-◌, ◌^◌, ◌&&◌, ℕ, Bool, true, false, List, Option, Result, Ok, Err, IsErr}
+use Rattle.std.proofs.Common.{min, refl, sym, subst, ◌∙◌, arith}
 use Rattle.disk_trait.specs.Faults.{HasCause}
 use Rattle.stream_io.specs.Net.{Accepts, Dials, IsNewLink, PortState}
 use Rattle.stream_io.specs.Talk.{Talk}

@@ -14,7 +14,8 @@ use Rattle.stream_memory.proofs.Loans.{stored}
 
 module _ (old new : List Entry) (stops : Option ℕ) (steady steady' : Bool) (count count' disk_count : ℕ) where
   names : (views views' : ℕ) → new ≡ old
-      → SameNames (state_of old stops steady count disk_count views) (state_of new stops steady' count' disk_count views')
+      → SameNames (state_of old stops steady count disk_count views)
+      (state_of new stops steady' count' disk_count views')
   names views views' same = rw same (record { file = refl; leaves = λ name image. (λ is. is, λ is. is); out = refl })
 
   pub same_store : (views : ℕ) → new ≡ old → {T E : Type 0} (result : Result T E)

@@ -49,3 +49,23 @@ returns-clause-onward c =
       accept_count = omega arith;
       room = let least = taken.room in omega arith;
     }
+
+pub returns-in_default-clause-refused : goal.returns-in_default-clause-refused
+returns-in_default-clause-refused c =
+    rw c.in_default.ensures.same (record { waiting = refl; reaches = refl; talks = refl })
+
+pub returns-in_default-clause-nobody : goal.returns-in_default-clause-nobody
+returns-in_default-clause-nobody c = λ steady. c.in_default.ensures.none
+
+pub returns-in_default-clause-onward : goal.returns-in_default-clause-onward
+returns-in_default-clause-onward c =
+    let made = c.in_ok-make.ensures.later in
+    let failed = c.fail.ensures.later in
+    rw (c.in_default.ensures.same, c.fail.ensures.failing, c.in_ok-make.ensures.failing) (record {
+      told = refl;
+      steady = refl;
+      place = refl;
+      count = omega (arith, made, failed);
+      accept_count = omega arith;
+      room = omega arith;
+    })

@@ -27,3 +27,16 @@ making-preserved c =
       steady = r.steady ∙ v.steady;
       same = r.same ∙ ap (λ (net : MemNet). record net { scripts = new.scripts; gave_steady = new.gave_steady }) v.same;
     }
+
+pub returns-clause-made : goal.returns-clause-made
+returns-clause-made c = c.making.invariant.made
+
+pub returns-clause-many : goal.returns-clause-many
+returns-clause-many c =
+    let few = c.making.invariant.few in
+    let all = c.making-test.false in
+    let size = c.len.ensures in
+    omega (arith, few, all, size)
+
+pub returns-clause-same : goal.returns-clause-same
+returns-clause-same c = c.making.invariant.same
