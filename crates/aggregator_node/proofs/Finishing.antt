@@ -79,3 +79,13 @@ module _ (desk : DeskState) (asked : ℕ) (lock : Lock Lease TableName) (old new
 -- as many passes as ports
 pub passes-fit : {count many : ℕ} → count ≡ many → (1 ≤ many) × (many ≤ 64) → (1 ≤ count) × (count ≤ 4096)
 passes-fit is some = (let least = some.0 in omega (arith, is, least), let most = some.1 in omega (arith, is, most))
+
+-- the workers have room, and so have the ports and the cells that come back
+pub room-for : {count many room : ℕ} → count ≡ many → room ≡ count → many ≤ room
+room-for is exact = omega (arith, is, exact)
+
+pub room-again : {count many old new : ℕ} → count ≡ many → new ≡ old → many ≤ old → count ≤ new
+room-again is same fits = omega (arith, is, same, fits)
+
+pub still : (old new : TableSeen) → new ≡ old → TableOnward old new
+still old new is = record { name = ap (λ (t : TableSeen). t.name) is; faults = (let n = ap (λ (t : TableSeen). t.faults) is in omega (arith, n)) }

@@ -1,6 +1,6 @@
 -- Workers of which some are joined.
 use Rattle.aggregator_session.specs.Desks.{DeskState}
-use Rattle.std.proofs.Common.{◌≡◌, ℕ, List, [], ◌∷◌, ◌++◌, sym, ap, ◌∙◌, subst, append_assoc, append-nil}
+use Rattle.std.proofs.Common.{◌≡◌, ◌+◌, ◌≤◌, ◌<◌, ℕ, List, [], ◌∷◌, ◌++◌, length, sym, ap, ◌∙◌, subst, arith, append_assoc, append-nil, length-append}
 use Rattle.aggregator_node.specs.Gathered.{AreDone, Gathered, IsDone}
 use Rattle.aggregator_node.specs.Ports.{Place}
 use Rattle.aggregator_node.specs.Workers.{WorkerState}
@@ -66,3 +66,19 @@ module _ {W : Type 0} (state : W → WorkerState) (desk : DeskState) (asked : �
   hand-all olds workers pass news totals hand none =
       let places : hand.taken ≡ olds = sym (append-nil hand.taken) ∙ ap (λ (l : List Place). hand.taken ++ l) (sym (no-places IsSo hand.others workers hand.left none)) ∙ sym hand.places_are in
       subst (λ (l : List Place). Gathered desk asked lock pass l news totals) places hand.gathered
+
+-- how many workers are left, and the room for what they give back
+pub some-never : {many : ℕ} → 1 ≤ many → many ≡ 0 → ⊥
+some-never some none = absurd (omega (arith, some, none))
+
+pub room-first : {had many room : ℕ} → had ≡ 0 → many ≤ room → 1 ≤ many → had < room
+room-first none fits some = omega (arith, none, fits, some)
+
+pub room-next : {had left room : ℕ} (rest : ℕ) → had + left ≤ room → rest + 1 ≡ left → had < room
+room-next rest fits one = omega (arith, fits, one)
+
+pub all-in : {had left many : ℕ} → had + left ≡ many → left ≡ 0 → had ≡ many
+all-in sum none = omega (arith, sum, none)
+
+pub one-fewer : {W : Type 0} (all workers : List W) (worker : W) → all ≡ workers ++ worker ∷ [] → length workers < length all
+one-fewer all workers worker is = let sizes = ap length is in omega (arith, sizes, length-append workers (worker ∷ []))

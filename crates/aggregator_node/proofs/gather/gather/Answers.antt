@@ -2,7 +2,7 @@ use Rattle.std.proofs.Common.{◌≡◌, false, [], ◌∷◌, ◌++◌, List, S
 use Rattle.std.proofs.lemmas.List.Elements.{All-pop}
 use Rattle.aggregator_node.specs.Ports.{places_of}
 use Rattle.aggregator_node.specs.Workers.{worker_state}
-use Rattle.aggregator_node.proofs.Joining.{hand-all, hand-more, hand-one}
+use Rattle.aggregator_node.proofs.Joining.{all-in, hand-all, hand-more, hand-one, one-fewer, room-first, room-next, some-never}
 use Rattle.node_workers.proofs.Lists.{none-of}
 use Rattle.turn_lock.specs.Pass.{Seen}
 use Rattle.aggregator_node.proofs.gather.gather.Goals as goal
@@ -60,3 +60,42 @@ returns-clause-gathered g c =
     hand-all state desk asked c.args.lock.now olds c.loop-worker.workers.items c.loop-worker.pass
     (places_of g.X.Cells g.X.Faults g.P.Port.state c.loop-worker.ports.items c.loop-worker.cells.items) c.loop-worker.totals
     (c.loop-worker.invariant.hand desk asked olds done) (none-of c.loop-worker.workers.items (let n = c.loop-worker.workers.ok.0 in let e = c.in_default-pop.ensures.cases.0 in omega (arith, n, e)))
+
+pub unreachable-requires : goal.unreachable-requires
+unreachable-requires g c = some-never c.requires.some c.in_default.ensures.cases.0
+
+pub begin-pass-requires-clause-room : goal.begin-pass-requires-clause-room
+begin-pass-requires-clause-room g c κs within =
+    let some = c.requires.some in
+    (room-first c.requires.ports.1 c.requires.ports.2 some, room-first c.requires.cells.1 c.requires.cells.2 some)
+
+pub take_in-requires-clause-idle : goal.take_in-requires-clause-idle
+take_in-requires-clause-idle g c κs within =
+    let lock = c.args.lock.now in
+    let v = c.loop-worker.invariant in
+    let popped = All-pop (λ worker. (worker.pass.lock ≡ lock) × (worker.pass.in_turn ≡ false)) c.loop-worker.workers.items c.pop-in-loop-worker.new.self.items (Some c.in-Some-pop.worker) c.in-Some-pop.ensures.items v.idle in
+    (v.pass, popped.1)
+
+pub take_in-requires-clause-many : goal.take_in-requires-clause-many
+take_in-requires-clause-many g c κs within = c.loop-worker.invariant.many
+
+pub take_in-requires-clause-room : goal.take_in-requires-clause-room
+take_in-requires-clause-room g c κs within =
+    let v = c.loop-worker.invariant in
+    let one = c.in-Some-pop.ensures.cases in
+    (room-next _ v.room one, room-next _ v.space one)
+
+pub destroy_empty-requires : goal.destroy_empty-requires
+destroy_empty-requires g c = c.in_default-pop.ensures.cases.1
+
+pub returns-clause-pass : goal.returns-clause-pass
+returns-clause-pass g c = c.loop-worker.invariant.pass
+
+pub returns-clause-count : goal.returns-clause-count
+returns-clause-count g c =
+    let v = c.loop-worker.invariant in
+    let all = all-in v.count c.in_default-pop.ensures.cases.0 in
+    (all, v.many ∙ all)
+
+pub loop-worker-smaller : goal.loop-worker-smaller
+loop-worker-smaller g c = one-fewer c.loop-worker.workers.items c.pop-in-loop-worker.new.self.items c.in-Some-pop.worker c.in-Some-pop.ensures.items
