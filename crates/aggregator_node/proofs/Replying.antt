@@ -1,5 +1,5 @@
 -- How long replies are, and what room they leave.
-use Rattle.std.proofs.Common.{◌≡◌, ◌≢◌, ◌+◌, ◌*◌, ◌<◌, ◌≤◌, ◌++◌, ℕ, List, length, Option, Some, Result, Ok, Err, IfOk, IsOk, refl, sym, ap, ◌∙◌, arith, length-append}
+use Rattle.std.proofs.Common.{◌≡◌, ◌≢◌, ◌⊎◌, inl, inr, ◌+◌, ◌*◌, ◌^◌, ◌<◌, ◌≤◌, ◌++◌, ℕ, List, length, Option, Some, Result, Ok, Err, IfOk, IsOk, refl, sym, ap, ◌∙◌, arith, length-append}
 use Rattle.std.proofs.Math.Nat.{add-mul, mul-le-mul_right}
 use Rattle.aggregator_node.proofs.Answering.{Answered}
 use Rattle.aggregator_node.specs.Clients.{StepEnds, end_after, longest_reply, reply_frame}
@@ -53,6 +53,23 @@ frame-length key message (Ok signed) accepted =
     let all = length-append (header_bytes 7 (length signed.bytes.items)) signed.bytes.items in
     omega (arith, size, eight, all)
 frame-length key message (Err fault) accepted = failure-short key.params fault
+
+signature-small : (n p h : ℕ) → (n ≡ 24) ⊎ (n ≡ 32) → p * n ≤ 8480 → h * n ≤ 800 → 12 + n * (p + 1) + n * h < 2 ^ 32
+signature-small n p h is ends path =
+    let most : n ≤ 32 = elim is [ inl few ↦ omega (arith, few) | inr many ↦ omega (arith, many) ] in
+    let all : n * (p + 1) ≡ p * n + n = grind arith in
+    let same : n * h ≡ h * n = grind arith in
+    omega (arith, most, all, same, ends, path)
+
+-- the length of a signature fits its field
+pub signature-fits : (key : PublicKey) (message : List ℕ) (result : Result Signed SignFault) → IfOk result (λ signed. AcceptsAt key message signed.bytes.items signed.leaf)
+    → IfOk result (λ signed. length signed.bytes.items < 2 ^ 32)
+signature-fits key message (Ok signed) accepted =
+    let params = key.params in
+    let size = signature-size params signed.bytes.items signed.leaf accepted.c accepted.y accepted.path accepted.layout in
+    let small = signature-small params.n params.p params.h params.hash_length params.chains_length params.path_length in
+    omega (arith, size, small)
+signature-fits key message (Err fault) accepted = tt
 
 -- a request that was answered ends the connection by a worn pass or for want of memory alone
 end-other : (outcome : Result Signature SignFault) (end : ServedEnd) → end_after outcome ≡ Some end → end ≢ Worn → end ≢ Frame frame.NoMemory → ⊥

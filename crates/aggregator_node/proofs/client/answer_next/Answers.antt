@@ -2,7 +2,7 @@ use Rattle.std.proofs.Common.{◌≢◌, [], ◌∷◌, Err, inl, inr, true≢fa
 use Rattle.round_frames.specs.declared.fault.FrameFault.TheVariants.{NoMemory, ReadFault}
 use Rattle.aggregator_node.specs.Clients.{Request, Stand, longest_reply, no_request}
 use Rattle.aggregator_node.proofs.Answering.{accepted_as, err_is, exact_cells, exchange_answered, never_as, ok_never, port_as, reference_as, reference_of, room_answered, signed_at}
-use Rattle.aggregator_node.proofs.Replying.{failure-short, frame-length, room-fits, room-kept, room-wrote, step-answered, step-unread}
+use Rattle.aggregator_node.proofs.Replying.{failure-short, frame-length, room-fits, room-kept, room-wrote, signature-fits, step-answered, step-unread}
 use Rattle.aggregator_session.specs.Desks.{desk_state}
 use Rattle.aggregator_session.specs.Signing.{signature_in}
 use Rattle.aggregator_session.specs.declared.fault.SignFault.TheVariants as sign
@@ -146,3 +146,6 @@ returns-clause-pass g c = c.sign_one-outcome.ensures.pass
 
 pub sign_one-outcome-requires-clause-ready : goal.sign_one-outcome-requires-clause-ready
 sign_one-outcome-requires-clause-ready g c κs within = c.requires.ready
+
+pub write_outcome-requires-2 : goal.write_outcome-requires-2
+write_outcome-requires-2 g c = signature-fits c.args.desk.now.key.now c.deref.result.now c.sign_one-outcome.result c.sign_one-outcome.ensures.accepted
