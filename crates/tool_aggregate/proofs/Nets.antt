@@ -1,11 +1,11 @@
 -- How serving clients over a net ends.
-use Rattle.std.proofs.Common.{◌≡◌, ◌++◌, List, length, map, Some, Result, Ok, Err, All, IsTrue, IfOk, OnErr, sym, ap, ◌∙◌, subst}
+use Rattle.std.proofs.Common.{◌≡◌, ◌++◌, List, length, map, Some, Result, Ok, Err, All, IsTrue, IfOk, OnErr, sym, ap, ◌∙◌, refl, subst, arith}
 use Rattle.std.proofs.lemmas.List.{length-map}
 use Rattle.aggregator_node.specs.Ports.{Place, ServedClients, places_of}
 use Rattle.disk_trait.specs.Faults.{Rose}
 use Rattle.disk_trait.specs.declared.faults.Faults as faults
 use Rattle.aggregator_session.specs.Desks.{DeskState}
-use Rattle.aggregator_session.specs.Tables.{TableSeen}
+use Rattle.aggregator_session.specs.Tables.{TableOnward, TableSeen}
 use Rattle.memory.specs.declared.NoMemory.{NoMemory}
 use Rattle.reference_value.specs.declared.cells.Cells as cells
 use Rattle.stream_io.specs.Net.{IsNewPort, PortState, SomeUnaccepted}
@@ -50,3 +50,6 @@ module _ {X P : Type 0} (c : cells.Ghosts X) (f : faults.Ghosts X) (state : P �
       rw ends (no_memory (refused.0, refused.2)
       (heard_new net.before net.after words.place (map state ports_old) made
       (λ told. kept told ∙ ap (λ (l : List PortState). net.before.kept ++ l) (back refused.1))))
+
+pub table_still : (table : TableSeen) → TableOnward table table
+table_still table = record { name = refl; faults = omega arith }

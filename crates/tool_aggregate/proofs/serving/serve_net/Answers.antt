@@ -1,4 +1,4 @@
-use Rattle.std.proofs.Common.{◌≡◌, ◌++◌, ◌∙◌, map, refl, ap, arith}
+use Rattle.std.proofs.Common.{◌≡◌, ◌≤◌, ◌++◌, ◌∙◌, ℕ, map, refl, sym, ap, subst, arith}
 use Rattle.std.proofs.lemmas.List.{length-map}
 use Rattle.aggregator_session.specs.Desks.{desk_state}
 use Rattle.aggregator_session.specs.Tables.{table_seen}
@@ -6,8 +6,9 @@ use Rattle.tool_base.proofs.Heard.{heard_none}
 use Rattle.tool_base.proofs.Nets.{net_back}
 use Rattle.tool_base.specs.Endings.{ending}
 use Rattle.tool_aggregate.specs.Serving.{no_memory, no_ports}
-use Rattle.tool_aggregate.proofs.Nets.{net_ends}
+use Rattle.tool_aggregate.proofs.Nets.{net_ends, table_still}
 use Rattle.tool_base.proofs.Unaccepted.{not_true}
+use Rattle.tool_sign.proofs.Overs.{net_same}
 use Rattle.tool_sign.specs.Ports.{over_net}
 use Rattle.tool_words.specs.Rows.{aggregate_words}
 use Rattle.tool_aggregate.proofs.serving.serve_net.Goals as goal
@@ -60,3 +61,44 @@ returns-clause-net g c =
     let three = ports.ok.0 in
     let four = after.ports.ok.0 in
     net_back _ _ _ _ _ _ _ c.in-Ok.ensures.made c.in-Ok.ensures.onward (omega (arith, one, two, three, four, counts.0)) c.gather.ensures.kept c.gather.ensures.onward
+
+pub returns-in-Err-Failed-clause-onward : goal.returns-in-Err-Failed-clause-onward
+returns-in-Err-Failed-clause-onward g c = table_still (table_seen c.args.table)
+
+pub returns-in-Err-NoMemory-clause-onward : goal.returns-in-Err-NoMemory-clause-onward
+returns-in-Err-NoMemory-clause-onward g c = table_still (table_seen c.args.table)
+
+pub returns-in-Err-Failed-clause-net : goal.returns-in-Err-Failed-clause-net
+returns-in-Err-Failed-clause-net g c = net_same _ _ c.in-Err-Failed.ensures.refused c.in-Err-Failed.ensures.onward
+
+pub returns-in-Err-NoMemory-clause-net : goal.returns-in-Err-NoMemory-clause-net
+returns-in-Err-NoMemory-clause-net g c = net_same _ _ c.in-Err-NoMemory.ensures.refused c.in-Err-NoMemory.ensures.onward
+
+pub returns-clause-onward : goal.returns-clause-onward
+returns-clause-onward g c = c.serve_clients-table.ensures.onward
+
+pub returns-in-Err-Failed-clause-count : goal.returns-in-Err-Failed-clause-count
+returns-in-Err-Failed-clause-count g c = refl
+
+pub returns-in-Err-NoMemory-clause-count : goal.returns-in-Err-NoMemory-clause-count
+returns-in-Err-NoMemory-clause-count g c = refl
+
+pub returns-clause-count : goal.returns-clause-count
+returns-clause-count g c = c.serve_clients-table.ensures.count.1
+
+pub serve_clients-table-requires-clause-plan : goal.serve_clients-table-requires-clause-plan
+serve_clients-table-requires-clause-plan g c κs within = c.requires.plan
+
+pub serve_clients-table-requires-clause-cells : goal.serve_clients-table-requires-clause-cells
+serve_clients-table-requires-clause-cells g c κs within = c.requires.cells
+
+pub serve_clients-table-requires-clause-ports : goal.serve_clients-table-requires-clause-ports
+serve_clients-table-requires-clause-ports g c κs within =
+    let ports = c.in-Ok.ports in
+    let words = c.args.words.now in
+    subst (λ (n : ℕ). (1 ≤ n) × (n ≤ 64)) (sym c.in-Ok.ensures.made.many ∙ length-map ports.items g.N.Port.Port.state ∙ sym ports.ok.0) (words.some_workers, words.few_workers)
+
+pub serve_clients-table-requires-clause-many : goal.serve_clients-table-requires-clause-many
+serve_clients-table-requires-clause-many g c κs within =
+    let ports = c.in-Ok.ports in
+    c.requires.many ∙ sym c.in-Ok.ensures.made.many ∙ length-map ports.items g.N.Port.Port.state ∙ sym ports.ok.0

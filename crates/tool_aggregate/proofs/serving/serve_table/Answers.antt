@@ -91,3 +91,27 @@ return_disk-requires-2 g c =
     record {
       out = λ is_told. out_here _ _ name (disk_seen disks.Pages disks.Faults c.in-Ok.disk) (taken_out _ _ name _ out.taken out.onward) is_told ∙ ap Some same;
     }
+
+pub load-requires : goal.load-requires
+load-requires g c = ap (λ header. header.version) c.table_header-header.ensures
+
+pub serve_net-table-requires-clause-plan : goal.serve_net-table-requires-clause-plan
+serve_net-table-requires-clause-plan g c κs within = c.in-Ok-load.ensures.loaded.plan_is
+
+pub serve_net-table-requires-clause-cells : goal.serve_net-table-requires-clause-cells
+serve_net-table-requires-clause-cells g c κs within = c.requires.cells
+
+pub serve_net-table-requires-clause-many : goal.serve_net-table-requires-clause-many
+serve_net-table-requires-clause-many g c κs within = c.requires.many
+
+pub returns-in-Err-Failed-clause-count : goal.returns-in-Err-Failed-clause-count
+returns-in-Err-Failed-clause-count g c = refl
+
+pub returns-in-Err-NoMemory-clause-count : goal.returns-in-Err-NoMemory-clause-count
+returns-in-Err-NoMemory-clause-count g c = refl
+
+pub returns-in-Err-clause-count : goal.returns-in-Err-clause-count
+returns-in-Err-clause-count g c = refl
+
+pub returns-clause-count : goal.returns-clause-count
+returns-clause-count g c = c.serve_net-table.ensures.count
