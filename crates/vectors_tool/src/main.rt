@@ -15,7 +15,7 @@ use std::thread::Threads;
 use stream_memory::{MemNet, MemSink, MemStore};
 use tool::run_over;
 use tool_run::MemClocks;
-use vectors_scripts::{print_played, print_scripts, world_here};
+use vectors_scripts::{World, print_played, print_scripts, world_here};
 
 /// The scripts, each a file of the system, in their order.
 const SCRIPTS: &[&str] = &[
@@ -33,19 +33,39 @@ const WITNESSES: &str = "runs.witnesses";
 /// The moment at which each clock of a script begins.
 const START: u64 = 1000;
 
-/// Plays all scripts, and runs what no script runs.
-fn print_all<R: Threads + Wait + Sync>(threads: &R, rt: HostRuntime) -> io::Result<()> {
+/// Makes the files of the witnesses in a world, and runs them.
+fn print_witnesses<
+    R: Threads + Wait + Sync,
+    F: Fn(&[String], &mut MemStore, &mut MemNet, &mut MemSink) -> u8,
+>(threads: &R, rt: HostRuntime, run: &F, world: &mut World) -> io::Result<()>
+    requires { F.IsAlwaysCallable run.now }
+{
+    print_played(run, rt, world, WITNESSES)?;
+    witnesses::print_runs(threads, rt, &world.store)
+}
+
+/// Plays all scripts by what runs a command, and runs what no script runs.
+fn print_all<
+    R: Threads + Wait + Sync,
+    F: Fn(&[String], &mut MemStore, &mut MemNet, &mut MemSink) -> u8,
+>(threads: &R, rt: HostRuntime, run: &F) -> io::Result<()>
+    requires { F.IsAlwaysCallable run.now }
+{
+    print_scripts(run, rt, SCRIPTS)?;
+    drills::print_runs(rt)?;
+    let mut world = world_here(rt)?;
+    print_witnesses(threads, rt, run, &mut world)
+}
+
+/// Does so by the tool.
+fn print_by_tool<R: Threads + Wait + Sync>(threads: &R, rt: HostRuntime) -> io::Result<()> {
     let run = |words: &[String], store: &mut MemStore, net: &mut MemNet, out: &mut MemSink| {
         let mut time = MemClocks::new(START);
         run_over(threads, rt.alloc(), words, store, net, &mut time, out)
     };
-    print_scripts(&run, rt, SCRIPTS)?;
-    drills::print_runs(rt)?;
-    let mut world = world_here(rt)?;
-    print_played(&run, rt, &mut world, WITNESSES)?;
-    witnesses::print_runs(threads, rt, &world.store)
+    print_all(threads, rt, &run)
 }
 
 fn main(rt: HostRuntime) -> io::Result<()> {
-    print_all(&rt, rt)
+    print_by_tool(&rt, rt)
 }
