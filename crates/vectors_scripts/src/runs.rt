@@ -1,5 +1,5 @@
-//! The lines of scripts that run a command. What runs it is handed in: it does what the words ask for over a store and a
-//! net, prints its line, and gives its status.
+//! The lines of scripts that run a command. What runs it is handed in: it does what the words ask for over a store and
+//! a net, prints its line, and gives its status.
 
 use crate::answers::answered;
 use crate::given::words_of;
