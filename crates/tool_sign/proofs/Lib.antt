@@ -3,6 +3,7 @@ pub mod Causes
 pub mod Dealt
 pub mod Exacts
 pub mod Leases
+pub mod Origins
 pub mod Losses
 pub mod Overs
 pub mod Ports
