@@ -1,5 +1,5 @@
 -- A session over the one port of a net.
-use Rattle.std.proofs.Common.{◌≡◌, ◌≢◌, ◌++◌, ℕ, List, [], ◌∷◌, All, IfOk, IsTrue, Option, None, Result, Err, get_or, length, map, refl, sym, ap, ◌∙◌, set, subst, arith}
+use Rattle.std.proofs.Common.{◌≡◌, ◌≢◌, ◌++◌, ℕ, List, [], ◌∷◌, All, IfOk, IsTrue, Option, None, Result, Ok, Err, get_or, length, map, refl, sym, ap, ◌∙◌, set, subst, arith}
 use Rattle.std.proofs.lemmas.List.Elements.{All-cons, All-head, All-nil}
 use Rattle.aggregator_session.specs.declared.fault.SignFault.{SignFault}
 use Rattle.aggregator_session.specs.declared.sign.Signed.{Signed}
@@ -18,6 +18,7 @@ use Rattle.reference_value.specs.declared.cells.Cells as cells
 use Rattle.session_core.specs.State.{State}
 use Rattle.stream_io.specs.Net.{Gathers, IsNewPort, MakesPorts, NetOnward, NetState, PortState, SameNet, SomeFailed, SomeUnaccepted}
 use Rattle.stream_io.specs.Store.{RisesWhere}
+use Rattle.stream_io.specs.declared.call_fault.CallFault.{CallFault}
 use Rattle.tool_base.proofs.Nets.{net_back}
 use Rattle.tool_base.specs.Ending as ending
 use Rattle.tool_base.specs.Ending.{Ending}
@@ -27,6 +28,19 @@ use Rattle.tool_sign.proofs.Ports.{accepted_as, causes_as}
 use Rattle.tool_sign.specs.Ended.{NetTo, last_over}
 use Rattle.tool_sign.specs.Ports.{IsIdle, IsUnread, NetRun, SignedOver, Signing, answer_of, no_memory, no_port, over_net, sign_of, signed}
 use Rattle.tool_sign.specs.Signs.{answer_in}
+
+-- what came of a call of the net
+abbrev told_as : (T : Type 0) → CallFault → Result T CallFault
+told_as T f = Err f
+
+abbrev done_as : (T : Type 0) → T → Result T CallFault
+done_as T made = Ok made
+
+pub failed_as : (T : Type 0) (f g : CallFault) → f ≡ g → told_as T f ≡ told_as T g
+failed_as T f g is = ap (told_as T) is
+
+pub never_failed : (T : Type 0) (made : T) (f : CallFault) → done_as T made ≡ told_as T f → ⊥
+never_failed T made f is = cc
 
 module _ {P : Type 0} (f : P → PortState) where
   none-one : length (map f []) ≡ 1 → ⊥

@@ -58,3 +58,22 @@ returns-in-Malformed g c =
           (rw (← c.deref.ensures.value, ← c.deref-2.ensures.value) c.verify-verdict.ensures.verdict) refused refl);
       unchanged = unchanged;
     }
+
+pub returns-in_err-test_two_new-clause-ready : goal.returns-in_err-test_two_new-clause-ready
+returns-in_err-test_two_new-clause-ready g c =
+    let p = err_from_is_err_and c.from_residual.result c.from_residual.ensures.1 in
+    λ last onward. rw p.1 tt
+
+pub returns-in_err-test_two_new-clause-unchanged : goal.returns-in_err-test_two_new-clause-unchanged
+returns-in_err-test_two_new-clause-unchanged g c = c.in_err-test_two_new.ensures.unchanged
+
+pub returns-in_err-lower-clause-ready : goal.returns-in_err-lower-clause-ready
+returns-in_err-lower-clause-ready g c =
+    let p = err_from_is_err_and c.from_residual-in_err-lower.result c.from_residual-in_err-lower.ensures.1 in
+    λ last onward. rw p.1 tt
+
+pub returns-in_err-lower-clause-unchanged : goal.returns-in_err-lower-clause-unchanged
+returns-in_err-lower-clause-unchanged g c = unchanged_on _ _ _ c.in_ok-test_two_new.ensures.unchanged c.in_err-lower.ensures.unchanged
+
+pub returns-in-Accepted-clause-refused : goal.returns-in-Accepted-clause-refused
+returns-in-Accepted-clause-refused g c = λ net. tt
