@@ -1,5 +1,6 @@
 -- The session of a message that was signed with a table, as it stands at its end.
-use Rattle.std.proofs.Common.{◌≡◌, ℕ, List, Option, Some, None, Result, Ok, Err, IfErr, IfSome, IsTrue, is_some, refl, sym, ap, ◌∙◌}
+use Rattle.std.proofs.Common.{◌≡◌, ◌==◌, ℕ, false, List, Option, Some, None, Result, Ok, Err, IfErr, IfSome, IsTrue, is_some, refl, sym, ap, ◌∙◌}
+use Rattle.std.proofs.lemmas.Bool.{false≢true}
 use Rattle.aggregator_session.specs.Desks.{DeskState}
 use Rattle.aggregator_session.specs.Runs.{CellsRead}
 use Rattle.aggregator_session.specs.declared.fault.SignFault.{SignFault}
@@ -40,18 +41,31 @@ pub record IsOfDesk (desk : DeskState) (last : State) : Type 0 where
 data IsOfSession : SignFault → Type 0 where
   of_session : (f : SessionFault) → IsOfSession (fault.Session f)
 
+-- another number than 8
+other_number : (n : ℕ) → (n == 8) ≡ false → n ≡ 8 → ⊥
+other_number n differs is = false≢true (sym differs ∙ ap (λ m. m == 8) is)
+
+abbrev no_state : Option State
+no_state = None
+
+abbrev some_state : State → Option State
+some_state last = Some last
+
+no_last : (last : State) → no_state ≡ some_state last → ⊥
+no_last last is = cc
+
 -- the fault of an end of status 8 is one of the session itself
 judged : (f : SignFault) → status_of (end_of_fault f) ≡ 8 → IsOfSession f
-judged (fault.TooLong got) is = absurd (cc)
-judged fault.Worn is = absurd (cc)
-judged (fault.Table table.NotACoalition) is = absurd (cc)
-judged (fault.Table table.Device) is = absurd (cc)
-judged (fault.Table (table.Damaged leaf a b)) is = absurd (cc)
-judged (fault.Table (table.NoLeaf c)) is = absurd (cc)
-judged (fault.Lost member round why) is = absurd (cc)
-judged (fault.Stray member round) is = absurd (cc)
+judged (fault.TooLong got) is = absurd (other_number 12 refl is)
+judged fault.Worn is = absurd (other_number 14 refl is)
+judged (fault.Table table.NotACoalition) is = absurd (other_number 18 refl is)
+judged (fault.Table table.Device) is = absurd (other_number 10 refl is)
+judged (fault.Table (table.Damaged leaf a b)) is = absurd (other_number 13 refl is)
+judged (fault.Table (table.NoLeaf c)) is = absurd (other_number 9 refl is)
+judged (fault.Lost member round why) is = absurd (other_number 6 refl is)
+judged (fault.Stray member round) is = absurd (other_number 11 refl is)
 judged (fault.Session f) is = of_session f
-judged fault.NoMemory is = absurd (cc)
+judged fault.NoMemory is = absurd (other_number 14 refl is)
 
 -- a session that was run and has a fault of its own was started
 begun-on : (desk : DeskState) (reads : CellsRead) (leaf : ℕ) (message : List ℕ) (port now : PortState) (result : Result (List ℕ) SignFault) (f : SessionFault)
@@ -76,50 +90,51 @@ begun-of sign before _ port _ _ f is (signing.leased leaf mid after now result s
 -- the session is of the desk that it was started with
 desk-on : (desk : DeskState) (reads : CellsRead) (leaf : ℕ) (message : List ℕ) (port now : PortState) (result : Result (List ℕ) SignFault) (runs : RunsOn desk reads leaf message port now result)
     (last : State) → last_on runs ≡ Some last → IsOfDesk desk last
-desk-on desk reads leaf message port _ _ (not_started same) last is = absurd (cc)
+desk-on desk reads leaf message port _ _ (not_started same) last is = absurd (no_last last is)
 desk-on desk reads leaf message port _ _ (ran after end result run ends) last is =
     let same : end ≡ last = cc in
     record { key = ap (λ (s : State). s.key) (sym same) ∙ run.same.key; plan = ap (λ (s : State). s.plan) (sym same) ∙ run.same.plan }
 
 desk-of : (sign : ToSign) (before after : TableSeen) (port now : PortState) (result : Result Signature SignFault)
     (signs : SignsLeased sign before port after now result) (last : State) → last_of signs ≡ Some last → IsOfDesk sign.desk last
-desk-of sign before _ port _ _ (signing.too_long long same) last is = absurd (cc)
-desk-of sign before _ port _ _ (signing.not_leased after why short same asks) last is = absurd (cc)
+desk-of sign before _ port _ _ (signing.too_long long same) last is = absurd (no_last last is)
+desk-of sign before _ port _ _ (signing.not_leased after why short same asks) last is = absurd (no_last last is)
 desk-of sign before _ port _ _ (signing.leased leaf mid after now result short asks runs spends) last is = desk-on sign.desk sign.reads leaf sign.message port now result runs last is
+
+-- the status that an answer is told by
+abbrev answer_status : Result Signature Ending → ℕ
+answer_status (Ok signature) = 0
+answer_status (Err end) = status_of end
 
 module _ (s : Signing) (name : List ℕ) (store : StoreRun) (net : NetRun) where
   other-status : (header : Header) (count : ℕ) (end : Ending) → FailsToLoad header count store name end → status_of end ≡ 8 → ⊥
-  other-status header count _ (loads.other_file f reads) is = absurd (cc)
-  other-status header count _ (loads.damaged reads) is = absurd (cc)
-  other-status header count _ (loads.device fails) is = absurd (cc)
-  other-status header count _ loads.no_memory is = absurd (cc)
+  other-status header count _ (loads.other_file f reads) is = other_number 13 refl is
+  other-status header count _ (loads.damaged reads) is = other_number 13 refl is
+  other-status header count _ (loads.device fails) is = other_number 10 refl is
+  other-status header count _ loads.no_memory is = other_number 14 refl is
 
   fault-begun : (f : SignFault) → IsOfSession f → (signed : SignedTable s name store net (Err f)) → IsTrue (is_some (last_of signed.over.signs))
   fault-begun _ (of_session f) signed =
       begun-of (sign_of s) signed.old signed.new signed.over.port signed.over.done (Err (fault.Session f)) f refl signed.over.signs
 
-  outcome-begun : (end : Ending) → status_of end ≡ 8 → (outcome : Result Signature SignFault) → answer_of outcome ≡ Err end → (signed : SignedTable s name store net outcome)
-      → IsTrue (is_some (last_of signed.over.signs))
-  outcome-begun end is (Ok signature) answered signed = absurd (cc)
-  outcome-begun end is (Err f) answered signed =
-      let same : end_of_fault f ≡ end = cc in fault-begun f (judged f (ap status_of same ∙ is)) signed
+  outcome-begun : (outcome : Result Signature SignFault) → answer_status (answer_of outcome) ≡ 8 → (signed : SignedTable s name store net outcome) → IsTrue (is_some (last_of signed.over.signs))
+  outcome-begun (Ok signature) is signed = absurd (other_number 0 refl is)
+  outcome-begun (Err f) is signed = fault-begun f (judged f is) signed
 
   -- an end of status 8 is that of a session
-  pub begun : (answer : Result Signature Ending) (touched : List (List ℕ)) (end : Ending) → answer ≡ Err end → status_of end ≡ 8 → (ends : TableEnds s name store net answer touched)
-      → IsTrue (is_some (last_in ends))
-  begun _ _ end answered is (signs.no_table idle read) = absurd (cc)
-  begun _ _ end answered is (signs.no_memory touched idle stays) = absurd (cc)
-  begun _ _ end answered is (signs.not_loaded why idle fails stays) =
-      let same : why ≡ end = cc in absurd (other-status _ _ why fails (ap status_of same ∙ is))
-  begun _ _ end answered is (signs.no_port entries idle reads rose never stays) = absurd (cc)
-  begun _ _ end answered is (signs.signed outcome signed) = outcome-begun end is outcome answered signed
+  begun : (answer : Result Signature Ending) (touched : List (List ℕ)) → answer_status answer ≡ 8 → (ends : TableEnds s name store net answer touched) → IsTrue (is_some (last_in ends))
+  begun _ _ is (signs.no_table idle read) = absurd (other_number 3 refl is)
+  begun _ _ is (signs.no_memory touched idle stays) = absurd (other_number 14 refl is)
+  begun _ _ is (signs.not_loaded why idle fails stays) = absurd (other-status _ _ why fails is)
+  begun _ _ is (signs.no_port entries idle reads rose never stays) = absurd (other_number 17 refl is)
+  begun _ _ is (signs.signed outcome signed) = outcome-begun outcome is signed
 
   -- the session is of the desk's key and plan
   pub desk_is : (answer : Result Signature Ending) (touched : List (List ℕ)) (ends : TableEnds s name store net answer touched) (last : State) → last_in ends ≡ Some last → IsOfDesk s.desk last
-  desk_is _ _ (signs.no_table idle read) last is = absurd (cc)
-  desk_is _ _ (signs.no_memory touched idle stays) last is = absurd (cc)
-  desk_is _ _ (signs.not_loaded end idle fails stays) last is = absurd (cc)
-  desk_is _ _ (signs.no_port entries idle reads rose never stays) last is = absurd (cc)
+  desk_is _ _ (signs.no_table idle read) last is = absurd (no_last last is)
+  desk_is _ _ (signs.no_memory touched idle stays) last is = absurd (no_last last is)
+  desk_is _ _ (signs.not_loaded end idle fails stays) last is = absurd (no_last last is)
+  desk_is _ _ (signs.no_port entries idle reads rose never stays) last is = absurd (no_last last is)
   desk_is _ _ (signs.signed outcome signed) last is =
       desk-of (sign_of s) signed.old signed.new signed.over.port signed.over.done outcome signed.over.signs last is
 
@@ -146,4 +161,4 @@ module _ (s : Signing) (name : List ℕ) (store : StoreRun) (net : NetRun) where
   pub begun_if : (outcome : Result SignedBy declared.Ending) (touched : List (List ℕ)) (ends : TableEnds s name store net (answer_by outcome) touched) (session : Option State) → session ≡ last_in ends
       → IfErr outcome (λ end. status_of (endings.ending end) ≡ 8 → IsTrue (is_some session))
   begun_if (Ok by) touched ends session is = tt
-  begun_if (Err end) touched ends session is = λ status. rw is (begun (Err (endings.ending end)) touched (endings.ending end) refl status ends)
+  begun_if (Err end) touched ends session is = λ status. rw is (begun (Err (endings.ending end)) touched status ends)
