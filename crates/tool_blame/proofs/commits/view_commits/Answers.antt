@@ -1,4 +1,4 @@
-use Rattle.std.proofs.Common.{◌≡◌, IsTrue, refl}
+use Rattle.std.proofs.Common.{◌≡◌, IsTrue, refl, ◌∙◌}
 use Rattle.std.proofs.lemmas.Result.{err_from_is_err_and}
 use Rattle.stream_io.specs.Store.{pages_state}
 use Rattle.tool_base.proofs.Runs.{unchanged_none}
@@ -6,6 +6,7 @@ use Rattle.tool_blame.specs.Commits.{GoesWithReference, commits_name, no_memory,
 use Rattle.tool_blame.proofs.Views.{behind_head, commits_refused, fails_part}
 use Rattle.tool_desk.proofs.Taking.{refuses, refuses_unchanged, takes}
 use Rattle.tool_desk.proofs.Viewing.{keeps, reads_as, reads_part}
+use Rattle.tool_sign.proofs.Overs.{failed_as}
 use Rattle.tool_blame.proofs.commits.view_commits.Goals as goal
 
 pub returns-in_err-name-clause-taken : goal.returns-in_err-name-clause-taken
@@ -15,10 +16,10 @@ returns-in_err-name-clause-taken g c =
 
 pub returns-in-Err-Failed-clause-taken : goal.returns-in-Err-Failed-clause-taken
 returns-in-Err-Failed-clause-taken g c =
-    let is = c.in-Err-Failed.field-0-is in
-    let name : c.as_str.result.now ≡ commits_name c.args.prefix.now = let text = c.as_str.ensures.value in let is = c.in_ok-name.ensures.name in cc in
+    let failed = failed_as _ _ _ c.in-Err-Failed.field-0-is in
+    let name : c.as_str.result.now ≡ commits_name c.args.prefix.now = c.as_str.ensures.value ∙ c.in_ok-name.ensures.name in
     let view = c.in-Err-Failed.ensures in
-    refuses_unchanged g.S.Store.state _ _ _ _ _ (λ first last part. fails_part _ _ _ _ part _ _ _ (no_view (view.cause.rose (cc), λ told steady. rw name at (view.absent told steady (cc)))))
+    refuses_unchanged g.S.Store.state _ _ _ _ _ (λ first last part. fails_part _ _ _ _ part _ _ _ (no_view (view.cause.rose failed, λ told steady. rw name at (view.absent told steady failed))))
     (record { same = view.refused; onward = view.onward })
 
 pub returns-in-Err-NoMemory-clause-taken : goal.returns-in-Err-NoMemory-clause-taken
@@ -31,7 +32,7 @@ returns-in-Ok-load-clause-taken g c =
     let state = g.S.Store.state in
     let views = g.S.View in
     let pages = pages_state views.Pages.told views.Pages.honest views.Faults.steady views.Faults.count views.Pages.room views.Pages.reads views.Pages.may_leave in
-    let name : c.as_str.result.now ≡ commits_name c.args.prefix.now = let text = c.as_str.ensures.value in let is = c.in_ok-name.ensures.name in cc in
+    let name : c.as_str.result.now ≡ commits_name c.args.prefix.now = c.as_str.ensures.value ∙ c.in_ok-name.ensures.name in
     let view = pages c.in-Ok.view in
     takes state _ _ _ _ _
     (λ first last part. record {
@@ -55,8 +56,8 @@ returns-clause-taken g c =
     let state = g.S.Store.state in
     let views = g.S.View in
     let pages = pages_state views.Pages.told views.Pages.honest views.Faults.steady views.Faults.count views.Pages.room views.Pages.reads views.Pages.may_leave in
-    let name : c.as_str.result.now ≡ commits_name c.args.prefix.now = let text = c.as_str.ensures.value in let is = c.in_ok-name.ensures.name in cc in
-    let again : c.as_str-in-Err.result.now ≡ commits_name c.args.prefix.now = let text = c.as_str-in-Err.ensures.value in let is = c.in_ok-name.ensures.name in cc in
+    let name : c.as_str.result.now ≡ commits_name c.args.prefix.now = c.as_str.ensures.value ∙ c.in_ok-name.ensures.name in
+    let again : c.as_str-in-Err.result.now ≡ commits_name c.args.prefix.now = c.as_str-in-Err.ensures.value ∙ c.in_ok-name.ensures.name in
     let load = c.in-Err.ensures in
     let stay = load.back in
     let viewed = rw name at c.in-Ok.ensures.viewed in
