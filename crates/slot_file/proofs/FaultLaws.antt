@@ -35,3 +35,8 @@ rises-as before now answer device other gone back there rises = record {
   failed = λ is. rises.failed (back is);
   others = λ differs. rises.others (λ is. differs (there is));
 }
+
+-- what holds anyway
+pub on-any : {T X : Type 0} (P : Type 0) (answer : Result T X) → P → OnOk answer P
+on-any P (Ok value) holds = holds
+on-any P (Err fault) holds = tt

@@ -8,6 +8,7 @@ ghost use Rattle.slot_file.specs.Fresh.{AreUnready, NeverHalf, RefusesFull, Stay
 ghost use Rattle.slot_file.specs.Layout.{file_size, slot_start};
 ghost use Rattle.slot_file.specs.Slots.{IsSteady, IsTold, count_of, file_of, header_of, slot_now};
 
+use crate::faults::show_damaged;
 use crate::fresh::{append, open_gate, write_shut};
 use crate::slot::slot_start;
 use crate::{Doubt, Header, Slot, Slots};
@@ -24,7 +25,7 @@ pub enum CopyFault {
         length: u64,
     },
     /// A slot has gate B open and gate A closed. It is the first.
-    #[error("slot {slot} is damaged: gate A is {a:#04x}, and gate B is open with {b:#04x}")]
+    #[error(fmt = show_damaged)]
     Damaged {
         /// The slot.
         slot: u32,

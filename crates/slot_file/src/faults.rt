@@ -1,7 +1,13 @@
 //! The answers of a cache of slots.
 
 use crate::LoadFault;
+use std::fmt::{self, Formatter, Write};
 use thiserror::Error;
+
+/// Writes that a slot is damaged, with the bytes of its gates.
+pub(crate) fn show_damaged<W: Write>(slot: &u32, a: &u8, b: &u8, f: &mut Formatter<W>) -> fmt::Result {
+    write!(f, "slot {slot} is damaged: gate A is {a:#04x}, and gate B is open with {b:#04x}")
+}
 
 /// What settling has found.
 #[derive(Clone, Copy, Debug, PartialEq, Eq)]
@@ -42,7 +48,7 @@ pub enum CacheLoad {
     #[error("out of memory")]
     NoMemory,
     /// The first slot whose gate B is open and whose gate A is closed.
-    #[error("slot {slot} is damaged: gate A is {a:#04x}, and gate B is open with {b:#04x}")]
+    #[error(fmt = show_damaged)]
     Damaged {
         /// The slot.
         slot: u32,

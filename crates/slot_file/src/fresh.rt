@@ -6,6 +6,7 @@ ghost use Rattle.disk_trait.specs.Images.{Only, written};
 ghost use Rattle.slot_file.specs.Disks.{SameDisk};
 ghost use Rattle.slot_file.specs.Fresh.{AreUnready, IsShut, OpensLast, StaysShut};
 
+use crate::gated::write_stable;
 use crate::header::OPEN;
 use disk_trait::{Disk, DiskFault};
 
@@ -23,8 +24,7 @@ pub(crate) fn write_shut<D: Disk>(disk: &mut D, block: &[u8; 128]) -> Result<(),
     ensures cause { HasCause (D.count disk.old) (D.count disk.new) result }
     ensures stays { SameDisk D.Pages.own D.Faults disk.old disk.new }
 {
-    disk.write_at(0, &[0])?;
-    disk.sync()?;
+    write_stable(disk, 0, &[0])?;
     append(disk, 1, &block[1..])
 }
 
@@ -58,6 +58,5 @@ pub(crate) fn open_gate<D: Disk>(disk: &mut D) -> Result<(), DiskFault>
     ensures stays { SameDisk D.Pages.own D.Faults disk.old disk.new }
 {
     disk.sync()?;
-    disk.write_at(0, &[OPEN])?;
-    disk.sync()
+    write_stable(disk, 0, &[OPEN])
 }

@@ -2,19 +2,15 @@ use Rattle.std.proofs.Common.{length, arith}
 use Rattle.std.proofs.lemmas.Result.{IfErr-weaker}
 use Rattle.slot_file.specs.Slots.{file_of, header_of}
 use Rattle.slot_file.proofs.Read.{refused-run}
-use Rattle.std.proofs.Common.{◌≢◌, ℕ, List, Result, Ok, Err, IfErr, OnOk, refl}
+use Rattle.std.proofs.Common.{◌≢◌, ℕ, List, Result, Ok, Err, IfErr, refl}
 use Rattle.std.proofs.lemmas.Bool.{false≢true}
 use Rattle.slot_file.specs.Reading.{IsRunRefused}
 use Rattle.slot_file.specs.declared.faults.CacheLoad.{CacheLoad}
 use Rattle.slot_file.specs.declared.faults.CacheLoad.TheVariants as load
 use Rattle.slot_file.specs.declared.slot.Slot.{Slot}
-use Rattle.slot_file.proofs.FaultLaws.{rises-failed, rises-fine}
+use Rattle.slot_file.proofs.FaultLaws.{on-any, rises-failed, rises-fine}
 use Rattle.slot_file.proofs.SlotsLooks.{looks-only}
 use Rattle.slot_file.proofs.reading.read_run.Goals as goal
-
-on-any : {T X : Type 0} (P : Type 0) (answer : Result T X) → P → OnOk answer P
-on-any P (Ok value) holds = holds
-on-any P (Err fault) holds = tt
 
 run-not : {T : Type 0} (first : ℕ) (run : List Slot) (answer : Result T CacheLoad) → IfErr answer (IsRunRefused first run) → answer ≢ Err load.Device
 run-not first run (Ok value) refused is = cc
