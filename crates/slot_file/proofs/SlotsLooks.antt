@@ -1,11 +1,12 @@
 -- What a call that writes nothing leaves of a file of slots.
-use Rattle.std.proofs.Common.{◌≡◌, ◌≤◌, ℕ, List, Result, Ok, Err, IsErr, IfOk, is_ok, if◌then◌else◌, IsTrue, refl, sym, ◌∙◌, subst, arith}
+use Rattle.std.proofs.Common.{◌≡◌, ◌≤◌, ◌+◌, ◌==◌, ◌&&◌, Bool, nat_le, nat_lt, ap, ℕ, List, Result, Ok, Err, IsErr, IfOk, is_ok, if◌then◌else◌, IsTrue, refl, sym, ◌∙◌, subst, arith}
 use Rattle.std.proofs.lemmas.Bool.{false≢true}
+use Rattle.std.proofs.lemmas.Bool.Decides.{nat_tests}
 use Rattle.disk_trait.specs.Images.{Only}
 use Rattle.disk_trait.specs.declared.disk.Pages as pages
 use Rattle.disk_trait.specs.declared.faults.Faults as faults
 use Rattle.slot_file.specs.Disks.{Unwritten}
-use Rattle.slot_file.specs.Doubts.{IsSure, looked_run}
+use Rattle.slot_file.specs.Doubts.{IsSure, looked, looked_run}
 use Rattle.slot_file.specs.Files.{IsFile}
 use Rattle.slot_file.specs.Layout.{file_size}
 use Rattle.slot_file.specs.Reading.{LooksOnly}
@@ -50,6 +51,15 @@ pub sure-run : (first count : ℕ) (doubt : Doubt) → IsSure (looked_run first 
 sure-run first count Nowhere sure = tt
 sure-run first count (Refused slot) sure = absurd sure
 sure-run first count (Settled slot) sure = tt
+
+-- a look at one slot
+looked-at : (slot doubted : ℕ) → (nat_le slot doubted && nat_lt doubted (slot + 1)) ≡ (doubted == slot)
+looked-at slot doubted = grind (arith, nat_tests)
+
+pub looked-once : (slot : ℕ) (doubt : Doubt) → looked_run slot 1 doubt ≡ looked slot doubt
+looked-once slot Nowhere = refl
+looked-once slot (Refused doubted) = refl
+looked-once slot (Settled doubted) = ap (λ (b : Bool). if b then Nowhere else Settled doubted) (looked-at slot doubted)
 
 -- what is said of an answer that is refused
 pub if-err : {T X U : Type 0} (answer : Result T X) (done not_done : U) → IsErr answer → not_done ≡ (if is_ok answer then done else not_done)

@@ -176,9 +176,7 @@ impl<D: Disk> Slots<D> {
         let mut block = [0; 160];
         let bytes = &mut block[..slot_len(version)];
         self.disk.read_at(slot_start(version, slot), bytes)?;
-        if self.doubt == Doubt::Settled(slot) {
-            self.doubt = Doubt::Nowhere;
-        }
+        self.doubt = self.doubt.after_look(slot, 1);
         Ok(Slot::of_bytes(version, bytes))
     }
 

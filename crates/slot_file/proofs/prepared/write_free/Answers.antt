@@ -1,6 +1,8 @@
-use Rattle.std.proofs.Common.{◌≡◌, ◌≤◌, ◌+◌, ◌*◌, ◌++◌, ℕ, List, replicate, take, ◌∙◌, ap, arith, append_assoc, refl}
-use Rattle.std.proofs.lemmas.List.{replicate-append-replicate, take-replicate}
+use Rattle.std.proofs.Common.{◌≡◌, ◌≤◌, ◌+◌, ◌*◌, ◌++◌, ℕ, List, replicate, length, take, sym, ◌∙◌, ap, length-append, arith, append_assoc, refl}
+use Rattle.std.proofs.lemmas.List.{length-replicate, replicate-append-replicate, take-replicate}
+use Rattle.std.proofs.lemmas.Bool.{false≢true}
 use Rattle.slot_file.specs.Layout.{slot_size}
+use Rattle.slot_file.proofs.Kept.{slot-within}
 use Rattle.slot_file.proofs.Puts.{most_size}
 use Rattle.slot_file.proofs.FaultLaws.{cause-failed, on-err}
 use Rattle.slot_file.proofs.Unwritten.{same-then}
@@ -59,3 +61,22 @@ returns-clause-succeeds g c = λ steady told room. refl
 
 pub returns-clause-cause : goal.returns-clause-cause
 returns-clause-cause g c = record { later = c.loop-slot.invariant.stays.count; succeeded = c.loop-slot.invariant.count; failed = tt }
+
+so-long : (front file : List ℕ) (size slot : ℕ) → file ≡ front ++ replicate (size * slot) 0 → length front ≡ 128 → length file ≡ 128 + size * slot
+so-long front file size slot is front_is = omega (arith, ap length is, length-append front (replicate (size * slot) 0), length-replicate {A = ℕ} (size * slot) 0, front_is)
+
+sized : (size n : ℕ) → n ≡ size → size ≤ 160 → length {A = ℕ} (take n (replicate 160 0)) ≡ size
+sized size n is most = ap (λ (k : ℕ). length {A = ℕ} (take k (replicate 160 0))) is ∙ ap length (take-replicate size 160 0 most) ∙ length-replicate {A = ℕ} size 0
+
+pub append-requires-clause-end : goal.append-requires-clause-end
+append-requires-clause-end g c = λ told.
+    let so_far = c.loop-slot.invariant in
+    let was = sym so_far.stays.told ∙ told in
+    so-long (g.D.Pages.reads c.args.disk.now) (g.D.Pages.reads c.loop-slot.disk) (slot_size c.args.version) c.loop-slot.slot (so_far.bytes was) (c.requires was) ∙ sym c.slot_start.ensures.value
+
+pub returns-in_err-append-clause-succeeds : goal.returns-in_err-append-clause-succeeds
+returns-in_err-append-clause-succeeds g c = λ steady told room.
+    let stays = c.loop-slot.invariant.stays in
+    let size = sized (slot_size c.args.version) c.slot_len-size.result c.slot_len-size.ensures (most_size c.args.version) in
+    let inside = slot-within c.args.version c.loop-slot.slot c.args.count c.loop-slot-test.true in
+    absurd (false≢true (c.in_err-append.ensures.succeeds (stays.steady ∙ steady) (stays.told ∙ told) (omega (arith, c.slot_start.ensures.value, size, inside, room, stays.room))))
