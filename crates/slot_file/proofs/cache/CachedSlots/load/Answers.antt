@@ -158,3 +158,15 @@ returns-in-Err-read_slots-clause-cause g c =
 
 pub read_slots-requires-clause-count : goal.read_slots-requires-clause-count
 read_slots-requires-clause-count g c = c.in-Ok.ensures.opened.size ∙ sym (ap length c.deref_mut.ensures.value ∙ ap length c.in-Ok-free_slots.ensures ∙ length-replicate c.args.count Free)
+
+pub returns-in-Ok-read_slots-clause-refused : goal.returns-in-Ok-read_slots-clause-refused
+returns-in-Ok-read_slots-clause-refused g c = λ told. tt
+
+pub returns-in-Ok-read_slots-clause-unwritten : goal.returns-in-Ok-read_slots-clause-unwritten
+returns-in-Ok-read_slots-clause-unwritten g c = tt
+
+pub returns-in-Ok-read_slots-clause-succeeds : goal.returns-in-Ok-read_slots-clause-succeeds
+returns-in-Ok-read_slots-clause-succeeds g c = λ steady told. tt
+
+pub returns-in-Ok-read_slots-clause-cause : goal.returns-in-Ok-read_slots-clause-cause
+returns-in-Ok-read_slots-clause-cause g c = tt
