@@ -5,8 +5,16 @@ use std::fmt::{self, Formatter, Write};
 use thiserror::Error;
 
 /// Writes that a slot is damaged, with the bytes of its gates.
-pub(crate) fn show_damaged<W: Write>(slot: &u32, a: &u8, b: &u8, f: &mut Formatter<W>) -> fmt::Result {
-    write!(f, "slot {slot} is damaged: gate A is {a:#04x}, and gate B is open with {b:#04x}")
+pub(crate) fn show_damaged<W: Write>(
+    slot: &u32,
+    a: &u8,
+    b: &u8,
+    f: &mut Formatter<W>,
+) -> fmt::Result {
+    write!(
+        f,
+        "slot {slot} is damaged: gate A is {a:#04x}, and gate B is open with {b:#04x}"
+    )
 }
 
 /// What settling has found.
