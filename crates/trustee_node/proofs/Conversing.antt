@@ -121,7 +121,7 @@ failed-cause ended old mid new is same later rose = record {
   same = λ never. absurd (never is);
 }
 
-abbrev FailsAs : FrameFault → Type 0
+abbrev pub FailsAs : FrameFault → Type 0
 FailsAs fault = ◌≡◌ {A = Result Ask FrameFault} (Err fault) (Err ReadFault)
 
 cause-frame : (fault : FrameFault) (old new : ℕ) → RisesWhere (FailsAs fault) old new → RisesWhere (IsLinkFault (Frame fault)) old new

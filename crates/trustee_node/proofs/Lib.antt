@@ -1,6 +1,8 @@
 mod Asking
+mod Batches
 mod Conversing
 mod Deciding
+mod Ending
 mod Frames
 mod Heads
 mod Lengths

@@ -47,3 +47,26 @@ returns-clause-gathered g c =
     λ share ids asked olds clocks done.
     hand-all state share ids asked c.args.lock.now olds clocks c.loop-worker.workers.items c.loop-worker.pass (map g.P.Port.state c.loop-worker.ports.items) c.loop-worker.totals
     (c.loop-worker.invariant.hand share ids asked olds clocks done) (none-of c.loop-worker.workers.items (let n = c.loop-worker.workers.ok.0 in let e = c.in_default-pop.ensures.cases.0 in omega (arith, n, e)))
+
+pub unreachable-unreachable : goal.unreachable-unreachable
+unreachable-unreachable g c = (let some = c.requires.some in let none = c.in_default.ensures.cases.0 in omega (arith, some, none))
+
+pub returns-clause-pass : goal.returns-clause-pass
+returns-clause-pass g c = c.loop-worker.invariant.pass
+
+pub returns-clause-count : goal.returns-clause-count
+returns-clause-count g c = (let count = c.loop-worker.invariant.count in let none = c.in_default-pop.ensures.cases.0 in omega (arith, count, none))
+
+pub begin-pass-requires-clause-room : goal.begin-pass-requires-clause-room
+begin-pass-requires-clause-room g c κs within = (let some = c.requires.some in let room = c.requires.room in omega (arith, some, room.1, room.2))
+
+pub take_in-requires-clause-pass : goal.take_in-requires-clause-pass
+take_in-requires-clause-pass g c κs within = c.loop-worker.invariant.pass
+
+pub take_in-requires-clause-worker : goal.take_in-requires-clause-worker
+take_in-requires-clause-worker g c κs within =
+    (All-pop (λ worker. (worker.pass.lock ≡ c.args.lock.now) × (worker.pass.in_turn ≡ false)) c.loop-worker.workers.items c.pop-in-loop-worker.new.self.items (Some c.in-Some-pop.worker)
+    c.in-Some-pop.ensures.items c.loop-worker.invariant.idle).1
+
+pub take_in-requires-clause-room : goal.take_in-requires-clause-room
+take_in-requires-clause-room g c κs within = (let room = c.loop-worker.invariant.room in let less = c.in-Some-pop.ensures.len in omega (arith, room, less))

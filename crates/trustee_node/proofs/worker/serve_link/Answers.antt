@@ -6,3 +6,12 @@ returns-clause-served g c = record {
   conversation = c.serve_connection-served.ensures.conversation;
   hung = c.hang_up.ensures.kept;
 }
+
+pub returns-clause-pass : goal.returns-clause-pass
+returns-clause-pass g c = c.serve_connection-served.ensures.pass
+
+pub returns-clause-clock : goal.returns-clause-clock
+returns-clause-clock g c = c.serve_connection-served.ensures.clock
+
+pub returns-clause-onward : goal.returns-clause-onward
+returns-clause-onward g c = c.hang_up.ensures.onward

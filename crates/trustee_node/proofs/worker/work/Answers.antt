@@ -68,3 +68,6 @@ returns-then-count-clause-worked g c =
     (g.P.Link.Stream.talk c.in-Some.link) (g.P.Link.Faults.steady c.in-Some.link) (g.P.Link.Sink.room c.in-Some.link) c.serve_link-served.result _ c.count.result c.next_link.new.failed
     v.worked v.sound e.takes a.link a.onward (a.cause.same (λ is. absurd (true≢false (sym is ∙ a.sound)))) e.served e.onward e.clock
     refl c.count.ensures.worn a.sound)
+
+pub serve_link-served-requires-after_bounds : goal.serve_link-served-requires-after_bounds
+serve_link-served-requires-after_bounds g c κs within = c.loop.invariant.pass
