@@ -1,5 +1,5 @@
 -- Disks that go out of a store and come back.
-use Rattle.std.proofs.Common.{◌≡◌, ◌↔◌, ◌⊎◌, ◌+◌, ◌-◌, ◌^◌, min, ℕ, List, [], ◌∷◌, Bool, true, false, Some, IsTrue, refl, sym, ap, ◌∙◌, inl, inr, rules}
+use Rattle.std.proofs.Common.{◌≡◌, ◌↔◌, ◌⊎◌, ◌+◌, ◌-◌, ◌^◌, min, ℕ, List, [], ◌∷◌, Bool, true, false, Some, IsTrue, refl, sym, ap, ◌∙◌, inl, inr}
 use Rattle.std.proofs.lemmas.Bool.{false≢true}
 use Rattle.std.proofs.lemmas.List.Elements.{All-head, All-tail}
 use Rattle.std.proofs.lemmas.Slice.Eq.{bytes_eq-Decides}
@@ -8,7 +8,7 @@ use Rattle.stream_io.specs.Store.{PagesState, Returned, StoreOnward, StoreState,
 use Rattle.tool_base.specs.Ending.{Ending}
 use Rattle.tool_base.specs.Touched.{EndsTouching, Keeps}
 use Rattle.tool_base.specs.World.{IsUnchanged, StoreRun, from_to}
-use Rattle.tool_base.proofs.Runs.{back_unchanged, onward_on}
+use Rattle.tool_base.proofs.Runs.{back_unchanged, onward_on, unchanged_none}
 use Rattle.tool_base.specs.Disks.{IsOut}
 
 -- A disk was out and is back, as it was at the end: the store keeps all but its name, which stands for this disk.
@@ -48,15 +48,6 @@ out_unchanged first a b name disk unchanged out = record {
     disk_count = out.loans.disk_count ∙ unchanged.same.loans.disk_count;
     views = out.loans.views ∙ unchanged.same.loans.views;
   };
-}
-
-pub back_as : (a b c : StoreState) (name : List ℕ) (disk : PagesState) → IsOut a name disk b → Returned b name disk c → StoreOnward b c → IsBackAs a name disk c
-back_as a b c name disk out step onward = record {
-  keeps = search rules;
-  kind = out.kind;
-  file = search rules;
-  leaves = search rules;
-  disk_count = search rules;
 }
 
 -- a disk that is out stays out while it is worked on
@@ -150,6 +141,18 @@ module _ (a b c e : StoreState) (name : List ℕ) (touched : List (List ℕ)) (d
     others_file = round_file;
     others_leave = λ told other image differs. step.others (told_c told) other image differs;
   }
+
+-- a disk that was out is back, and nothing else was touched
+pub back_as : (a b c : StoreState) (name : List ℕ) (disk : PagesState) → IsOut a name disk b → Returned b name disk c → StoreOnward b c → IsBackAs a name disk c
+back_as a b c name disk out step onward =
+    let whole = round a b b c name [] disk out (keeps_unchanged [] b b (unchanged_none b)) step onward in
+    record {
+      keeps = whole.keeps;
+      kind = out.kind;
+      file = whole.file;
+      leaves = whole.leaves;
+      disk_count = whole.disk_count ∙ ap (λ (n : ℕ). min (n + disk.count) (2 ^ 64 - 1)) out.loans.disk_count;
+    }
 
 -- a name that is new is not that of a disk in the store, and stays new while the disk is out
 module _ (a b : StoreState) (name new : List ℕ) (disk : PagesState) (out : IsOut a name disk b)

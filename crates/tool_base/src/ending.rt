@@ -2,11 +2,11 @@
 
 ghost use Rattle.std.specs.Prelude.{◌≡◌, IfOk, string_bytes};
 ghost use Rattle.tool_base.specs.Ending.{drilled_asks, drilled_sessions, hss_fault_line, levels_line, line_of};
-ghost use Rattle.hss_levels.specs.declared.verification.HssVerdict.TheVariants as levels;
 ghost use Rattle.lms_verify.specs.declared.verification.Verdict.TheVariants as verdict;
 ghost use Rattle.tool_base.specs.Ending as spec;
 ghost use Rattle.tool_base.specs.Endings.{ending};
 
+use crate::lines::{number_line, numbers_line, roots_line};
 use crate::undealt::Undealt;
 use crate::unsigned::Unsigned;
 use drill_schedule::Summary;
@@ -106,31 +106,33 @@ impl Ending {
         match self {
             Ending::Verified(verdict) => verdict_line(alloc, verdict),
             Ending::Checked(verdict) => levels_line(alloc, verdict),
-            Ending::Rehearsed => format!(in alloc; "rehearsed leaf 0\n"),
-            Ending::Dealt { leaves, coalitions } => dealt_line(alloc, *leaves, *coalitions),
-            Ending::Enrolled { number } => format!(in alloc; "enrolled {number}\n"),
-            Ending::Migrated { slots } => format!(in alloc; "migrated {slots}\n"),
-            Ending::Approved { slots } => format!(in alloc; "approved {slots}\n"),
-            Ending::Signed { leaf } => format!(in alloc; "signed leaf {leaf}\n"),
+            Ending::Rehearsed => String::from_str(alloc, "rehearsed leaf 0\n"),
+            Ending::Dealt { leaves, coalitions } => {
+                format!(in alloc; "dealt {leaves} leaves to {coalitions} coalitions\n")
+            }
+            Ending::Enrolled { number } => number_line(alloc, "enrolled ", u32::from(*number)),
+            Ending::Migrated { slots } => number_line(alloc, "migrated ", *slots),
+            Ending::Approved { slots } => number_line(alloc, "approved ", *slots),
+            Ending::Signed { leaf } => number_line(alloc, "signed leaf ", *leaf),
             Ending::SignedLevels { leaf } => format!(in alloc; "signed leaf {leaf} levels 2\n"),
             Ending::Served {
                 connections,
                 frames,
-            } => served_line(alloc, *connections, *frames),
+            } => format!(in alloc; "served {connections} connections {frames} frames\n"),
             Ending::Drilled(summary) => drill_line(alloc, summary),
             Ending::Shown { text } => String::from_str(alloc, text.as_str()),
-            Ending::Usage => format!(in alloc; "error 2 usage\n"),
-            Ending::StoreFailed => format!(in alloc; "error 3 store\n"),
+            Ending::Usage => String::from_str(alloc, "error 2 usage\n"),
+            Ending::StoreFailed => String::from_str(alloc, "error 3 store\n"),
             Ending::Unreadable { name, fault } => file_line(alloc, name.as_str(), *fault),
             Ending::NotDealt(why) => why.line(alloc),
             Ending::NotSigned(why) => why.line(alloc),
-            Ending::DeviceFailed => format!(in alloc; "error 10 device\n"),
+            Ending::DeviceFailed => String::from_str(alloc, "error 10 device\n"),
             Ending::TooLong { got } => format!(in alloc; "error 12 too long {got}\n"),
             Ending::NotLoaded { fault } => format!(in alloc; "error 13 journal fault {fault}\n"),
-            Ending::NoMemory => format!(in alloc; "error 14 memory\n"),
+            Ending::NoMemory => String::from_str(alloc, "error 14 memory\n"),
             Ending::Exists { name } => exists_line(alloc, name.as_str()),
-            Ending::NetFailed => format!(in alloc; "error 17 network\n"),
-            Ending::BookFull => format!(in alloc; "error 19 book full\n"),
+            Ending::NetFailed => String::from_str(alloc, "error 17 network\n"),
+            Ending::BookFull => String::from_str(alloc, "error 19 book full\n"),
         }
     }
 }
@@ -140,17 +142,17 @@ fn verdict_line(alloc: Global, verdict: &Verdict) -> Result<String, AllocError>
     ensures { IfOk result (λ line. string_bytes line ≡ line_of (spec.Verified verdict.now)) }
 {
     match verdict {
-        Verdict::Accepted { leaf } => format!(in alloc; "accepted leaf {leaf}\n"),
+        Verdict::Accepted { leaf } => number_line(alloc, "accepted leaf ", *leaf),
         Verdict::Malformed(fault) => {
-            let number = fault.number();
-            format!(in alloc; "not accepted: malformed {number}\n")
+            let number = u32::from(fault.number());
+            number_line(alloc, "not accepted: malformed ", number)
         }
-        Verdict::OtherRoot { got, want } => roots_line(alloc, got, want),
+        Verdict::OtherRoot { got, want } => root_line(alloc, got, want),
     }
 }
 
 /// The line of a signature that leads to another root than the key's.
-fn roots_line(alloc: Global, got: &Val, want: &Val) -> Result<String, AllocError>
+fn root_line(alloc: Global, got: &Val, want: &Val) -> Result<String, AllocError>
     ensures { IfOk result (λ line. string_bytes line ≡ line_of (spec.Verified (verdict.OtherRoot got.now want.now))) }
 {
     let got = hex::encode(alloc, got.bytes())?;
@@ -165,7 +167,10 @@ fn levels_line(alloc: Global, verdict: &HssVerdict) -> Result<String, AllocError
     match verdict {
         HssVerdict::Accepted { levels } => format!(in alloc; "accepted levels {levels}\n"),
         HssVerdict::Malformed(fault) => hss_fault_line(alloc, fault),
-        HssVerdict::OtherRoot { level, got, want } => level_root_line(alloc, *level, got, want),
+        HssVerdict::OtherRoot { level, got, want } => {
+            let level = u32::from(*level);
+            roots_line(alloc, "not accepted: hss root ", level, got, want)
+        }
     }
 }
 
@@ -174,26 +179,17 @@ fn hss_fault_line(alloc: Global, fault: &HssFault) -> Result<String, AllocError>
     ensures { IfOk result (λ line. string_bytes line ≡ hss_fault_line fault.now) }
 {
     match fault {
-        HssFault::Short => format!(in alloc; "not accepted: hss short\n"),
-        HssFault::Levels { got } => format!(in alloc; "not accepted: hss levels {got}\n"),
+        HssFault::Short => String::from_str(alloc, "not accepted: hss short\n"),
+        HssFault::Levels { got } => number_line(alloc, "not accepted: hss levels ", *got),
         HssFault::Sig { level, fault } => {
             let number = fault.number();
-            format!(in alloc; "not accepted: hss sig {number} level {level}\n")
+            numbers_line(alloc, "not accepted: hss sig ", number, " level ", *level)
         }
         HssFault::Pub { level, fault } => {
             let number = fault.number();
-            format!(in alloc; "not accepted: hss key {number} level {level}\n")
+            numbers_line(alloc, "not accepted: hss key ", number, " level ", *level)
         }
     }
-}
-
-/// The line of a level whose signature leads to another root than its key's.
-fn level_root_line(alloc: Global, level: u8, got: &Val, want: &Val) -> Result<String, AllocError>
-    ensures { IfOk result (λ line. string_bytes line ≡ levels_line (levels.OtherRoot level got.now want.now)) }
-{
-    let got = hex::encode(alloc, got.bytes())?;
-    let want = hex::encode(alloc, want.bytes())?;
-    format!(in alloc; "not accepted: hss root {level} {got} {want}\n")
 }
 
 /// The line of a file that is not in its grammar.
@@ -201,20 +197,6 @@ fn file_line(alloc: Global, name: &str, fault: u8) -> Result<String, AllocError>
     ensures { IfOk result (λ line. string_bytes line ≡ line_of (spec.Unreadable name.now fault)) }
 {
     format!(in alloc; "error 4 file {name} fault {fault}\n")
-}
-
-/// The line of a dealing.
-fn dealt_line(alloc: Global, leaves: u32, coalitions: u32) -> Result<String, AllocError>
-    ensures { IfOk result (λ line. string_bytes line ≡ line_of (spec.Dealt leaves coalitions)) }
-{
-    format!(in alloc; "dealt {leaves} leaves to {coalitions} coalitions\n")
-}
-
-/// The line of a service.
-fn served_line(alloc: Global, connections: u32, frames: u32) -> Result<String, AllocError>
-    ensures { IfOk result (λ line. string_bytes line ≡ line_of (spec.Served connections frames)) }
-{
-    format!(in alloc; "served {connections} connections {frames} frames\n")
 }
 
 /// The line of a drill.

@@ -4,6 +4,7 @@
 
 mod ending;
 mod headers;
+mod lines;
 mod loads;
 mod outputs;
 mod reading;

@@ -2,6 +2,7 @@
 
 ghost use Rattle.std.specs.Prelude.{◌≡◌, IfOk, string_bytes};
 
+use crate::lines::{number_line, numbers_line};
 use std::alloc::{AllocError, Global};
 
 /// Why a key is not dealt.
@@ -33,13 +34,13 @@ impl Undealt {
         ensures { IfOk result (λ line. string_bytes line ≡ undealt_line self.now) }
     {
         match self {
-            Undealt::Code => format!(in alloc; "error 5 code\n"),
-            Undealt::Threshold => format!(in alloc; "error 5 threshold\n"),
-            Undealt::Coalitions { count } => format!(in alloc; "error 5 coalitions {count}\n"),
-            Undealt::Height { h } => format!(in alloc; "error 5 height {h}\n"),
-            Undealt::Width => format!(in alloc; "error 5 width\n"),
+            Undealt::Code => String::from_str(alloc, "error 5 code\n"),
+            Undealt::Threshold => String::from_str(alloc, "error 5 threshold\n"),
+            Undealt::Coalitions { count } => number_line(alloc, "error 5 coalitions ", *count),
+            Undealt::Height { h } => number_line(alloc, "error 5 height ", u32::from(*h)),
+            Undealt::Width => String::from_str(alloc, "error 5 width\n"),
             Undealt::Entropy { got, want } => format!(in alloc; "error 5 entropy {got} {want}\n"),
-            Undealt::Keys { t, u } => format!(in alloc; "error 5 keys {t} {u}\n"),
+            Undealt::Keys { t, u } => numbers_line(alloc, "error 5 keys ", *t, " ", *u),
             Undealt::Commitments { bytes } => format!(in alloc; "error 5 commitments {bytes}\n"),
         }
     }

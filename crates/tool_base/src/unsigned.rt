@@ -4,6 +4,7 @@ ghost use Rattle.std.specs.Prelude.{◌≡◌, IfOk, string_bytes};
 ghost use Rattle.tool_base.specs.Ending.{spaced, unsigned_line, unsigned_status};
 ghost use Rattle.tool_base.specs.declared.unsigned.Unsigned.TheVariants as unsigned;
 
+use crate::lines::{number_line, numbers_line, roots_line};
 use coalition_map::Members;
 use lms_bytes::Val;
 use std::alloc::{AllocError, Global};
@@ -54,7 +55,7 @@ impl Unsigned {
     {
         match self {
             Unsigned::Missing { member, round } => {
-                format!(in alloc; "error 6 missing {member} round {round}\n")
+                numbers_line(alloc, "error 6 missing ", *member, " round ", *round)
             }
             Unsigned::SpentLeaf { leaf, member } => {
                 format!(in alloc; "error 7 spent leaf {leaf} member {member}\n")
@@ -62,29 +63,22 @@ impl Unsigned {
             Unsigned::WrongCheck { leaf, member } => {
                 format!(in alloc; "error 8 check leaf {leaf} member {member}\n")
             }
-            Unsigned::WrongRoot { leaf, got, want } => root_line(alloc, *leaf, got, want),
+            Unsigned::WrongRoot { leaf, got, want } => {
+                roots_line(alloc, "error 8 root leaf ", *leaf, got, want)
+            }
             Unsigned::Blamed { members } => blamed_line(alloc, *members),
             Unsigned::NoLeaf { coalition } => {
-                format!(in alloc; "error 9 no leaf coalition {coalition}\n")
+                number_line(alloc, "error 9 no leaf coalition ", *coalition)
             }
             Unsigned::Refused { member, code } => {
-                format!(in alloc; "error 11 member {member} code {code}\n")
+                numbers_line(alloc, "error 11 member ", *member, " code ", *code)
             }
             Unsigned::Stray { member, round } => {
-                format!(in alloc; "error 11 stray {member} round {round}\n")
+                numbers_line(alloc, "error 11 stray ", *member, " round ", *round)
             }
-            Unsigned::NotACoalition => format!(in alloc; "error 18 not a coalition\n"),
+            Unsigned::NotACoalition => String::from_str(alloc, "error 18 not a coalition\n"),
         }
     }
-}
-
-/// The line of a signature that leads to another root than the key's.
-fn root_line(alloc: Global, leaf: u32, got: &Val, want: &Val) -> Result<String, AllocError>
-    ensures { IfOk result (λ line. string_bytes line ≡ unsigned_line (unsigned.WrongRoot leaf got.now want.now)) }
-{
-    let got = hex::encode(alloc, got.bytes())?;
-    let want = hex::encode(alloc, want.bytes())?;
-    format!(in alloc; "error 8 root leaf {leaf} {got} {want}\n")
 }
 
 /// The line of members that are blamed.

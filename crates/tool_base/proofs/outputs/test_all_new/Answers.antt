@@ -39,3 +39,9 @@ pub returns-clause-new : goal.returns-clause-new
 returns-clause-new g c =
     let all = take_all c.outputs.output-index c.args.outputs.now (let end = c.outputs-test.false in omega arith) in
     λ first last part. all_new_part _ _ _ _ part _ (rw all at c.outputs.invariant.1)
+
+pub returns-in_err-test_new-clause-unchanged : goal.returns-in_err-test_new-clause-unchanged
+returns-in_err-test_new-clause-unchanged g c = unchanged_on _ _ _ c.outputs.invariant.0 c.in_err-test_new.ensures.unchanged
+
+pub returns-clause-unchanged : goal.returns-clause-unchanged
+returns-clause-unchanged g c = c.outputs.invariant.0

@@ -45,3 +45,9 @@ returns-clause-refused g c =
       cause = cause;
     })
     (two.refused first last (part_of _ _ _ _ (unchanged_on _ _ _ part.earlier one.unchanged) part.later))
+
+pub returns-in_err-test_new-clause-unchanged : goal.returns-in_err-test_new-clause-unchanged
+returns-in_err-test_new-clause-unchanged g c = c.in_err-test_new.ensures.unchanged
+
+pub returns-clause-unchanged : goal.returns-clause-unchanged
+returns-clause-unchanged g c = unchanged_on _ _ _ c.in_ok-test_new.ensures.unchanged c.test_new-2.ensures.unchanged

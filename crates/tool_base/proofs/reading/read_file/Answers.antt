@@ -21,3 +21,15 @@ returns-in-Err-NoMemory-clause-refused g c = λ first last part. no_memory
 
 pub returns-in-Ok-clause-bytes : goal.returns-in-Ok-clause-bytes
 returns-in-Ok-clause-bytes g c = λ first last part. read_part _ _ _ _ part _ _ (Bytes c.in-Ok.bytes.items) (c.in-Ok.ensures.within, c.in-Ok.ensures.bytes)
+
+pub returns-in-Err-Failed-clause-unchanged : goal.returns-in-Err-Failed-clause-unchanged
+returns-in-Err-Failed-clause-unchanged g c = record { same = c.in-Err-Failed.ensures.same; onward = c.in-Err-Failed.ensures.onward }
+
+pub returns-in-Err-TooLong-clause-unchanged : goal.returns-in-Err-TooLong-clause-unchanged
+returns-in-Err-TooLong-clause-unchanged g c = record { same = c.in-Err-TooLong.ensures.same; onward = c.in-Err-TooLong.ensures.onward }
+
+pub returns-in-Err-NoMemory-clause-unchanged : goal.returns-in-Err-NoMemory-clause-unchanged
+returns-in-Err-NoMemory-clause-unchanged g c = record { same = c.in-Err-NoMemory.ensures.same; onward = c.in-Err-NoMemory.ensures.onward }
+
+pub returns-in-Ok-clause-unchanged : goal.returns-in-Ok-clause-unchanged
+returns-in-Ok-clause-unchanged g c = record { same = c.in-Ok.ensures.same; onward = c.in-Ok.ensures.onward }

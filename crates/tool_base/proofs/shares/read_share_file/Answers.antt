@@ -1,7 +1,7 @@
 use Rattle.std.proofs.Common.{inr}
 use Rattle.std.proofs.lemmas.Result.{err_from_is_err_and}
 use Rattle.tool_base.specs.Grammars.{not_read}
-use Rattle.tool_base.proofs.Sharing.{share_refused}
+use Rattle.tool_base.proofs.Sharing.{share_is_read, share_refused}
 use Rattle.tool_base.proofs.shares.read_share_file.Goals as goal
 
 pub returns-in_err-bytes-clause-refused : goal.returns-in_err-bytes-clause-refused
@@ -13,3 +13,8 @@ pub returns-clause-refused : goal.returns-clause-refused
 returns-clause-refused g c =
     λ first last part. share_refused _ _ c.deref.result.now c.in-Err.fault c.number.result _
     (rw c.deref.ensures.value (c.in_ok-bytes.ensures.bytes first last part)) c.in-Err.ensures.refused c.number.ensures c.unreadable.ensures
+
+pub returns-in-Ok-clause-share : goal.returns-in-Ok-clause-share
+returns-in-Ok-clause-share g c =
+    λ first last part. share_is_read _ _ c.deref.result.now c.in-Ok.share
+    (rw c.deref.ensures.value (c.in_ok-bytes.ensures.bytes first last part)) c.in-Ok.ensures.share c.in-Ok.ensures.dealt
