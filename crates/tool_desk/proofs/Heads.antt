@@ -1,7 +1,8 @@
 -- The head of a reference that is read on its own.
-use Rattle.std.proofs.Common.{◌≡◌, ◌<◌, ◌≤◌, ◌∙◌, ℕ, List, ◌++◌, length, take, drop, Some, None, refl, sym, ap, arith}
+use Rattle.std.proofs.Common.{◌≡◌, ◌<◌, ◌≤◌, ◌∙◌, ℕ, List, ◌++◌, length, take, drop, Some, None, Result, Ok, Err, refl, sym, ap, subst, arith}
 use Rattle.std.proofs.lemmas.Bool.{le-ltb, lt-ltb}
 use Rattle.std.proofs.lemmas.List.{length-drop, take-append-drop}
+use Rattle.disk_trait.specs.Faults.{Rose}
 use Rattle.share_files.specs.Head.{short_fault}
 use Rattle.share_files.specs.Reference.{reference_fault, reference_head, reference_head_fault, reference_length}
 use Rattle.share_files.specs.Sets.{CanBeDealt}
@@ -9,7 +10,10 @@ use Rattle.share_files.specs.declared.faults.FileFault.{FileFault}
 use Rattle.share_files.specs.declared.faults.FileFault.TheVariants.{Length}
 use Rattle.share_files.specs.declared.reference.RefHeader.{RefHeader}
 use Rattle.share_files.proofs.FirstFault.{first_fault-failed, first_fault-passed}
+use Rattle.stream_io.specs.Store.{RisesWhere}
 use Rattle.tool_desk.specs.Reference.{IsNoReference, IsReferenceOf}
+use Rattle.tool_desk.specs.declared.reference.HeadFault.{HeadFault}
+use Rattle.tool_desk.specs.declared.reference.HeadFault.TheVariants.{File, Device}
 
 -- a file that is shorter than its head
 pub too_short : (bytes : List ℕ) (n : ℕ) → n ≡ length bytes → n < 32 → IsNoReference (Length n 32) bytes
@@ -38,3 +42,24 @@ head_read bytes head n header is front parts size dealt = record {
     parts = sym (take-append-drop 32 bytes) ∙ ap (λ start. start ++ drop 32 bytes) (sym front ∙ parts);
   };
 }
+
+-- ---- what becomes of the count of faults
+-- the answer where a call of the pages failed
+abbrev failed : Result RefHeader HeadFault
+failed = Err Device
+
+pub file_other : (fault : FileFault) → Err (File fault) ≡ failed → ⊥
+file_other fault is = cc
+
+pub header_other : (header : RefHeader) → Ok header ≡ failed → ⊥
+header_other header is = cc
+
+pub quiet : {Fails : Type 0} {old new : ℕ} → new ≡ old → (Fails → ⊥) → RisesWhere Fails old new
+quiet is never = record { later = omega (arith, is); rose = λ fails. absurd (never fails); same = λ no. is }
+
+pub loud : {Fails : Type 0} {old new : ℕ} → Fails → old ≤ new → Rose old new → RisesWhere Fails old new
+loud fails later rose = record { later = later; rose = λ yes. rose; same = λ never. absurd (never fails) }
+
+-- the call before it did not fail
+pub loud_behind : {Fails : Type 0} {old mid new : ℕ} → Fails → mid ≡ old → mid ≤ new → Rose mid new → RisesWhere Fails old new
+loud_behind {Fails} {old} {mid} {new} fails is later rose = loud fails (omega (arith, is, later)) (subst (λ (n : ℕ). Rose n new) is rose)

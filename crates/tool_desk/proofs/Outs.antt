@@ -1,9 +1,11 @@
 -- Views that go out one after the other, and come back.
-use Rattle.std.proofs.Common.{◌≡◌, ◌+◌, ℕ, false, List, [], ◌∷◌, length, map, All, IsTrue, refl, sym, ap, ◌∙◌, ◌++◌, subst, arith, append_assoc, append-nil, length-append}
+use Rattle.std.proofs.Common.{◌≡◌, ◌≤◌, ◌<◌, ◌+◌, ◌-◌, ℕ, false, List, [], ◌∷◌, length, map, All, IsTrue, refl, sym, ap, ◌∙◌, ◌++◌, subst, arith, append_assoc, append-nil, length-append}
 use Rattle.std.proofs.lemmas.List.{length-map, map-append}
 use Rattle.std.proofs.lemmas.List.Elements.{All-cons, All-nil, All-push, All-weaker}
 use Rattle.std.proofs.lemmas.List.Sums.{sum_by-cons}
 use Rattle.std.specs.Str.{bytes_eq}
+use Rattle.coalition_map.specs.Coalitions.{PlanNumbers}
+use Rattle.lms_bytes.specs.declared.params.Params.{Params}
 use Rattle.reference_value.specs.Paged.{pages_of}
 use Rattle.reference_value.specs.declared.paged.Paged.{Paged}
 use Rattle.share_files.specs.declared.reference.RefHeader.{RefHeader}
@@ -15,7 +17,7 @@ use Rattle.tool_base.specs.World.{IsUnchanged, IsRead, Failed, from_to}
 use Rattle.tool_desk.specs.Reference.{FailsReference, IsNoReference, IsReferenceOf, device, no_memory, no_view, not_in_grammar}
 use Rattle.tool_base.specs.Disks.{DeviceFails}
 use Rattle.tool_base.specs.Loads.{ReadsAs}
-use Rattle.tool_desk.specs.Views.{AddsCells, CellsOut, IsViewOf, ViewsBack, ViewsOut}
+use Rattle.tool_desk.specs.Views.{AddsCells, AreOfSet, CellsOut, IsViewOf, ViewsBack, ViewsOut}
 
 pub out_none : (a : StoreState) → ViewsOut a 0 a
 out_none a = record {
@@ -242,3 +244,19 @@ module _ {V : Type 0} (pages : V → PagesState) (a b c : StoreState) (name : Li
 
   pub keeps_all : (d : StoreState) (count : Paged V → ℕ) → ViewsBack c (map count all) d → Keeps [] a d
   keeps_all d count back = all_back a c d (0 + 1 + length adds.added) (map count all) both back (length-map all count ∙ many)
+
+-- ---- the first cell of several
+pub one_of_set : {V : Type 0} (params : Params) (plan : PlanNumbers) (own : Paged V) (cells : List (Paged V)) → cells ≡ own ∷ []
+    → own.layout.params ≡ params → own.layout.plan ≡ plan → AreOfSet params plan cells
+one_of_set {V} params plan own cells is set of =
+    let Is : Paged V → Type 0 = λ own. (own.layout.params ≡ params) × (own.layout.plan ≡ plan) in
+    subst (All Is) (sym is) (All-cons Is own [] (set, of) (All-nil Is))
+
+pub room_for_first : {had room count : ℕ} → 1 ≤ count → had ≡ 0 → room ≡ count → had < room
+room_for_first some none exact = omega (arith, some, none, exact)
+
+pub room_for_others : {had one old room count : ℕ} → 1 ≤ count → had ≡ 0 → one ≡ had + 1 → old ≡ count → room ≡ old → one + (count - 1) ≤ room
+room_for_others some none first exact same = omega (arith, some, none, first, exact, same)
+
+pub all_had : {had one all count : ℕ} → 1 ≤ count → had ≡ 0 → one ≡ had + 1 → all ≡ one + (count - 1) → all ≡ count
+all_had some none first rest = omega (arith, some, none, first, rest)

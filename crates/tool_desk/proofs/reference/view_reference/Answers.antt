@@ -1,4 +1,4 @@
-use Rattle.std.proofs.Common.{◌≡◌}
+use Rattle.std.proofs.Common.{◌≡◌, ◌∙◌, Err, ap}
 use Rattle.std.proofs.lemmas.Result.{err_from_is_err_and}
 use Rattle.stream_io.specs.Store.{pages_state}
 use Rattle.tool_base.proofs.Runs.{unchanged_none}
@@ -17,9 +17,9 @@ returns-in_err-name-clause-taken g c =
 pub returns-in-Err-Failed-clause-taken : goal.returns-in-Err-Failed-clause-taken
 returns-in-Err-Failed-clause-taken g c =
     let is = c.in-Err-Failed.field-0-is in
-    let name : c.as_str.result.now ≡ reference_name c.args.prefix.now = let text = c.as_str.ensures.value in let is = c.in_ok-name.ensures.name in cc in
+    let name : c.as_str.result.now ≡ reference_name c.args.prefix.now = c.as_str.ensures.value ∙ c.in_ok-name.ensures.name in
     let view = c.in-Err-Failed.ensures in
-    refuses_unchanged g.S.Store.state _ _ _ _ _ (λ first last part. fails_part _ _ _ _ part _ _ (no_view (view.cause.rose (cc), λ told steady. rw name at (view.absent told steady (cc)))))
+    refuses_unchanged g.S.Store.state _ _ _ _ _ (λ first last part. fails_part _ _ _ _ part _ _ (no_view (view.cause.rose (ap Err is), λ told steady. rw name at (view.absent told steady (ap Err is)))))
     (record { same = view.refused; onward = view.onward })
 
 pub returns-in-Err-NoMemory-clause-taken : goal.returns-in-Err-NoMemory-clause-taken
@@ -31,7 +31,7 @@ pub returns-in-Ok-read_head-clause-taken : goal.returns-in-Ok-read_head-clause-t
 returns-in-Ok-read_head-clause-taken g c =
     let views = g.S.View in
     let pages = pages_state views.Pages.told views.Pages.honest views.Faults.steady views.Faults.count views.Pages.room views.Pages.reads views.Pages.may_leave in
-    let name : c.as_str.result.now ≡ reference_name c.args.prefix.now = let text = c.as_str.ensures.value in let is = c.in_ok-name.ensures.name in cc in
+    let name : c.as_str.result.now ≡ reference_name c.args.prefix.now = c.as_str.ensures.value ∙ c.in_ok-name.ensures.name in
     let head = c.in-Ok-read_head.ensures in
     takes g.S.Store.state _ _ _ _ _
     (λ first last part. record {
@@ -45,8 +45,8 @@ returns-clause-taken g c =
     let state = g.S.Store.state in
     let views = g.S.View in
     let pages = pages_state views.Pages.told views.Pages.honest views.Faults.steady views.Faults.count views.Pages.room views.Pages.reads views.Pages.may_leave in
-    let name : c.as_str.result.now ≡ reference_name c.args.prefix.now = let text = c.as_str.ensures.value in let is = c.in_ok-name.ensures.name in cc in
-    let again : c.as_str-in-Err.result.now ≡ reference_name c.args.prefix.now = let text = c.as_str-in-Err.ensures.value in let is = c.in_ok-name.ensures.name in cc in
+    let name : c.as_str.result.now ≡ reference_name c.args.prefix.now = c.as_str.ensures.value ∙ c.in_ok-name.ensures.name in
+    let again : c.as_str-in-Err.result.now ≡ reference_name c.args.prefix.now = c.as_str-in-Err.ensures.value ∙ c.in_ok-name.ensures.name in
     let head = c.in-Err.ensures in
     let viewed = rw name at c.in-Ok.ensures.viewed in
     refuses state _ _ _ _ _

@@ -5,7 +5,7 @@ use Rattle.tool_base.proofs.Runs.{unchanged_none, onward_on, part_of}
 use Rattle.tool_desk.specs.Files.{reference_name}
 use Rattle.tool_desk.specs.Reference.{no_memory}
 use Rattle.tool_desk.specs.Views.{AddsCells, not_viewed, other_key}
-use Rattle.tool_desk.proofs.Outs.{all_cells, keeps_all, kept_none, out_unchanged, out_ended, out_more, out_none}
+use Rattle.tool_desk.proofs.Outs.{all_cells, all_had, keeps_all, kept_none, one_of_set, out_unchanged, out_ended, out_more, out_none, room_for_first, room_for_others}
 use Rattle.tool_desk.proofs.Taking.{refuses, refuses_unchanged, takes}
 use Rattle.tool_desk.proofs.views.view_cells.Goals as goal
 
@@ -66,3 +66,35 @@ returns-in-Err-view_others-clause-taken g c =
     (viewed.taken.found first last (part_of _ _ _ _ part.earlier (onward_on _ _ _ others.adds.cells.out.onward later))).reads)
     (keeps_all pages (state c.args.store.now) (state c.view_reference.new.store) (state c.view_others.new.store) name own c.in-Ok-view_reference.viewed.0 c.new.ensures.pages
     c.view_others.new.cells.items viewed.viewed viewed.taken.onward adds (state c.end_cells.new.store) (λ one. view.Faults.count one.pages) ends)
+
+pub new-requires : goal.new-requires
+new-requires g c = c.in_default-test_same_key.ensures.sizes.plan_height
+
+pub push_reserved-requires : goal.push_reserved-requires
+push_reserved-requires g c = room_for_first c.requires.some c.in-Ok.ensures.len c.in-Ok.ensures.exact
+
+pub view_others-requires-clause-room : goal.view_others-requires-clause-room
+view_others-requires-clause-room g c κs within =
+    let room = c.in-Ok.ensures in
+    let pushed = c.push_reserved.ensures in
+    room_for_others c.requires.some room.len pushed.len room.exact pushed.capacity
+
+pub view_others-requires-clause-sizes : goal.view_others-requires-clause-sizes
+view_others-requires-clause-sizes g c κs within = c.in_default-test_same_key.ensures.sizes
+
+pub view_others-requires-clause-fit : goal.view_others-requires-clause-fit
+view_others-requires-clause-fit g c κs within =
+    let own = c.new.result in
+    one_of_set c.args.files.now.key.params c.in-Ok-view_reference.viewed.1.plan own c.push_reserved.new.self.items
+    (c.push_reserved.ensures.items ∙ ap (λ (l : List (Paged g.row.S-View.Denot)). l ++ own ∷ []) c.in-Ok.ensures.items) c.new.ensures.set c.new.ensures.plan
+
+pub returns-in-Ok-view_others-clause-key : goal.returns-in-Ok-view_others-clause-key
+returns-in-Ok-view_others-clause-key g c = (c.in_default-test_same_key.ensures.same, c.in_default-test_same_key.ensures.sizes)
+
+pub returns-in-Ok-view_others-clause-fit : goal.returns-in-Ok-view_others-clause-fit
+returns-in-Ok-view_others-clause-fit g c = c.in-Ok-view_others.ensures.fit
+
+pub returns-in-Ok-view_others-clause-counts : goal.returns-in-Ok-view_others-clause-counts
+returns-in-Ok-view_others-clause-counts g c =
+    let counts = c.in-Ok-view_others.ensures.counts in
+    (all_had c.requires.some c.in-Ok.ensures.len c.push_reserved.ensures.len counts.0, counts.1 ∙ c.in-Ok-view_reference.ensures.viewed.disk_count)
