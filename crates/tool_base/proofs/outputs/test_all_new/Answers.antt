@@ -45,3 +45,8 @@ returns-in_err-test_new-clause-unchanged g c = unchanged_on _ _ _ c.outputs.inva
 
 pub returns-clause-unchanged : goal.returns-clause-unchanged
 returns-clause-unchanged g c = c.outputs.invariant.0
+
+pub returns-in_err-test_new-clause-new : goal.returns-in_err-test_new-clause-new
+returns-in_err-test_new-clause-new g c =
+    let p = err_from_is_err_and c.from_residual.result c.from_residual.ensures.1 in
+    λ first last part. rw p.1 tt

@@ -1,3 +1,4 @@
+use Rattle.std.proofs.Common.{Err, ap}
 use Rattle.tool_base.specs.Reads.{failed, too_long, no_memory}
 use Rattle.tool_base.specs.World.{Bytes}
 use Rattle.tool_base.proofs.Runs.{fails_part, read_part}
@@ -7,7 +8,7 @@ pub returns-in-Err-Failed-clause-refused : goal.returns-in-Err-Failed-clause-ref
 returns-in-Err-Failed-clause-refused g c =
     let read = c.in-Err-Failed.ensures in
     let is = c.in-Err-Failed.field-0-is in
-    λ first last part. fails_part _ _ _ _ part _ _ _ (failed (read.cause.rose (cc), λ told steady. read.absent told steady (cc)))
+    λ first last part. fails_part _ _ _ _ part _ _ _ (failed (read.cause.rose (ap Err is), λ told steady. read.absent told steady (ap Err is)))
 
 pub returns-in-Err-TooLong-clause-refused : goal.returns-in-Err-TooLong-clause-refused
 returns-in-Err-TooLong-clause-refused g c =

@@ -18,3 +18,17 @@ pub returns-in-Ok-clause-share : goal.returns-in-Ok-clause-share
 returns-in-Ok-clause-share g c =
     λ first last part. share_is_read _ _ c.deref.result.now c.in-Ok.share
     (rw c.deref.ensures.value (c.in_ok-bytes.ensures.bytes first last part)) c.in-Ok.ensures.share c.in-Ok.ensures.dealt
+
+pub returns-in_err-bytes-clause-share : goal.returns-in_err-bytes-clause-share
+returns-in_err-bytes-clause-share g c =
+    let p = err_from_is_err_and c.from_residual.result c.from_residual.ensures.1 in
+    λ first last part. rw p.1 tt
+
+pub returns-in_err-bytes-clause-unchanged : goal.returns-in_err-bytes-clause-unchanged
+returns-in_err-bytes-clause-unchanged g c = c.in_err-bytes.ensures.unchanged
+
+pub returns-in-Ok-clause-unchanged : goal.returns-in-Ok-clause-unchanged
+returns-in-Ok-clause-unchanged g c = c.in_ok-bytes.ensures.unchanged
+
+pub returns-clause-unchanged : goal.returns-clause-unchanged
+returns-clause-unchanged g c = c.in_ok-bytes.ensures.unchanged
