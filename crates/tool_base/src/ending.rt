@@ -107,9 +107,7 @@ impl Ending {
             Ending::Verified(verdict) => verdict_line(alloc, verdict),
             Ending::Checked(verdict) => levels_line(alloc, verdict),
             Ending::Rehearsed => String::from_str(alloc, "rehearsed leaf 0\n"),
-            Ending::Dealt { leaves, coalitions } => {
-                format!(in alloc; "dealt {leaves} leaves to {coalitions} coalitions\n")
-            }
+            Ending::Dealt { leaves, coalitions } => dealt_line(alloc, *leaves, *coalitions),
             Ending::Enrolled { number } => number_line(alloc, "enrolled ", u32::from(*number)),
             Ending::Migrated { slots } => number_line(alloc, "migrated ", *slots),
             Ending::Approved { slots } => number_line(alloc, "approved ", *slots),
@@ -118,7 +116,7 @@ impl Ending {
             Ending::Served {
                 connections,
                 frames,
-            } => format!(in alloc; "served {connections} connections {frames} frames\n"),
+            } => served_line(alloc, *connections, *frames),
             Ending::Drilled(summary) => drill_line(alloc, summary),
             Ending::Shown { text } => String::from_str(alloc, text.as_str()),
             Ending::Usage => String::from_str(alloc, "error 2 usage\n"),
@@ -197,6 +195,20 @@ fn file_line(alloc: Global, name: &str, fault: u8) -> Result<String, AllocError>
     ensures { IfOk result (λ line. string_bytes line ≡ line_of (spec.Unreadable name.now fault)) }
 {
     format!(in alloc; "error 4 file {name} fault {fault}\n")
+}
+
+/// The line of a dealing.
+fn dealt_line(alloc: Global, leaves: u32, coalitions: u32) -> Result<String, AllocError>
+    ensures { IfOk result (λ line. string_bytes line ≡ line_of (spec.Dealt leaves coalitions)) }
+{
+    format!(in alloc; "dealt {leaves} leaves to {coalitions} coalitions\n")
+}
+
+/// The line of a service.
+fn served_line(alloc: Global, connections: u32, frames: u32) -> Result<String, AllocError>
+    ensures { IfOk result (λ line. string_bytes line ≡ line_of (spec.Served connections frames)) }
+{
+    format!(in alloc; "served {connections} connections {frames} frames\n")
 }
 
 /// The line of a drill.
