@@ -2,9 +2,10 @@
 
 ghost use Rattle.std.specs.Prelude.{◌≡◌, List, map, option_map, string_bytes, ℕ};
 ghost use Rattle.std.specs.List.{list_any};
-ghost use Rattle.tool_words.specs.Words.{Row, aggregate_of, command_of, deal_of, deal_with, drill_of, enrol_of};
-ghost use Rattle.tool_words.specs.Words.{flag_of, hss_of, hss_sign_of, is_option, of_three, rehearse_of, row_of};
-ghost use Rattle.tool_words.specs.Words.{show_of, sign_words_of, trustee_of, trustee_with};
+ghost use Rattle.tool_words.specs.Words.{Row, aggregate_of, approve_of, command_of, deal_of, deal_with, drill_of};
+ghost use Rattle.tool_words.specs.Words.{enrol_of, flag_of, hss_of, hss_sign_of, is_option, migrate_of, of_three};
+ghost use Rattle.tool_words.specs.Words.{rehearse_of, row_of, show_of, sign_words_of, trustee_of, trustee_with};
+ghost use Rattle.tool_words.specs.Words.{verify_of};
 ghost use Rattle.tool_words.specs.Rows.{row, sign_words};
 
 use crate::aggregate_words::AggregateWords;
@@ -54,33 +55,33 @@ fn row_of<'a>(words: &'a [String], split: &[&'a str]) -> Option<Command<'a>>
     let (name, words) = words.split_first()?;
     let (name, split) = (word_at(split, 0, name.as_str()), rest_of(split));
     match name {
-        "verify" => three_of(words, split).map(|(key, message, signature)| Command::Verify {
-            key,
-            message,
-            signature,
-        }),
+        "verify" => verify_of(words, split),
         "rehearse" => rehearse_of(words, split),
         "deal" => deal_of(words, split),
         "enrol" => enrol_of(words, split),
-        "migrate" => three_of(words, split).map(|(share, journal, new)| Command::Migrate {
-            share,
-            journal,
-            new,
-        }),
-        "approve" => three_of(words, split).map(|(share, book, message)| Command::Approve {
-            share,
-            book,
-            message,
-        }),
+        "migrate" => migrate_of(words, split),
+        "approve" => approve_of(words, split),
         "trustee" => trustee_of(words, split),
-        "sign" => Some(Command::Sign(sign_words_of(words, split)?)),
-        "blame" => Some(Command::Blame(sign_words_of(words, split)?)),
+        "sign" => sign_words_of(words, split).map(Command::Sign),
+        "blame" => sign_words_of(words, split).map(Command::Blame),
         "hss" => hss_of(words, split),
         "aggregate" => aggregate_of(words, split),
         "drill" => drill_of(words),
         "show" => show_of(words, split),
         _ => None,
     }
+}
+
+/// The words after `verify`.
+fn verify_of<'a>(words: &'a [String], split: &[&'a str]) -> Option<Command<'a>>
+    ensures { option_map row result ≡ verify_of (map string_bytes words.now) }
+{
+    let (key, message, signature) = three_of(words, split)?;
+    Some(Command::Verify {
+        key,
+        message,
+        signature,
+    })
 }
 
 /// The words after `rehearse`.
@@ -157,6 +158,30 @@ fn enrol_of<'a>(words: &'a [String], split: &[&'a str]) -> Option<Command<'a>>
     Some(Command::Enrol {
         file: word_at(split, 0, file.as_str()),
         journal: word_at(split, 1, journal.as_str()),
+    })
+}
+
+/// The words after `migrate`.
+fn migrate_of<'a>(words: &'a [String], split: &[&'a str]) -> Option<Command<'a>>
+    ensures { option_map row result ≡ migrate_of (map string_bytes words.now) }
+{
+    let (share, journal, new) = three_of(words, split)?;
+    Some(Command::Migrate {
+        share,
+        journal,
+        new,
+    })
+}
+
+/// The words after `approve`.
+fn approve_of<'a>(words: &'a [String], split: &[&'a str]) -> Option<Command<'a>>
+    ensures { option_map row result ≡ approve_of (map string_bytes words.now) }
+{
+    let (share, book, message) = three_of(words, split)?;
+    Some(Command::Approve {
+        share,
+        book,
+        message,
     })
 }
 
