@@ -23,7 +23,7 @@ const COMMANDS: [&str; 13] = [
 /// The name of a command and its words, in the order in which `clap` splits them off, or why they are no command by its
 /// rules. No clause says what comes: whoever calls it compares each word with the one that was given.
 pub fn split_words(alloc: Global, words: &[String]) -> Result<Vec<&str>, Error> {
-    let found = commands(alloc)?.try_get_matches_from(words)?;
+    let found = parser_of(alloc, words)?.try_get_matches_from(words)?;
     Ok(values_of(alloc, &found)?)
 }
 
@@ -47,23 +47,33 @@ fn add_values<'a>(split: &mut Vec<&'a str>, found: &ArgMatches<'a>) -> Result<()
     Ok(())
 }
 
-/// The parser of all commands.
-fn commands<'a>(alloc: Global) -> Result<Parser<'a>, AllocError> {
-    let commands = each_command(alloc)?;
+/// The parser of the command that the first word names. The parsers of the others, which would find nothing, are not
+/// made.
+fn parser_of<'a>(alloc: Global, words: &'a [String]) -> Result<Parser<'a>, AllocError> {
+    match names_of(words) {
+        Some(names) => tool(alloc).subcommand(command(alloc, names)?),
+        None => Ok(tool(alloc)),
+    }
+}
+
+/// The parser of the tool, which wants a command.
+fn tool<'a>(alloc: Global) -> Parser<'a> {
     parser(alloc, "rikselbe")
         .no_binary_name(true)
         .disable_help_subcommand(true)
         .subcommand_required(true)
-        .subcommands(commands)
 }
 
-/// The parsers of the commands.
-fn each_command<'a>(alloc: Global) -> Result<Vec<Parser<'a>>, AllocError> {
-    let mut commands = Vec::new(alloc);
+/// The command that the first word names, with the names of its words.
+fn names_of<'a>(words: &'a [String]) -> Option<&'a str> {
+    let name = words.first()?;
     for names in COMMANDS {
-        commands.push(command(alloc, names)?)?;
+        let (first, _) = names.split_once(' ').unwrap_or((names, ""));
+        if first == name.as_str() {
+            return Some(names);
+        }
     }
-    Ok(commands)
+    None
 }
 
 /// The parser of one command: its name, the names of the words that it has to have, and what may follow them.
