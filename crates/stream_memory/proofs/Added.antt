@@ -208,3 +208,17 @@ read_among (disk ∷ disks) name = either_readers disk (bytes_eq (string_bytes d
 
 pub steady_among : (disks : List (String Global × MemState)) → are_steady (map entry_of disks) ≡ list_all (λ disk. is_steady disk.1) disks
 steady_among disks = list_all-map (λ entry. steady_in entry.slot) entry_of disks
+
+and_assoc : (a b c : Bool) → (a && (b && c)) ≡ ((a && b) && c)
+and_assoc true b c = refl
+and_assoc false b c = refl
+
+and_true : (b : Bool) → (b && true) ≡ b
+and_true true = refl
+and_true false = refl
+
+-- one entry more
+pub steady_pushed : (entries : List Entry) (entry : Entry) → are_steady (entries ++ entry ∷ []) ≡ (are_steady entries && steady_in entry.slot)
+steady_pushed [] entry = and_true (steady_in entry.slot)
+steady_pushed (first ∷ entries) entry =
+    ap (λ b. steady_in first.slot && b) (steady_pushed entries entry) ∙ and_assoc (steady_in first.slot) (are_steady entries) (steady_in entry.slot)

@@ -6,5 +6,6 @@ mod Added
 mod Loans
 mod Stable
 mod Unchanged
+mod Outcomes
 mod Talks
 mod MemFiles

@@ -1,8 +1,8 @@
 -- The links of a port that wait: each is what the link is that it is made of.
 use Rattle.std.proofs.Common.{◌≡◌, ◌≤◌, ◌+◌, ◌-◌, ◌^◌, ◌&&◌, ℕ, Bool, true, false, List, Option, Result, Ok, Err, IsErr}
-use Rattle.std.proofs.Common.{min, refl, sym, subst, ◌∙◌, arith}
+use Rattle.std.proofs.Common.{min, ap, refl, sym, subst, ◌∙◌, arith}
 use Rattle.disk_trait.specs.Faults.{HasCause}
-use Rattle.stream_io.specs.Net.{Accepts, Dials, IsNewLink, PortState}
+use Rattle.stream_io.specs.Net.{Accepts, Dials, IsNewLink, PortOnward, PortState, SameLinks}
 use Rattle.stream_io.specs.Talk.{Talk}
 use Rattle.stream_memory.specs.Waiting.{with_waits}
 
@@ -63,4 +63,19 @@ module _ (old new : PortState) (talk talk' : Talk) (steady steady' nothing : Boo
     waiting = it.waiting;
     reaches = it.reaches;
     talks = it.talks;
+  }
+
+-- what a port leaves as it was, it leaves so where its links wait
+module _ (old new : PortState) (nothing : Bool) where
+  pub same_links : SameLinks old new → SameLinks (with_waits old nothing) (with_waits new nothing)
+  same_links it = record { waiting = it.waiting; reaches = it.reaches; talks = it.talks }
+
+  pub port_onward : PortOnward old new → PortOnward (with_waits old nothing) (with_waits new nothing)
+  port_onward it = record {
+    told = it.told;
+    steady = ap (λ steady. steady && nothing) it.steady;
+    place = it.place;
+    count = it.count;
+    accept_count = it.accept_count;
+    room = it.room;
   }

@@ -1,5 +1,5 @@
 -- A list without one of its elements.
-use Rattle.std.proofs.Common.{◌≡◌, ◌<◌, ◌+◌, ◌&&◌, ◌||◌, ℕ, zero, suc, Bool, true, false, cond, List, [], ◌∷◌, Option, Some, None, length, min, get_or, position, refl, sym, ap, ◌∙◌, arith}
+use Rattle.std.proofs.Common.{◌≡◌, ◌<◌, ◌≤◌, ◌+◌, ◌&&◌, ◌||◌, ℕ, zero, suc, Bool, true, false, cond, List, [], ◌∷◌, Option, Some, None, length, min, get_or, position, refl, sym, ap, ◌∙◌, arith}
 use Rattle.std.proofs.lemmas.Iterator.Adapters.{position_from-zero}
 use Rattle.std.proofs.lemmas.Slice.Eq.{bytes_eq-Decides}
 use Rattle.std.specs.Str.{bytes_eq}
@@ -79,3 +79,22 @@ given calm gave true rest e = refl
 given false gave false rest e = cc
 given true true false rest e = cc
 given true false false rest e = cc
+
+-- the room of the links that are left is no less, and neither is that of the link that was taken
+pub rooms-left : (was left taken others : ℕ) → was ≡ min taken left → min was others ≤ min left others
+rooms-left was left taken others is = omega (arith, is)
+
+pub rooms-left_behind : (was left taken others : ℕ) → was ≡ min taken left → min others was ≤ min others left
+rooms-left_behind was left taken others is = omega (arith, is)
+
+pub room-taken : (was left taken others takes : ℕ) → was ≡ min taken left → takes ≡ taken → min was others ≤ takes
+room-taken was left taken others takes is same = omega (arith, is, same)
+
+pub room-taken_behind : (was left taken others takes : ℕ) → was ≡ min taken left → takes ≡ taken → min others was ≤ takes
+room-taken_behind was left taken others takes is same = omega (arith, is, same)
+
+pub no_less : (n : ℕ) → n ≤ n
+no_less n = omega arith
+
+pub no_less_still : (a b c : ℕ) → a ≤ b → b ≤ c → a ≤ c
+no_less_still a b c first then = omega (arith, first, then)

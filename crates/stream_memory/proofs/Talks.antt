@@ -1,7 +1,9 @@
 -- What goes over a link in memory is what goes over its source and its sink.
-use Rattle.std.proofs.Common.{◌≡◌, ℕ, List, Result, Ok, Err, MatchResult, sym, ◌∙◌}
-use Rattle.stream_io.specs.Talk.{HasRead, HasWritten, Talk, Took}
+use Rattle.std.proofs.Common.{◌≡◌, ◌+◌, ◌-◌, ◌^◌, ℕ, List, Result, Ok, Err, MatchResult, append-nil, arith, min, refl, sym, ◌∙◌}
+use Rattle.disk_trait.specs.Faults.{HasCause}
+use Rattle.stream_io.specs.Talk.{HasRead, HasWritten, OnlyRead, OnlyWrote, Talk, Took}
 use Rattle.stream_io.specs.declared.failed.Failed.{Failed}
+use Rattle.stream_memory.specs.Waiting.{with_vain}
 
 -- a talk that was read, and another that has the same bytes to read
 module _ (a b c d : Talk) (told : c.told ≡ a.told) (taken : c.taken ≡ a.taken) (left : c.left ≡ a.left) (taken' : d.taken ≡ b.taken)
@@ -34,3 +36,34 @@ has_written a b c d bytes result told written written' it = record {
   progress = it.progress;
   wrote = λ t. rw (written, written') (it.wrote (sym told ∙ t));
 }
+
+-- what a call leaves of a talk, it leaves where waits in vain are counted beside
+module _ (a b : Talk) (vain : ℕ) where
+  pub vain_read : OnlyRead a b → OnlyRead (with_vain a vain) (with_vain b vain)
+  vain_read it =
+      let later = it.count in
+      record { told = it.told; place = it.place; written = it.written; room = it.room; count = omega (arith, later) }
+
+  pub vain_wrote : OnlyWrote a b → OnlyWrote (with_vain a vain) (with_vain b vain)
+  vain_wrote it =
+      let later = it.count in
+      record { told = it.told; place = it.place; taken = it.taken; left = it.left; count = omega (arith, later) }
+
+-- a wait in vain, at which nothing was read or written
+module _ (talk : Talk) (vain vain' : ℕ) (counted : vain' ≡ min (vain + 1) (2 ^ 64 - 1)) where
+  pub in_vain_cause : {T E : Type 0} (fault : E) → HasCause {T = T} {E = E} (with_vain talk vain).count (with_vain talk vain').count (Err fault)
+  in_vain_cause fault = record { later = omega (arith, counted); succeeded = tt; failed = omega (arith, counted) }
+
+  pub in_vain_read : OnlyRead (with_vain talk vain) (with_vain talk vain')
+  in_vain_read = record { told = refl; place = refl; written = refl; room = omega arith; count = omega (arith, counted) }
+
+  pub in_vain_wrote : OnlyWrote (with_vain talk vain) (with_vain talk vain')
+  in_vain_wrote = record { told = refl; place = refl; taken = refl; left = refl; count = omega (arith, counted) }
+
+  pub nothing_read : (room : ℕ) (out : List ℕ) (fault : Failed) → HasRead (with_vain talk vain) (with_vain talk vain') room out (Err fault)
+  nothing_read room out fault = record {
+    size = tt;
+    bytes = λ told. tt;
+    took = λ told. record { there = omega arith; taken = sym (append-nil talk.taken); left = refl };
+    end = λ told. tt;
+  }

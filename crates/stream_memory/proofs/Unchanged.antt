@@ -18,12 +18,15 @@ module _ (old new : List Entry) (stops : Option ℕ) (steady steady' : Bool) (co
       (state_of new stops steady' count' disk_count views')
   names views views' same = rw same (record { file = refl; leaves = λ name image. (λ is. is, λ is. is); out = refl })
 
+  pub kept_store : (views : ℕ) → new ≡ old
+      → SameStore (state_of old stops steady count disk_count views) (state_of new stops steady' count' disk_count views)
+  kept_store views same = record { names = names views views same; loans = record { disk_count = refl; views = refl } }
+
   pub same_store : (views : ℕ) → new ≡ old → {T E : Type 0} (result : Result T E)
       → OnErr result (SameStore (state_of old stops steady count disk_count views)
       (state_of new stops steady' count' disk_count views))
   same_store views same (Ok value) = tt
-  same_store views same (Err fault) =
-      record { names = names views views same; loans = record { disk_count = refl; views = refl } }
+  same_store views same (Err fault) = kept_store views same
 
 -- the calls that fail are those that were listed
 pub onward : (old new : List Entry) (stops fails : Option ℕ) (failing failing' : Vec ℕ Global)

@@ -64,8 +64,10 @@ impl<T: Drop> Chain<T> {
     pub(crate) fn get(&self, index: usize) -> Option<&T>
         ensures { option_copied result ≡ slice_get self.now index }
     {
-        let last = self.last.as_ref()?;
-        find(last, index).ok()
+        match &self.last {
+            Some(last) => find(last, index).ok(),
+            None => None,
+        }
     }
 }
 

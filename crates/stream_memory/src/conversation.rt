@@ -36,7 +36,7 @@ impl Conversation {
     pub fn place(&self) -> Option<&str>
         ensures { option_copied result ≡ (talk_of self.now).place }
     {
-        self.place.as_ref().map(|place| place.as_str())
+        self.place.as_deref()
     }
 
     /// The bytes that were read.

@@ -39,7 +39,7 @@ impl KeptPort {
     pub fn place(&self) -> Option<&str>
         ensures { option_copied result ≡ (port_state self.now).place }
     {
-        self.place.as_ref().map(|place| place.as_str())
+        self.place.as_deref()
     }
 
     /// The conversation of this number; the first that was hung up has the number 0.

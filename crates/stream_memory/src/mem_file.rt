@@ -58,12 +58,12 @@ fn part(most: usize, size: usize) -> usize
     size.min(most.max(1))
 }
 
-/// Whether so many bytes from a place on end past the end of a disk.
-fn ends_past(disk: &MemDisk, at: u64, size: usize) -> bool
-    ensures { at + size ≤ length disk.now.bytes → IsFalse result }
+/// Whether a disk may have grown once so many bytes are written from a place on, where it had or had not before.
+fn may_grow(disk: &MemDisk, grown: bool, at: u64, size: usize) -> bool
+    ensures { at + size ≤ length disk.now.bytes → result ≡ grown }
 {
     let length = disk.bytes().len() as u64;
-    at > length || size as u64 > length - at
+    grown || at > length || size as u64 > length - at
 }
 
 /// Reads once, no more than `most` bytes.
@@ -165,7 +165,7 @@ impl RawFile for MemFile {
     }
 
     fn write_at(&mut self, at: u64, bytes: &[u8]) -> Result<usize, DiskFault> {
-        self.grown = self.grown || ends_past(&self.disk, at, bytes.len());
+        self.grown = may_grow(&self.disk, self.grown, at, bytes.len());
         let answer = write_part(&mut self.disk, self.most, at, bytes);
         count(&mut self.faults, answer)
     }

@@ -1,12 +1,13 @@
 //! A store in memory.
 
 ghost use Rattle.std.specs.Prelude.{◌≡◌, ◌≤◌, ◌&&◌, ℕ, List, IfOk, IsTrue, None, Some, false, map, refl, option_copied};
-ghost use Rattle.std.specs.Prelude.{if◌then◌else◌, length};
+ghost use Rattle.std.specs.Prelude.{[], IfErr, OnErr, OnOk, if◌then◌else◌, length};
 ghost use Rattle.std.specs.List.{list_all};
 ghost use Rattle.disk_trait.specs.MemDisk.{is_steady};
-ghost use Rattle.stream_io.specs.Store.{SameStore, has_name};
+ghost use Rattle.stream_io.specs.Store.{SameStore, added, has_name};
 ghost use Rattle.stream_memory.specs.Calls.{is_empty};
 ghost use Rattle.stream_memory.specs.MemStore.{Begun, file_disk, full_disk, is_steady_store, kind, new_disk, state_of};
+ghost use Rattle.stream_memory.specs.MemStore.{are_steady, readers_of, slot_of};
 
 use crate::Calls;
 use crate::entries::{Entries, Slot};
@@ -136,6 +137,34 @@ fn new_disk(
     Ok(disk)
 }
 
+/// Makes an empty disk with this room under a name that is not there, and hands it out. It stops at the call of that
+/// number, if there is one.
+fn lend_new(
+    entries: &mut Entries,
+    alloc: Global,
+    name: &str,
+    room: usize,
+    stops: Option<u64>,
+) -> Result<MemDisk, NewFault>
+    requires { slot_of entries.old.list.items name.now ≡ None }
+    ensures disk { IfOk result (λ disk. disk ≡ new_disk [] room stops) }
+    ensures slots { OnOk result ((other : List ℕ) → slot_of entries.new.list.items other
+        ≡ added (slot_of entries.old.list.items) name.now (Slot.Out (is_steady (new_disk [] room stops))) other) }
+    ensures readers { OnOk result ((other : List ℕ) → readers_of entries.new.list.items other
+        ≡ added (readers_of entries.old.list.items) name.now Readers.OwnerAlone other) }
+    ensures steady { OnOk result (are_steady entries.new.list.items
+        ≡ (are_steady entries.old.list.items && is_steady (new_disk [] room stops))) }
+    ensures refused { OnErr result (entries.new.list.items ≡ entries.old.list.items) }
+    ensures memory { IfErr result (λ fault. fault ≡ NewFault.NoMemory) }
+{
+    let Ok(disk) = new_disk(alloc, &[], room, stops) else {
+        return Err(NewFault::NoMemory);
+    };
+    let steady = disk.is_steady();
+    entries.add(alloc, name, Slot::Out { steady }, Readers::OwnerAlone)?;
+    Ok(disk)
+}
+
 /// A file as a disk, with its name.
 fn file_disk(alloc: Global, file: (String, Vec<u8>)) -> Result<(String, MemDisk), NoMemory>
     ensures { IfOk result (λ disk. disk ≡ file_disk file) }
@@ -233,12 +262,7 @@ impl Store for MemStore {
         if self.entries.has(name) {
             return Err(NewFault::Exists);
         }
-        let Ok(disk) = new_disk(alloc, &[], size, self.new_stops) else {
-            return Err(NewFault::NoMemory);
-        };
-        let steady = disk.is_steady();
-        let slot = Slot::Out { steady };
-        self.entries.add(alloc, name, slot, Readers::OwnerAlone)?;
+        let disk = lend_new(&mut self.entries, alloc, name, size, self.new_stops)?;
         Ok(StoredDisk::new(disk))
     }
 

@@ -6,7 +6,9 @@ use Rattle.stream_memory.specs.Nets.{net_state}
 use Rattle.stream_memory.specs.Ports.{kept_of, port_state}
 use Rattle.stream_memory.specs.declared.mem_net.MemNet.{MemNet}
 use Rattle.stream_memory.specs.declared.mem_port.MemPort.{MemPort}
+use Rattle.stream_memory.proofs.Outcomes.{if_failed}
 use Rattle.stream_memory.proofs.Ports.{new-one}
+use Rattle.stream_memory.proofs.Removed.{no_less, no_less_still}
 use Rattle.stream_memory.proofs.mem_net.MemNet.make_ports.Goals as goal
 
 pub making-preserved : goal.making-preserved
@@ -23,7 +25,7 @@ making-preserved c =
       made = subst (λ ports. All is_new (map state ports)) (sym pushed)
           (subst (All is_new) (sym (map-append state c.making.ports.items (port ∷ [])))
           (All-push is_new (map state c.making.ports.items) (state port) v.made (new-one _ _ _ _ refl v.steady v.room r.made)));
-      room = (let a = v.room in let b = r.room in omega arith);
+      room = no_less_still _ _ _ v.room r.room;
       steady = r.steady ∙ v.steady;
       same = r.same ∙ ap (λ (net : MemNet). record net { scripts = new.scripts; gave_steady = new.gave_steady }) v.same;
     }
@@ -40,3 +42,55 @@ returns-clause-many c =
 
 pub returns-clause-same : goal.returns-clause-same
 returns-clause-same c = c.making.invariant.same
+
+pub returns-clause-steady : goal.returns-clause-steady
+returns-clause-steady c = c.making.invariant.steady
+
+pub returns-clause-room : goal.returns-clause-room
+returns-clause-room c = c.making.invariant.room
+
+pub returns-in_err-ports-clause-steady : goal.returns-in_err-ports-clause-steady
+returns-in_err-ports-clause-steady c = refl
+
+pub returns-in_err-ports-clause-room : goal.returns-in_err-ports-clause-room
+returns-in_err-ports-clause-room c = no_less _
+
+pub returns-in_err-ports-clause-many : goal.returns-in_err-ports-clause-many
+returns-in_err-ports-clause-many c = if_failed _ _ c.from_residual.ensures.0
+
+pub returns-in_err-ports-clause-made : goal.returns-in_err-ports-clause-made
+returns-in_err-ports-clause-made c = if_failed _ _ c.from_residual.ensures.0
+
+pub returns-in_err-make_port-clause-many : goal.returns-in_err-make_port-clause-many
+returns-in_err-make_port-clause-many c = if_failed _ _ c.from_residual-in_err-make_port.ensures.0
+
+pub returns-in_err-make_port-clause-made : goal.returns-in_err-make_port-clause-made
+returns-in_err-make_port-clause-made c = if_failed _ _ c.from_residual-in_err-make_port.ensures.0
+
+pub returns-in_err-push-clause-many : goal.returns-in_err-push-clause-many
+returns-in_err-push-clause-many c = if_failed _ _ c.from_residual-in_err-push.ensures.0
+
+pub returns-in_err-push-clause-made : goal.returns-in_err-push-clause-made
+returns-in_err-push-clause-made c = if_failed _ _ c.from_residual-in_err-push.ensures.0
+
+pub returns-in_err-make_port-clause-steady : goal.returns-in_err-make_port-clause-steady
+returns-in_err-make_port-clause-steady c = c.make_port.ensures.steady ∙ c.making.invariant.steady
+
+pub returns-in_err-make_port-clause-room : goal.returns-in_err-make_port-clause-room
+returns-in_err-make_port-clause-room c = no_less_still _ _ _ c.making.invariant.room c.make_port.ensures.room
+
+pub returns-in_err-make_port-clause-same : goal.returns-in_err-make_port-clause-same
+returns-in_err-make_port-clause-same c =
+    let new = c.make_port.new.self in
+    c.make_port.ensures.same ∙ ap (λ (net : MemNet). record net { scripts = new.scripts; gave_steady = new.gave_steady }) c.making.invariant.same
+
+pub returns-in_err-push-clause-steady : goal.returns-in_err-push-clause-steady
+returns-in_err-push-clause-steady c = c.make_port.ensures.steady ∙ c.making.invariant.steady
+
+pub returns-in_err-push-clause-room : goal.returns-in_err-push-clause-room
+returns-in_err-push-clause-room c = no_less_still _ _ _ c.making.invariant.room c.make_port.ensures.room
+
+pub returns-in_err-push-clause-same : goal.returns-in_err-push-clause-same
+returns-in_err-push-clause-same c =
+    let new = c.make_port.new.self in
+    c.make_port.ensures.same ∙ ap (λ (net : MemNet). record net { scripts = new.scripts; gave_steady = new.gave_steady }) c.making.invariant.same

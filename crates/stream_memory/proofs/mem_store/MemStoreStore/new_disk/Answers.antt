@@ -1,26 +1,73 @@
-use Rattle.std.proofs.Common.{arith, refl, sym, [], ◌∙◌}
+use Rattle.std.proofs.Common.{arith, refl, sym, [], ◌∙◌, ap, Err}
 use Rattle.stream_memory.specs.MemStore.{new_disk}
 use Rattle.stream_memory.specs.declared.entries.Slot.TheVariants.{Out}
 use Rattle.stream_io.specs.declared.store.Readers.TheVariants.{OwnerAlone}
 use Rattle.disk_trait.specs.MemDisk.{is_steady}
 use Rattle.stream_memory.proofs.Loans.{absent, as_said, as_steady, made, makes_steady, new_steady, read_still}
-use Rattle.stream_memory.proofs.Unchanged.{onward, same_store}
+use Rattle.stream_memory.proofs.Unchanged.{kept_store, onward}
+use Rattle.stream_memory.proofs.Outcomes.{failed_exists, has_failed, has_not, if_refused, memory_exists, named, new_exists, new_memory, not_steady, ok_no, on_err, other_no, refusal}
 use Rattle.stream_memory.proofs.mem_store.MemStoreStore.new_disk.Goals as goal
 
-pub returns-in_err-add-clause-refused : goal.returns-in_err-add-clause-refused
-returns-in_err-add-clause-refused c =
-    same_store c.args.self.now.entries.list.items c.add.new.self.list.items _ _ _ _ _ _ _ c.in_err-add.ensures.refused _
+pub returns-in_err-make : goal.returns-in_err-make
+returns-in_err-make c =
+    let is = refusal c.from_residual.result _ c.from_residual.ensures.1 in
+    let entries = c.args.self.now.entries.list.items in
+    let made = c.in_err-make.ensures in
+    record {
+      made = if_refused _ _ _ is;
+      exists = λ told was. absurd (other_no _ _ _ failed_exists is was);
+      answers = λ steady _. not_steady _ _ _ _ made.steady steady;
+      refused = on_err _ _ (kept_store entries entries _ _ _ _ _ _ _ refl);
+      cause = has_failed _ _ _ _ is refl made.later made.fault;
+      onward = onward entries entries _ _ _ _ _ _ _ _ _ refl made.failing made.later;
+    }
 
-pub returns-in_err-add-clause-onward : goal.returns-in_err-add-clause-onward
-returns-in_err-add-clause-onward c =
-    onward c.args.self.now.entries.list.items c.add.new.self.list.items _ _ _ _ _ _ _ _ _ c.in_err-add.ensures.refused
-    c.in_ok-make.ensures.failing c.in_ok-make.ensures.later
+pub returns-then-has : goal.returns-then-has
+returns-then-has c =
+    let entries = c.args.self.now.entries.list.items in
+    let made = c.in_ok-make.ensures in
+    record {
+      made = tt;
+      exists = λ told is. sym (named _) ∙ sym c.has.ensures ∙ c.if-has.true;
+      answers = λ steady. other_no _ _ _ new_exists refl;
+      refused = kept_store entries entries _ _ _ _ _ _ _ refl;
+      cause = has_not _ _ _ (other_no _ _ _ new_exists refl) made.ok;
+      onward = onward entries entries _ _ _ _ _ _ _ _ _ refl made.failing made.later;
+    }
+
+pub returns-clause-exists : goal.returns-clause-exists
+returns-clause-exists c = λ told is. absurd (ok_no _ _ _ refl is)
+
+pub returns-clause-answers : goal.returns-clause-answers
+returns-clause-answers c = λ steady. ok_no _ _ _ refl
+
+pub returns-clause-refused : goal.returns-clause-refused
+returns-clause-refused c = tt
+
+pub returns-clause-cause : goal.returns-clause-cause
+returns-clause-cause c = has_not _ _ _ (ok_no _ _ _ refl) c.in_ok-make.ensures.ok
+
+pub returns-in_err-disk : goal.returns-in_err-disk
+returns-in_err-disk c =
+    let is = refusal c.from_residual-in_err-disk.result _ c.from_residual-in_err-disk.ensures.1 in
+    let old = c.args.self.now.entries.list.items in
+    let new = c.lend_new.new.entries.list.items in
+    let made = c.in_ok-make.ensures in
+    let was = is ∙ ap Err c.in_err-disk.ensures.memory in
+    record {
+      made = if_refused _ _ _ was;
+      exists = λ told is. absurd (other_no _ _ _ memory_exists was is);
+      answers = λ steady. other_no _ _ _ new_memory was;
+      refused = on_err _ _ (kept_store old new _ _ _ _ _ _ _ c.in_err-disk.ensures.refused);
+      cause = has_not _ _ _ (other_no _ _ _ new_memory was) made.ok;
+      onward = onward old new _ _ _ _ _ _ _ _ _ c.in_err-disk.ensures.refused made.failing made.later;
+    }
 
 pub returns-clause-made : goal.returns-clause-made
 returns-clause-made c =
-    rw (c.new.ensures.made, c.in-Ok.ensures)
-    (made c.args.self.now.entries.list.items c.add.new.self.list.items c.args.name.now _ _ _ _ _ _ _ (absent _ (sym c.has.ensures ∙ c.if-has.false)) c.args.size
-    (rw (c.is_steady-steady.ensures, c.in-Ok.ensures) at c.in_ok-add.ensures.slots) c.in_ok-add.ensures.readers (makes_steady _ _ _))
+    rw (c.new.ensures.made, c.in_ok-disk.ensures.disk)
+    (made c.args.self.now.entries.list.items c.lend_new.new.entries.list.items c.args.name.now _ _ _ _ _ _ _ (absent _ (sym c.has.ensures ∙ c.if-has.false)) c.args.size
+    c.in_ok-disk.ensures.slots c.in_ok-disk.ensures.readers (makes_steady _ _ _))
 
 pub returns-clause-onward : goal.returns-clause-onward
 returns-clause-onward c =
@@ -28,14 +75,13 @@ returns-clause-onward c =
     let slot = Out (is_steady (new_disk [] c.args.size stops)) in
     let gone = absent _ (sym c.has.ensures ∙ c.if-has.false) in
     let old = c.args.self.now.entries.list.items in
-    let new = c.add.new.self.list.items in
+    let new = c.lend_new.new.entries.list.items in
     record {
       told = refl;
       steady = rw c.in_ok-make.ensures.failing (as_steady old new c.args.name.now stops slot (new_steady [] c.args.size stops) gone _
-          (rw (c.is_steady-steady.ensures, c.in-Ok.ensures) at c.in_ok-add.ensures.steady));
-      disks = as_said old new c.args.name.now stops slot (new_steady [] c.args.size stops) gone
-          (rw (c.is_steady-steady.ensures, c.in-Ok.ensures) at c.in_ok-add.ensures.slots);
-      readers = λ told. read_still old new c.args.name.now OwnerAlone gone c.in_ok-add.ensures.readers;
+          c.in_ok-disk.ensures.steady);
+      disks = as_said old new c.args.name.now stops slot (new_steady [] c.args.size stops) gone c.in_ok-disk.ensures.slots;
+      readers = λ told. read_still old new c.args.name.now OwnerAlone gone c.in_ok-disk.ensures.readers;
       count = c.in_ok-make.ensures.later;
       disk_count = omega arith;
     }

@@ -1,11 +1,34 @@
-use Rattle.std.proofs.Common.{ap, arith, refl, sym, ◌∙◌}
-use Rattle.disk_trait.specs.MemDisk.{is_steady}
+use Rattle.std.proofs.Common.{ap, arith, option_map, refl, sym, ◌∙◌, Err}
+use Rattle.disk_trait.specs.MemDisk.{MemState, is_steady}
 use Rattle.stream_memory.specs.MemStore.{kind_of}
 use Rattle.stream_memory.specs.declared.entries.Slot.TheVariants.{Out}
 use Rattle.stream_memory.proofs.Links.{last_true}
 use Rattle.stream_memory.proofs.Loans.{here_of, same_for_all, taken}
-use Rattle.stream_memory.proofs.Unchanged.{onward}
+use Rattle.stream_memory.proofs.Unchanged.{kept_store, onward}
+use Rattle.stream_memory.proofs.Outcomes.{has_failed, has_not, if_refused, not_steady, ok_no, on_err, refusal}
 use Rattle.stream_memory.proofs.mem_store.MemStoreStore.take_disk.Goals as goal
+
+pub returns-in_err-make : goal.returns-in_err-make
+returns-in_err-make c =
+    let is = refusal c.from_residual.result _ c.from_residual.ensures.1 in
+    let entries = c.args.self.now.entries.list.items in
+    let made = c.in_err-make.ensures in
+    record {
+      taken = if_refused _ _ _ is;
+      absent = λ told steady _. absurd (not_steady _ _ _ _ made.steady steady);
+      refused = on_err _ _ (kept_store entries entries _ _ _ _ _ _ _ refl);
+      cause = has_failed _ _ _ _ is refl made.later made.fault;
+      onward = onward entries entries _ _ _ _ _ _ _ _ _ refl made.failing made.later;
+    }
+
+pub returns-in-Some-clause-absent : goal.returns-in-Some-clause-absent
+returns-in-Some-clause-absent c = λ told steady is. absurd (ok_no _ _ _ refl is)
+
+pub returns-in-Some-clause-refused : goal.returns-in-Some-clause-refused
+returns-in-Some-clause-refused c = tt
+
+pub returns-in-Some-clause-cause : goal.returns-in-Some-clause-cause
+returns-in-Some-clause-cause c = has_not _ _ _ (ok_no _ _ _ refl) c.in_ok-make.ensures.ok
 
 pub returns-in-Some-clause-taken : goal.returns-in-Some-clause-taken
 returns-in-Some-clause-taken c =
@@ -26,9 +49,17 @@ returns-in-Some-clause-onward c =
       disk_count = omega arith;
     }
 
-pub returns-in-None-clause-onward : goal.returns-in-None-clause-onward
-returns-in-None-clause-onward c =
-    let made = c.in_ok-make.ensures.later in
-    let failed = c.fail.ensures.later in
-    onward c.args.self.now.entries.list.items c.lend.new.self.list.items _ _ _ _ _ _ _ _ _ c.in-None.ensures.refused
-    (c.fail.ensures.failing ∙ c.in_ok-make.ensures.failing) (omega (arith, made, failed))
+pub returns-in-None : goal.returns-in-None
+returns-in-None c =
+    let old = c.args.self.now.entries.list.items in
+    let new = c.lend.new.self.list.items in
+    let made = c.in_ok-make.ensures in
+    let is = ap Err c.from.ensures in
+    record {
+      taken = tt;
+      absent = λ told steady _. ap (option_map (λ (disk : MemState). disk.bytes)) (sym c.in-None.ensures.lent);
+      refused = kept_store old new _ _ _ _ _ _ _ c.in-None.ensures.refused;
+      cause = has_failed _ _ _ _ is made.ok c.fail.ensures.later c.fail.ensures.fault;
+      onward = onward old new _ _ _ _ _ _ _ _ _ c.in-None.ensures.refused (c.fail.ensures.failing ∙ made.failing)
+          (let a = made.later in let b = c.fail.ensures.later in omega (arith, a, b));
+    }

@@ -1,6 +1,6 @@
 use Rattle.std.proofs.Common.{length, refl}
 use Rattle.disk_trait.specs.MemDisk.{write_fails}
-use Rattle.stream_memory.proofs.MemFiles.{write-bytes, write-fits, write-torn, write-within}
+use Rattle.stream_memory.proofs.MemFiles.{write-bytes, write-fits, write-succeeds, write-torn, write-within}
 use Rattle.stream_memory.proofs.Stable.{write-room, write-steady}
 use Rattle.stream_memory.proofs.stored_disk.StoredDiskDisk.write_at.Goals as goal
 
@@ -49,3 +49,7 @@ returns-clause-stays c =
       steady = rw c.write_at-answer.ensures.after (write-steady disk c.args.at bytes fails);
       room = rw c.write_at-answer.ensures.after (write-room disk c.args.at bytes fails);
     }
+
+pub returns-clause-succeeds : goal.returns-clause-succeeds
+returns-clause-succeeds c = λ steady told within fits.
+    rw (c.count.ensures.same, c.write_at-answer.ensures.outcome) (write-succeeds c.args.self.now.disk c.args.at c.args.bytes.now steady within fits)
