@@ -5,7 +5,7 @@ use Rattle.slot_file.specs.State.{HasSlots}
 use Rattle.slot_file.specs.declared.header.Header.{Header}
 use Rattle.slot_file.specs.Layout.{header_in}
 use Rattle.tool_show.specs.SlotKinds.{slot_count}
-use Rattle.tool_show.proofs.Loaded.{loaded, refused}
+use Rattle.tool_show.proofs.Loaded.{loaded, loads, refused}
 use Rattle.tool_show.proofs.loading.load_slots.Goals as goal
 
 pub returns-in-Ok-load-clause-slots : goal.returns-in-Ok-load-clause-slots
@@ -17,6 +17,16 @@ returns-in-Ok-load-clause-slots c =
     let call = c.in-Ok-load.ensures.loaded in
     let own = subst (λ (h : Header). HasSlots h slots c.in-Ok.disk.bytes) c.requires.header (call.file refl) in
     loaded head.kind bytes slots (call.size ∙ c.requires.count) (subst (HasSlots (header_in bytes) slots) same own)
+
+pub returns-in-Ok-load-clause-loads : goal.returns-in-Ok-load-clause-loads
+returns-in-Ok-load-clause-loads c =
+    let head = c.args.head.now in
+    let bytes = c.args.bytes.now in
+    let slots = c.in-Ok-load.cache.cached.items in
+    let same = ap (λ (d : MemState). d.bytes) c.in-Ok.ensures in
+    let call = c.in-Ok-load.ensures.loaded in
+    let own = subst (λ (h : Header). HasSlots h slots c.in-Ok.disk.bytes) c.requires.header (call.file refl) in
+    loads head.kind bytes slots (call.size ∙ c.requires.count) (subst (HasSlots (header_in bytes) slots) same own)
 
 pub returns-clause-refused : goal.returns-clause-refused
 returns-clause-refused c =
