@@ -41,18 +41,18 @@ not_steady calls views stops all fails is =
     let never : false ≡ true = fails (first_true calls views (first_true (calls && views) stops (first_true (calls && views && stops) all is))) in
     cc
 
+-- and none of a port that is steady
+pub not_calm : (calls gave links : Bool) → (calls ≡ true → false ≡ true) → (calls && gave && links) ≡ true → ⊥
+not_calm calls gave links fails is =
+    let never : false ≡ true = fails (first_true calls gave (first_true (calls && gave) links is)) in
+    cc
+
 -- an answer is not another one
 pub ok_no : {T E : Type 0} (result : Result T E) (value : T) (fault : E) → result ≡ Ok value → result ≡ Err fault → ⊥
 ok_no result value fault is other = cc
 
 pub other_no : {T E : Type 0} (result : Result T E) (fault other : E) → (fault ≡ other → ⊥) → result ≡ Err fault → result ≡ Err other → ⊥
 other_no result fault other differ is was = differ (cc)
-
--- and none of a port that is steady
-pub not_calm : (calls gave links : Bool) → (calls ≡ true → false ≡ true) → (calls && gave && links) ≡ true → ⊥
-not_calm calls gave links fails is =
-    let never : false ≡ true = fails (first_true calls gave (first_true (calls && gave) links is)) in
-    cc
 
 -- the refusal that a fault led to
 pub refusal : {T E : Type 0} (result : Result T E) (fault : E) → IsErrAnd result (λ other. other ≡ fault) → result ≡ Err fault
@@ -77,6 +77,7 @@ pub on_err : {T E : Type 0} (P : Type 0) (result : Result T E) → P → OnErr r
 on_err P (Ok value) it = tt
 on_err P (Err other) it = it
 
+-- nor is what came of accepting
 pub same_link : {L : Type 0} (link other : L) → Accepted.Link link ≡ Accepted.Link other → link ≡ other
 same_link link other is = cc
 
@@ -89,6 +90,7 @@ link_failed result link is other = cc
 pub end_failed : {L : Type 0} (result : Accepted L) → result ≡ Accepted.End → result ≡ Accepted.Failed → ⊥
 end_failed result is other = cc
 
+-- nor is a fault
 pub call_memory : call.NoMemory ≡ call.Failed → ⊥
 call_memory is = cc
 

@@ -57,9 +57,6 @@ module _ (talk : Talk) (vain vain' : ℕ) (counted : vain' ≡ min (vain + 1) (2
   pub in_vain_read : OnlyRead (with_vain talk vain) (with_vain talk vain')
   in_vain_read = record { told = refl; place = refl; written = refl; room = omega arith; count = omega (arith, counted) }
 
-  pub in_vain_wrote : OnlyWrote (with_vain talk vain) (with_vain talk vain')
-  in_vain_wrote = record { told = refl; place = refl; taken = refl; left = refl; count = omega (arith, counted) }
-
   pub nothing_read : (room : ℕ) (out : List ℕ) (fault : Failed) → HasRead (with_vain talk vain) (with_vain talk vain') room out (Err fault)
   nothing_read room out fault = record {
     size = tt;
