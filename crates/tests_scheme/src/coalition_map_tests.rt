@@ -2,14 +2,22 @@
 
 ghost use Rattle.std.specs.Prelude.{◌≤◌};
 
+use crate::values::holds;
 use coalition_map::{Members, Plan, PlanFault};
-use std::test::Fail;
+use std::process::Abort;
 
 /// A plan for coalitions of `k` of `n` trustees over trees of height `h`.
 fn plan_of(n: u8, k: u8, h: u8) -> Result<Plan, PlanFault>
     requires { h ≤ 25 }
 {
     Plan::new(n, k, h)
+}
+
+/// A plan that there is.
+fn made(rt: &impl Abort, n: u8, k: u8, h: u8) -> Plan
+    requires { h ≤ 25 }
+{
+    plan_of(n, k, h).expect(rt, "a plan")
 }
 
 /// The bits of a set of trustees.
@@ -45,31 +53,29 @@ fn has_leaves(plan: &Plan, c: u32, leaves: &[u32]) -> bool {
     plan.next_leaf(c, last).is_none()
 }
 
+/// The coalitions of three of five trustees.
+const ORDER: [[u8; 3]; 10] = [
+    [1, 2, 3],
+    [1, 2, 4],
+    [1, 2, 5],
+    [1, 3, 4],
+    [1, 3, 5],
+    [1, 4, 5],
+    [2, 3, 4],
+    [2, 3, 5],
+    [2, 4, 5],
+    [3, 4, 5],
+];
+
 #[test]
-fn orders_the_coalitions_of_three_of_five(rt: HostRuntime) -> Result<(), Fail> {
-    let plan = plan_of(5, 3, 5)?;
-    let order = [
-        [1, 2, 3],
-        [1, 2, 4],
-        [1, 2, 5],
-        [1, 3, 4],
-        [1, 3, 5],
-        [1, 4, 5],
-        [2, 3, 4],
-        [2, 3, 5],
-        [2, 4, 5],
-        [3, 4, 5],
-    ];
+fn orders_the_coalitions_of_three_of_five(rt: HostRuntime) {
+    let plan = made(&rt, 5, 3, 5);
     assert!(rt; plan.count() == 10);
     for c in 0..10 {
-        assert!(rt;
-            is_at(&plan, c, bits_of(&order[c as usize])),
-            "coalition {c}"
-        );
+        holds(&rt, c, is_at(&plan, c, bits_of(&ORDER[c as usize])));
     }
     assert!(rt; has_leaves(&plan, 0, &[0, 10, 20, 30]));
     assert!(rt; has_leaves(&plan, 9, &[9, 19, 29]));
-    Ok(())
 }
 
 /// Whether the coalitions are all sets of `k` of `n` trustees. In lexicographic order of the sets the numbers go down
@@ -91,51 +97,64 @@ fn has_walk(plan: &Plan, n: u8, k: u8) -> bool
     plan.count() == c
 }
 
-#[test]
-fn agrees_with_a_walk_of_every_list(rt: HostRuntime) -> Result<(), Fail> {
-    for n in 2..=12 {
-        for k in 2..=n {
-            let plan = plan_of(n, k, 10)?;
-            assert!(rt; has_walk(&plan, n, k), "{k} of {n}");
-        }
+/// Whether the plan of `k` of `n` trustees has the coalitions of a walk.
+fn agrees(n: u8, k: u8) -> bool
+    requires { n ≤ 12 }
+{
+    match plan_of(n, k, 10) {
+        Ok(plan) => has_walk(&plan, n, k),
+        Err(_) => false,
     }
-    Ok(())
 }
 
 #[test]
-fn gives_each_of_six_of_twelve_a_leaf_or_two(rt: HostRuntime) -> Result<(), Fail> {
-    let plan = plan_of(12, 6, 10)?;
+fn agrees_with_a_walk_of_every_list(rt: HostRuntime) {
+    for n in 2..13 {
+        for k in 2..n + 1 {
+            holds(&rt, n.into(), agrees(n, k));
+        }
+    }
+}
+
+#[test]
+fn gives_each_of_six_of_twelve_a_leaf_or_two(rt: HostRuntime) {
+    let plan = made(&rt, 12, 6, 10);
     assert!(rt; plan.count() == 924);
     // The leaves 924 to 1023 go to the first hundred anew.
     for c in 0..100 {
-        assert!(rt; has_leaves(&plan, c, &[c, c + 924]), "coalition {c}");
+        holds(&rt, c, has_leaves(&plan, c, &[c, c + 924]));
     }
     for c in 100..924 {
-        assert!(rt; has_leaves(&plan, c, &[c]), "coalition {c}");
+        holds(&rt, c, has_leaves(&plan, c, &[c]));
     }
-    Ok(())
+}
+
+/// Whether there is no plan for coalitions of `k` of `n` trustees.
+fn is_no_plan(n: u8, k: u8) -> bool {
+    plan_of(n, k, 10) == Err(PlanFault::BadThreshold)
 }
 
 #[test]
 fn refuses_what_is_no_plan(rt: HostRuntime) {
-    for (n, k) in [(0, 0), (1, 1), (5, 1), (5, 6), (13, 2)] {
-        assert!(rt;
-            plan_of(n, k, 10).err() == Some(PlanFault::BadThreshold),
-            "{k} of {n}"
-        );
+    for (n, k) in &[(0, 0), (1, 1), (5, 1), (5, 6), (13, 2)] {
+        assert!(rt; is_no_plan(*n, *k));
     }
     let many = PlanFault::TooManyCoalitions { count: 924 };
-    assert!(rt; plan_of(12, 6, 5).err() == Some(many));
+    assert!(rt; plan_of(12, 6, 5) == Err(many));
+}
+
+/// Whether these trustees are no coalition.
+fn is_no_coalition(plan: &Plan, trustees: &[u8; 3]) -> bool {
+    plan.number_of(Members::of_bits(bits_of(trustees)))
+        .is_none()
 }
 
 #[test]
-fn refuses_what_is_no_coalition(rt: HostRuntime) -> Result<(), Fail> {
-    let plan = plan_of(5, 3, 5)?;
-    for trustees in [[1, 2, 2], [1, 2, 6], [1, 2, 16]] {
-        let members = Members::of_bits(bits_of(&trustees));
-        assert!(rt; plan.number_of(members).is_none(), "{trustees:?}");
+fn refuses_what_is_no_coalition(rt: HostRuntime) {
+    let plan = made(&rt, 5, 3, 5);
+    for trustees in &[[1, 2, 2], [1, 2, 6], [1, 2, 16]] {
+        assert!(rt; is_no_coalition(&plan, trustees));
     }
-    Ok(())
 }
 
 /// Whether leaf 13 is that of coalition 3, and trustee 1, 3 and 4 its members alone.
@@ -143,7 +162,7 @@ fn has_members_of_leaf(plan: &Plan) -> bool {
     if plan.h() != 5 || plan.coalition_of(13) != 3 {
         return false;
     }
-    for (t, inside) in [
+    for (t, inside) in &[
         (0, false),
         (1, true),
         (2, false),
@@ -152,29 +171,40 @@ fn has_members_of_leaf(plan: &Plan) -> bool {
         (5, false),
         (17, false),
     ] {
-        if plan.is_member(13, t) != inside {
+        if plan.is_member(13, *t) != *inside {
             return false;
         }
     }
     true
 }
 
+/// Whether the plan is for coalitions of three of five trustees over 32 leaves.
+fn has_numbers(plan: &Plan) -> bool {
+    plan.n() == 5 && plan.k() == 3 && plan.h() == 5
+}
+
 #[test]
-fn tells_the_members_of_a_leaf(rt: HostRuntime) -> Result<(), Fail> {
-    let plan = plan_of(5, 3, 5)?;
-    assert!(rt; (plan.n(), plan.k(), plan.h()) == (5, 3, 5));
+fn tells_the_members_of_a_leaf(rt: HostRuntime) {
+    let plan = made(&rt, 5, 3, 5);
+    assert!(rt; has_numbers(&plan));
     assert!(rt; has_members_of_leaf(&plan));
     assert!(rt; plan == plan);
-    Ok(())
+}
+
+/// Whether trustees 1, 3 and 4 are the members of a set.
+fn has_members(members: Members) -> bool {
+    for (t, inside) in &[(1, true), (2, false), (3, true), (4, true), (5, false)] {
+        if members.has(*t) != *inside {
+            return false;
+        }
+    }
+    members.size() == 3
 }
 
 #[test]
 fn tells_the_members_of_a_set(rt: HostRuntime) {
     let members = Members::of_bits(0b1101);
-    assert!(rt; members.size() == 3);
-    for (t, inside) in [(1, true), (2, false), (3, true), (4, true), (5, false)] {
-        assert!(rt; members.has(t) == inside, "trustee {t}");
-    }
+    assert!(rt; has_members(members));
     assert!(rt; members == Members::of_bits(13));
 }
 
@@ -184,7 +214,6 @@ fn is_shared<T: Copy + Send + Sync>(_value: T) -> bool {
 }
 
 #[test]
-fn may_be_shared_by_threads(rt: HostRuntime) -> Result<(), Fail> {
-    assert!(rt; is_shared(plan_of(5, 3, 5)?) && is_shared(Members::of_bits(7)));
-    Ok(())
+fn may_be_shared_by_threads(rt: HostRuntime) {
+    assert!(rt; is_shared(made(&rt, 5, 3, 5)) && is_shared(Members::of_bits(7)));
 }

@@ -1,16 +1,13 @@
 //! Tests of what no contract says: that the files are those of another implementation, that several threads give them
 //! as one does, and each refusal once.
 
-use crate::dealings::{count_up, deal_count, deal_to, digest_of, head_of, scheme_of};
-use dealer::{
-    CommittedFault, DealFault, DealingFiles, Dealt, deal_beside, deal_committed,
-    deal_committed_beside,
-};
+use crate::dealings::{count_up, deal_to, dealt, digest_of, head_of, scheme_of};
+use crate::values::{first, holds};
+use dealer::{DealFault, DealingFiles, Dealt, deal_beside, deal_committed, deal_committed_beside};
 use lms_bytes::write_public;
 use share_files::{Share, write_share, write_tree_head};
 use std::alloc::Global;
 use std::process::Abort;
-use std::test::Fail;
 use std::thread::Threads;
 
 /// Typecodes of dealings to coalitions of three of five trustees, with SHA-256 of the files of the public key, of the
@@ -65,48 +62,41 @@ fn share_digest(share: &Share) -> [u8; 32] {
     digest_of(&bytes, &[])
 }
 
+/// Whether the files of a dealing have these digests.
+fn has_digests(dealt: &Dealt, digests: &[&[u8; 32]; 4]) -> bool {
+    let Some(last) = dealt.shares.get(4) else {
+        return false;
+    };
+    let public = public_digest(dealt) == *digests[0];
+    let tree = tree_digest(dealt) == *digests[1];
+    let reference = digest_of(&head_of(last), &dealt.reference) == *digests[2];
+    public & tree & reference & (share_digest(last) == *digests[3])
+}
+
 #[test]
-fn files_are_those_of_another_implementation(rt: HostRuntime) -> Result<(), Fail> {
-    for (codes, [public, tree, reference, share]) in DEALINGS {
-        let dealt = deal_count(&rt, rt.alloc(), codes, (5, 3))?;
-        assert!(rt; dealt.shares.len() == 5);
-        let last = dealt.shares[4];
-        assert!(rt;
-            public_digest(&dealt) == *public,
-            "the public key of {codes:?}"
-        );
-        assert!(rt; tree_digest(&dealt) == *tree, "the tree of {codes:?}");
-        assert!(rt;
-            digest_of(&head_of(&last), &dealt.reference) == *reference,
-            "the reference of {codes:?}"
-        );
-        assert!(rt;
-            share_digest(&last) == *share,
-            "the last share of {codes:?}"
-        );
+fn files_are_those_of_another_implementation(rt: HostRuntime) {
+    for (codes, digests) in &DEALINGS {
+        let dealt = dealt(&rt, rt.alloc(), *codes, (5, 3));
+        holds(&rt, codes.1, has_digests(&dealt, digests));
     }
-    Ok(())
 }
 
 /// A dealing of typecodes 5 and 3 to coalitions of three of five trustees, by several threads.
-fn dealt_beside<R: Threads + Sync + Abort>(rt: &R, alloc: Global) -> Result<Dealt, DealFault> {
+fn dealt_beside<R: Threads + Sync + Abort>(rt: &R, alloc: Global) -> Dealt {
     let (params, plan) = scheme_of(rt, (5, 3), (5, 3));
-    deal_beside(rt, alloc, &params, &plan, &count_up())
+    deal_beside(rt, alloc, &params, &plan, &count_up()).expect(rt, "a dealing")
 }
 
 /// The same with its commitments, by one thread.
-fn committed(rt: &impl Abort, alloc: Global) -> Result<(Dealt, Vec<u8>), CommittedFault> {
+fn committed(rt: &impl Abort, alloc: Global) -> (Dealt, Vec<u8>) {
     let (params, plan) = scheme_of(rt, (5, 3), (5, 3));
-    deal_committed(alloc, &params, &plan, &count_up())
+    deal_committed(alloc, &params, &plan, &count_up()).expect(rt, "a dealing")
 }
 
 /// The same with its commitments, by several threads.
-fn committed_beside<R: Threads + Sync + Abort>(
-    rt: &R,
-    alloc: Global,
-) -> Result<(Dealt, Vec<u8>), CommittedFault> {
+fn committed_beside<R: Threads + Sync + Abort>(rt: &R, alloc: Global) -> (Dealt, Vec<u8>) {
     let (params, plan) = scheme_of(rt, (5, 3), (5, 3));
-    deal_committed_beside(rt, alloc, &params, &plan, &count_up())
+    deal_committed_beside(rt, alloc, &params, &plan, &count_up()).expect(rt, "a dealing")
 }
 
 /// The files of a dealing.
@@ -125,42 +115,74 @@ fn have_same_files(rt: &impl Abort, alloc: Global, one: Dealt, other: Dealt) -> 
         && one.shares == other.shares
 }
 
+/// Whether several threads make the files that one makes.
+fn deal_alike<R: Threads + Sync + Abort>(rt: &R, alloc: Global) -> bool {
+    let one = dealt(rt, alloc, (5, 3), (5, 3));
+    have_same_files(rt, alloc, one, dealt_beside(rt, alloc))
+}
+
+/// The same of dealings with commitments, which are the same too.
+fn commit_alike<R: Threads + Sync + Abort>(rt: &R, alloc: Global) -> bool {
+    let (one, commits) = committed(rt, alloc);
+    let (beside, others) = committed_beside(rt, alloc);
+    (commits == others) & have_same_files(rt, alloc, one, beside)
+}
+
 #[test]
-fn several_threads_deal_as_one_does(rt: HostRuntime) -> Result<(), Fail> {
-    let alloc = rt.alloc();
-    let one = deal_count(&rt, alloc, (5, 3), (5, 3))?;
-    let beside = dealt_beside(&rt, alloc)?;
-    assert!(rt; have_same_files(&rt, alloc, one, beside), "the files");
-    let (one, commits) = committed(&rt, alloc)?;
-    let (beside, others) = committed_beside(&rt, alloc)?;
-    assert!(rt; commits == others, "the commitments");
-    assert!(rt;
-        have_same_files(&rt, alloc, one, beside),
-        "the files beside them"
+fn several_threads_deal_as_one_does(rt: HostRuntime) {
+    assert!(rt; deal_alike(&rt, rt.alloc()));
+    assert!(rt; commit_alike(&rt, rt.alloc()));
+}
+
+/// Whether this entropy is refused for this.
+fn refuses(
+    rt: &impl Abort,
+    alloc: Global,
+    codes: (u32, u32),
+    entropy: &[u8],
+    why: DealFault,
+) -> bool {
+    match deal_to(rt, alloc, codes, (5, 3), entropy) {
+        Ok(_) => false,
+        Err(fault) => fault == why,
+    }
+}
+
+/// The bytes that count up from 0, with the keys of trustees 2 and 3 once more in the place of those of 4 and 5.
+fn with_keys_twice() -> [u8; 240] {
+    let mut entropy = count_up();
+    for i in 176..240 {
+        entropy[i] = entropy[i - 64];
+    }
+    entropy
+}
+
+/// Whether entropy of another length is refused, and before it typecodes that are not dealt to.
+fn refuses_lengths(rt: &impl Abort, alloc: Global) -> bool {
+    let bytes = count_up();
+    let entropy = first(&bytes, 239);
+    let (got, want) = (239, 240);
+    let length = refuses(
+        rt,
+        alloc,
+        (5, 3),
+        entropy,
+        DealFault::BadEntropy { got, want },
     );
-    Ok(())
+    let high = refuses(rt, alloc, (7, 3), entropy, DealFault::TooHigh { h: 15 });
+    length & high & refuses(rt, alloc, (6, 4), entropy, DealFault::TooWide)
+}
+
+/// Whether entropy is refused in which two trustees have the same key.
+fn refuses_same_keys(rt: &impl Abort, alloc: Global) -> bool {
+    let first = DealFault::SameKeys { t: 1, u: 2 };
+    let later = DealFault::SameKeys { t: 2, u: 4 };
+    let all = refuses(rt, alloc, (5, 3), &[7; 240], first);
+    all & refuses(rt, alloc, (5, 3), &with_keys_twice(), later)
 }
 
 #[test]
 fn other_entropy_is_refused(rt: HostRuntime) {
-    let entropy = count_up();
-    let mut alike = entropy;
-    for i in 176..240 {
-        alike[i] = alike[i - 64];
-    }
-    let wrong_length = DealFault::BadEntropy {
-        got: 239,
-        want: 240,
-    };
-    let cases = [
-        ((5, 3), &entropy[..239], wrong_length),
-        ((5, 3), &[7; 240], DealFault::SameKeys { t: 1, u: 2 }),
-        ((5, 3), &alike, DealFault::SameKeys { t: 2, u: 4 }),
-        ((7, 3), &entropy[..239], DealFault::TooHigh { h: 15 }),
-        ((6, 4), &entropy[..239], DealFault::TooWide),
-    ];
-    for (codes, entropy, want) in cases {
-        let fault = deal_to(&rt, rt.alloc(), codes, (5, 3), entropy).err();
-        assert!(rt; fault == Some(want), "typecodes {codes:?}");
-    }
+    assert!(rt; refuses_lengths(&rt, rt.alloc()));
+    assert!(rt; refuses_same_keys(&rt, rt.alloc()));
 }

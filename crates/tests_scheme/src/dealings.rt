@@ -70,6 +70,11 @@ pub fn deal_count(
     deal_to(rt, alloc, codes, trustees, &count_up()[..length.min(240)])
 }
 
+/// The same, where it is dealt.
+pub fn dealt(rt: &impl Abort, alloc: Global, codes: (u32, u32), trustees: (u8, u8)) -> Dealt {
+    deal_count(rt, alloc, codes, trustees).expect(rt, "a dealing")
+}
+
 /// The head of the reference file of a share's dealing.
 pub fn head_of(share: &Share) -> [u8; 32] {
     let header = RefHeader {

@@ -7,10 +7,12 @@ ghost use Rattle.hss_levels.specs.Levels.{Accepts};
 
 mod vector;
 
+use crate::values::{holds, reads_as};
 use hss_levels::{HssFault, HssKey, HssKeyFault, HssVerdict, hss_verify, join_two, read_hss_key};
-use lms_bytes::{KeyFault, PublicKey, SigFault, Val, read_public};
+use lms_bytes::{KeyFault, PublicKey, SigFault, read_public};
 use lms_verify::{Verdict, verify};
-use std::test::Fail;
+use std::alloc::Global;
+use std::process::Abort;
 use vector::{KEY, MESSAGE, SIGNATURE};
 
 /// Where the public key of the lower level lies in the signature, and where its signature does.
@@ -21,6 +23,11 @@ const LOW_SIGNATURE: usize = 1440;
 /// What is read from these bytes.
 fn read(bytes: &[u8]) -> Result<HssKey, HssKeyFault> {
     read_hss_key(bytes)
+}
+
+/// The key of the signature.
+fn signing_key(rt: &impl Abort) -> HssKey {
+    read(&KEY).expect(rt, "a key")
 }
 
 /// The verdict on so many bytes of the signature and of a 0 behind it, with one byte changed.
@@ -98,60 +105,64 @@ const FAULTS: [(usize, u8, usize, HssFault); 9] = [
     ),
 ];
 
+/// Whether the bytes of a row have the row's fault.
+fn is_malformed(key: &HssKey, row: &(usize, u8, usize, HssFault)) -> bool {
+    verdict_on(key, row.0, row.1, row.2) == HssVerdict::Malformed(row.3)
+}
+
 #[test]
 fn other_bytes_are_no_signature(rt: HostRuntime) {
-    let key = read(&KEY).expect(&rt, "a key");
-    for (place, byte, length, fault) in FAULTS {
-        let verdict = verdict_on(&key, place, byte, length);
-        assert!(rt; verdict == HssVerdict::Malformed(fault), "{length} bytes");
+    let key = signing_key(&rt);
+    for row in &FAULTS {
+        holds(&rt, row.2 as u32, is_malformed(&key, row));
     }
 }
 
 #[test]
 fn a_signature_is_accepted(rt: HostRuntime) {
-    let key = read(&KEY).expect(&rt, "a key");
     // The byte behind the signature is not among those that are verified.
-    assert!(rt; verdict_on(&key, 2732, 0, 2732) == HssVerdict::Accepted { levels: 2 });
+    assert!(rt; verdict_on(&signing_key(&rt), 2732, 0, 2732) == HssVerdict::Accepted { levels: 2 });
+}
+
+/// A place of the signature, the byte that is put there, the level whose signature then leads to another root, that
+/// root, and the right one.
+const ROOTS: [(usize, u8, u8, &[u8], &[u8]); 2] = [
+    (
+        652,
+        0xec,
+        0,
+        b"\xef\x80\x32\xaf\x1f\x64\x08\x44\x76\x07\x53\xd7\x33\xb0\xd3\xee\
+            \xd7\x7c\xfc\x26\xcc\xb1\x9d\xf7",
+        b"\xd5\x7b\xae\x13\xe7\xa6\x4f\x53\x22\x48\x97\x71\x41\x55\x60\x76\
+            \x74\x74\x5c\x56\x15\x3b\x95\x69",
+    ),
+    (
+        2172,
+        0x63,
+        1,
+        b"\x4d\xf9\x38\x1c\xcd\x57\xe4\x3f\xbb\x0b\x26\x54\xb0\xf7\x44\xb7\
+            \x05\x7a\x13\x0d\x44\xfc\xf4\x21\x40\x8b\xf6\x3a\x6f\xe4\x0c\x11",
+        b"\x01\x3d\x8d\xb1\x39\xc2\xb0\x45\x3f\x35\x18\x5d\x73\xb4\x57\x6c\
+            \x0e\x28\xb9\x51\x3d\x83\x41\x29\x01\xbb\xa7\xaf\xef\x5d\x02\x93",
+    ),
+];
+
+/// Whether the changed signature of a row leads to the row's root.
+fn leads_elsewhere(key: &HssKey, row: &(usize, u8, u8, &[u8], &[u8])) -> bool {
+    match verdict_on(key, row.0, row.1, 2732) {
+        HssVerdict::OtherRoot { level, got, want } => {
+            level == row.2 && got.bytes() == row.3 && want.bytes() == row.4
+        }
+        HssVerdict::Accepted { .. } | HssVerdict::Malformed(_) => false,
+    }
 }
 
 #[test]
-fn a_changed_top_signature_leads_to_another_root(rt: HostRuntime) {
-    let key = read(&KEY).expect(&rt, "a key");
-    let got = Val::of(&[
-        0xef, 0x80, 0x32, 0xaf, 0x1f, 0x64, 0x08, 0x44, 0x76, 0x07, 0x53, 0xd7, 0x33, 0xb0, 0xd3,
-        0xee, 0xd7, 0x7c, 0xfc, 0x26, 0xcc, 0xb1, 0x9d, 0xf7,
-    ]);
-    let want = Val::of(&[
-        0xd5, 0x7b, 0xae, 0x13, 0xe7, 0xa6, 0x4f, 0x53, 0x22, 0x48, 0x97, 0x71, 0x41, 0x55, 0x60,
-        0x76, 0x74, 0x74, 0x5c, 0x56, 0x15, 0x3b, 0x95, 0x69,
-    ]);
-    let other = HssVerdict::OtherRoot {
-        level: 0,
-        got,
-        want,
-    };
-    assert!(rt; verdict_on(&key, 652, 0xec, 2732) == other);
-}
-
-#[test]
-fn a_changed_low_signature_leads_to_another_root(rt: HostRuntime) {
-    let key = read(&KEY).expect(&rt, "a key");
-    let got = Val::of(&[
-        0x4d, 0xf9, 0x38, 0x1c, 0xcd, 0x57, 0xe4, 0x3f, 0xbb, 0x0b, 0x26, 0x54, 0xb0, 0xf7, 0x44,
-        0xb7, 0x05, 0x7a, 0x13, 0x0d, 0x44, 0xfc, 0xf4, 0x21, 0x40, 0x8b, 0xf6, 0x3a, 0x6f, 0xe4,
-        0x0c, 0x11,
-    ]);
-    let want = Val::of(&[
-        0x01, 0x3d, 0x8d, 0xb1, 0x39, 0xc2, 0xb0, 0x45, 0x3f, 0x35, 0x18, 0x5d, 0x73, 0xb4, 0x57,
-        0x6c, 0x0e, 0x28, 0xb9, 0x51, 0x3d, 0x83, 0x41, 0x29, 0x01, 0xbb, 0xa7, 0xaf, 0xef, 0x5d,
-        0x02, 0x93,
-    ]);
-    let other = HssVerdict::OtherRoot {
-        level: 1,
-        got,
-        want,
-    };
-    assert!(rt; verdict_on(&key, 2172, 0x63, 2732) == other);
+fn a_changed_signature_leads_to_another_root(rt: HostRuntime) {
+    let key = signing_key(&rt);
+    for row in &ROOTS {
+        holds(&rt, row.2.into(), leads_elsewhere(&key, row));
+    }
 }
 
 /// How many bytes of the key, a place, the byte that is put there, and why that is no key.
@@ -177,11 +188,15 @@ fn key_of(length: usize, place: usize, byte: u8) -> Result<HssKey, HssKeyFault> 
     read(&bytes[..length.min(52)])
 }
 
+/// Whether the bytes of a row have the row's fault, and the fault its number.
+fn is_no_key(row: &(usize, usize, u8, HssKeyFault, u8)) -> bool {
+    key_of(row.0, row.1, row.2) == Err(row.3) && row.3.number() == row.4
+}
+
 #[test]
 fn other_bytes_are_no_key(rt: HostRuntime) {
-    for (length, place, byte, fault, number) in KEY_FAULTS {
-        assert!(rt; key_of(length, place, byte) == Err(fault), "{length} bytes");
-        assert!(rt; fault.number() == number);
+    for row in &KEY_FAULTS {
+        holds(&rt, row.0 as u32, is_no_key(row));
     }
 }
 
@@ -196,41 +211,39 @@ fn is_signed(key: &PublicKey, low: &PublicKey, message: &[u8], signature: &[u8])
     }
 }
 
+/// Whether a key and its signature of a lower key are joined to the key and the signature of two levels.
+fn are_joined(alloc: Global, top: &PublicKey, low: &PublicKey, signature: &[u8]) -> bool
+    requires { Accepts top.now (public_bytes low.now) signature.now }
+{
+    match join_two(alloc, top, signature, low, &SIGNATURE[LOW_SIGNATURE..]) {
+        Ok((key, joined)) => {
+            key.as_slice() == KEY.as_slice() && joined.as_slice() == SIGNATURE.as_slice()
+        }
+        Err(_) => false,
+    }
+}
+
 #[test]
-fn two_levels_are_joined(rt: HostRuntime) -> Result<(), Fail> {
-    let top = read(&KEY).expect(&rt, "a key").top;
+fn two_levels_are_joined(rt: HostRuntime) {
+    let top = signing_key(&rt).top;
     let low_bytes = &SIGNATURE[LOW_KEY..LOW_SIGNATURE];
     let low = read_public(low_bytes).expect(&rt, "a key");
     let top_signature = &SIGNATURE[4..LOW_KEY];
     assert!(rt; is_signed(&top, &low, low_bytes, top_signature));
-    let (key, signature) = join_two(
-        rt.alloc(),
-        &top,
-        top_signature,
-        &low,
-        &SIGNATURE[LOW_SIGNATURE..],
-    )?;
-    assert!(rt; key.as_slice() == KEY.as_slice());
-    assert!(rt; signature.as_slice() == SIGNATURE.as_slice());
-    Ok(())
+    assert!(rt; are_joined(rt.alloc(), &top, &low, top_signature));
 }
 
 #[test]
-fn verdicts_and_faults_read_as_sentences(rt: HostRuntime) -> Result<(), Fail> {
-    let accepted = HssVerdict::Accepted { levels: 2 };
-    let text = format!(in rt.alloc(); "{accepted}")?;
-    assert!(rt; text.as_str() == "accepted: 2 levels signed");
+fn verdicts_and_faults_read_as_sentences(rt: HostRuntime) {
     let malformed = HssVerdict::Malformed(HssFault::Sig {
         level: 1,
         fault: SigFault::Leaf { q: 32 },
     });
-    let text = format!(in rt.alloc(); "{malformed}")?;
-    assert!(rt;
-        text.as_str()
-            == "no signature under the key: the signature of level 1: leaf 32 where a leaf of the key's tree is wanted"
-    );
+    let text =
+        "no signature under the key: the signature of level 1: leaf 32 where a leaf of the key's tree is wanted";
+    assert!(rt; reads_as(rt.alloc(), &malformed, text));
+    let accepted = HssVerdict::Accepted { levels: 2 };
+    assert!(rt; reads_as(rt.alloc(), &accepted, "accepted: 2 levels signed"));
     let fault = HssKeyFault::Levels { got: 9 };
-    let text = format!(in rt.alloc(); "{fault}")?;
-    assert!(rt; text.as_str() == "9 levels where 1 to 8 are wanted");
-    Ok(())
+    assert!(rt; reads_as(rt.alloc(), &fault, "9 levels where 1 to 8 are wanted"));
 }

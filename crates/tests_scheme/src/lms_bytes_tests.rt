@@ -1,7 +1,7 @@
 //! Tests of what no contract says: that the definitions are the standard's, by values worked out by hand or by another
 //! implementation, and each refusal once.
 
-use crate::values::set_of;
+use crate::values::{holds, set_of};
 use lms_bytes::{
     IdHash, KeyFault, LIMIT, MessageId, Params, PublicKey, SigFault, Val, digit, read_public,
     read_signature, write_layout, write_public,
@@ -39,15 +39,22 @@ fn has_digits(params: &Params, digest: &Val, count: u16, one: u8, checksum: &[u8
     true
 }
 
+/// Whether the digest of a row has the row's digits.
+fn has_row(row: &(u32, u32, u8, u16, u8, &[u8])) -> bool {
+    let (lms, ots, byte, count, one, checksum) = *row;
+    match Params::of_codes(lms, ots) {
+        Ok(params) => {
+            let digest = Val::cut(&[byte; 32], params.n);
+            has_digits(&params, &digest, count, one, checksum)
+        }
+        Err(_) => false,
+    }
+}
+
 #[test]
 fn digits_have_their_checksum_behind_them(rt: HostRuntime) {
-    for (lms, ots, byte, count, one, checksum) in DIGITS {
-        let params = set_of(&rt, lms, ots);
-        let digest = Val::cut(&[byte; 32], params.n);
-        assert!(rt;
-            has_digits(&params, &digest, count, one, checksum),
-            "{lms} {ots}"
-        );
+    for row in &DIGITS {
+        holds(&rt, row.1, has_row(row));
     }
 }
 
@@ -57,79 +64,88 @@ fn signature_length(params: &Params) -> usize {
     12 + n * (params.p as usize + 1) + n * params.h as usize
 }
 
+/// Typecodes, and the length of a signature of theirs, or why they make no set.
+const SETS: [(u32, u32, Result<usize, KeyFault>); 10] = [
+    (5, 4, Ok(1292)),
+    (5, 3, Ok(2348)),
+    (6, 3, Ok(2508)),
+    (10, 8, Ok(780)),
+    (10, 7, Ok(1380)),
+    (11, 7, Ok(1500)),
+    (5, 9, Err(KeyFault::UnknownOts { code: 9 })),
+    (4, 3, Err(KeyFault::UnknownLms { code: 4 })),
+    (15, 0, Err(KeyFault::UnknownLms { code: 15 })),
+    (10, 3, Err(KeyFault::MixedWidths)),
+];
+
+/// Whether the typecodes of a row make the row's set.
+fn makes(row: &(u32, u32, Result<usize, KeyFault>)) -> bool {
+    match Params::of_codes(row.0, row.1) {
+        Ok(params) => row.2 == Ok(signature_length(&params)),
+        Err(fault) => row.2 == Err(fault),
+    }
+}
+
 #[test]
 fn typecodes_make_sets(rt: HostRuntime) {
-    let lengths = [
-        (5, 4, 1292),
-        (5, 3, 2348),
-        (6, 3, 2508),
-        (10, 8, 780),
-        (10, 7, 1380),
-        (11, 7, 1500),
-    ];
-    for (lms, ots, want) in lengths {
-        let length = signature_length(&set_of(&rt, lms, ots));
-        assert!(rt; length == want, "{lms} {ots}");
+    for row in &SETS {
+        holds(&rt, row.1, makes(row));
     }
 }
 
-/// Why typecodes make no set.
-fn set_fault(lms: u32, ots: u32) -> Option<KeyFault> {
-    Params::of_codes(lms, ots).err()
+/// A public key of the typecodes 10 and 7 with room behind it.
+const PUBLIC: &[u8; 56] = b"\x00\x00\x00\x0a\x00\x00\x00\x07\
+    \x11\x11\x11\x11\x11\x11\x11\x11\x11\x11\x11\x11\x11\x11\x11\x11\
+    \x22\x22\x22\x22\x22\x22\x22\x22\x22\x22\x22\x22\x22\x22\x22\x22\
+    \x22\x22\x22\x22\x22\x22\x22\x22\x33\x33\x33\x33\x33\x33\x33\x33";
+
+/// That key.
+fn public_key(params: &Params) -> PublicKey {
+    PublicKey {
+        params: *params,
+        id: [0x11; 16],
+        root: Val::cut(&[0x22; 32], params.n),
+    }
 }
 
-#[test]
-fn other_typecodes_make_no_set(rt: HostRuntime) {
-    let faults = [
-        (5, 9, KeyFault::UnknownOts { code: 9 }),
-        (4, 3, KeyFault::UnknownLms { code: 4 }),
-        (15, 0, KeyFault::UnknownLms { code: 15 }),
-        (10, 3, KeyFault::MixedWidths),
-    ];
-    for (lms, ots, want) in faults {
-        assert!(rt; set_fault(lms, ots) == Some(want), "{lms} {ots}");
-    }
+/// What is read from the first bytes of it, as far as they go.
+fn read_front(length: usize, lms: u8, ots: u8) -> Result<PublicKey, KeyFault> {
+    let mut bytes = *PUBLIC;
+    bytes[3] = lms;
+    bytes[7] = ots;
+    read_public(&bytes[..length.min(56)])
 }
 
 #[test]
 fn a_public_key_is_read_as_it_is_written(rt: HostRuntime) {
-    let params = set_of(&rt, 10, 7);
-    let key = PublicKey {
-        params,
-        id: [0x11; 16],
-        root: Val::cut(&[0x22; 32], params.n),
-    };
+    let key = public_key(&set_of(&rt, 10, 7));
     let mut bytes = [0x33; 56];
-    assert!(rt; write_public(&key, &mut bytes) == 48);
-    assert!(rt; &bytes[..12] == [0, 0, 0, 10, 0, 0, 0, 7, 0x11, 0x11, 0x11, 0x11].as_slice());
-    assert!(rt;
-        &bytes[46..] == [0x22, 0x22, 0x33, 0x33, 0x33, 0x33, 0x33, 0x33, 0x33, 0x33].as_slice()
-    );
-    assert!(rt; read_public(&bytes[..48]) == Ok(key));
+    let length = write_public(&key, &mut bytes);
+    assert!(rt; length == 48 && bytes == *PUBLIC);
+    assert!(rt; read_front(48, 10, 7) == Ok(key));
 }
 
-/// The number of the fault of the first bytes of a public key of these typecodes and of zeros.
-fn key_fault(length: usize, lms: u8, ots: u8) -> u8 {
-    let mut bytes = [0; 48];
-    bytes[3] = lms;
-    bytes[7] = ots;
-    match read_public(&bytes[..length.min(48)]) {
-        Ok(_) => 0,
-        Err(fault) => fault.number(),
+/// A length, two typecodes, and the number of the fault of so many bytes of the key with these typecodes.
+const KEY_FAULTS: [(usize, u8, u8, u8); 5] = [
+    (7, 10, 7, 1),
+    (48, 4, 7, 2),
+    (48, 10, 9, 3),
+    (48, 10, 3, 4),
+    (47, 10, 7, 5),
+];
+
+/// Whether the bytes of a row have the row's fault.
+fn is_no_key(row: &(usize, u8, u8, u8)) -> bool {
+    match read_front(row.0, row.1, row.2) {
+        Ok(_) => false,
+        Err(fault) => fault.number() == row.3,
     }
 }
 
 #[test]
 fn other_bytes_are_no_public_key(rt: HostRuntime) {
-    let faults = [
-        (7, 10, 7, 1),
-        (48, 4, 7, 2),
-        (48, 10, 9, 3),
-        (48, 10, 3, 4),
-        (47, 10, 7, 5),
-    ];
-    for (length, lms, ots, number) in faults {
-        assert!(rt; key_fault(length, lms, ots) == number, "fault {number}");
+    for row in &KEY_FAULTS {
+        holds(&rt, row.3.into(), is_no_key(row));
     }
 }
 
@@ -181,52 +197,71 @@ fn signature_fault(params: &Params, length: usize, place: usize, byte: u8) -> Op
     read_signature(params, &bytes[..length.min(781)]).err()
 }
 
+/// A length, a place, the byte that is put there, and why so many bytes are no signature.
+const SIGNATURE_FAULTS: [(usize, usize, u8, SigFault); 7] = [
+    (7, 3, 31, SigFault::Short),
+    (659, 3, 31, SigFault::TooShort { got: 659 }),
+    (
+        779,
+        3,
+        31,
+        SigFault::Length {
+            got: 779,
+            want: 780,
+        },
+    ),
+    (
+        781,
+        3,
+        31,
+        SigFault::Length {
+            got: 781,
+            want: 780,
+        },
+    ),
+    (780, 3, 32, SigFault::Leaf { q: 32 }),
+    (780, 7, 7, SigFault::OtsCode { got: 7 }),
+    (780, 659, 11, SigFault::LmsCode { got: 11 }),
+];
+
+/// Whether the bytes of a row have the row's fault.
+fn is_no_signature(params: &Params, row: &(usize, usize, u8, SigFault)) -> bool {
+    signature_fault(params, row.0, row.1, row.2) == Some(row.3)
+}
+
 #[test]
 fn other_bytes_are_no_signature(rt: HostRuntime) {
     let params = set_of(&rt, 10, 8);
-    let faults = [
-        (7, 3, 31, SigFault::Short),
-        (659, 3, 31, SigFault::TooShort { got: 659 }),
-        (
-            779,
-            3,
-            31,
-            SigFault::Length {
-                got: 779,
-                want: 780,
-            },
-        ),
-        (
-            781,
-            3,
-            31,
-            SigFault::Length {
-                got: 781,
-                want: 780,
-            },
-        ),
-        (780, 3, 32, SigFault::Leaf { q: 32 }),
-        (780, 7, 7, SigFault::OtsCode { got: 7 }),
-        (780, 659, 11, SigFault::LmsCode { got: 11 }),
-    ];
-    for (length, place, byte, want) in faults {
-        let fault = signature_fault(&params, length, place, byte);
-        assert!(rt; fault == Some(want), "{length} bytes, byte {place}");
+    for row in &SIGNATURE_FAULTS {
+        holds(&rt, row.0 as u32, is_no_signature(&params, row));
     }
+}
+
+/// The SHA-256 of the empty message, and that of `abc` (FIPS 180-2, B.1).
+const HASHES: [&[u8; 32]; 2] = [
+    b"\xe3\xb0\xc4\x42\x98\xfc\x1c\x14\x9a\xfb\xf4\xc8\x99\x6f\xb9\x24\
+        \x27\xae\x41\xe4\x64\x9b\x93\x4c\xa4\x95\x99\x1b\x78\x52\xb8\x55",
+    b"\xba\x78\x16\xbf\x8f\x01\xcf\xea\x41\x41\x40\xde\x5d\xae\x22\x23\
+        \xb0\x03\x61\xa3\x96\x17\x7a\x9c\xb4\x10\xff\x61\xf2\x00\x15\xad",
+];
+
+/// The id of `abc`, taken in pieces.
+fn id_in_pieces() -> MessageId {
+    let mut pieces = IdHash::new();
+    pieces.update(b"a");
+    pieces.update(b"bc");
+    pieces.finish()
+}
+
+/// Whether an id has this length and this digest.
+fn is_id(id: &MessageId, length: u32, hash: &[u8; 32]) -> bool {
+    id.length == length && id.hash == *hash
 }
 
 #[test]
 fn a_message_id_is_a_length_and_a_digest(rt: HostRuntime) {
-    let empty = MessageId::of(b"");
-    assert!(rt; empty.length == 0);
-    // SHA-256 of the empty message.
-    assert!(rt; &empty.hash[..4] == [0xe3, 0xb0, 0xc4, 0x42].as_slice());
-    assert!(rt; &empty.hash[28..] == [0x78, 0x52, 0xb8, 0x55].as_slice());
-    let mut pieces = IdHash::new();
-    pieces.update(b"a");
-    pieces.update(b"bc");
-    let id = pieces.finish();
-    assert!(rt; id == MessageId::of(b"abc"));
-    assert!(rt; id.length == 3);
+    assert!(rt; is_id(&MessageId::of(b""), 0, HASHES[0]));
+    assert!(rt; is_id(&MessageId::of(b"abc"), 3, HASHES[1]));
+    assert!(rt; is_id(&id_in_pieces(), 3, HASHES[1]));
     assert!(rt; LIMIT == 1 << 24);
 }

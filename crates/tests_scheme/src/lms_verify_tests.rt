@@ -5,6 +5,7 @@ ghost use Rattle.std.specs.Prelude.{◌≡◌, ◌^◌, ◌<◌, IfOk, length};
 
 mod vector;
 
+use crate::values::{holds, reads_as};
 use lms_bytes::bytes::put;
 use lms_bytes::{PublicKey, SigFault, Val, digit, read_public, write_layout};
 use lms_verify::{Verdict, verify};
@@ -31,35 +32,35 @@ fn verdict(key: &PublicKey, message: &[u8], bytes: &[u8]) -> Verdict {
     verify(key, message, bytes)
 }
 
+/// The root to which the signature leads for a message whose first byte is another.
+const OTHER_ROOT: &[u8; 24] = b"\x13\x77\x59\x44\x86\xc2\xb0\x51\x13\x1d\x78\x4f\
+    \x26\x4e\xe4\x4d\x27\x3a\x8f\x85\x6c\xde\xf0\xdd";
+
+/// The verdict on the signature for that message.
+fn verdict_on_other(key: &PublicKey) -> Verdict {
+    let mut message = MESSAGE;
+    message[0] ^= 1;
+    verdict(key, &message, &SIGNATURE)
+}
+
 #[test]
 fn a_signature_is_accepted_for_its_message_alone(rt: HostRuntime) {
     let key = public_key(&rt);
     assert!(rt; verdict(&key, &MESSAGE, &SIGNATURE) == Verdict::Accepted { leaf: 14 });
-    let mut message = MESSAGE;
-    message[0] ^= 1;
-    let got = Val::of(&[
-        0x13, 0x77, 0x59, 0x44, 0x86, 0xc2, 0xb0, 0x51, 0x13, 0x1d, 0x78, 0x4f, 0x26, 0x4e, 0xe4,
-        0x4d, 0x27, 0x3a, 0x8f, 0x85, 0x6c, 0xde, 0xf0, 0xdd,
-    ]);
     let other = Verdict::OtherRoot {
-        got,
+        got: Val::of(OTHER_ROOT),
         want: key.root,
     };
-    assert!(rt; verdict(&key, &message, &SIGNATURE) == other);
+    assert!(rt; verdict_on_other(&key) == other);
 }
 
 #[test]
-fn verdicts_read_as_sentences(rt: HostRuntime) -> Result<(), Fail> {
+fn verdicts_read_as_sentences(rt: HostRuntime) {
     let accepted = Verdict::Accepted { leaf: 3 };
-    let text = format!(in rt.alloc(); "{accepted}")?;
-    assert!(rt; text.as_str() == "accepted: leaf 3 signed");
+    assert!(rt; reads_as(rt.alloc(), &accepted, "accepted: leaf 3 signed"));
     let malformed = Verdict::Malformed(SigFault::Leaf { q: 32 });
-    let text = format!(in rt.alloc(); "{malformed}")?;
-    assert!(rt;
-        text.as_str()
-            == "no signature of the key's set: leaf 32 where a leaf of the key's tree is wanted"
-    );
-    Ok(())
+    let text = "no signature of the key's set: leaf 32 where a leaf of the key's tree is wanted";
+    assert!(rt; reads_as(rt.alloc(), &malformed, text));
 }
 
 /// A place of the signature, the byte that is put there, a length, and why so many bytes of it are no signature.
@@ -97,12 +98,16 @@ fn verdict_on(key: &PublicKey, place: usize, byte: u8, length: usize) -> Verdict
     verdict(key, &MESSAGE, &bytes[..length.min(781)])
 }
 
+/// Whether the bytes of a row have the row's fault.
+fn is_malformed(key: &PublicKey, row: &(usize, u8, usize, SigFault)) -> bool {
+    verdict_on(key, row.0, row.1, row.2) == Verdict::Malformed(row.3)
+}
+
 #[test]
 fn other_bytes_are_no_signature(rt: HostRuntime) {
     let key = public_key(&rt);
-    for (place, byte, length, fault) in FAULTS {
-        let verdict = verdict_on(&key, place, byte, length);
-        assert!(rt; verdict == Verdict::Malformed(fault), "{length} bytes");
+    for row in &FAULTS {
+        holds(&rt, row.2 as u32, is_malformed(&key, row));
     }
 }
 

@@ -5,7 +5,7 @@ ghost use Rattle.coalition_map.specs.Coalitions.{leaf_members};
 ghost use Rattle.lms_bytes.specs.MessageId.{message_id};
 ghost use Rattle.mask_prf.specs.Lengths.{leaves_length};
 
-use crate::dealings::{deal_count, key_of};
+use crate::dealings::{dealt, key_of};
 use crate::values::{ID, set_of};
 use coalition_map::Plan;
 use dealer::Dealt;
@@ -105,12 +105,11 @@ impl Meeting {
 
     /// A session over the reference and the tree of a dealing.
     pub fn dealt(rt: &impl Abort, alloc: Global, lms: u32, ots: u32) -> Meeting {
-        let dealt = deal_count(rt, alloc, (lms, ots), (5, 3)).expect(rt, "a dealing");
         let Dealt {
             tree,
             reference,
             ..
-        } = dealt;
+        } = dealt(rt, alloc, (lms, ots), (5, 3));
         Meeting::new(rt, alloc, (lms, ots), reference, tree.nodes())
     }
 

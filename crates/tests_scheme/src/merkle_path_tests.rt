@@ -3,7 +3,7 @@
 ghost use Rattle.std.specs.Prelude.{◌≡◌, All, length};
 ghost use Rattle.lms_bytes.specs.HashLength.{IsHashLength};
 
-use crate::values::{ID, front, set_of};
+use crate::values::{ID, front, holds, set_of};
 use lms_bytes::{Params, Val};
 use memory::NoMemory;
 use merkle_path::{Tree, root_from};
@@ -81,8 +81,8 @@ fn has_nodes(tree: &Tree, nodes: &[(u32, u64); 5]) -> bool
 fn has_path(tree: &Tree) -> bool
     requires { tree.now.h ≡ 5 }
 {
-    for (level, r) in [(0, 42), (1, 20), (2, 11), (3, 4), (4, 3)] {
-        if tree.path(11, level) != tree.node(r) {
+    for (level, r) in &[(0, 42), (1, 20), (2, 11), (3, 4), (4, 3)] {
+        if tree.path(11, *level) != tree.node(*r) {
             return false;
         }
     }
@@ -110,19 +110,19 @@ fn is_of_its_nodes(alloc: Global, params: &Params, tree: &Tree) -> Result<bool, 
     Ok(same.nodes() == tree.nodes())
 }
 
+/// Whether the tree of a set has these nodes, and all that follows from them.
+fn has_tree(alloc: Global, params: &Params, nodes: &[(u32, u64); 5]) -> Result<bool, NoMemory>
+    requires { params.now.h ≡ 5 }
+{
+    let tree = Tree::build(alloc, params, &ID, &leaf_keys(params.n))?;
+    let has = has_nodes(&tree, nodes) && has_path(&tree) && leads_to_root(params, &tree);
+    Ok(has && is_of_its_nodes(alloc, params, &tree)?)
+}
+
 #[test]
-fn nodes_and_paths_are_those_of_another_implementation(rt: HostRuntime) -> Result<(), NoMemory> {
-    for (lms, ots, nodes) in SETS {
-        let params = low_set_of(&rt, lms, ots);
-        let keys = leaf_keys(params.n);
-        let tree = Tree::build(rt.alloc(), &params, &ID, &keys)?;
-        assert!(rt; has_nodes(&tree, &nodes), "nodes of {lms}");
-        assert!(rt; has_path(&tree), "path of {lms}");
-        assert!(rt; leads_to_root(&params, &tree), "root of {lms}");
-        assert!(rt;
-            is_of_its_nodes(rt.alloc(), &params, &tree)?,
-            "tree of {lms}"
-        );
+fn nodes_and_paths_are_those_of_another_implementation(rt: HostRuntime) {
+    for (lms, ots, nodes) in &SETS {
+        let params = low_set_of(&rt, *lms, *ots);
+        holds(&rt, *lms, has_tree(rt.alloc(), &params, nodes) == Ok(true));
     }
-    Ok(())
 }

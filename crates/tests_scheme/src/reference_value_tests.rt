@@ -3,7 +3,8 @@
 
 ghost use Rattle.std.specs.Prelude.{◌≤◌, [], false};
 
-use crate::dealings::{deal_count, digest_of, head_of, key_from};
+use crate::dealings::{dealt, digest_of, head_of, key_from};
+use crate::values::holds;
 use coalition_map::Plan;
 use dealer::Dealt;
 use disk_trait::{DiskFault, Faults, MemDisk, Pages};
@@ -16,7 +17,6 @@ use reference_value::{
 use share_files::Share;
 use std::alloc::{AllocError, Global};
 use std::process::Abort;
-use std::test::Fail;
 
 /// Typecodes, the number of trustees and the threshold, and SHA-256 of the reference file.
 const REFERENCES: [((u32, u32), (u8, u8), &[u8; 32]); 5] = [
@@ -63,12 +63,11 @@ fn file_digest(rt: &impl Abort, dealt: &Dealt) -> [u8; 32] {
 }
 
 #[test]
-fn references_are_those_of_another_implementation(rt: HostRuntime) -> Result<(), Fail> {
-    for (codes, trustees, want) in REFERENCES {
-        let dealt = deal_count(&rt, rt.alloc(), codes, trustees)?;
-        assert!(rt; file_digest(&rt, &dealt) == *want, "{codes:?} {trustees:?}");
+fn references_are_those_of_another_implementation(rt: HostRuntime) {
+    for (codes, trustees, want) in &REFERENCES {
+        let dealt = dealt(&rt, rt.alloc(), *codes, *trustees);
+        holds(&rt, codes.1, file_digest(&rt, &dealt) == **want);
     }
-    Ok(())
 }
 
 /// The shares of two trustees.
@@ -88,14 +87,18 @@ fn build(rt: &impl Abort, first: &Share, second: &Share, out: &mut [u8]) {
     build_leaf(params, &first.id, plan, 7, &seed, &key_from(48), &keys, out);
 }
 
-#[test]
-fn a_leaf_is_that_of_its_reference(rt: HostRuntime) -> Result<(), Fail> {
-    let dealt = deal_count(&rt, rt.alloc(), (10, 5), (2, 2))?;
-    let (first, second) = pair_of(&rt, &dealt);
+/// Whether leaf 7 is that of the reference.
+fn has_leaf(rt: &impl Abort, dealt: &Dealt) -> bool {
+    let (first, second) = pair_of(rt, dealt);
     let mut leaf = [0; 9688];
-    build(&rt, &first, &second, &mut leaf);
-    assert!(rt; dealt.reference.get(7 * 9688..8 * 9688) == Some(leaf.as_slice()));
-    Ok(())
+    build(rt, &first, &second, &mut leaf);
+    dealt.reference.get(7 * 9688..8 * 9688) == Some(leaf.as_slice())
+}
+
+#[test]
+fn a_leaf_is_that_of_its_reference(rt: HostRuntime) {
+    let dealt = dealt(&rt, rt.alloc(), (10, 5), (2, 2));
+    assert!(rt; has_leaf(&rt, &dealt));
 }
 
 /// Writes the sums of the masks of two members at the digits of a digest.
@@ -141,18 +144,22 @@ fn join_whole(
     assert!(rt; cells.faults() == 0);
 }
 
-#[test]
-fn joins_give_the_values_of_the_chains(rt: HostRuntime) -> Result<(), Fail> {
-    let dealt = deal_count(&rt, rt.alloc(), (5, 3), (2, 2))?;
-    let (first, second) = pair_of(&rt, &dealt);
+/// Whether the joined values of leaf 0 are the ends of the chains and the first values of three.
+fn has_ends(rt: &impl Abort, dealt: &Dealt) -> bool {
+    let (first, second) = pair_of(rt, dealt);
     // Each digit of the digest is the greatest, and each of its checksum is 0.
     let digest = Val::of(&[0xff; 32]);
     let mut sums = [0; 67 * 32];
     let mut out = [0; 67 * 32];
-    write_sums(&rt, &first, &second, 0, &digest, &mut sums);
-    join_whole(&rt, &first, &dealt.reference, 0, &digest, &sums, &mut out);
-    assert!(rt; MessageId::of(&out).hash == *ENDS);
-    Ok(())
+    write_sums(rt, &first, &second, 0, &digest, &mut sums);
+    join_whole(rt, &first, &dealt.reference, 0, &digest, &sums, &mut out);
+    MessageId::of(&out).hash == *ENDS
+}
+
+#[test]
+fn joins_give_the_values_of_the_chains(rt: HostRuntime) {
+    let dealt = dealt(&rt, rt.alloc(), (5, 3), (2, 2));
+    assert!(rt; has_ends(&rt, &dealt));
 }
 
 /// Whether leaf 0 gives the randomizer, and its tag for member 2.
@@ -176,11 +183,10 @@ fn has_randomizer(rt: &impl Abort, first: &Share, second: &Share, leaves: &[u8])
 }
 
 #[test]
-fn joins_give_the_randomizer(rt: HostRuntime) -> Result<(), Fail> {
-    let dealt = deal_count(&rt, rt.alloc(), (5, 3), (2, 2))?;
+fn joins_give_the_randomizer(rt: HostRuntime) {
+    let dealt = dealt(&rt, rt.alloc(), (5, 3), (2, 2));
     let (first, second) = pair_of(&rt, &dealt);
     assert!(rt; has_randomizer(&rt, &first, &second, &dealt.reference));
-    Ok(())
 }
 
 /// Pages that count the reads.
@@ -235,21 +241,34 @@ fn file_of(alloc: Global, share: &Share, leaves: &[u8]) -> Result<Vec<u8>, Alloc
 }
 
 /// A case of 200 values of 24 bytes each.
-fn case_of(rt: &impl Abort, alloc: Global) -> Result<Case, Fail> {
-    let dealt = deal_count(rt, alloc, (10, 5), (2, 2))?;
+fn case_of(rt: &impl Abort, alloc: Global) -> Case {
+    let dealt = dealt(rt, alloc, (10, 5), (2, 2));
     let (first, second) = pair_of(rt, &dealt);
     let digest = Val::of(&[0x5a; 24]);
     let mut sums = [0; 4800];
     let mut want = [0; 4800];
     write_sums(rt, &first, &second, 3, &digest, &mut sums);
     join_whole(rt, &first, &dealt.reference, 3, &digest, &sums, &mut want);
-    Ok(Case {
+    Case {
         share: first,
         digest,
         sums,
         want,
-        file: file_of(alloc, &first, &dealt.reference)?,
-    })
+        file: file_of(alloc, &first, &dealt.reference).expect(rt, "memory"),
+    }
+}
+
+/// Pages that count the reads of a file, of which the one of this number fails, if any does.
+fn watching(rt: &impl Abort, alloc: Global, file: &[u8], fails: Option<u64>) -> Watched {
+    let mut disk = MemDisk::of_bytes(alloc, file, file.len(), usize::MAX).expect(rt, "memory");
+    if let Some(call) = fails {
+        disk.fail_once(call);
+    }
+    Watched {
+        disk,
+        reads: 0,
+        bytes: 0,
+    }
 }
 
 /// Joins the leaf over pages, says whether its values are those of memory, and gives the pages back.
@@ -271,35 +290,22 @@ fn join_watched(
     rt: &impl Abort,
     alloc: Global,
     fails: Option<u64>,
-) -> Result<(Result<bool, RefFault>, Watched), Fail> {
-    let case = case_of(rt, alloc)?;
-    let mut disk = MemDisk::of_bytes(alloc, &case.file, case.file.len(), usize::MAX)?;
-    if let Some(call) = fails {
-        disk.fail_once(call);
-    }
-    let watched = Watched {
-        disk,
-        reads: 0,
-        bytes: 0,
-    };
-    Ok(join_pages(rt, &case, watched))
+) -> (Result<bool, RefFault>, Watched) {
+    let case = case_of(rt, alloc);
+    let watched = watching(rt, alloc, &case.file, fails);
+    join_pages(rt, &case, watched)
 }
 
 #[test]
-fn pages_are_read_value_by_value(rt: HostRuntime) -> Result<(), Fail> {
-    let (joined, watched) = join_watched(&rt, rt.alloc(), None)?;
-    assert!(rt; joined == Ok(true));
-    assert!(rt; watched.reads == 200);
-    assert!(rt; watched.bytes == 4800);
-    Ok(())
+fn pages_are_read_value_by_value(rt: HostRuntime) {
+    let (joined, watched) = join_watched(&rt, rt.alloc(), None);
+    assert!(rt; joined == Ok(true) && watched.reads == 200 && watched.bytes == 4800);
 }
 
 #[test]
-fn a_read_that_fails_is_a_fault(rt: HostRuntime) -> Result<(), Fail> {
-    let (joined, watched) = join_watched(&rt, rt.alloc(), Some(5))?;
-    assert!(rt; joined == Err(RefFault));
-    assert!(rt; watched.faults() == 1);
-    Ok(())
+fn a_read_that_fails_is_a_fault(rt: HostRuntime) {
+    let (joined, watched) = join_watched(&rt, rt.alloc(), Some(5));
+    assert!(rt; joined == Err(RefFault) && watched.faults() == 1);
 }
 
 /// The places of five trustees among the members of a leaf, where one that is no member has 9.
@@ -316,15 +322,10 @@ fn ranks_of(plan: &Plan, leaf: u32) -> [usize; 5] {
 }
 
 #[test]
-fn members_are_placed_in_the_order_of_their_numbers(rt: HostRuntime) -> Result<(), Fail> {
-    let plan = Plan::new(5, 3, 5)?;
+fn members_are_placed_in_the_order_of_their_numbers(rt: HostRuntime) {
+    let plan = Plan::new(5, 3, 5).expect(&rt, "a plan");
     // Three of five have ten coalitions: leaf 0 is of trustees 1, 2 and 3, leaf 4 of 1, 3 and 5, leaf 19 of the last.
-    for (leaf, want) in [
-        (0, [0, 1, 2, 9, 9]),
-        (4, [0, 9, 1, 9, 2]),
-        (19, [9, 9, 0, 1, 2]),
-    ] {
-        assert!(rt; ranks_of(&plan, leaf) == want, "leaf {leaf}");
-    }
-    Ok(())
+    assert!(rt; ranks_of(&plan, 0) == [0, 1, 2, 9, 9]);
+    assert!(rt; ranks_of(&plan, 4) == [0, 9, 1, 9, 2]);
+    assert!(rt; ranks_of(&plan, 19) == [9, 9, 0, 1, 2]);
 }

@@ -1,7 +1,7 @@
 //! Tests of what no clause says: that whole sessions give the signatures of another implementation, and each refusal.
 
 use crate::meeting::{LEAVES, MESSAGE, Meeting};
-use crate::values::ID;
+use crate::values::{ID, holds};
 use disk_trait::MemDisk;
 use lms_bytes::bytes::put;
 use lms_bytes::{Ask, MessageId, Second, Val};
@@ -45,8 +45,8 @@ const SIGNED: [(u32, u32, [u8; 32]); 2] = [
 /// Whether each step of round one is as it should be.
 fn answer_first(meeting: &mut Meeting) -> bool {
     let mut right = true;
-    for (member, want) in FIRST {
-        right &= meeting.give_mask(member) == want;
+    for (member, want) in &FIRST {
+        right &= meeting.give_mask(*member) == *want;
     }
     right
 }
@@ -54,8 +54,8 @@ fn answer_first(meeting: &mut Meeting) -> bool {
 /// Whether the replies of round two of trustees 2, 1 and 3 are kept.
 fn answer_second(meeting: &mut Meeting) -> bool {
     let mut right = true;
-    for member in [2, 1, 3] {
-        right &= meeting.give_masks(member) == Some(Step::Kept);
+    for member in &[2, 1, 3] {
+        right &= meeting.give_masks(*member) == Some(Step::Kept);
     }
     right
 }
@@ -65,14 +65,29 @@ fn run(meeting: &mut Meeting) -> bool {
     answer_first(meeting) && meeting.turn() == Some(Ok(())) && answer_second(meeting)
 }
 
+/// Whether a whole session gives a signature of this SHA-256.
+fn signs(meeting: &mut Meeting, alloc: Global, want: &[u8; 32]) -> bool {
+    run(meeting)
+        && match meeting.finish(alloc) {
+            Some(Ok(signature)) => Sha256::digest(&signature) == *want,
+            _ => false,
+        }
+}
+
 #[test]
 fn a_session_signs_as_another_implementation_does(rt: HostRuntime) {
-    for (lms, ots, want) in SIGNED {
-        let mut meeting = Meeting::dealt(&rt, rt.alloc(), lms, ots);
-        assert!(rt; run(&mut meeting));
-        let signed = meeting.finish(rt.alloc()).expect(&rt, "a randomizer");
-        let signature = signed.expect(&rt, "a signature");
-        assert!(rt; Sha256::digest(&signature) == want, "{lms} {ots}");
+    for (lms, ots, want) in &SIGNED {
+        let mut meeting = Meeting::dealt(&rt, rt.alloc(), *lms, *ots);
+        holds(&rt, *lms, signs(&mut meeting, rt.alloc(), want));
+    }
+}
+
+/// The fault in which a whole session ends.
+fn fault_of(meeting: &mut Meeting, alloc: Global) -> Option<SessionFault> {
+    if run(meeting) {
+        meeting.finish(alloc)?.err()
+    } else {
+        None
     }
 }
 
@@ -91,66 +106,72 @@ fn a_changed_reference_gives_no_signature(rt: HostRuntime) {
     let mut meeting = Meeting::dealt(&rt, rt.alloc(), 10, 7);
     // Behind the randomizer and three tags lie the values of chain 0, and the digest's first digit is 4.
     meeting.spoil(24 + 96 + 24 * 4);
-    assert!(rt; run(&mut meeting));
-    let signed = meeting.finish(rt.alloc()).expect(&rt, "a randomizer");
-    assert!(rt; signed.err() == Some(fault));
+    assert!(rt; fault_of(&mut meeting, rt.alloc()) == Some(fault));
 }
 
-/// What `turn` says of a session in which trustee 1 alone has answered, by a refusal.
-fn turn_after_refusal(
-    rt: &impl Abort,
-    alloc: Global,
-    code: u8,
-    body: &[u8],
-) -> Option<Result<(), SessionFault>> {
+/// Whether a session in which trustee 1 alone has answered, by this refusal, turns with this fault.
+fn turns_with(rt: &impl Abort, alloc: Global, code: u8, body: &[u8], want: SessionFault) -> bool {
     let mut meeting = Meeting::blank(rt, alloc);
     meeting.take(1, code, body);
-    meeting.turn()
+    meeting.turn() == Some(Err(want))
+}
+
+/// The bytes of a message's id: its length and its hash.
+fn bytes_of(id: &MessageId) -> [u8; 36] {
+    let mut bytes = [0; 36];
+    put(&mut bytes, 0, &id.length.to_be_bytes());
+    put(&mut bytes, 4, &id.hash);
+    bytes
+}
+
+/// The id of a message that differs from this one's in the last bit.
+fn other_id(id: &MessageId) -> MessageId {
+    let mut other = *id;
+    other.hash[31] ^= 1;
+    other
+}
+
+/// The fault that trustee 1 keeps another value of leaf 0.
+fn spent(kept: KeptValue) -> SessionFault {
+    SessionFault::SpentLeaf {
+        leaf: 0,
+        member: 1,
+        kept,
+    }
+}
+
+/// Whether a refusal of trustee 1 that says nothing more is told as it is, and one that says what it may not is none.
+fn tells_refusals(rt: &impl Abort, alloc: Global) -> bool {
+    let member = 1;
+    let refused = SessionFault::MemberRefused { member, code: 12 };
+    let missing = SessionFault::Missing { member, round: 1 };
+    turns_with(rt, alloc, 12, &[], refused) & turns_with(rt, alloc, 12, &[0], missing)
+}
+
+/// Whether a refusal of trustee 1 that names a message is told by whether it is another one.
+fn tells_messages(rt: &impl Abort, alloc: Global) -> bool {
+    let own = MessageId::of(MESSAGE);
+    let other = other_id(&own);
+    let refused = SessionFault::MemberRefused { member: 1, code: 9 };
+    let same = turns_with(rt, alloc, 9, &bytes_of(&own), refused);
+    let kept = spent(KeptValue::Message(other));
+    same & turns_with(rt, alloc, 9, &bytes_of(&other), kept)
 }
 
 #[test]
 fn refusals_are_told_apart(rt: HostRuntime) {
-    let member = 1;
-    let own = MessageId::of(MESSAGE);
-    let mut body = [0; 36];
-    put(&mut body, 0, &own.length.to_be_bytes());
-    put(&mut body, 4, &own.hash);
-    let mut other = body;
-    other[35] ^= 1;
-    let mut hash = own.hash;
-    hash[31] ^= 1;
-    let kept = MessageId {
-        length: own.length,
-        hash,
-    };
-    let spent = SessionFault::SpentLeaf {
-        leaf: 0,
-        member,
-        kept: KeptValue::Message(kept),
-    };
-    let cases: [(u8, &[u8], SessionFault); 4] = [
-        (12, &[], SessionFault::MemberRefused { member, code: 12 }),
-        (12, &[0], SessionFault::Missing { member, round: 1 }),
-        (9, &body, SessionFault::MemberRefused { member, code: 9 }),
-        (9, &other, spent),
-    ];
-    for (code, body, want) in cases {
-        assert!(rt;
-            turn_after_refusal(&rt, rt.alloc(), code, body) == Some(Err(want)),
-            "code {code}"
-        );
-    }
+    assert!(rt; tells_refusals(&rt, rt.alloc()));
+    assert!(rt; tells_messages(&rt, rt.alloc()));
 }
 
 /// What `finish` says of a session over a reference of zeros in which trustees 1, 2 and 3 have answered round one with
 /// zeros, and trustee 1 round two by a refusal.
 fn fault_of_later_refusal(
-    rt: &impl Abort,
+    meeting: &mut Meeting,
     alloc: Global,
     code: u8,
     body: &[u8],
 ) -> Option<SessionFault> {
-    let mut meeting = Meeting::blank(rt, alloc);
     for member in 1..4 {
         meeting.take(member, 0, &[0; 24]);
     }
@@ -159,36 +180,43 @@ fn fault_of_later_refusal(
     meeting.finish(alloc)?.err()
 }
 
+/// Whether that is this.
+fn ends_with(rt: &impl Abort, alloc: Global, code: u8, body: &[u8], want: SessionFault) -> bool {
+    let mut meeting = Meeting::blank(rt, alloc);
+    fault_of_later_refusal(&mut meeting, alloc, code, body) == Some(want)
+}
+
+/// Whether a refusal of round two that says nothing more is told by its code.
+fn tells_codes(rt: &impl Abort, alloc: Global) -> bool {
+    let (leaf, member) = (0, 1);
+    let wrong = SessionFault::WrongCheck { leaf, member };
+    let refused = SessionFault::MemberRefused { member, code: 8 };
+    ends_with(rt, alloc, 5, &[], wrong) & ends_with(rt, alloc, 8, &[], refused)
+}
+
+/// A randomizer of zeros, and the message's digest under it, which another implementation hashed.
+const DIGEST: &[u8; 48] = b"\0\0\0\0\0\0\0\0\0\0\0\0\0\0\0\0\0\0\0\0\0\0\0\0\
+    \x1f\xb3\xd6\x31\xf1\xc7\x65\x3d\x73\xf8\xe1\x57\x19\x5f\x98\x1a\xe3\x20\x0e\x73\x5f\xd6\x7f\x66";
+
+/// Whether a refusal of round two that names a digest is told by whether it is another one.
+fn tells_digests(rt: &impl Abort, alloc: Global) -> bool {
+    let refused = SessionFault::MemberRefused {
+        member: 1,
+        code: 10,
+    };
+    let mut other = *DIGEST;
+    other[47] ^= 1;
+    let kept = spent(KeptValue::Digest {
+        c: Val::of(&other[..24]),
+        digest: Val::of(&other[24..]),
+    });
+    ends_with(rt, alloc, 10, DIGEST, refused) & ends_with(rt, alloc, 10, &other, kept)
+}
+
 #[test]
 fn refusals_of_round_two_are_told_apart(rt: HostRuntime) {
-    let member = 1;
-    // A randomizer of zeros, and the message's digest under it, which another implementation hashed.
-    let digest =
-        b"\x1f\xb3\xd6\x31\xf1\xc7\x65\x3d\x73\xf8\xe1\x57\x19\x5f\x98\x1a\xe3\x20\x0e\x73\x5f\xd6\x7f\x66";
-    let mut body = [0; 48];
-    put(&mut body, 24, digest);
-    let mut other = body;
-    other[47] ^= 1;
-    let spent = SessionFault::SpentLeaf {
-        leaf: 0,
-        member,
-        kept: KeptValue::Digest {
-            c: Val::of(&other[..24]),
-            digest: Val::of(&other[24..]),
-        },
-    };
-    let cases: [(u8, &[u8], SessionFault); 4] = [
-        (5, &[], SessionFault::WrongCheck { leaf: 0, member }),
-        (8, &[], SessionFault::MemberRefused { member, code: 8 }),
-        (10, &body, SessionFault::MemberRefused { member, code: 10 }),
-        (10, &other, spent),
-    ];
-    for (code, body, want) in cases {
-        assert!(rt;
-            fault_of_later_refusal(&rt, rt.alloc(), code, body) == Some(want),
-            "code {code}"
-        );
-    }
+    assert!(rt; tells_codes(&rt, rt.alloc()));
+    assert!(rt; tells_digests(&rt, rt.alloc()));
 }
 
 /// The ask of leaf 0, by what round two adds.
@@ -214,45 +242,70 @@ fn keeps_none(meeting: &Meeting, round: u8, member: u8) -> bool {
     meeting.session.kept_reply(round, member).is_none()
 }
 
+/// Whether trustee 2 is asked this, by this digest.
+fn asks(meeting: &Meeting, digest: &[u8; 24], second: Option<Second>) -> bool {
+    meeting.ask(&Val::of(digest)) == Some(Ok(ask_with(second)))
+}
+
+/// The mask that another implementation had of trustee 2.
+const MASK: &[u8; 24] =
+    b"\x2e\x88\xf5\x5e\xc3\xf9\x50\xe6\xba\x46\xf4\x98\xb8\x94\x4c\x4b\x48\xe0\x8e\x73\x94\x2a\x5b\xfe";
+
+/// Whether that mask is kept of round one, and nothing of trustee 4 or of round two.
+fn keeps_first(meeting: &Meeting) -> bool {
+    keeps(meeting, 1, 2, MASK) && keeps_none(meeting, 1, 4) && keeps_none(meeting, 2, 2)
+}
+
 #[test]
 fn round_one_tells_what_it_asks_and_keeps(rt: HostRuntime) {
-    // The mask that another implementation had of trustee 2.
-    let mask =
-        b"\x2e\x88\xf5\x5e\xc3\xf9\x50\xe6\xba\x46\xf4\x98\xb8\x94\x4c\x4b\x48\xe0\x8e\x73\x94\x2a\x5b\xfe";
     let mut meeting = Meeting::blank(&rt, rt.alloc());
-    assert!(rt; meeting.ask(&Val::of(&[0; 24])) == Some(Ok(ask_with(None))));
-    assert!(rt; keeps_none(&meeting, 1, 2));
-    assert!(rt; answer_first(&mut meeting));
-    assert!(rt; keeps(&meeting, 1, 2, mask));
-    assert!(rt; keeps_none(&meeting, 1, 4));
-    assert!(rt; keeps_none(&meeting, 2, 2));
+    assert!(rt; asks(&meeting, &[0; 24], None) && keeps_none(&meeting, 1, 2));
+    assert!(rt; answer_first(&mut meeting) && keeps_first(&meeting));
+}
+
+/// What another implementation asked of trustee 2 and had of it: a randomizer.
+const C: &[u8; 24] =
+    b"\x44\xeb\xb5\xe6\xe3\x18\x9c\xe4\x3e\xf1\x3b\xeb\xc0\x51\xdb\x04\xcd\xba\x90\xf2\x6f\x2e\x38\x63";
+
+/// Its tag.
+const TAG: &[u8; 32] = b"\xc1\x13\xa8\xd5\xef\x68\xfb\xb0\xb3\xbe\x33\x32\xff\xfe\xa7\xac\
+    \xd9\xda\x27\xdf\xbc\xe1\x00\xf3\x86\xe3\x63\x2d\x77\xb7\xcc\xfb";
+
+/// The message's digest under it.
+const ASKED: &[u8; 24] =
+    b"\x4e\xa0\x13\x64\x44\xdb\xcf\x0f\x14\x5a\xc7\x7a\xc6\x78\x39\x13\x09\xf5\x1a\x89\xb9\xdf\xef\x40";
+
+/// The SHA-256 of the masks.
+const MASKS: &[u8; 32] = b"\x63\xa9\x60\x4f\x1a\x73\xa8\x5a\x41\xb1\xfb\x1a\x0a\x96\x5e\x91\
+    \x17\x44\xde\x23\x28\xb9\xcc\xbc\x98\xe0\x9a\xeb\x95\xdd\xf1\xcb";
+
+/// Whether trustee 2 is asked by the randomizer, its tag and the digest.
+fn asks_second(meeting: &Meeting) -> bool {
+    let second = Second {
+        c: Val::of(C),
+        tag: *TAG,
+        digest: Val::of(ASKED),
+    };
+    asks(meeting, ASKED, Some(second))
+}
+
+/// Whether the masks are kept of round two, and nothing of trustee 1 or of another round.
+fn keeps_second(meeting: &Meeting) -> bool {
+    match meeting.session.kept_reply(2, 2) {
+        Some(kept) => {
+            let same = Sha256::digest(kept) == *MASKS;
+            same && keeps_none(meeting, 2, 1) && keeps_none(meeting, 3, 2)
+        }
+        None => false,
+    }
 }
 
 #[test]
 fn round_two_tells_what_it_asks_and_keeps(rt: HostRuntime) {
-    // What another implementation asked of trustee 2 and had of it: randomizer, tag, digest, and SHA-256 of the masks.
-    let c =
-        b"\x44\xeb\xb5\xe6\xe3\x18\x9c\xe4\x3e\xf1\x3b\xeb\xc0\x51\xdb\x04\xcd\xba\x90\xf2\x6f\x2e\x38\x63";
-    let tag = b"\xc1\x13\xa8\xd5\xef\x68\xfb\xb0\xb3\xbe\x33\x32\xff\xfe\xa7\xac\
-        \xd9\xda\x27\xdf\xbc\xe1\x00\xf3\x86\xe3\x63\x2d\x77\xb7\xcc\xfb";
-    let digest =
-        b"\x4e\xa0\x13\x64\x44\xdb\xcf\x0f\x14\x5a\xc7\x7a\xc6\x78\x39\x13\x09\xf5\x1a\x89\xb9\xdf\xef\x40";
-    let masks = b"\x63\xa9\x60\x4f\x1a\x73\xa8\x5a\x41\xb1\xfb\x1a\x0a\x96\x5e\x91\
-        \x17\x44\xde\x23\x28\xb9\xcc\xbc\x98\xe0\x9a\xeb\x95\xdd\xf1\xcb";
-    let second = Second {
-        c: Val::of(c),
-        tag: *tag,
-        digest: Val::of(digest),
-    };
     let mut meeting = Meeting::dealt(&rt, rt.alloc(), 10, 7);
-    assert!(rt; answer_first(&mut meeting));
-    assert!(rt; meeting.turn() == Some(Ok(())));
-    assert!(rt; meeting.ask(&Val::of(digest)) == Some(Ok(ask_with(Some(second)))));
-    assert!(rt; meeting.give_masks(2) == Some(Step::Kept));
-    let kept = meeting.session.kept_reply(2, 2).expect(&rt, "masks");
-    assert!(rt; Sha256::digest(kept) == *masks);
-    assert!(rt; keeps_none(&meeting, 2, 1));
-    assert!(rt; keeps_none(&meeting, 3, 2));
+    assert!(rt; answer_first(&mut meeting) && meeting.turn() == Some(Ok(())));
+    assert!(rt; asks_second(&meeting) && meeting.give_masks(2) == Some(Step::Kept));
+    assert!(rt; keeps_second(&meeting));
 }
 
 /// A reference of zeros on a disk whose first read fails.

@@ -1,10 +1,10 @@
 //! Tests of what no contract says: that the files are those of another implementation, and each refusal once.
 
+use crate::values::{first, holds};
 use share_files::{
-    FileFault, read_ref_header, read_reference, read_share, read_tree, write_ref_head, write_share,
-    write_tree_head,
+    FileFault, Share, read_ref_header, read_reference, read_share, read_tree, write_ref_head,
+    write_share, write_tree_head,
 };
-use std::test::Fail;
 
 /// The share of trustee 3 in a dealing of the typecodes 5 and 3 to coalitions of 3 of 5 trustees.
 const SHARE: [u8; 64] = [
@@ -26,17 +26,24 @@ const REFERENCE_HEAD: [u8; 32] = [
     11, 12, 13, 14, 15,
 ];
 
-#[test]
-fn a_share_is_read_and_written(rt: HostRuntime) -> Result<(), Fail> {
-    let share = read_share(&SHARE)?;
-    assert!(rt; share.member == 3);
-    assert!(rt; (share.plan.n(), share.plan.k(), share.plan.h()) == (5, 3, 5));
-    assert!(rt; (share.params.lms, share.params.ots) == (5, 3));
-    assert!(rt; (share.id[15], share.key[0]) == (15, 0x90));
+/// Whether that is what is read.
+fn has_parts(share: &Share) -> bool {
+    let plan = share.plan.n() == 5 && share.plan.k() == 3 && share.plan.h() == 5;
+    let codes = share.params.lms == 5 && share.params.ots == 3;
+    plan && codes && share.member == 3 && share.id[15] == 15 && share.key[0] == 0x90
+}
+
+/// The bytes of a share.
+fn bytes_of(share: &Share) -> [u8; 64] {
     let mut out = [0; 64];
-    write_share(&share, &mut out);
-    assert!(rt; out == SHARE);
-    Ok(())
+    write_share(share, &mut out);
+    out
+}
+
+#[test]
+fn a_share_is_read_and_written(rt: HostRuntime) {
+    let share = read_share(&SHARE).expect(&rt, "a share");
+    assert!(rt; has_parts(&share) && bytes_of(&share) == SHARE);
 }
 
 /// Two places of a share with what is put there, a length, and the fault of so many bytes of it.
@@ -66,14 +73,18 @@ fn share_fault(bytes: &[u8]) -> Option<FileFault> {
     read_share(bytes).err()
 }
 
+/// Whether the bytes of a row have the row's fault.
+fn is_no_share(row: &(usize, u8, usize, u8, usize, FileFault)) -> bool {
+    let mut bytes = longer_share();
+    bytes[row.0 % 65] = row.1;
+    bytes[row.2 % 65] = row.3;
+    share_fault(&bytes[..row.4.min(65)]) == Some(row.5)
+}
+
 #[test]
 fn other_bytes_are_no_share(rt: HostRuntime) {
-    for (place, byte, next, other, length, fault) in SHARE_FAULTS {
-        let mut bytes = longer_share();
-        bytes[place % 65] = byte;
-        bytes[next % 65] = other;
-        let found = share_fault(&bytes[..length.min(65)]);
-        assert!(rt; found == Some(fault), "{place} and {next}, {length} bytes");
+    for row in &SHARE_FAULTS {
+        holds(&rt, row.0 as u32, is_no_share(row));
     }
 }
 
@@ -113,17 +124,20 @@ fn longer_tree() -> [u8; 2049] {
     bytes
 }
 
-#[test]
-fn a_tree_file_is_read_and_written(rt: HostRuntime) -> Result<(), Fail> {
-    let mut bytes = [7; 2048];
-    bytes[..32].copy_from_slice(&TREE_HEAD);
-    let view = read_tree(&bytes)?;
-    assert!(rt; (view.params.lms, view.params.ots, view.id[1]) == (5, 3, 1));
-    assert!(rt; view.nodes.len() == 2016);
+/// Whether a tree file is read, and its head written as it was.
+fn is_tree(bytes: &[u8]) -> bool {
+    let Ok(view) = read_tree(bytes) else {
+        return false;
+    };
     let mut head = [0; 32];
     write_tree_head(&view.params, &view.id, &mut head);
-    assert!(rt; head == TREE_HEAD);
-    Ok(())
+    let codes = view.params.lms == 5 && view.params.ots == 3;
+    codes && view.id[1] == 1 && view.nodes.len() == 2016 && head == TREE_HEAD
+}
+
+#[test]
+fn a_tree_file_is_read_and_written(rt: HostRuntime) {
+    assert!(rt; is_tree(first(&longer_tree(), 2048)));
 }
 
 /// The fault of bytes that are no tree file.
@@ -134,24 +148,33 @@ fn tree_fault(bytes: &[u8]) -> Option<FileFault> {
     }
 }
 
-#[test]
-fn other_bytes_are_no_tree_file(rt: HostRuntime) {
-    for (length, place, byte, fault) in TREE_FAULTS {
-        let mut bytes = longer_tree();
-        bytes[place % 2049] = byte;
-        let found = tree_fault(&bytes[..length.min(2049)]);
-        assert!(rt; found == Some(fault), "{place} {byte}");
-    }
+/// Whether the bytes of a row have the row's fault.
+fn is_no_tree(row: &(usize, usize, u8, FileFault)) -> bool {
+    let mut bytes = longer_tree();
+    bytes[row.1 % 2049] = row.2;
+    tree_fault(&bytes[..row.0.min(2049)]) == Some(row.3)
 }
 
 #[test]
-fn the_head_of_a_reference_file_is_read_and_written(rt: HostRuntime) -> Result<(), Fail> {
-    let header = read_ref_header(&REFERENCE_HEAD, 1_101_856)?;
-    assert!(rt; (header.plan.n(), header.plan.k(), header.id[2]) == (5, 3, 2));
+fn other_bytes_are_no_tree_file(rt: HostRuntime) {
+    for row in &TREE_FAULTS {
+        holds(&rt, row.1 as u32, is_no_tree(row));
+    }
+}
+
+/// Whether the head of a reference file is read, and written as it was.
+fn is_head(bytes: &[u8; 32]) -> bool {
+    let Ok(header) = read_ref_header(bytes, 1_101_856) else {
+        return false;
+    };
     let mut head = [0; 32];
     write_ref_head(&header, &mut head);
-    assert!(rt; head == REFERENCE_HEAD);
-    Ok(())
+    header.plan.n() == 5 && header.plan.k() == 3 && header.id[2] == 2 && head == *bytes
+}
+
+#[test]
+fn the_head_of_a_reference_file_is_read_and_written(rt: HostRuntime) {
+    assert!(rt; is_head(&REFERENCE_HEAD));
 }
 
 /// The length of a reference file, a place of its head, what is put there, and the fault.
@@ -177,12 +200,17 @@ fn head_fault(head: &[u8; 32], length: u64) -> Option<FileFault> {
     read_ref_header(head, length).err()
 }
 
+/// Whether the head of a row has the row's fault.
+fn is_no_head(row: &(u64, usize, u8, FileFault)) -> bool {
+    let mut head = REFERENCE_HEAD;
+    head[row.1 % 32] = row.2;
+    head_fault(&head, row.0) == Some(row.3)
+}
+
 #[test]
 fn other_bytes_are_no_head_of_a_reference_file(rt: HostRuntime) {
-    for (length, place, byte, fault) in REFERENCE_FAULTS {
-        let mut head = REFERENCE_HEAD;
-        head[place % 32] = byte;
-        assert!(rt; head_fault(&head, length) == Some(fault), "{place} {byte}");
+    for row in &REFERENCE_FAULTS {
+        holds(&rt, row.1 as u32, is_no_head(row));
     }
 }
 

@@ -12,6 +12,19 @@ fn words_of(alloc: Global, line: &str) -> Result<Vec<String>, AllocError> {
     Ok(words)
 }
 
+/// Whether these are the words.
+fn are_same(found: &[&str], words: &[String]) -> bool {
+    if found.len() != words.len() {
+        return false;
+    }
+    for i in 0..words.len() {
+        if found[i] != words[i].as_str() {
+            return false;
+        }
+    }
+    true
+}
+
 /// What `clap` makes of the words of a line: nothing where it does not take them, else whether it splits off each of
 /// them in its place.
 fn is_split(alloc: Global, line: &str) -> Option<bool> {
@@ -21,73 +34,78 @@ fn is_split(alloc: Global, line: &str) -> Option<bool> {
     let Ok(split) = split_words(alloc, words.as_slice()) else {
         return None;
     };
-    for (found, word) in split.iter().zip(&words) {
-        if *found != word.as_str() {
-            return Some(false);
-        }
-    }
-    Some(split.len() == words.len())
+    Some(are_same(split.as_slice(), words.as_slice()))
 }
+
+/// Lines that `clap` takes.
+const TAKEN: [&str; 18] = [
+    "verify a.pub a a.sig",
+    "rehearse e m k s",
+    "deal e 5 03 12 4294967295 a",
+    "deal e 5 3 5 3 a commit",
+    "enrol f j",
+    "migrate s j n",
+    "approve s b m",
+    "trustee s j p 64 4294967295",
+    "trustee s j p 064 4294967295 b",
+    "sign p t m o 07=h:7",
+    "sign p t m o 2=b 1=a 3=c 4=d 5=e 6=f 7=h:7 8=h 9=i 10=j 11=k 12=l",
+    "hss check k m s",
+    "hss sign p t lk ls m k s 2=b 1=a 3=c 4=d 5=e 6=f 7=h:7 8=h 9=i 10=j 11=k 12=l",
+    "aggregate p t q 64 4294967295 1=a",
+    "aggregate p t q 064 1 2=b 1=a 3=c 4=d 5=e 6=f 07=h:7 8=h 9=i 10=j 11=k 12=l",
+    "drill 1 10000 100000",
+    "show f",
+    "show f leaves",
+];
 
 #[test]
 fn clap_splits_the_words_of_each_command(rt: HostRuntime) {
-    let lines = [
-        "verify a.pub a a.sig",
-        "rehearse e m k s",
-        "deal e 5 03 12 4294967295 a",
-        "deal e 5 3 5 3 a commit",
-        "enrol f j",
-        "migrate s j n",
-        "approve s b m",
-        "trustee s j p 64 4294967295",
-        "trustee s j p 064 4294967295 b",
-        "sign p t m o 07=h:7",
-        "sign p t m o 2=b 1=a 3=c 4=d 5=e 6=f 7=h:7 8=h 9=i 10=j 11=k 12=l",
-        "hss check k m s",
-        "hss sign p t lk ls m k s 2=b 1=a 3=c 4=d 5=e 6=f 7=h:7 8=h 9=i 10=j 11=k 12=l",
-        "aggregate p t q 64 4294967295 1=a",
-        "aggregate p t q 064 1 2=b 1=a 3=c 4=d 5=e 6=f 07=h:7 8=h 9=i 10=j 11=k 12=l",
-        "drill 1 10000 100000",
-        "show f",
-        "show f leaves",
-    ];
-    for line in lines {
+    for line in &TAKEN {
         assert!(rt; is_split(rt.alloc(), line) == Some(true), "{line}");
     }
 }
 
+/// Lines that it does not take.
+const REFUSED: [&str; 14] = [
+    "",
+    "help",
+    "help verify",
+    "verify a b",
+    "verify a b c d",
+    "trustee s j p 64",
+    "trustee s j p 64 1 b c",
+    "deal e 5 3 5 3 a commit b",
+    "hss",
+    "sign p t m o",
+    "aggregate p t q 1 1",
+    "show",
+    "show f leaves leaves",
+    "sign p t m o 1=a 2=b 3=c 4=d 5=e 6=f 7=g 8=h 9=i 10=j 11=k 12=l 13=m",
+];
+
 #[test]
 fn clap_refuses_other_words(rt: HostRuntime) {
-    let lines = [
-        "",
-        "help",
-        "help verify",
-        "verify a b",
-        "verify a b c d",
-        "trustee s j p 64",
-        "trustee s j p 64 1 b c",
-        "deal e 5 3 5 3 a commit b",
-        "hss",
-        "sign p t m o",
-        "aggregate p t q 1 1",
-        "show",
-        "show f leaves leaves",
-        "sign p t m o 1=a 2=b 3=c 4=d 5=e 6=f 7=g 8=h 9=i 10=j 11=k 12=l 13=m",
-    ];
-    for line in lines {
+    for line in &REFUSED {
         assert!(rt; is_split(rt.alloc(), line).is_none(), "{line}");
     }
 }
 
+/// Whether a line is an aggregator's words, for 64 workers and 2^32 - 1 connections, with a place for trustee 7.
+fn is_aggregate(alloc: Global, line: &str) -> Result<bool, AllocError> {
+    let words = words_of(alloc, line)?;
+    match command_of(alloc, words.as_slice()) {
+        Some(Command::Aggregate(found)) => Ok(
+            found.workers == 64
+                && found.connections == u32::MAX
+                && found.places.list()[6] == Some("h:7"),
+        ),
+        _ => Ok(false),
+    }
+}
+
 #[test]
-fn words_are_read(rt: HostRuntime) -> Result<(), AllocError> {
+fn words_are_read(rt: HostRuntime) {
     let line = "aggregate p t q 064 4294967295 2=b 07=h:7 1=a";
-    let words = words_of(rt.alloc(), line)?;
-    let Some(Command::Aggregate(found)) = command_of(rt.alloc(), words.as_slice()) else {
-        panic!(rt; "no command");
-    };
-    assert_eq!(rt; found.workers, 64);
-    assert_eq!(rt; found.connections, u32::MAX);
-    assert_eq!(rt; found.places.list()[6], Some("h:7"));
-    Ok(())
+    assert!(rt; is_aggregate(rt.alloc(), line) == Ok(true));
 }
