@@ -2,7 +2,6 @@
 
 use memory::NoMemory;
 use std::alloc::Global;
-use std::test::Fail;
 use stream_memory::MemStore;
 use tool_base::Ending;
 use tool_journals::enrol_file;
@@ -27,10 +26,9 @@ fn fault_of(end: Ending) -> Option<u8> {
 }
 
 #[test]
-fn a_file_of_three_bytes_has_another_magic(rt: HostRuntime) -> Result<(), Fail> {
+fn a_file_of_three_bytes_has_another_magic(rt: HostRuntime) {
     let alloc = rt.alloc();
-    let mut store = store_of(alloc, b"TLS")?;
+    let mut store = store_of(alloc, b"TLS").expect(&rt, "memory");
     let end = enrol_file(alloc, &mut store, "share", "journal");
-    assert_eq!(rt; fault_of(end), Some(1));
-    Ok(())
+    assert!(rt; fault_of(end) == Some(1));
 }

@@ -97,7 +97,15 @@ const LISTED: &str = concat!(
 );
 
 /// Version and number of a file, its length, what is put at which places of it, and its listing.
-const LISTINGS: [(u8, u8, usize, &[(usize, &[u8])], &str); 4] = [
+type ListingRow = (
+    u8,
+    u8,
+    usize,
+    &'static [(usize, &'static [u8])],
+    &'static str,
+);
+
+static LISTINGS: [ListingRow; 4] = [
     (2, 3, JOURNAL, &[], FRESH),
     (1, 3, TABLE, &[(4096, &ABC), (4136, &[0xC2])], OLD),
     (
@@ -116,40 +124,59 @@ const LISTINGS: [(u8, u8, usize, &[(usize, &[u8])], &str); 4] = [
     (3, 3, BOOK, &[(128, &ABC)], LISTED),
 ];
 
+/// Whether the file of a row is listed by the row's text.
+fn is_listed(rt: &impl Abort, alloc: Global, row: &ListingRow) -> bool {
+    let bytes = slots(rt, alloc, row.0, row.1, row.2, row.3);
+    lists(alloc, bytes, true, row.4)
+}
+
 #[test]
 fn files_of_slots(rt: HostRuntime) {
     let alloc = rt.alloc();
-    for (version, number, length, parts, want) in LISTINGS {
-        let bytes = slots(&rt, alloc, version, number, length, parts);
-        assert!(&rt; lists(alloc, bytes, true, want), "{want}");
+    for row in &LISTINGS {
+        assert!(&rt; is_listed(&rt, alloc, row), "{}", row.4);
     }
     let fresh = slots(&rt, alloc, 2, 3, JOURNAL, &[]);
     assert!(&rt; lists(alloc, fresh, false, FRESH));
 }
 
+/// The lines of a journal that was opened at nine o'clock.
+const AT_NINE: &str = concat!(
+    "journal member 3 version 2 codes 5 3 key 1d1d1d1d1d1d1d1d1d1d1d1d1d1d1d1d",
+    " leaves 32 bound 1 opened 1 last 2026-11-28T09:00:00Z\n",
+    "leaf 1 bound 3:ba7816bf8f01cfea414140de5dae2223b00361a396177a9cb410ff61f20015ad\n",
+    "leaf 4 opened 3:ba7816bf8f01cfea414140de5dae2223b00361a396177a9cb410ff61f20015ad 2026-11-28T09:00:00Z\n",
+);
+
+/// Moments, and the ends of the lines of journals that were opened then.
+const MOMENTS: [(u64, &str); 5] = [
+    (0, " last 1970-01-01T00:00:00Z\n"),
+    (94_694_399, " last 1972-12-31T23:59:59Z\n"),
+    (951_868_799, " last 2000-02-29T23:59:59Z\n"),
+    (4_107_542_400, " last 2100-03-01T00:00:00Z\n"),
+    (u64::MAX, " last 584554051223-11-09T07:00:15Z\n"),
+];
+
 #[test]
 fn moments(rt: HostRuntime) {
-    let want = concat!(
-        "journal member 3 version 2 codes 5 3 key 1d1d1d1d1d1d1d1d1d1d1d1d1d1d1d1d",
-        " leaves 32 bound 1 opened 1 last 2026-11-28T09:00:00Z\n",
-        "leaf 1 bound 3:ba7816bf8f01cfea414140de5dae2223b00361a396177a9cb410ff61f20015ad\n",
-        "leaf 4 opened 3:ba7816bf8f01cfea414140de5dae2223b00361a396177a9cb410ff61f20015ad 2026-11-28T09:00:00Z\n",
-    );
     let alloc = rt.alloc();
-    assert!(&rt; lists(alloc, journal(&rt, alloc, 1_795_856_400), true, want));
-    for (moment, last) in [
-        (0, " last 1970-01-01T00:00:00Z\n"),
-        (94_694_399, " last 1972-12-31T23:59:59Z\n"),
-        (951_868_799, " last 2000-02-29T23:59:59Z\n"),
-        (4_107_542_400, " last 2100-03-01T00:00:00Z\n"),
-        (u64::MAX, " last 584554051223-11-09T07:00:15Z\n"),
-    ] {
-        assert!(&rt; has_last(&rt, alloc, moment, last), "{moment}");
+    assert!(&rt; lists(alloc, journal(&rt, alloc, 1_795_856_400), true, AT_NINE));
+    for row in &MOMENTS {
+        assert!(&rt; has_last(&rt, alloc, row.0, row.1), "{}", row.1);
     }
 }
 
 /// A file's name, version and number, its length, what is put at which places of it, and why it is not listed.
-const REFUSED: [(&str, u8, u8, usize, &[(usize, &[u8])], ListingFault); 6] = [
+type RefusedRow = (
+    &'static str,
+    u8,
+    u8,
+    usize,
+    &'static [(usize, &'static [u8])],
+    ListingFault,
+);
+
+static REFUSED: [RefusedRow; 6] = [
     (
         "closed",
         2,
@@ -200,14 +227,27 @@ const REFUSED: [(&str, u8, u8, usize, &[(usize, &[u8])], ListingFault); 6] = [
     ),
 ];
 
+/// Whether these bytes are refused for this.
+fn refuses(alloc: Global, bytes: Vec<u8>, why: ListingFault) -> bool {
+    match listed(alloc, bytes, true) {
+        Ok(_) => false,
+        Err(fault) => fault == why,
+    }
+}
+
+/// Whether the file of a row is refused for the row's fault.
+fn is_refused(rt: &impl Abort, alloc: Global, row: &RefusedRow) -> bool {
+    let bytes = slots(rt, alloc, row.1, row.2, row.3, row.4);
+    refuses(alloc, bytes, row.5)
+}
+
 #[test]
 fn other_files(rt: HostRuntime) {
     let alloc = rt.alloc();
-    for (name, version, number, length, parts, want) in REFUSED {
-        let bytes = slots(&rt, alloc, version, number, length, parts);
-        assert!(&rt; listed(alloc, bytes, true).err() == Some(want), "{name}");
+    for row in &REFUSED {
+        assert!(&rt; is_refused(&rt, alloc, row), "{}", row.0);
     }
     let mut short = slots(&rt, alloc, 2, 3, 32, &[]);
     let _ = short.pop();
-    assert!(&rt; listed(alloc, short, true).err() == Some(ListingFault::NotASlotFile));
+    assert!(&rt; refuses(alloc, short, ListingFault::NotASlotFile));
 }

@@ -3,6 +3,7 @@
 
 use crate::made_files::file_of;
 use std::alloc::Global;
+use std::process::Abort;
 use stream_memory::MemStore;
 use tool_base::Ending;
 use tool_show::show_file;
@@ -99,72 +100,135 @@ const FAULT_5: &str = "error 4 file file fault 5\n";
 
 const FAULT_6: &str = "error 4 file file fault 6\n";
 
-/// What a file is to be, its length, what is put at which places of it, and the status and the line of `show file`.
-const SHOWN: [(&str, usize, &[(usize, &[u8])], u8, &str); 21] = [
-    ("a share", 64, &[(0, b"TLSH\x01"), (5, &OF_SHARE)], 0, SHARE),
-    (
-        "a long share",
-        65,
-        &[(0, b"TLSH\x01"), (5, &OF_SHARE)],
-        4,
-        FAULT_5,
-    ),
-    (
-        "a share of version 2",
-        64,
-        &[(0, b"TLSH\x02"), (5, &OF_SHARE)],
-        4,
-        FAULT_2,
-    ),
-    (
-        "a tree",
-        2048,
-        &[(0, b"TLTR\x01"), (5, &OF_TREE), (32, &ROOT)],
-        0,
-        TREE,
-    ),
+const SLOTS_1: &str = "error 13 journal fault 1\n";
+
+const SLOTS_2: &str = "error 13 journal fault 2\n";
+
+const SLOTS_6: &str = "error 13 journal fault 6\n";
+
+/// Nothing at any place.
+const NONE: (usize, &[u8]) = (0, &[]);
+
+/// What a file is to be, its length, its first five bytes, its head behind them, what is put at which place behind
+/// that, and the status and the line of `show file`.
+type HeadRow = (
+    &'static str,
+    usize,
+    &'static [u8],
+    &'static [u8],
+    (usize, &'static [u8]),
+    u8,
+    &'static str,
+);
+
+static HEADED: [HeadRow; 15] = [
+    ("a share", 64, b"TLSH\x01", &OF_SHARE, NONE, 0, SHARE),
+    ("a long share", 65, b"TLSH\x01", &OF_SHARE, NONE, 4, FAULT_5),
+    ("a new share", 64, b"TLSH\x02", &OF_SHARE, NONE, 4, FAULT_2),
+    ("a tree", 2048, b"TLTR\x01", &OF_TREE, (32, &ROOT), 0, TREE),
     (
         "a marked tree",
         2048,
-        &[(0, b"TLTR\x01"), (5, &OF_SHARE)],
+        b"TLTR\x01",
+        &OF_SHARE,
+        NONE,
         4,
         FAULT_6,
     ),
     (
         "a reference",
         310_048,
-        &[(0, b"TLRF\x01"), (5, &OF_PLAN)],
+        b"TLRF\x01",
+        &OF_PLAN,
+        NONE,
         0,
         REFERENCE,
     ),
     (
-        "a cut reference",
+        "a cut one",
         310_047,
-        &[(0, b"TLRF\x01"), (5, &OF_PLAN)],
+        b"TLRF\x01",
+        &OF_PLAN,
+        NONE,
         4,
         FAULT_5,
     ),
     (
-        "a reference with no plan",
+        "one of no plan",
         64,
-        &[(0, b"TLRF\x01"), (5, &OF_TREE)],
+        b"TLRF\x01",
+        &OF_TREE,
+        NONE,
         4,
         FAULT_4,
     ),
     (
         "commitments",
         821_280,
-        &[(0, b"TLCM\x01"), (5, &OF_PLAN)],
+        b"TLCM\x01",
+        &OF_PLAN,
+        NONE,
         0,
         COMMITMENTS,
     ),
+    ("cut ones", 821_279, b"TLCM\x01", &OF_PLAN, NONE, 4, FAULT_5),
     (
-        "cut commitments",
-        821_279,
-        &[(0, b"TLCM\x01"), (5, &OF_PLAN)],
-        4,
-        FAULT_5,
+        "a table",
+        4224,
+        b"\xa7\0\0\0\x01",
+        &OF_TABLE,
+        (128, &LEASED),
+        0,
+        TABLE,
     ),
+    (
+        "a closed table",
+        4224,
+        b"\0\0\0\0\x01",
+        &OF_TABLE,
+        NONE,
+        13,
+        SLOTS_2,
+    ),
+    (
+        "a cut journal",
+        5247,
+        b"\xa7\0\0\0\x02",
+        &OF_SHARE,
+        NONE,
+        13,
+        SLOTS_1,
+    ),
+    (
+        "a damaged table",
+        4224,
+        b"\xa7\0\0\0\x01",
+        &OF_TABLE,
+        (168, &[0xC2]),
+        13,
+        SLOTS_6,
+    ),
+    (
+        "version 4",
+        4224,
+        b"\xa7\0\0\0\x04",
+        &OF_TABLE,
+        NONE,
+        4,
+        FAULT_1,
+    ),
+];
+
+/// What a file is to be, its length, what is put at which places of it, and the status and the line of `show file`.
+type PartsRow = (
+    &'static str,
+    usize,
+    &'static [(usize, &'static [u8])],
+    u8,
+    &'static str,
+);
+
+static SHOWN: [PartsRow; 6] = [
     ("letters", 4, &[(0, b"TLCM")], 4, FAULT_5),
     ("a key", 56, &[(0, &KEY), (24, &ROOT)], 0, ONE_LEVEL),
     (
@@ -175,43 +239,8 @@ const SHOWN: [(&str, usize, &[(usize, &[u8])], u8, &str); 21] = [
         TWO_LEVELS,
     ),
     ("a cut key", 55, &[(0, &KEY), (24, &CUT_ROOT)], 4, FAULT_1),
-    (
-        "a leaf table",
-        4224,
-        &[(0, b"\xa7\0\0\0\x01"), (5, &OF_TABLE), (128, &LEASED)],
-        0,
-        TABLE,
-    ),
-    (
-        "a closed table",
-        4224,
-        &[(0, b"\0\0\0\0\x01"), (5, &OF_TABLE)],
-        13,
-        "error 13 journal fault 2\n",
-    ),
-    (
-        "a cut journal",
-        5247,
-        &[(0, b"\xa7\0\0\0\x02"), (5, &OF_SHARE)],
-        13,
-        "error 13 journal fault 1\n",
-    ),
-    (
-        "a damaged table",
-        4224,
-        &[(0, b"\xa7\0\0\0\x01"), (5, &OF_TABLE), (168, &[0xC2])],
-        13,
-        "error 13 journal fault 6\n",
-    ),
     ("no byte", 0, &[], 4, FAULT_1),
     ("three letters", 3, &[(0, b"TLS")], 4, FAULT_1),
-    (
-        "a file of version 4",
-        4224,
-        &[(0, b"\xa7\0\0\0\x04"), (5, &OF_TABLE)],
-        4,
-        FAULT_1,
-    ),
 ];
 
 /// A store of one file `file`.
@@ -245,15 +274,54 @@ fn says(alloc: Global, bytes: Vec<u8>, name: &str, leaves: bool, status: u8, wan
     }
 }
 
+/// Whether a file of these parts is shown, or refused, by this status and this line.
+fn is_shown(
+    rt: &impl Abort,
+    alloc: Global,
+    length: usize,
+    parts: &[(usize, &[u8])],
+    status: u8,
+    want: &str,
+) -> bool {
+    let file = file_of(rt, alloc, length, parts);
+    says(alloc, file, "file", false, status, want)
+}
+
+/// Whether that is so of the file of a row.
+fn is_headed(rt: &impl Abort, alloc: Global, row: &HeadRow) -> bool {
+    let parts: [(usize, &[u8]); 3] = [(0, row.2), (5, row.3), row.4];
+    is_shown(rt, alloc, row.1, &parts, row.5, row.6)
+}
+
 #[test]
-fn files_are_shown_or_refused(rt: HostRuntime) {
-    let alloc = rt.alloc();
-    for (name, length, parts, status, want) in SHOWN {
-        let file = file_of(&rt, alloc, length, parts);
-        assert!(&rt; says(alloc, file, "file", false, status, want), "{name}");
+fn files_with_heads_are_shown_or_refused(rt: HostRuntime) {
+    for row in &HEADED {
+        assert!(&rt; is_headed(&rt, rt.alloc(), row), "{}", row.0);
     }
+}
+
+/// Whether that is so of the file of such a row.
+fn has_end(rt: &impl Abort, alloc: Global, row: &PartsRow) -> bool {
+    is_shown(rt, alloc, row.1, row.2, row.3, row.4)
+}
+
+#[test]
+fn other_files_are_shown_or_refused(rt: HostRuntime) {
+    for row in &SHOWN {
+        assert!(&rt; has_end(&rt, rt.alloc(), row), "{}", row.0);
+    }
+}
+
+/// Whether a leaf table is shown leaf by leaf.
+fn shows_leaves(rt: &impl Abort, alloc: Global) -> bool {
     let leased: [(usize, &[u8]); 3] = [(0, b"\xa7\0\0\0\x01"), (5, &OF_TABLE), (128, &LEASED)];
-    let table = file_of(&rt, alloc, 4224, &leased);
-    assert!(&rt; says(alloc, table, "file", true, 0, LEAVES));
+    let table = file_of(rt, alloc, 4224, &leased);
+    says(alloc, table, "file", true, 0, LEAVES)
+}
+
+#[test]
+fn leaves_are_shown_and_no_other_file(rt: HostRuntime) {
+    let alloc = rt.alloc();
+    assert!(&rt; shows_leaves(&rt, alloc));
     assert!(&rt; says(alloc, Vec::new(alloc), "other", false, 3, "error 3 store\n"));
 }
