@@ -198,11 +198,8 @@ fn enters_or_not(rt: &impl Abort, alloc: Global, call: u64, pick: u64) -> bool {
 #[test]
 fn an_entry_is_before_or_after(rt: HostRuntime) {
     for call in 0..9 {
-        for pick in [0, 1, 5] {
-            assert!(rt;
-                enters_or_not(&rt, rt.alloc(), call, pick),
-                "call {call}, pick {pick}"
-            );
+        for pick in &[0, 1, 5] {
+            assert!(rt; enters_or_not(&rt, rt.alloc(), call, *pick));
         }
     }
 }
@@ -250,18 +247,31 @@ fn is_refused(rt: &impl Abort, alloc: Global, disk: MemDisk, number: u8, why: Jo
     Leaves::load(rt, alloc, disk, number).err() == Some(why)
 }
 
-#[test]
-fn other_files_are_refused(rt: HostRuntime) {
+/// Whether a file that is too short is refused.
+fn refuses_short(rt: &impl Abort, alloc: Global) -> bool {
     let (got, want) = (100, 5248);
     let length = JournalLoad::Slots(LoadFault::Length { got, want });
-    let short = holding(&rt, rt.alloc(), &[0xA7; 100]);
-    assert!(rt; is_refused(&rt, rt.alloc(), short, 3, length));
+    is_refused(rt, alloc, holding(rt, alloc, &[0xA7; 100]), 3, length)
+}
+
+/// Whether the journal of another trustee is refused.
+fn refuses_foreign(rt: &impl Abort, alloc: Global) -> bool {
     let kept = header(2, 3);
     let foreign = JournalLoad::Slots(LoadFault::Foreign { kept });
-    let disk = free_file(&rt, rt.alloc(), &kept, 32);
-    assert!(rt; is_refused(&rt, rt.alloc(), disk, 4, foreign));
+    is_refused(rt, alloc, free_file(rt, alloc, &kept, 32), 4, foreign)
+}
+
+/// Whether a journal with a damaged slot is refused.
+fn refuses_damaged(rt: &impl Abort, alloc: Global) -> bool {
     let (leaf, a, b) = (1, 0, 0xC2);
+    let disk = free_file(rt, alloc, &header(2, 3), 32);
     let damaged = JournalLoad::Damaged { leaf, a, b };
-    let disk = with_byte(&rt, free_file(&rt, rt.alloc(), &kept, 32), 328, 0xC2);
-    assert!(rt; is_refused(&rt, rt.alloc(), disk, 3, damaged));
+    is_refused(rt, alloc, with_byte(rt, disk, 328, 0xC2), 3, damaged)
+}
+
+#[test]
+fn other_files_are_refused(rt: HostRuntime) {
+    assert!(rt; refuses_short(&rt, rt.alloc()));
+    assert!(rt; refuses_foreign(&rt, rt.alloc()));
+    assert!(rt; refuses_damaged(&rt, rt.alloc()));
 }

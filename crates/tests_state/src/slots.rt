@@ -155,9 +155,9 @@ fn is_made_free(rt: &impl Abort, alloc: Global, version: u8, size: usize) -> boo
 
 #[test]
 fn a_prepared_file_is_free(rt: HostRuntime) {
-    for (version, size) in [(2, 5248), (1, 4224), (3, 4224)] {
-        assert!(rt; is_made_free(&rt, rt.alloc(), version, size));
-    }
+    assert!(rt; is_made_free(&rt, rt.alloc(), 2, 5248));
+    assert!(rt; is_made_free(&rt, rt.alloc(), 1, 4224));
+    assert!(rt; is_made_free(&rt, rt.alloc(), 3, 4224));
 }
 
 /// Puts both bodies into slot 1 of a file whose disk stops at a call: whether a crash leaves the slot as this.
@@ -180,13 +180,13 @@ fn puts_or_not(
     after: Slot,
 ) -> bool {
     for call in 0..4 {
-        for pick in [0, 1, 5] {
-            let want = if call == 3 && pick == 1 {
+        for pick in &[0, 1, 5] {
+            let want = if call == 3 && *pick == 1 {
                 after
             } else {
                 before
             };
-            if !leaves(rt, alloc, version, from.saturating_add(call), pick, want) {
+            if !leaves(rt, alloc, version, from.saturating_add(call), *pick, want) {
                 return false;
             }
         }
@@ -263,11 +263,15 @@ const FAULTS: [(usize, u64, u8, Option<LoadFault>); 6] = [
     (5247, 5, 4, Some(LoadFault::Foreign { kept: OTHER })),
 ];
 
+/// Whether the file of a row has the row's fault.
+fn has_fault(rt: &impl Abort, alloc: Global, row: &(usize, u64, u8, Option<LoadFault>)) -> bool {
+    part_fault(rt, alloc, row.0, row.1, row.2) == row.3
+}
+
 #[test]
 fn another_file_is_refused(rt: HostRuntime) {
-    for (length, place, byte, want) in FAULTS {
-        let fault = part_fault(&rt, rt.alloc(), length, place, byte);
-        assert!(rt; fault == want, "{length} bytes, byte {place}");
+    for row in &FAULTS {
+        assert!(rt; has_fault(&rt, rt.alloc(), row));
     }
 }
 
@@ -289,13 +293,15 @@ fn filled(rt: &impl Abort, alloc: Global, version: u8) -> File {
     file
 }
 
+/// Whether the last two slots of a file of a version are looked at at once.
+fn is_looked_at(rt: &impl Abort, alloc: Global, version: u8) -> bool {
+    let disk = free_file(rt, alloc, &header(version, 3), 32);
+    File::open(rt, disk, version).puts_last()
+}
+
 #[test]
 fn a_run_is_looked_at(rt: HostRuntime) {
-    for version in [1, 2] {
-        let disk = free_file(&rt, rt.alloc(), &header(version, 3), 32);
-        let mut file = File::open(&rt, disk, version);
-        assert!(rt; file.puts_last());
-    }
+    assert!(rt; is_looked_at(&rt, rt.alloc(), 1) && is_looked_at(&rt, rt.alloc(), 2));
 }
 
 /// Whether a disk holds a copy of a filled file.
@@ -321,15 +327,20 @@ fn slots_are_copied(rt: HostRuntime) {
     assert!(rt; copies(&rt, rt.alloc(), 1));
 }
 
-#[test]
-fn a_damaged_slot_is_shown(rt: HostRuntime) {
-    let disk = free_file(&rt, rt.alloc(), &header(2, 3), 32);
-    let mut file = File::open(&rt, with_byte(&rt, disk, 168, 0xC2), 2);
+/// Whether a damaged slot is shown, and a copy that it stops does not open.
+fn shows_damage(rt: &impl Abort, alloc: Global) -> bool {
+    let disk = free_file(rt, alloc, &header(2, 3), 32);
+    let mut file = File::open(rt, with_byte(rt, disk, 168, 0xC2), 2);
     let (slot, a, b) = (0, 0, 194);
     let shown = file.has(slot, Slot::Damaged { a, b });
-    let mut copy = empty(&rt, rt.alloc(), 32);
+    let mut copy = empty(rt, alloc, 32);
     let refused = file.copy(&mut copy) == Err(CopyFault::Damaged { slot, a, b });
-    assert!(rt; shown & refused & (load_fault(copy) == Some(LoadFault::NotReady { gate: 0 })));
+    shown & refused & (load_fault(copy) == Some(LoadFault::NotReady { gate: 0 }))
+}
+
+#[test]
+fn a_damaged_slot_is_shown(rt: HostRuntime) {
+    assert!(rt; shows_damage(&rt, rt.alloc()));
 }
 
 /// Whether what a crash leaves of a file that was being made opens, or `None` where it is refused for another cause
@@ -365,14 +376,19 @@ fn copies_or_not(
     (done == Err(CopyFault::Device)) & (is_whole(rt, alloc, disk, pick) == Some(want))
 }
 
+/// Whether both are so for each call at which the disk may stop, with this pick of a crash.
+fn each_is_so(rt: &impl Abort, alloc: Global, pick: u64) -> bool {
+    let mut from = filled(rt, alloc, 1);
+    let mut right = true;
+    for call in 0..39 {
+        let want = call == 38 && pick == 1;
+        right &= makes_or_not(rt, alloc, call, pick, want);
+        right &= copies_or_not(rt, alloc, &mut from, call, pick, want);
+    }
+    right
+}
+
 #[test]
 fn a_file_is_made_or_does_not_open(rt: HostRuntime) {
-    let mut from = filled(&rt, rt.alloc(), 1);
-    for call in 0..39 {
-        for pick in [0, 1] {
-            let want = call == 38 && pick == 1;
-            assert!(rt; makes_or_not(&rt, rt.alloc(), call, pick, want));
-            assert!(rt; copies_or_not(&rt, rt.alloc(), &mut from, call, pick, want));
-        }
-    }
+    assert!(rt; each_is_so(&rt, rt.alloc(), 0) && each_is_so(&rt, rt.alloc(), 1));
 }

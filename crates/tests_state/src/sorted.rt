@@ -1,21 +1,37 @@
 //! Sorted lists: items that are taken in, found and taken out.
 
 use sorted_list::SortedList;
-use std::test::Fail;
+use std::alloc::Global;
+
+/// A list with room for four items into which three were taken, the greatest first.
+fn list_of<T: Ord + Copy>(alloc: Global, items: &[T; 3]) -> Option<SortedList<T>> {
+    let mut list = SortedList::with_room(alloc, 4).ok()?;
+    list.insert(items[2]);
+    list.insert(items[0]);
+    list.insert(items[1]);
+    Some(list)
+}
+
+/// Whether these are the items.
+fn has<T: Ord + Copy>(list: &SortedList<T>, items: &[T]) -> bool {
+    list.items() == items
+}
+
+/// Whether a list of three ascending items has them in their order, finds the one in the middle, alone and as the least
+/// that is not below another, finds none from behind them on, and has the others once that one is taken out.
+fn keeps<T: Ord + Copy>(alloc: Global, items: &[T; 3], below: T, behind: T) -> bool {
+    let Some(mut list) = list_of(alloc, items) else {
+        return false;
+    };
+    let taken = has(&list, items);
+    let held = list.holds(&items[1]) & !list.holds(&below);
+    let least = list.least_from(&below) == Some(items[1]);
+    let none = list.least_from(&behind) == None;
+    list.remove(&items[1]);
+    taken & held & least & none & has(&list, &[items[0], items[2]])
+}
 
 #[test]
-fn items_are_ascending_and_each_is_there_once(rt: HostRuntime) -> Result<(), Fail> {
-    let mut list = SortedList::<u32>::with_room(rt.alloc(), 4)?;
-    let before = list.holds(&5);
-    list.insert(7);
-    list.insert(3);
-    list.insert(5);
-    let taken = list.items() == [3, 5, 7].as_slice();
-    let after = list.holds(&5);
-    let least = list.least_from(&4) == Some(5);
-    let none = list.least_from(&8) == None;
-    list.remove(&5);
-    let left = list.items() == [3, 7].as_slice();
-    assert!(rt; !before & taken & after & least & none & left);
-    Ok(())
+fn items_are_ascending_and_each_is_there_once(rt: HostRuntime) {
+    assert!(rt; keeps(rt.alloc(), &[3, 5, 7], 4, 8));
 }

@@ -191,11 +191,8 @@ fn enters_or_not(rt: &impl Abort, alloc: Global, call: u64, pick: u64) -> bool {
 #[test]
 fn an_entry_is_before_or_after(rt: HostRuntime) {
     for call in 0..9 {
-        for pick in [0, 1, 5] {
-            assert!(rt;
-                enters_or_not(&rt, rt.alloc(), call, pick),
-                "call {call}, pick {pick}"
-            );
+        for pick in &[0, 1, 5] {
+            assert!(rt; enters_or_not(&rt, rt.alloc(), call, *pick));
         }
     }
 }
@@ -248,24 +245,30 @@ fn a_hundred_of_924_coalitions_have_two_leaves(rt: HostRuntime) {
     let plan = plan_of(&rt, 12, 6, 10);
     let disk = free_file(&rt, rt.alloc(), &header(1, 0), 1024);
     let mut table = loaded(&rt, rt.alloc(), disk, &plan);
-    for (c, count) in [(99, 2), (100, 1), (923, 1)] {
-        assert!(rt; c < plan.count());
-        assert!(rt; has_leaves(&mut table, plan.members(c).bits(), c, 924, count));
+    for (c, count) in &[(99, 2), (100, 1), (923, 1)] {
+        assert!(rt; *c < plan.count());
+        assert!(rt; has_leaves(&mut table, plan.members(*c).bits(), *c, 924, *count));
     }
+}
+
+/// Whether trustees 3, 4 and 5 lease leaves 9, 19 and 29, each for one message, and no more.
+fn leases_three(table: &mut Table<MemDisk>) -> bool {
+    for (message, leaf) in &[(0, 9), (1, 19), (2, 29), (0, 9)] {
+        if lease(table, 0b11100, &numbered(*message)) != Ok(*leaf) {
+            return false;
+        }
+    }
+    let none = Err(TableFault::NoLeaf { coalition: 9 });
+    let third = lease(table, 0b11100, &numbered(3)) == none;
+    let fourth = lease(table, 0b11100, &numbered(4)) == none;
+    third & fourth & (lease(table, 0b11100, &numbered(0)) == Ok(9))
 }
 
 #[test]
 fn trustees_3_4_and_5_of_5_have_three_leaves(rt: HostRuntime) {
     let disk = free_file(&rt, rt.alloc(), &header(1, 0), 32);
     let mut table = loaded(&rt, rt.alloc(), disk, &plan_of(&rt, 5, 3, 5));
-    for (message, want) in [(0, 9), (1, 19), (2, 29), (0, 9)] {
-        assert!(rt; lease(&mut table, 0b11100, &numbered(message)) == Ok(want));
-    }
-    for message in 3..5 {
-        let none = Err(TableFault::NoLeaf { coalition: 9 });
-        assert!(rt; lease(&mut table, 0b11100, &numbered(message)) == none);
-    }
-    assert!(rt; lease(&mut table, 0b11100, &numbered(0)) == Ok(9));
+    assert!(rt; leases_three(&mut table));
 }
 
 /// Hands a value on that may stand under a lock.

@@ -13,7 +13,6 @@ use mask_prf::{chain_mask, check_tag, random_mask};
 use share_files::Share;
 use std::alloc::Global;
 use std::process::Abort;
-use std::test::Fail;
 use trustee_core::{Grant, Refusal, Trustee, mask_count, release};
 
 /// An ask, whose randomizer and digest have 32 bytes.
@@ -185,24 +184,31 @@ fn round_two_is_for_one_randomizer(rt: HostRuntime) {
     assert!(rt; once & opens_no_other(&mut signer, &share));
 }
 
+/// Refusals, and their numbers.
+const NUMBERS: [(Refusal, u8); 7] = [
+    (Refusal::ForeignKey, 1),
+    (Refusal::NoSuchLeaf, 2),
+    (Refusal::NotMember, 3),
+    (Refusal::TooLong { got: 16_777_217 }, 4),
+    (Refusal::BadCheck, 5),
+    (Refusal::Device, 6),
+    (Refusal::NotBound, 8),
+];
+
+/// Whether a refusal has this number.
+fn has_number(refusal: &Refusal, number: u8) -> bool {
+    refusal.code() == number
+}
+
 #[test]
 fn a_refusal_has_its_number(rt: HostRuntime) {
+    for (refusal, number) in &NUMBERS {
+        assert!(rt; has_number(refusal, *number));
+    }
     let kept = MessageId::of(b"abc");
     let (c, digest) = (Val::of(&[0xCC; 32]), Val::of(&[0xDD; 32]));
-    let numbers = [
-        (Refusal::ForeignKey, 1),
-        (Refusal::NoSuchLeaf, 2),
-        (Refusal::NotMember, 3),
-        (Refusal::TooLong { got: 16_777_217 }, 4),
-        (Refusal::BadCheck, 5),
-        (Refusal::Device, 6),
-        (Refusal::NotBound, 8),
-        (Refusal::Spent { kept }, 9),
-        (Refusal::OtherDigest { c, digest }, 10),
-    ];
-    for (refusal, number) in numbers {
-        assert!(rt; refusal.code() == number, "refusal {number}");
-    }
+    assert!(rt; has_number(&Refusal::Spent { kept }, 9));
+    assert!(rt; has_number(&Refusal::OtherDigest { c, digest }, 10));
 }
 
 /// Whether a grant of round one for leaf 0 gives the mask of the randomizer.
@@ -232,8 +238,8 @@ fn gives_chain_masks(signer: &mut Signer, share: &Share) -> bool
         return false;
     };
     // 64 digits 13 fall short of 15 by 128, which is the checksum 0x0800 once it is shifted.
-    for (i, digit) in [(0, 13), (63, 13), (64, 0), (65, 8), (66, 0)] {
-        if !gives_chain_mask(&granted, share, i, digit) {
+    for (i, digit) in &[(0, 13), (63, 13), (64, 0), (65, 8), (66, 0)] {
+        if !gives_chain_mask(&granted, share, *i, *digit) {
             return false;
         }
     }
@@ -274,10 +280,9 @@ fn a_disk_that_fails_is_asked_again(rt: HostRuntime) {
 }
 
 #[test]
-fn a_refusal_says_what_the_leaf_is_bound_to(rt: HostRuntime) -> Result<(), Fail> {
+fn a_refusal_says_what_the_leaf_is_bound_to(rt: HostRuntime) {
     let kept = MessageId::of(b"abc");
     let text = "the leaf is bound to another message, of 3 bytes";
-    let said = Refusal::Spent { kept }.to_string(rt.alloc())?;
-    assert!(rt; said.as_str() == text);
-    Ok(())
+    let said = Refusal::Spent { kept }.to_string(rt.alloc());
+    assert!(rt; said.expect(&rt, "memory").as_str() == text);
 }

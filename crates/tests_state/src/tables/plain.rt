@@ -8,6 +8,7 @@ use crate::disks::{free_file, header};
 use coalition_map::Plan;
 use disk_trait::MemDisk;
 use leaf_table::{Table, TableFault};
+use std::alloc::Global;
 use std::process::Abort;
 
 /// The plans: how many trustees there are, and how many of them sign.
@@ -112,12 +113,16 @@ fn uses_up(table: &mut Table<MemDisk>, plan: &Plan) -> bool
     !leaves.contains(&Leaf::Free)
 }
 
+/// Whether the table of a plan answers as the plain search.
+fn answers(rt: &impl Abort, alloc: Global, n: u8, k: u8) -> bool {
+    let plan = plan_of(rt, n, k, 5);
+    let disk = free_file(rt, alloc, &header(1, 0), 32);
+    uses_up(&mut loaded(rt, alloc, disk, &plan), &plan)
+}
+
 #[test]
 fn tables_answer_as_a_plain_search(rt: HostRuntime) {
-    for (n, k) in PLANS {
-        let plan = plan_of(&rt, n, k, 5);
-        let disk = free_file(&rt, rt.alloc(), &header(1, 0), 32);
-        let mut table = loaded(&rt, rt.alloc(), disk, &plan);
-        assert!(rt; uses_up(&mut table, &plan));
+    for (n, k) in &PLANS {
+        assert!(rt; answers(&rt, rt.alloc(), *n, *k));
     }
 }
