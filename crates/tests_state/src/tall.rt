@@ -9,8 +9,8 @@ use opening_journal::{Entered, Entry, Journal, JournalFault};
 use slot_file::{Header, prepare};
 use std::alloc::Global;
 use std::fs::{metadata, remove_file};
+use std::io;
 use std::process::Abort;
-use std::test::Fail;
 use stream_host::FileStore;
 use stream_io::Store;
 
@@ -120,13 +120,19 @@ where
     assert!(rt; journal.has_last());
 }
 
+/// Makes that journal, takes it, and looks for the leaf.
+fn keep<S: Store>(rt: &impl Abort, alloc: Global, store: &mut S, name: &str)
+where
+    S::Disk: Drop,
+{
+    make(rt, alloc, store, name);
+    take(rt, alloc, store, name);
+}
+
 #[test]
-fn the_last_leaf_of_a_tall_journal_is_kept(rt: HostRuntime) -> Result<(), Fail> {
+fn the_last_leaf_of_a_tall_journal_is_kept(rt: HostRuntime) -> io::Result<()> {
     let name = "the_last_leaf_of_a_tall_journal_is_kept.journal";
-    let mut store = FileStore::new(rt);
-    make(&rt, rt.alloc(), &mut store, name);
+    keep(&rt, rt.alloc(), &mut FileStore::new(rt), name);
     assert!(rt; metadata(&rt, name)?.len() == BYTES as u64);
-    take(&rt, rt.alloc(), &mut store, name);
-    remove_file(&rt, name)?;
-    Ok(())
+    remove_file(&rt, name)
 }
