@@ -124,7 +124,15 @@ type HeadRow = (
 static HEADED: [HeadRow; 15] = [
     ("a share", 64, b"TLSH\x01", &OF_SHARE, NONE, 0, SHARE),
     ("a long share", 65, b"TLSH\x01", &OF_SHARE, NONE, 4, FAULT_5),
-    ("a new share", 64, b"TLSH\x02", &OF_SHARE, NONE, 4, FAULT_2),
+    (
+        "a share of version 2",
+        64,
+        b"TLSH\x02",
+        &OF_SHARE,
+        NONE,
+        4,
+        FAULT_2,
+    ),
     ("a tree", 2048, b"TLTR\x01", &OF_TREE, (32, &ROOT), 0, TREE),
     (
         "a marked tree",
@@ -145,7 +153,7 @@ static HEADED: [HeadRow; 15] = [
         REFERENCE,
     ),
     (
-        "a cut one",
+        "a cut reference",
         310_047,
         b"TLRF\x01",
         &OF_PLAN,
@@ -154,7 +162,7 @@ static HEADED: [HeadRow; 15] = [
         FAULT_5,
     ),
     (
-        "one of no plan",
+        "a reference with no plan",
         64,
         b"TLRF\x01",
         &OF_TREE,
@@ -171,9 +179,17 @@ static HEADED: [HeadRow; 15] = [
         0,
         COMMITMENTS,
     ),
-    ("cut ones", 821_279, b"TLCM\x01", &OF_PLAN, NONE, 4, FAULT_5),
     (
-        "a table",
+        "cut commitments",
+        821_279,
+        b"TLCM\x01",
+        &OF_PLAN,
+        NONE,
+        4,
+        FAULT_5,
+    ),
+    (
+        "a leaf table",
         4224,
         b"\xa7\0\0\0\x01",
         &OF_TABLE,
@@ -209,7 +225,7 @@ static HEADED: [HeadRow; 15] = [
         SLOTS_6,
     ),
     (
-        "version 4",
+        "a file of version 4",
         4224,
         b"\xa7\0\0\0\x04",
         &OF_TABLE,
