@@ -1,6 +1,7 @@
 //! The rule of the words: which of them are a command.
 
-ghost use Rattle.std.specs.Prelude.{◌≡◌, List, map, option_map, string_bytes, ℕ};
+ghost use Rattle.std.specs.Prelude.{◌≡◌, ◌∷◌, List, map, option_map, string_bytes, ℕ};
+ghost use Rattle.std.specs.Option.{option_and_then};
 ghost use Rattle.std.specs.List.{list_any};
 ghost use Rattle.tool_words.specs.Words.{Row, aggregate_of, approve_of, command_of, deal_of, deal_with, drill_of};
 ghost use Rattle.tool_words.specs.Words.{enrol_of, flag_of, hss_of, hss_sign_of, is_option, migrate_of, of_three};
@@ -192,11 +193,7 @@ fn trustee_of<'a>(words: &'a [String], split: &[&'a str]) -> Option<Command<'a>>
     let [share, journal, place, workers, connections, last @ ..] = words else {
         return None;
     };
-    let book = match last {
-        [] => None,
-        [book] => Some(word_at(split, 5, book.as_str())),
-        _ => return None,
-    };
+    let book = book_of(last, split)?;
     trustee_with(
         word_at(split, 0, share.as_str()),
         word_at(split, 1, journal.as_str()),
@@ -205,6 +202,20 @@ fn trustee_of<'a>(words: &'a [String], split: &[&'a str]) -> Option<Command<'a>>
         connections.as_str(),
         book,
     )
+}
+
+/// The book that is named: by the one word that is left, or none.
+fn book_of<'a>(words: &'a [String], split: &[&'a str]) -> Option<Option<&'a str>>
+    ensures { (share journal place workers connections : List ℕ)
+        → option_and_then (λ book. trustee_with share journal place workers connections (option_map (λ book. book.now)
+        book)) result
+        ≡ trustee_of (share ∷ journal ∷ place ∷ workers ∷ connections ∷ map string_bytes words.now) }
+{
+    match words {
+        [] => Some(None),
+        [book] => Some(Some(word_at(split, 5, book.as_str()))),
+        _ => None,
+    }
 }
 
 /// The words of a trustee with this book, or with none.
