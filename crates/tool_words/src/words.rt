@@ -54,8 +54,8 @@ fn row_of<'a>(words: &'a [String], split: &[&'a str]) -> Option<Command<'a>>
     ensures { option_map row result ≡ row_of (map string_bytes words.now) }
 {
     let (name, words) = words.split_first()?;
-    let (name, split) = (word_at(split, 0, name.as_str()), rest_of(split));
-    match name {
+    let split = rest_of(split);
+    match name.as_str() {
         "verify" => verify_of(words, split),
         "rehearse" => rehearse_of(words, split),
         "deal" => deal_of(words, split),
@@ -247,7 +247,7 @@ fn sign_words_of<'a>(words: &'a [String], split: &[&'a str]) -> Option<SignWords
     let [prefix, table, message, out, addresses @ ..] = words else {
         return None;
     };
-    if prefix.as_str().is_empty() {
+    if prefix.is_empty() {
         return None;
     }
     let places = Places::of(addresses)?;
@@ -265,8 +265,8 @@ fn hss_of<'a>(words: &'a [String], split: &[&'a str]) -> Option<Command<'a>>
     ensures { option_map row result ≡ hss_of (map string_bytes words.now) }
 {
     let (name, words) = words.split_first()?;
-    let (name, split) = (word_at(split, 0, name.as_str()), rest_of(split));
-    match name {
+    let split = rest_of(split);
+    match name.as_str() {
         "check" => three_of(words, split).map(|(key, message, signature)| Command::HssCheck {
             key,
             message,
@@ -295,7 +295,7 @@ fn hss_sign_of<'a>(words: &'a [String], split: &[&'a str]) -> Option<Command<'a>
     else {
         return None;
     };
-    if prefix.as_str().is_empty() || key_out.as_str() == signature_out.as_str() {
+    if prefix.is_empty() || key_out.as_str() == signature_out.as_str() {
         return None;
     }
     let places = Places::of(addresses)?;
@@ -318,7 +318,7 @@ fn aggregate_of<'a>(words: &'a [String], split: &[&'a str]) -> Option<Command<'a
     let [prefix, table, place, workers, connections, addresses @ ..] = words else {
         return None;
     };
-    if prefix.as_str().is_empty() {
+    if prefix.is_empty() {
         return None;
     }
     let workers = number_within(workers.as_str(), 1, 64)?;
