@@ -1,5 +1,5 @@
 -- What was read, step by step.
-use Rattle.std.proofs.Common.{◌≡◌, ◌⊎◌, inl, inr, ◌-◌, ◌+◌, ◌++◌, ◌≤◌, ◌<◌, ℕ, Bool, true, false, List, Some, None, Result, Ok, Err, take, drop, length, min, refl, ap, sym, ◌∙◌, subst, arith, length-drop, length-take-le, take-add, drop-drop, append_assoc, append-nil, take_at, drop_at, nat_lt, le-ltb, if◌then◌else◌}
+use Rattle.std.proofs.Common.{◌≡◌, ◌≢◌, ◌⊎◌, inl, inr, ◌-◌, ◌+◌, ◌++◌, ◌≤◌, ◌<◌, ℕ, Bool, true, false, List, Some, None, Result, Ok, Err, take, drop, length, min, refl, ap, sym, ◌∙◌, subst, arith, length-drop, length-take-le, take-add, drop-drop, append_assoc, append-nil, take_at, drop_at, nat_lt, le-ltb, if◌then◌else◌}
 use Rattle.std.proofs.lemmas.Bool.Decides.{nat_tests}
 use Rattle.lms_bytes.specs.Bytes.{bytes_at, str_to_u32}
 use Rattle.lms_bytes.specs.MessageId.{message_id}
@@ -193,6 +193,10 @@ pub ask-split : (params : Params) (head message : List ℕ) → length head ≡ 
 ask-split params head message long =
     ap (λ h. ask_of params h (drop (52 + params.n) (head ++ message))) (take_at head message (52 + params.n) long)
     ∙ ap (ask_of params head) (drop_at head message (52 + params.n) long)
+
+-- what was read is no fault
+pub no-fault : {R : Type 0} (value : R) (fault : FrameFault) → Ok value ≢ Err fault
+no-fault value fault is = absurd (cc)
 
 -- what came of a call that did not fail
 pub not-err : {R T : Type 0} (value : R) (fault : FrameFault) → (Ok value ≡ Err fault) ⊎ T → T

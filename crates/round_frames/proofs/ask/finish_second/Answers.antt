@@ -1,7 +1,7 @@
 use Rattle.std.proofs.Common.{◌∙◌, Ok, ap, arith, length, take}
 use Rattle.std.proofs.lemmas.Result.{err_from_is_err_and}
 use Rattle.round_frames.specs.Asks.{ask_of}
-use Rattle.round_frames.proofs.Reading.{all-there, ask-is, part-missing}
+use Rattle.round_frames.proofs.Reading.{all-there, ask-is, part-missing, no-fault}
 use Rattle.round_frames.proofs.ask.finish_second.Goals as goal
 
 pub returns-in_err-take_message-clause-told : goal.returns-in_err-take_message-clause-told
@@ -37,3 +37,21 @@ returns-clause-sizes g c =
     let rand = c.of-c.result in
     let taken = c.in_ok-take_message.ensures.some params key leaf rand c.new-2.ensures in
     (ap length c.of-c.ensures ∙ c.part-3.ensures.length, c.finish-2.ensures.length params key leaf rand taken.0 taken.1)
+
+pub returns-clause-only : goal.returns-clause-only
+returns-clause-only g c = c.in_ok-take_message.ensures.takes.only
+
+pub returns-clause-steady : goal.returns-clause-steady
+returns-clause-steady g c = c.in_ok-take_message.ensures.takes.steady
+
+pub returns-in_err-take_message-clause-only : goal.returns-in_err-take_message-clause-only
+returns-in_err-take_message-clause-only g c = c.in_err-take_message.ensures.takes.only
+
+pub returns-in_err-take_message-clause-steady : goal.returns-in_err-take_message-clause-steady
+returns-in_err-take_message-clause-steady g c = c.in_err-take_message.ensures.takes.steady
+
+pub returns-clause-answers : goal.returns-clause-answers
+returns-clause-answers g c steady = no-fault _ _
+
+pub returns-clause-no_memory : goal.returns-clause-no_memory
+returns-clause-no_memory g c = no-fault _ _

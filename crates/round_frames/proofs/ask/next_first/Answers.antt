@@ -18,3 +18,15 @@ returns-clause-told g c told =
 
 pub returns-clause-first : goal.returns-clause-first
 returns-clause-first g c = ap (λ ask. ask.second) c.read_first.ensures
+
+pub returns-in_err-fill-clause-only : goal.returns-in_err-fill-clause-only
+returns-in_err-fill-clause-only g c = c.in_err-fill.ensures.only
+
+pub returns-in_err-fill-clause-steady : goal.returns-in_err-fill-clause-steady
+returns-in_err-fill-clause-steady g c = c.in_err-fill.ensures.steady
+
+pub returns-clause-only : goal.returns-clause-only
+returns-clause-only g c = c.in_ok-fill.ensures.only
+
+pub returns-clause-steady : goal.returns-clause-steady
+returns-clause-steady g c = c.in_ok-fill.ensures.steady

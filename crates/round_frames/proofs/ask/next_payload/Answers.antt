@@ -4,7 +4,7 @@ use Rattle.lms_bytes.specs.declared.ask.Second.{Second}
 use Rattle.lms_bytes.specs.declared.params.Params.{Params}
 use Rattle.round_frames.specs.Asks.{HasSizes, asks, first_ask, second_ask}
 use Rattle.round_frames.specs.declared.fault.FrameFault.{FrameFault}
-use Rattle.round_frames.proofs.Reading.{in-payload, payload-fault}
+use Rattle.round_frames.proofs.Reading.{in-payload, only-same, payload-fault}
 use Rattle.round_frames.proofs.ask.next_payload.Goals as goal
 
 pub returns-in-Some-clause-told : goal.returns-in-Some-clause-told
@@ -31,3 +31,39 @@ sizes-first params (Err fault) none = tt
 
 pub returns-then-header-eq1-clause-sizes : goal.returns-then-header-eq1-clause-sizes
 returns-then-header-eq1-clause-sizes g c = sizes-first c.args.params.now c.next_first.result c.next_first.ensures.first
+
+pub returns-then-header-eq1-clause-only : goal.returns-then-header-eq1-clause-only
+returns-then-header-eq1-clause-only g c = c.next_first.ensures.only
+
+pub returns-then-header-eq1-clause-cause : goal.returns-then-header-eq1-clause-cause
+returns-then-header-eq1-clause-cause g c = c.next_first.ensures.cause
+
+pub returns-then-header-eq1-clause-answers : goal.returns-then-header-eq1-clause-answers
+returns-then-header-eq1-clause-answers g c = c.next_first.ensures.answers
+
+pub returns-then-header-eq1-clause-steady : goal.returns-then-header-eq1-clause-steady
+returns-then-header-eq1-clause-steady g c = c.next_first.ensures.steady
+
+pub returns-then-header-eq1-clause-no_memory : goal.returns-then-header-eq1-clause-no_memory
+returns-then-header-eq1-clause-no_memory g c = c.next_first.ensures.no_memory
+
+pub returns-else-header-eq1-clause-only : goal.returns-else-header-eq1-clause-only
+returns-else-header-eq1-clause-only g c = c.next_second.ensures.only
+
+pub returns-else-header-eq1-clause-cause : goal.returns-else-header-eq1-clause-cause
+returns-else-header-eq1-clause-cause g c = c.next_second.ensures.cause
+
+pub returns-else-header-eq1-clause-answers : goal.returns-else-header-eq1-clause-answers
+returns-else-header-eq1-clause-answers g c = c.next_second.ensures.answers
+
+pub returns-else-header-eq1-clause-steady : goal.returns-else-header-eq1-clause-steady
+returns-else-header-eq1-clause-steady g c = c.next_second.ensures.steady
+
+pub returns-else-header-eq1-clause-no_memory : goal.returns-else-header-eq1-clause-no_memory
+returns-else-header-eq1-clause-no_memory g c = c.next_second.ensures.no_memory
+
+pub returns-else-header-eq1-clause-sizes : goal.returns-else-header-eq1-clause-sizes
+returns-else-header-eq1-clause-sizes g c = c.next_second.ensures.sizes
+
+pub returns-in-Some-clause-only : goal.returns-in-Some-clause-only
+returns-in-Some-clause-only g c = only-same (g.S.Stream.talk c.args.source.now)

@@ -2,7 +2,7 @@ use Rattle.std.proofs.Common.{◌≡◌, List, ℕ, ◌+◌, ◌≤◌, ◌∙�
 use Rattle.std.proofs.lemmas.Result.{err_from_is_err_and}
 use Rattle.stream_io.specs.Talk.{Took}
 use Rattle.round_frames.specs.Asks.{ask_of, second_ask}
-use Rattle.round_frames.proofs.Reading.{ask-split, head-then, part-missing}
+use Rattle.round_frames.proofs.Reading.{ask-split, head-then, only-then, part-missing}
 use Rattle.round_frames.proofs.ask.next_second.Goals as goal
 
 pub returns-in_err-fill-clause-told : goal.returns-in_err-fill-clause-told
@@ -32,3 +32,21 @@ returns-clause-told g c told =
     head-then (talk c.args.source.now) (talk c.fill.new.source) (talk c.finish_second.new.source) c.finish_second.result k c.args.length head
     (λ payload. Ok (second_ask params payload)) (λ message. Ok (ask_of params head message)) c.requires front took
     (λ rest. ap (λ ask. Ok ask) (ask-split params head rest long)) (c.finish_second.ensures.told (f.only.told ∙ told))
+
+pub returns-in_err-fill-clause-only : goal.returns-in_err-fill-clause-only
+returns-in_err-fill-clause-only g c = c.in_err-fill.ensures.only
+
+pub returns-in_err-fill-clause-steady : goal.returns-in_err-fill-clause-steady
+returns-in_err-fill-clause-steady g c = c.in_err-fill.ensures.steady
+
+pub returns-clause-no_memory : goal.returns-clause-no_memory
+returns-clause-no_memory g c = c.finish_second.ensures.no_memory
+
+pub returns-clause-sizes : goal.returns-clause-sizes
+returns-clause-sizes g c = c.finish_second.ensures.sizes
+
+pub returns-clause-only : goal.returns-clause-only
+returns-clause-only g c = only-then _ _ _ c.in_ok-fill.ensures.only c.finish_second.ensures.only
+
+pub returns-clause-steady : goal.returns-clause-steady
+returns-clause-steady g c = c.finish_second.ensures.steady ∙ c.in_ok-fill.ensures.steady

@@ -22,3 +22,27 @@ pub returns-in-Err-clause-passed : goal.returns-in-Err-clause-passed
 returns-in-Err-clause-passed g c told =
     let took = c.in-Err.ensures.took told in
     inr (record { is = refl; size = took.size; took = took.took })
+
+pub returns-in-Ok-clause-only : goal.returns-in-Ok-clause-only
+returns-in-Ok-clause-only g c = c.in-Ok.ensures.only
+
+pub returns-in-Ok-clause-steady : goal.returns-in-Ok-clause-steady
+returns-in-Ok-clause-steady g c = c.in-Ok.ensures.steady
+
+pub returns-in-Ok-2-clause-only : goal.returns-in-Ok-2-clause-only
+returns-in-Ok-2-clause-only g c = c.in-Ok.ensures.only
+
+pub returns-in-Ok-2-clause-steady : goal.returns-in-Ok-2-clause-steady
+returns-in-Ok-2-clause-steady g c = c.in-Ok.ensures.steady
+
+pub returns-in-Err-clause-only : goal.returns-in-Err-clause-only
+returns-in-Err-clause-only g c = c.in-Err.ensures.only
+
+pub returns-in-Err-clause-steady : goal.returns-in-Err-clause-steady
+returns-in-Err-clause-steady g c = c.in-Err.ensures.steady
+
+pub returns-in-Ok-clause-faults : goal.returns-in-Ok-clause-faults
+returns-in-Ok-clause-faults g c = inl refl
+
+pub returns-in-Err-clause-faults : goal.returns-in-Err-clause-faults
+returns-in-Err-clause-faults g c = inr refl

@@ -12,3 +12,12 @@ returns-clause-hashed g c told xs = record {
 
 pub returns-clause-some : goal.returns-clause-some
 returns-clause-some g c params key q r xs taken = (_, c.update-2.ensures params key q r xs taken)
+
+pub returns-clause-takes : goal.returns-clause-takes
+returns-clause-takes g c =
+    record {
+      only = c.in_ok-fill.ensures.only;
+      cause = c.in_ok-fill.ensures.cause;
+      answers = c.in_ok-fill.ensures.answers;
+      steady = c.in_ok-fill.ensures.steady;
+    }

@@ -2,7 +2,7 @@ use Rattle.std.proofs.Common.{◌≡◌, ◌==◌, ◌∙◌, Ok, false, ap, ari
 use Rattle.std.proofs.lemmas.Result.{err_from_is_err_and}
 use Rattle.round_frames.specs.Results.{Failed, Signature, failure_of, results}
 use Rattle.round_frames.specs.declared.fault.FrameFault.TheVariants.{NoMemory}
-use Rattle.round_frames.proofs.Reading.{all-there, in-payload, not-err, part-missing, payload-fault, rest-missing, took-none}
+use Rattle.round_frames.proofs.Reading.{all-there, in-payload, not-err, part-missing, payload-fault, rest-missing, took-none, only-same}
 use Rattle.round_frames.proofs.outcome.next_payload.Goals as goal
 
 pub returns-in-Some-clause-told : goal.returns-in-Some-clause-told
@@ -47,3 +47,30 @@ returns-clause-told g c told =
     c.in_default.ensures.fault seven (λ payload. rw test refl)
     (all-there (talk c.args.source.now) (talk c.fill.new.source) _ 7 (λ payload. Ok (Failed (failure_of payload))) (f.passed told)
     (ap (λ failure. Ok (Failed failure)) (c.read_failure.ensures ∙ ap failure_of (f.bytes told)))))
+
+pub returns-in-Some-clause-only : goal.returns-in-Some-clause-only
+returns-in-Some-clause-only g c = only-same (g.S.Stream.talk c.args.source.now)
+
+pub returns-in_err-bytes-clause-only : goal.returns-in_err-bytes-clause-only
+returns-in_err-bytes-clause-only g c = c.in_err-bytes.ensures.only
+
+pub returns-in_err-bytes-clause-steady : goal.returns-in_err-bytes-clause-steady
+returns-in_err-bytes-clause-steady g c = c.in_err-bytes.ensures.steady
+
+pub returns-then-header-eq7-clause-only : goal.returns-then-header-eq7-clause-only
+returns-then-header-eq7-clause-only g c = c.in_ok-bytes.ensures.only
+
+pub returns-then-header-eq7-clause-steady : goal.returns-then-header-eq7-clause-steady
+returns-then-header-eq7-clause-steady g c = c.in_ok-bytes.ensures.steady
+
+pub returns-in_err-fill-clause-only : goal.returns-in_err-fill-clause-only
+returns-in_err-fill-clause-only g c = c.in_err-fill.ensures.only
+
+pub returns-in_err-fill-clause-steady : goal.returns-in_err-fill-clause-steady
+returns-in_err-fill-clause-steady g c = c.in_err-fill.ensures.steady
+
+pub returns-clause-only : goal.returns-clause-only
+returns-clause-only g c = c.in_ok-fill.ensures.only
+
+pub returns-clause-steady : goal.returns-clause-steady
+returns-clause-steady g c = c.in_ok-fill.ensures.steady

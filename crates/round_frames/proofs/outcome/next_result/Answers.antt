@@ -1,7 +1,7 @@
 use Rattle.std.proofs.Common.{◌∙◌, inr}
 use Rattle.std.proofs.lemmas.Result.{err_from_is_err_and}
 use Rattle.round_frames.specs.Results.{result_seen, results}
-use Rattle.round_frames.proofs.Reading.{either, header-then, no-header}
+use Rattle.round_frames.proofs.Reading.{either, header-then, no-header, only-then}
 use Rattle.round_frames.proofs.outcome.next_result.Goals as goal
 
 pub returns-in_err-header-clause-told : goal.returns-in_err-header-clause-told
@@ -16,3 +16,15 @@ returns-clause-told g c told =
     let h = c.in_ok-header.ensures in
     either (header-then (results c.args.params.now) c.in_ok-header.header (talk c.args.source.now) (talk c.next_header.new.source) (talk c.next_payload.new.source) (result_seen c.next_payload.result)
     (h.told told) (h.whole told)) (c.next_payload.ensures.told (h.only.told ∙ told))
+
+pub returns-in_err-header-clause-only : goal.returns-in_err-header-clause-only
+returns-in_err-header-clause-only g c = c.in_err-header.ensures.only
+
+pub returns-in_err-header-clause-steady : goal.returns-in_err-header-clause-steady
+returns-in_err-header-clause-steady g c = c.in_err-header.ensures.steady
+
+pub returns-clause-only : goal.returns-clause-only
+returns-clause-only g c = only-then _ _ _ c.in_ok-header.ensures.only c.next_payload.ensures.only
+
+pub returns-clause-steady : goal.returns-clause-steady
+returns-clause-steady g c = c.next_payload.ensures.steady ∙ c.in_ok-header.ensures.steady

@@ -19,3 +19,15 @@ returns-clause-told g c told =
     all-there (talk c.args.source.now) (talk c.fill.new.source) (body_seen c.reply_of.result c.fill.new.out) (length c.args.body.now)
     (λ rest. reply_in c.args.params.now.n c.args.kind c.args.head.now rest) (filled.passed told)
     (c.reply_of.ensures.reply ∙ ap (reply_in c.args.params.now.n c.args.kind c.args.head.now) (filled.bytes told))
+
+pub returns-in_err-fill-clause-only : goal.returns-in_err-fill-clause-only
+returns-in_err-fill-clause-only g c = c.in_err-fill.ensures.only
+
+pub returns-in_err-fill-clause-steady : goal.returns-in_err-fill-clause-steady
+returns-in_err-fill-clause-steady g c = c.in_err-fill.ensures.steady
+
+pub returns-clause-only : goal.returns-clause-only
+returns-clause-only g c = c.in_ok-fill.ensures.only
+
+pub returns-clause-steady : goal.returns-clause-steady
+returns-clause-steady g c = c.in_ok-fill.ensures.steady

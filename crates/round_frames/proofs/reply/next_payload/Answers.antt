@@ -4,7 +4,7 @@ use Rattle.stream_io.specs.Talk.{Took}
 use Rattle.round_frames.specs.Frames.{payload_in}
 use Rattle.round_frames.specs.Reads.{Reads}
 use Rattle.round_frames.specs.Replies.{Reply, replies}
-use Rattle.round_frames.proofs.Reading.{body-then, in-payload, part-missing, payload-fault}
+use Rattle.round_frames.proofs.Reading.{body-then, in-payload, only-same, only-then, part-missing, payload-fault, no-fault}
 use Rattle.round_frames.proofs.reply.next_payload.Goals as goal
 
 pub returns-in-Some-clause-told : goal.returns-in-Some-clause-told
@@ -73,3 +73,30 @@ overflow_sub-length g c =
     let is = c.head_length-size.ensures.length in
     let h = c.in_default.ensures.head refl in
     omega (arith, is, h)
+
+pub returns-in-Some-clause-only : goal.returns-in-Some-clause-only
+returns-in-Some-clause-only g c = only-same (g.S.Stream.talk c.args.source.now)
+
+pub returns-in_err-fill-clause-only : goal.returns-in_err-fill-clause-only
+returns-in_err-fill-clause-only g c = c.in_err-fill.ensures.only
+
+pub returns-in_err-fill-clause-steady : goal.returns-in_err-fill-clause-steady
+returns-in_err-fill-clause-steady g c = c.in_err-fill.ensures.steady
+
+pub returns-in_err-found-clause-only : goal.returns-in_err-found-clause-only
+returns-in_err-found-clause-only g c = only-then _ _ _ c.in_ok-fill.ensures.only c.in_err-found.ensures.only
+
+pub returns-in_err-found-clause-steady : goal.returns-in_err-found-clause-steady
+returns-in_err-found-clause-steady g c = c.in_err-found.ensures.steady ∙ c.in_ok-fill.ensures.steady
+
+pub returns-clause-only : goal.returns-clause-only
+returns-clause-only g c = only-then _ _ _ c.in_ok-fill.ensures.only c.in_ok-found.ensures.only
+
+pub returns-clause-steady : goal.returns-clause-steady
+returns-clause-steady g c = c.in_ok-found.ensures.steady ∙ c.in_ok-fill.ensures.steady
+
+pub returns-clause-answers : goal.returns-clause-answers
+returns-clause-answers g c steady = no-fault _ _
+
+pub returns-clause-no_memory : goal.returns-clause-no_memory
+returns-clause-no_memory g c = no-fault _ _

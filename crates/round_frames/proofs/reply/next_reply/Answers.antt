@@ -1,7 +1,7 @@
 use Rattle.std.proofs.Common.{◌∙◌}
 use Rattle.std.proofs.lemmas.Result.{err_from_is_err_and}
 use Rattle.round_frames.specs.Replies.{replies, reply_seen}
-use Rattle.round_frames.proofs.Reading.{header-then, no-header}
+use Rattle.round_frames.proofs.Reading.{header-then, no-header, only-then}
 use Rattle.round_frames.proofs.reply.next_reply.Goals as goal
 
 pub returns-in_err-header-clause-told : goal.returns-in_err-header-clause-told
@@ -16,3 +16,21 @@ returns-clause-told g c told =
     let h = c.in_ok-header.ensures in
     header-then (replies c.args.params.now) c.in_ok-header.header (talk c.args.source.now) (talk c.next_header.new.source) (talk c.next_payload.new.source) (reply_seen c.next_payload.result c.next_payload.new.body)
     (h.told told) (h.whole told) (c.next_payload.ensures.told (h.only.told ∙ told))
+
+pub returns-in_err-header-clause-only : goal.returns-in_err-header-clause-only
+returns-in_err-header-clause-only g c = c.in_err-header.ensures.only
+
+pub returns-in_err-header-clause-steady : goal.returns-in_err-header-clause-steady
+returns-in_err-header-clause-steady g c = c.in_err-header.ensures.steady
+
+pub returns-clause-only : goal.returns-clause-only
+returns-clause-only g c = only-then _ _ _ c.in_ok-header.ensures.only c.next_payload.ensures.only
+
+pub returns-clause-steady : goal.returns-clause-steady
+returns-clause-steady g c = c.next_payload.ensures.steady ∙ c.in_ok-header.ensures.steady
+
+pub returns-clause-no_memory : goal.returns-clause-no_memory
+returns-clause-no_memory g c = c.next_payload.ensures.no_memory
+
+pub returns-clause-within : goal.returns-clause-within
+returns-clause-within g c = c.next_payload.ensures.within

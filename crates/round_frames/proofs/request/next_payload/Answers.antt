@@ -5,7 +5,7 @@ use Rattle.coalition_map.specs.Members.{member_numbers}
 use Rattle.round_frames.specs.Requests.{requests}
 use Rattle.round_frames.specs.declared.fault.FrameFault.{FrameFault}
 use Rattle.round_frames.specs.declared.fault.FrameFault.TheVariants.{NoMemory}
-use Rattle.round_frames.proofs.Reading.{all-there, head-then, in-payload, not-err, part-missing, payload-fault, rest-missing}
+use Rattle.round_frames.proofs.Reading.{all-there, head-then, in-payload, not-err, part-missing, payload-fault, rest-missing, only-same, only-then}
 use Rattle.round_frames.proofs.request.next_payload.Goals as goal
 
 pub returns-in-Some-clause-told : goal.returns-in-Some-clause-told
@@ -54,3 +54,24 @@ returns-clause-told g c told =
     (c.in_default.ensures.length refl) (f.bytes told) took (λ rest. message-split head rest two)
     (all-there (talk c.fill.new.source) (talk c.take_bytes.new.source) _ (header.length - 2) next (not-err _ NoMemory (m.passed later))
     (same-request head (take (header.length - 2) (talk c.fill.new.source).left) c.of_bits.result c.in_ok-message.message.items (c.of_bits.ensures ∙ ap member_numbers c.from_be_bytes.ensures) (m.bytes later)))))
+
+pub returns-in-Some-clause-only : goal.returns-in-Some-clause-only
+returns-in-Some-clause-only g c = only-same (g.S.Stream.talk c.args.source.now)
+
+pub returns-in_err-fill-clause-only : goal.returns-in_err-fill-clause-only
+returns-in_err-fill-clause-only g c = c.in_err-fill.ensures.only
+
+pub returns-in_err-fill-clause-steady : goal.returns-in_err-fill-clause-steady
+returns-in_err-fill-clause-steady g c = c.in_err-fill.ensures.steady
+
+pub returns-in_err-message-clause-only : goal.returns-in_err-message-clause-only
+returns-in_err-message-clause-only g c = only-then _ _ _ c.in_ok-fill.ensures.only c.in_err-message.ensures.only
+
+pub returns-in_err-message-clause-steady : goal.returns-in_err-message-clause-steady
+returns-in_err-message-clause-steady g c = c.in_err-message.ensures.steady ∙ c.in_ok-fill.ensures.steady
+
+pub returns-clause-only : goal.returns-clause-only
+returns-clause-only g c = only-then _ _ _ c.in_ok-fill.ensures.only c.in_ok-message.ensures.only
+
+pub returns-clause-steady : goal.returns-clause-steady
+returns-clause-steady g c = c.in_ok-message.ensures.steady ∙ c.in_ok-fill.ensures.steady
