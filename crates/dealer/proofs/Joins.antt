@@ -1,15 +1,15 @@
 -- Leaves that several threads build, each a run of them.
-use Rattle.std.proofs.Common.{◌≡◌, ℕ, zero, suc, ◌+◌, ◌^◌, ◌<◌, List, [], ◌++◌, length, map, get_or, refl, sym, ap, ◌∙◌, arith, append-nil, append_assoc, take, take_all, drop, ap₂, ◌*◌, ◌≤◌}
+use Rattle.std.proofs.Common.{◌≡◌, ℕ, zero, suc, ◌+◌, ◌^◌, ◌<◌, List, [], ◌++◌, length, map, get_or, refl, sym, ap, ◌∙◌, arith, append-nil, append_assoc, take, take_all, drop, ◌-◌, ◌*◌, ◌≤◌}
 use Rattle.std.specs.List.{range_with_len}
-use Rattle.std.proofs.lemmas.List.{ext_get_or, take_at}
+use Rattle.std.proofs.Math.Nat.{mul-add}
+use Rattle.std.proofs.lemmas.List.{ext_get_or}
 use Rattle.std.proofs.lemmas.List.FromFn.{get_or-map-range_with_len, length-map-range_with_len}
+use borrow.Rule.Slice.PartMut.{put_mid}
 use Rattle.lms_bytes.specs.Bytes.{joined}
-use Rattle.lms_bytes.proofs.Joined.{joined-none, joined-same, joined-suc}
-use Rattle.reference_value.specs.Commitments.{commitments, leaf_commitments}
+use Rattle.lms_bytes.proofs.Joined.{front-more, joined-none, joined-same, joined-suc, row-fits}
 use Rattle.reference_value.specs.Dealing.{Dealing, leaf_part, reference}
-use Rattle.share_files.specs.Commits.{commits_head_of}
-use Rattle.dealer.specs.Committed.{commits_file}
-use Rattle.dealer.specs.Runs.{run_commitments, run_leaves}
+use Rattle.reference_value.proofs.Parts.{put-part}
+use Rattle.dealer.specs.Runs.{run_leaves}
 use Rattle.dealer.specs.declared.runs.Run.{Run}
 
 -- a list whose every element is known
@@ -32,27 +32,11 @@ runs-joined f first next m (suc n) count behind all =
     rw (← whole, joined-suc (λ i. f (next + i)) n, joined-suc (λ i. f (first + i)) (m + n), ← before, last)
     (sym (append_assoc (joined (λ i. f (first + i)) m) (joined (λ i. f (next + i)) n) (f (first + (m + n)))))
 
--- a run of all leaves is the reference value, and so are their commitments
+-- a run of all leaves is the reference value
 pub whole-leaves : (d : Dealing) (run : Run) → run.first ≡ 0 → run.count ≡ 2 ^ d.params.h → run_leaves d run ≡ reference d
 unfolding reference
 whole-leaves d run first count =
     rw (first, count) (joined-same (λ i. leaf_part d (0 + i)) (leaf_part d) (2 ^ d.params.h) (λ i _. ap (leaf_part d) (omega arith)))
-
-pub whole-commitments : (d : Dealing) (run : Run) → run.first ≡ 0 → run.count ≡ 2 ^ d.params.h → run_commitments d run ≡ commitments d
-unfolding commitments
-whole-commitments d run first count =
-    rw (first, count) (joined-same (λ i. leaf_commitments d (0 + i)) (leaf_commitments d) (2 ^ d.params.h) (λ i _. ap (leaf_commitments d) (omega arith)))
-
--- all leaves in a Vec whose slice was written, and the commitments to their masks behind the head in another
-pub leaves-written : (d : Dealing) (run : Run) (count : ℕ) (out old : List ℕ) → run.first ≡ 0 → run.count ≡ 2 ^ d.params.h → length out ≡ count
-    → out ≡ run_leaves d run → take count (out ++ drop (length out) old) ≡ reference d
-leaves-written d run count out old first all size is = take_at out (drop (length out) old) count size ∙ (is ∙ whole-leaves d run first all)
-
-pub file-written : (d : Dealing) (run : Run) (count : ℕ) (head commits old : List ℕ) → run.first ≡ 0 → run.count ≡ 2 ^ d.params.h
-    → length (head ++ commits) ≡ count → head ≡ commits_head_of d.params d.plan d.id → commits ≡ run_commitments d run
-    → take count ((head ++ commits) ++ drop (length (head ++ commits)) old) ≡ commits_file d
-file-written d run count head commits old first all size begins is =
-    take_at (head ++ commits) (drop (length (head ++ commits)) old) count size ∙ ap₂ ◌++◌ begins (is ∙ whole-commitments d run first all)
 
 -- what two threads wrote, each a run, is the run that was cut
 pub runs-written : (f : ℕ → List ℕ) (a b : List ℕ) (first front back m n count : ℕ) → front ≡ first → back ≡ first + m → m + n ≡ count
@@ -66,3 +50,26 @@ pub run-written : (f : ℕ → List ℕ) (size i count : ℕ) (out : List ℕ) �
 run-written f size i count out room last taken =
     let all : length out ≤ size * i = rw last (omega (arith, room)) in
     sym (take_all (size * i) out all) ∙ (taken ∙ ap (joined f) last)
+
+-- the part of a leaf lies within those of a run
+pub part-within : (size each i count room : ℕ) → size ≡ each → room ≡ each * count → i < count → size * i + size ≤ room
+part-within size each i count room same all inside = rw (all, same) (row-fits each i count inside)
+
+-- a part of a leaf that was written behind those before it
+pub part-written : (f : ℕ → List ℕ) (size i : ℕ) (old part : List ℕ) → size * i + size ≤ length old → length part ≡ length (take (size * i + size - size * i) (drop (size * i) old))
+    → part ≡ f i → take (size * i) old ≡ joined f i
+    → take (size * (i + 1)) (put_mid (size * i) (size * i + size - size * i) old part) ≡ joined f (i + 1)
+part-written f size i old part within alike is before =
+    let put = put-part (size * i) size old part within alike in
+    front-more f size i old _ part is put.size before (rw put.size put.front)
+
+-- the room of a run's first leaves, and of the others
+pub part-first : (size each first room : ℕ) → size ≡ each → room ≡ size * first → room ≡ each * first
+part-first size each first room same cut = cut ∙ ap (λ (s : ℕ). s * first) same
+
+pub part-behind : (size each first next count room rest : ℕ) → size ≡ each → room ≡ each * count → first + next ≡ count
+    → rest + size * first ≡ room → rest ≡ each * next
+part-behind size each first next count room rest same all cut left =
+    let start : size * first ≡ each * first = ap (λ (s : ℕ). s * first) same in
+    let whole : each * (first + next) ≡ each * count = ap (λ (n : ℕ). each * n) cut in
+    omega (arith, start, whole, all, left, mul-add each first next)

@@ -1,6 +1,6 @@
 //! The dealing with its leaves built by several threads.
 
-ghost use Rattle.std.specs.Prelude.{◌≡◌, ◌+◌, ◌*◌, ◌^◌, ◌<◌, ◌≤◌, All, IfOk, length};
+ghost use Rattle.std.specs.Prelude.{◌≡◌, ◌+◌, ◌*◌, ◌^◌, ◌<◌, ◌≤◌, All, IfOk, is_some, length};
 ghost use Rattle.std.specs.Thread.{IsSync};
 ghost use Rattle.ots_chain.specs.LeafKey.{seed_leaf_key};
 ghost use Rattle.reference_value.specs.Dealing.{reference};
@@ -8,61 +8,92 @@ ghost use Rattle.mask_prf.specs.Lengths.{leaf_length, leaves_length};
 ghost use Rattle.dealer.specs.Dealt.{IsDealt, leaf_keys_of};
 ghost use Rattle.dealer.specs.Entropy.{dealing_of};
 ghost use Rattle.dealer.specs.Faults.{IsDealable};
-ghost use Rattle.dealer.specs.Runs.{run_leaves};
+ghost use Rattle.dealer.specs.Runs.{HasRoom, asked_length, file_asked, run_asked, run_leaves};
 ghost use Rattle.dealer.specs.Secrets.{Suit, dealing_with};
 
 use crate::building::finish;
 use crate::dealing::Dealt;
 use crate::entropy::{Secrets, read_entropy};
-use crate::leaves::{room_for_leaves, write_run};
+use crate::leaves::{room_asked, room_for_leaves};
 use crate::runs::{Run, thread_count};
+use crate::writing::{asked_bytes, write_run};
 use coalition_map::Plan;
 use lms_bytes::{KeyId, Params, Val};
 use memory::NoMemory;
 use ots_chain::leaf_key_of;
 use reference_value::leaf_bytes;
+use share_files::HEAD;
 use std::alloc::Global;
 use std::thread;
 use std::thread::{Threads, join_mut};
 
-/// Deals the key that the entropy stands for, which has been tested. The greatest memory is taken before the first
-/// thread is made, since the C library keeps the room of the stacks.
+/// Deals the key that the entropy stands for, which has been tested, with its commitment file if it is asked for. The
+/// greatest memory is taken before the first thread is made, since the C library keeps the room of the stacks.
 pub(crate) fn build_beside<R: Threads + Sync>(
     rt: &R,
     alloc: Global,
     params: &Params,
     plan: &Plan,
     entropy: &[u8],
-) -> Result<Dealt, NoMemory>
+    commit: bool,
+) -> Result<(Dealt, Vec<u8>), NoMemory>
     requires height { plan.now.h ≡ params.now.h }
     requires dealable { IsDealable params.now plan.now entropy.now }
-    ensures dealt { IfOk result (IsDealt (dealing_of params.now plan.now entropy.now)) }
-    ensures shares { IfOk result (λ dealt. 0 < length dealt.shares.items) }
+    ensures dealt { IfOk result (λ both. IsDealt (dealing_of params.now plan.now entropy.now) both.0) }
+    ensures file { IfOk result (λ both.
+        both.1.items ≡ file_asked commit (dealing_of params.now plan.now entropy.now)) }
+    ensures shares { IfOk result (λ both. 0 < length both.0.shares.items) }
 {
-    let secrets = read_entropy(alloc, params, plan, entropy)?;
-    let mut leaves = room_for_leaves(alloc, params, plan)?;
-    write_leaves_beside(rt, params, plan, &secrets, &mut leaves);
+    let secrets = read_entropy(alloc, params, plan, entropy, commit)?;
+    let (leaves, file) = leaves_beside(rt, alloc, params, plan, &secrets)?;
     let keys = keys_beside(rt, alloc, params, &secrets.id, &secrets.seed)?;
-    finish(alloc, params, plan, &secrets, &keys, leaves)
+    let dealt = finish(alloc, params, plan, &secrets, &keys, leaves)?;
+    Ok((dealt, file))
 }
 
-/// Writes the leaves of the masked reference value.
+/// The leaves of the masked reference value, with room for the head of their file, and the commitment file if it is
+/// asked for.
+fn leaves_beside<R: Threads + Sync>(
+    rt: &R,
+    alloc: Global,
+    params: &Params,
+    plan: &Plan,
+    secrets: &Secrets,
+) -> Result<(Vec<u8>, Vec<u8>), NoMemory>
+    requires suit { Suit params.now plan.now secrets.now }
+    ensures leaves { IfOk result (λ both. both.0.items ≡ reference (dealing_with params.now plan.now secrets.now)) }
+    ensures file { IfOk result (λ both. both.1.items
+        ≡ file_asked (is_some secrets.now.macs) (dealing_with params.now plan.now secrets.now)) }
+{
+    let mut leaves = room_for_leaves(alloc, params, plan)?;
+    let mut file = room_asked(alloc, params, plan, secrets)?;
+    write_leaves_beside(rt, params, plan, secrets, &mut leaves, &mut file);
+    Ok((leaves, file))
+}
+
+/// Writes the leaves of the masked reference value, and the commitments to their masks behind the head of their file,
+/// where there is one.
 fn write_leaves_beside<R: Threads + Sync>(
     rt: &R,
     params: &Params,
     plan: &Plan,
     secrets: &Secrets,
     out: &mut [u8],
+    file: &mut [u8],
 )
     requires suit { Suit params.now plan.now secrets.now }
-    requires room { length out.old ≡ leaves_length params.now plan.now }
-    ensures { out.new ≡ reference (dealing_with params.now plan.now secrets.now) }
+    requires leaves { length out.old ≡ leaves_length params.now plan.now }
+    requires file { HasRoom (is_some secrets.now.macs) params.now plan.now secrets.now.id file.old }
+    ensures leaves { out.new ≡ reference (dealing_with params.now plan.now secrets.now) }
+    ensures file { file.new ≡ file_asked (is_some secrets.now.macs) (dealing_with params.now plan.now secrets.now) }
 {
     let (run, threads) = (Run::whole(params), thread_count(rt));
-    write_beside(rt, params, plan, secrets, run, threads, out);
+    let (_, commits) = file.split_at_mut(file.len().min(HEAD));
+    write_beside(rt, params, plan, secrets, run, threads, out, commits);
 }
 
-/// Writes the leaves of a run, one behind the other, by at most so many threads.
+/// Writes the leaves of a run, one behind the other, and the commitments to their masks if they are asked for, by at
+/// most so many threads.
 fn write_beside<R: Threads + Sync>(
     rt: &R,
     params: &Params,
@@ -71,41 +102,54 @@ fn write_beside<R: Threads + Sync>(
     run: Run,
     threads: usize,
     out: &mut [u8],
+    commits: &mut [u8],
 )
     requires suit { Suit params.now plan.now secrets.now }
     requires within { run.first + run.count ≤ 2 ^ params.now.h }
-    requires room { length out.old ≡ leaf_length params.now plan.now.k * run.count }
-    ensures { out.new ≡ run_leaves (dealing_with params.now plan.now secrets.now) run }
+    requires leaves { length out.old ≡ leaf_length params.now plan.now.k * run.count }
+    requires commits { length commits.old
+        ≡ asked_length (is_some secrets.now.macs) params.now plan.now.k * run.count }
+    ensures leaves { out.new ≡ run_leaves (dealing_with params.now plan.now secrets.now) run }
+    ensures commits { commits.new
+        ≡ run_asked (is_some secrets.now.macs) (dealing_with params.now plan.now secrets.now) run }
 {
     if threads < 2 || run.count < 2 {
-        write_run(params, plan, secrets, run, out);
+        write_run(params, plan, secrets, run, out, commits);
         return;
     }
     let some = threads / 2;
     let others = threads - some;
     let (first, next) = run.cut(some, threads);
     let (front, back) = out.split_at_mut(leaf_bytes(params, plan.k()) * first.count as usize);
+    let row = asked_bytes(params, plan, secrets);
+    let (ahead, behind) = commits.split_at_mut(row * first.count as usize);
     join_mut(
         rt,
         &mut ||
             requires { IsSync R.row × Suit params.now plan.now secrets.now
                 × (first.first + first.count ≤ 2 ^ params.now.h)
-                × (length front.now ≡ leaf_length params.now plan.now.k * first.count) }
-            ensures { front.exit.now
-                ≡ run_leaves (dealing_with params.entry.now plan.entry.now secrets.entry.now) first }
-        { write_beside(rt, params, plan, secrets, first, some, front) },
+                × (length front.now ≡ leaf_length params.now plan.now.k * first.count)
+                × (length ahead.now ≡ asked_length (is_some secrets.now.macs) params.now plan.now.k * first.count) }
+            ensures { (front.exit.now
+                ≡ run_leaves (dealing_with params.entry.now plan.entry.now secrets.entry.now) first)
+                × (ahead.exit.now ≡ run_asked (is_some secrets.entry.now.macs)
+                (dealing_with params.entry.now plan.entry.now secrets.entry.now) first) }
+        { write_beside(rt, params, plan, secrets, first, some, front, ahead) },
         &mut ||
             requires { IsSync R.row × Suit params.now plan.now secrets.now
                 × (next.first + next.count ≤ 2 ^ params.now.h)
-                × (length back.now ≡ leaf_length params.now plan.now.k * next.count) }
-            ensures { back.exit.now
-                ≡ run_leaves (dealing_with params.entry.now plan.entry.now secrets.entry.now) next }
-        { write_beside(rt, params, plan, secrets, next, others, back) },
+                × (length back.now ≡ leaf_length params.now plan.now.k * next.count)
+                × (length behind.now ≡ asked_length (is_some secrets.now.macs) params.now plan.now.k * next.count) }
+            ensures { (back.exit.now
+                ≡ run_leaves (dealing_with params.entry.now plan.entry.now secrets.entry.now) next)
+                × (behind.exit.now ≡ run_asked (is_some secrets.entry.now.macs)
+                (dealing_with params.entry.now plan.entry.now secrets.entry.now) next) }
+        { write_beside(rt, params, plan, secrets, next, others, back, behind) },
     );
 }
 
 /// The public values of the leaves.
-pub(crate) fn keys_beside<R: Threads + Sync>(
+fn keys_beside<R: Threads + Sync>(
     rt: &R,
     alloc: Global,
     params: &Params,

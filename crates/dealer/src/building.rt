@@ -1,38 +1,63 @@
 //! What a dealing is made of.
 
-ghost use Rattle.std.specs.Prelude.{◌≡◌, ◌<◌, ◌≤◌, All, IfOk, length};
+ghost use Rattle.std.specs.Prelude.{◌≡◌, ◌<◌, ◌≤◌, All, IfOk, is_some, length};
 ghost use Rattle.reference_value.specs.Dealing as spec;
 ghost use Rattle.dealer.specs.Dealt.{IsDealt, leaf_keys_of};
 ghost use Rattle.dealer.specs.Entropy.{dealing_of};
 ghost use Rattle.dealer.specs.Faults.{IsDealable};
+ghost use Rattle.dealer.specs.Runs.{file_asked};
 ghost use Rattle.dealer.specs.Secrets.{Suit, dealing_with};
 
 use crate::dealing::Dealt;
 use crate::entropy::{Secrets, read_entropy};
-use crate::leaves::{build_tree, leaf_keys, room_for_leaves, write_leaves};
+use crate::leaves::{build_tree, leaf_keys, room_asked, room_for_leaves};
 use crate::shares::build_shares;
+use crate::writing::write_leaves;
 use coalition_map::Plan;
 use lms_bytes::{Params, PublicKey, Val};
 use memory::NoMemory;
 use std::alloc::Global;
 
-/// Deals the key that the entropy stands for, which has been tested.
+/// Deals the key that the entropy stands for, which has been tested, with its commitment file if it is asked for.
 pub(crate) fn build(
     alloc: Global,
     params: &Params,
     plan: &Plan,
     entropy: &[u8],
-) -> Result<Dealt, NoMemory>
+    commit: bool,
+) -> Result<(Dealt, Vec<u8>), NoMemory>
     requires height { plan.now.h ≡ params.now.h }
     requires dealable { IsDealable params.now plan.now entropy.now }
-    ensures dealt { IfOk result (IsDealt (dealing_of params.now plan.now entropy.now)) }
-    ensures shares { IfOk result (λ dealt. 0 < length dealt.shares.items) }
+    ensures dealt { IfOk result (λ both. IsDealt (dealing_of params.now plan.now entropy.now) both.0) }
+    ensures file { IfOk result (λ both.
+        both.1.items ≡ file_asked commit (dealing_of params.now plan.now entropy.now)) }
+    ensures shares { IfOk result (λ both. 0 < length both.0.shares.items) }
 {
-    let secrets = read_entropy(alloc, params, plan, entropy)?;
-    let mut leaves = room_for_leaves(alloc, params, plan)?;
-    write_leaves(params, plan, &secrets, &mut leaves);
+    let secrets = read_entropy(alloc, params, plan, entropy, commit)?;
+    let (leaves, file) = build_leaves(alloc, params, plan, &secrets)?;
     let keys = leaf_keys(alloc, params, &secrets.id, &secrets.seed)?;
-    finish(alloc, params, plan, &secrets, &keys, leaves)
+    let dealt = finish(alloc, params, plan, &secrets, &keys, leaves)?;
+    Ok((dealt, file))
+}
+
+/// The leaves of the masked reference value, with room for the head of their file, and the commitment file if it is
+/// asked for.
+fn build_leaves(
+    alloc: Global,
+    params: &Params,
+    plan: &Plan,
+    secrets: &Secrets,
+) -> Result<(Vec<u8>, Vec<u8>), NoMemory>
+    requires suit { Suit params.now plan.now secrets.now }
+    ensures leaves { IfOk result (λ both. both.0.items
+        ≡ spec.reference (dealing_with params.now plan.now secrets.now)) }
+    ensures file { IfOk result (λ both. both.1.items
+        ≡ file_asked (is_some secrets.now.macs) (dealing_with params.now plan.now secrets.now)) }
+{
+    let mut leaves = room_for_leaves(alloc, params, plan)?;
+    let mut file = room_asked(alloc, params, plan, secrets)?;
+    write_leaves(params, plan, secrets, &mut leaves, &mut file);
+    Ok((leaves, file))
 }
 
 /// The dealing with these public values of the leaves, and these leaves of the masked reference value.

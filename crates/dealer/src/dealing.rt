@@ -42,8 +42,8 @@ pub fn deal(alloc: Global, params: &Params, plan: &Plan, entropy: &[u8]) -> Resu
     ensures shares { IfOk result (λ dealt. 0 < length dealt.shares.items) }
 {
     check(params, plan, entropy)?;
-    match build(alloc, params, plan, entropy) {
-        Ok(dealt) => Ok(dealt),
+    match build(alloc, params, plan, entropy, false) {
+        Ok((dealt, _)) => Ok(dealt),
         Err(_) => Err(DealFault::NoMemory),
     }
 }
@@ -66,8 +66,8 @@ pub fn deal_beside<R: Threads + Sync>(
     ensures shares { IfOk result (λ dealt. 0 < length dealt.shares.items) }
 {
     check(params, plan, entropy)?;
-    match build_beside(rt, alloc, params, plan, entropy) {
-        Ok(dealt) => Ok(dealt),
+    match build_beside(rt, alloc, params, plan, entropy, false) {
+        Ok((dealt, _)) => Ok(dealt),
         Err(_) => Err(DealFault::NoMemory),
     }
 }

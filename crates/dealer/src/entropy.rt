@@ -1,6 +1,6 @@
 //! What entropy stands for.
 
-ghost use Rattle.std.specs.Prelude.{◌≡◌, ◌+◌, ◌≤◌, All, IfOk, length, map};
+ghost use Rattle.std.specs.Prelude.{◌≡◌, ◌+◌, ◌≤◌, All, IfOk, IfSome, is_some, length, map};
 ghost use Rattle.std.specs.List.{range_with_len};
 ghost use Rattle.dealer.specs.Entropy.{dealing_of, entropy_length, trustee_key};
 ghost use Rattle.dealer.specs.Secrets.{Suit, dealing_with};
@@ -9,6 +9,7 @@ use crate::checks::key_at;
 use coalition_map::Plan;
 use lms_bytes::bytes::part;
 use lms_bytes::{KeyId, Params, Val};
+use mask_prf::MacKey;
 use memory::NoMemory;
 use std::alloc::Global;
 
@@ -23,14 +24,17 @@ pub(crate) struct Secrets {
     pub(crate) random_key: [u8; 32],
     /// The keys of the trustees, that of trustee 1 first.
     pub(crate) keys: Vec<[u8; 32]>,
+    /// The same keys, each with its blocks hashed once, where the masks are committed to.
+    pub(crate) macs: Option<Vec<MacKey>>,
 }
 
-/// Reads what the entropy stands for.
+/// Reads what the entropy stands for, with keys to commit to the masks by if that is asked for.
 pub(crate) fn read_entropy(
     alloc: Global,
     params: &Params,
     plan: &Plan,
     entropy: &[u8],
+    commit: bool,
 ) -> Result<Secrets, NoMemory>
     requires height { plan.now.h ≡ params.now.h }
     requires size { length entropy.now ≡ entropy_length plan.now.n }
@@ -38,8 +42,10 @@ pub(crate) fn read_entropy(
         ≡ dealing_of params.now plan.now entropy.now) }
     ensures suit { IfOk result (Suit params.now plan.now) }
     ensures lengths { IfOk result (λ secrets. All (λ key. length key ≡ 32) secrets.keys.items) }
+    ensures asked { IfOk result (λ secrets. is_some secrets.macs ≡ commit) }
 {
     let keys = read_keys(alloc, plan.n(), entropy)?;
+    let macs = macs_asked(alloc, &keys, commit)?;
     let mut id = [0; 16];
     id.copy_from_slice(part(entropy, 0, 16));
     let mut random_key = [0; 32];
@@ -49,6 +55,7 @@ pub(crate) fn read_entropy(
         seed: Val::of(part(entropy, 16, params.n as usize)),
         random_key,
         keys,
+        macs,
     })
 }
 
@@ -67,4 +74,31 @@ fn read_keys(alloc: Global, trustees: u8, entropy: &[u8]) -> Result<Vec<[u8; 32]
         keys.push(key)?;
     }
     Ok(keys)
+}
+
+/// The keys of the trustees, each with its blocks hashed once, if they are asked for.
+fn macs_asked(
+    alloc: Global,
+    keys: &[[u8; 32]],
+    commit: bool,
+) -> Result<Option<Vec<MacKey>>, NoMemory>
+    ensures keys { IfOk result (λ macs. IfSome macs (λ macs. macs.items ≡ keys.now)) }
+    ensures asked { IfOk result (λ macs. is_some macs ≡ commit) }
+{
+    if commit {
+        Ok(Some(mac_keys(alloc, keys)?))
+    } else {
+        Ok(None)
+    }
+}
+
+/// The keys of the trustees, each with its blocks hashed once.
+fn mac_keys(alloc: Global, keys: &[[u8; 32]]) -> Result<Vec<MacKey>, NoMemory>
+    ensures { IfOk result (λ macs. macs.items ≡ keys.now) }
+{
+    let mut macs = Vec::with_capacity(alloc, keys.len())?;
+    'keys: for i in 0..keys.len() {
+        macs.push(MacKey::new(&keys[i]))?;
+    }
+    Ok(macs)
 }

@@ -1,23 +1,22 @@
-//! What is made of all leaves: the tree and the masked reference value.
+//! What is made of all leaves: the tree, and room for the masked reference value and the commitments to its masks.
 
-ghost use Rattle.std.specs.Prelude.{◌≡◌, ◌+◌, ◌*◌, ◌^◌, ◌≤◌, All, IfOk, length, vec_capacity};
+ghost use Rattle.std.specs.Prelude.{◌≡◌, ◌+◌, ◌*◌, ◌≤◌, All, IfOk, is_some, length, take, vec_capacity};
+ghost use Rattle.coalition_map.specs.Coalitions.{IsPlan};
 ghost use Rattle.merkle_path.specs.Tree.{tree_of};
 ghost use Rattle.ots_chain.specs.LeafKey.{seed_leaf_key};
-ghost use Rattle.reference_value.specs.Dealing.{reference};
-ghost use Rattle.mask_prf.specs.Lengths.{leaf_length, leaves_length};
+ghost use Rattle.mask_prf.specs.Lengths.{leaves_length};
+ghost use Rattle.share_files.specs.Commits.{commits_head_of, commits_length};
 ghost use Rattle.dealer.specs.Dealt.{leaf_keys_of};
-ghost use Rattle.dealer.specs.Runs.{run_leaves};
-ghost use Rattle.dealer.specs.Secrets.{Suit, dealing_with};
+ghost use Rattle.dealer.specs.Runs.{HasRoom};
 
 use crate::entropy::Secrets;
-use crate::runs::Run;
 use coalition_map::Plan;
 use lms_bytes::{KeyId, Params, Val};
 use memory::NoMemory;
 use merkle_path::Tree;
 use ots_chain::leaf_key_of;
-use reference_value::{build_leaf, leaf_bytes};
-use share_files::HEAD;
+use reference_value::leaf_bytes;
+use share_files::{HEAD, RefHeader, length_of_commits, write_commits_head};
 use std::alloc::Global;
 
 /// The tree over the public values of the leaves, which are these.
@@ -70,41 +69,53 @@ pub(crate) fn room_for_leaves(
     Ok(leaves)
 }
 
-/// Writes the leaves of the masked reference value.
-pub(crate) fn write_leaves(params: &Params, plan: &Plan, secrets: &Secrets, out: &mut [u8])
-    requires suit { Suit params.now plan.now secrets.now }
-    requires room { length out.old ≡ leaves_length params.now plan.now }
-    ensures { out.new ≡ reference (dealing_with params.now plan.now secrets.now) }
+/// Room for the commitment file with its head, if commitments are asked for.
+pub(crate) fn room_asked(
+    alloc: Global,
+    params: &Params,
+    plan: &Plan,
+    secrets: &Secrets,
+) -> Result<Vec<u8>, NoMemory>
+    requires { plan.now.h ≡ params.now.h }
+    ensures { IfOk result (λ file.
+        HasRoom (is_some secrets.now.macs) params.now plan.now secrets.now.id file.items) }
 {
-    write_run(params, plan, secrets, Run::whole(params), out);
+    if secrets.macs.is_some() {
+        room_for_commits(alloc, params, plan, &secrets.id)
+    } else {
+        Ok(Vec::new(alloc))
+    }
 }
 
-/// Writes the leaves of a run, one behind the other.
-pub(crate) fn write_run(params: &Params, plan: &Plan, secrets: &Secrets, run: Run, out: &mut [u8])
-    requires suit { Suit params.now plan.now secrets.now }
-    requires within { run.first + run.count ≤ 2 ^ params.now.h }
-    requires room { length out.old ≡ leaf_length params.now plan.now.k * run.count }
-    ensures { out.new ≡ run_leaves (dealing_with params.now plan.now secrets.now) run }
+/// Room for the commitment file of a set, a plan and an identifier, with its head.
+fn room_for_commits(
+    alloc: Global,
+    params: &Params,
+    plan: &Plan,
+    id: &KeyId,
+) -> Result<Vec<u8>, NoMemory>
+    requires { plan.now.h ≡ params.now.h }
+    ensures head { IfOk result (λ file. take 32 file.items ≡ commits_head_of params.now plan.now id.now) }
+    ensures length { IfOk result (λ file. length file.items ≡ commits_length params.now plan.now) }
 {
-    let Secrets {
-        id,
-        seed,
-        random_key,
-        keys,
-    } = secrets;
-    let size = leaf_bytes(params, plan.k());
-    'leaves: for i in 0..run.count {
-        let place = size * i as usize;
-        let leaf = &mut out[place..place + size];
-        build_leaf(
-            params,
-            id,
-            plan,
-            run.first + i,
-            seed,
-            random_key,
-            keys,
-            leaf,
-        );
-    }
+    let mut file = vec![in alloc; 0; length_of_commits(params, plan.k()) as usize]?;
+    let (head, _) = file.split_at_mut(HEAD);
+    head.copy_from_slice(&head_of_commits(params, plan, id));
+    Ok(file)
+}
+
+/// The head of the commitment file of a set, a plan and an identifier.
+fn head_of_commits(params: &Params, plan: &Plan, id: &KeyId) -> [u8; HEAD]
+    requires height { plan.now.h ≡ params.now.h }
+    requires plan { IsPlan plan.now }
+    ensures { result ≡ commits_head_of params.now plan.now id.now }
+{
+    let header = RefHeader {
+        params: *params,
+        plan: *plan,
+        id: *id,
+    };
+    let mut head = [0; HEAD];
+    write_commits_head(&header, &mut head);
+    head
 }

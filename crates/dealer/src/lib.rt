@@ -6,7 +6,6 @@ mod beside;
 mod building;
 mod checks;
 mod committed;
-mod committed_beside;
 mod dealing;
 mod entropy;
 mod faults;
@@ -18,6 +17,7 @@ mod rehearsed;
 mod runs;
 mod shares;
 mod signing;
+mod writing;
 
 pub use committed::{CommittedFault, deal_committed, deal_committed_beside};
 pub use dealing::{Dealt, deal, deal_beside};

@@ -1,7 +1,6 @@
-use Rattle.std.proofs.Common.{◌∙◌}
-use Rattle.reference_value.specs.Dealing.{reference}
+use Rattle.std.proofs.Common.{◌∙◌, Bool, ap}
+use Rattle.dealer.specs.Runs.{file_asked}
 use Rattle.dealer.specs.Secrets.{dealing_with}
-use Rattle.dealer.proofs.Mapped.{over_all}
 use Rattle.dealer.proofs.building.build.Goals as goal
 
 pub finish-requires-clause-suit : goal.finish-requires-clause-suit
@@ -20,12 +19,15 @@ pub finish-requires-clause-whole : goal.finish-requires-clause-whole
 finish-requires-clause-whole c = rw c.deref.ensures.value c.in_ok-keys.ensures.length
 
 pub finish-requires-clause-leaves : goal.finish-requires-clause-leaves
-finish-requires-clause-leaves c =
-    let size = c.write_leaves.auto.out ∙ c.deref_mut.ensures.len in
-    over_all c.in_ok-leaves.leaves.len c.write_leaves.new.out c.in_ok-leaves.leaves.items (reference (dealing_with c.args.params.now c.args.plan.now c.in_ok-secrets.secrets)) size c.write_leaves.ensures
+finish-requires-clause-leaves c = c.in_ok-leaves.ensures.leaves
 
 pub returns-clause-dealt : goal.returns-clause-dealt
-returns-clause-dealt c = rw c.in_ok-secrets.ensures.dealing at c.finish.ensures.dealt
+returns-clause-dealt c = rw c.in_ok-secrets.ensures.dealing at c.in_ok-dealt.ensures.dealt
+
+pub returns-clause-file : goal.returns-clause-file
+returns-clause-file c =
+    c.in_ok-leaves.ensures.file ∙ (ap (λ (commit : Bool). file_asked commit (dealing_with c.args.params.now c.args.plan.now c.in_ok-secrets.secrets)) c.in_ok-secrets.ensures.asked
+    ∙ ap (file_asked c.args.commit) c.in_ok-secrets.ensures.dealing)
 
 pub returns-clause-shares : goal.returns-clause-shares
-returns-clause-shares c = c.finish.ensures.shares
+returns-clause-shares c = c.in_ok-dealt.ensures.shares

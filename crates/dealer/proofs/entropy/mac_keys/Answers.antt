@@ -1,6 +1,6 @@
 use Rattle.std.proofs.Common.{◌<◌, ◌∙◌, [], length, arith, refl}
 use Rattle.std.proofs.lemmas.List.{take_all, take_more}
-use Rattle.dealer.proofs.committed.mac_keys.Goals as goal
+use Rattle.dealer.proofs.entropy.mac_keys.Goals as goal
 
 pub keys-preserved : goal.keys-preserved
 keys-preserved c =

@@ -1,5 +1,5 @@
 use Rattle.std.proofs.Common.{◌≡◌, take}
-use Rattle.dealer.proofs.committed.mac_keys.Given as goal
+use Rattle.dealer.proofs.entropy.mac_keys.Given as goal
 
 abbrev pub invariant-keys : goal.invariant-keys
 invariant-keys l = l.macs.items ≡ take l.i l.keys

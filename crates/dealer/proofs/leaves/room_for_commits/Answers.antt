@@ -1,7 +1,7 @@
 use Rattle.std.proofs.Common.{◌≡◌, ◌++◌, ◌∙◌, take, drop, length, ap, arith, length-append}
 use Rattle.std.proofs.lemmas.List.{take_at}
 use Rattle.dealer.proofs.Mapped.{length_over}
-use Rattle.dealer.proofs.committed.room_for_commits.Goals as goal
+use Rattle.dealer.proofs.leaves.room_for_commits.Goals as goal
 
 -- the head, and what lies behind it
 pub returns-clause-head : goal.returns-clause-head

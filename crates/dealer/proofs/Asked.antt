@@ -1,0 +1,44 @@
+-- What is written where commitments are asked for, and where they are not.
+use Rattle.std.proofs.Common.{◌≡◌, ℕ, zero, suc, ◌+◌, ◌*◌, ◌^◌, ◌≤◌, Bool, true, false, List, [], ◌++◌, length, take, min, refl, ap, ap₂, ◌∙◌, arith}
+use Rattle.coalition_map.specs.Coalitions.{PlanNumbers}
+use Rattle.lms_bytes.specs.Bytes.{joined}
+use Rattle.lms_bytes.specs.declared.params.Params.{Params}
+use Rattle.lms_bytes.proofs.Joined.{joined-none, joined-same, joined-suc}
+use Rattle.reference_value.specs.Commitments.{commitments, leaf_commitments}
+use Rattle.reference_value.specs.Dealing.{Dealing}
+use Rattle.dealer.specs.Runs.{HasRoom, asked_length, file_asked, run_asked}
+use Rattle.dealer.specs.declared.runs.Run.{Run}
+
+-- nothing, as often as one likes
+joined-nothing : (count : ℕ) → joined (λ _. []) count ≡ []
+joined-nothing zero = joined-none (λ _. [])
+joined-nothing (suc count) = rw (joined-suc (λ _. []) count, joined-nothing count) refl
+
+-- a run of all leaves has all commitments
+whole-commitments : (d : Dealing) (run : Run) → run.first ≡ 0 → run.count ≡ 2 ^ d.params.h → run_asked true d run ≡ commitments d
+unfolding commitments
+whole-commitments d run first count =
+    rw (first, count) (joined-same (λ i. leaf_commitments d (0 + i)) (leaf_commitments d) (2 ^ d.params.h) (λ i _. ap (leaf_commitments d) (omega arith)))
+
+-- the commitments begin within their file
+pub begins-within : (file : List ℕ) → min (length file) 32 ≤ length file
+begins-within file = omega arith
+
+-- behind the head there is room for those of all leaves
+pub room-behind : (commit : Bool) (params : Params) (plan : PlanNumbers) (id file behind : List ℕ) (count : ℕ) → HasRoom commit params plan id file
+    → length behind + min (length file) 32 ≡ length file → count ≡ 2 ^ params.h → length behind ≡ asked_length commit params plan.k * count
+room-behind true params plan id file behind count room cut all = rw all (let size = room.size in omega arith)
+room-behind false params plan id file behind count room cut all = let size = room.size in omega arith
+
+-- the head and the commitments are the file
+pub file-whole : (commit : Bool) (d : Dealing) (run : Run) (file head behind : List ℕ) → HasRoom commit d.params d.plan d.id file
+    → head ≡ take (min (length file) 32) file → behind ≡ run_asked commit d run → run.first ≡ 0 → run.count ≡ 2 ^ d.params.h
+    → head ++ behind ≡ file_asked commit d
+file-whole true d run file head behind room cut is first count =
+    let size = room.size in
+    let start : min (length file) 32 ≡ 32 = omega arith in
+    ap₂ ◌++◌ (cut ∙ (ap (λ (n : ℕ). take n file) start ∙ room.head)) (is ∙ whole-commitments d run first count)
+file-whole false d run file head behind room cut is first count =
+    let size = room.size in
+    let start : min (length file) 32 ≡ 0 = omega arith in
+    rw (cut, start, is) (joined-nothing run.count)

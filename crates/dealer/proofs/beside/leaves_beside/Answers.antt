@@ -1,0 +1,20 @@
+use Rattle.std.proofs.Common.{◌∙◌, ap, length}
+use Rattle.dealer.proofs.Mapped.{over_all}
+use Rattle.dealer.proofs.beside.leaves_beside.Goals as goal
+
+pub write_leaves_beside-requires-clause-suit : goal.write_leaves_beside-requires-clause-suit
+write_leaves_beside-requires-clause-suit g c = λ _ _. c.requires.suit
+
+pub write_leaves_beside-requires-clause-leaves : goal.write_leaves_beside-requires-clause-leaves
+write_leaves_beside-requires-clause-leaves g c = λ _ _. ap length c.deref_mut.ensures.value ∙ c.in_ok-leaves.ensures.length
+
+pub write_leaves_beside-requires-clause-file : goal.write_leaves_beside-requires-clause-file
+write_leaves_beside-requires-clause-file g c = λ _ _. rw c.deref_mut-2.ensures.value c.in_ok-file.ensures
+
+pub returns-clause-leaves : goal.returns-clause-leaves
+returns-clause-leaves g c =
+    over_all c.in_ok-leaves.leaves.len c.write_leaves_beside.new.out c.in_ok-leaves.leaves.items _ (c.write_leaves_beside.auto.out ∙ c.deref_mut.ensures.len) c.write_leaves_beside.ensures.leaves
+
+pub returns-clause-file : goal.returns-clause-file
+returns-clause-file g c =
+    over_all c.in_ok-file.file.len c.write_leaves_beside.new.file c.in_ok-file.file.items _ (c.write_leaves_beside.auto.file ∙ c.deref_mut-2.ensures.len) c.write_leaves_beside.ensures.file

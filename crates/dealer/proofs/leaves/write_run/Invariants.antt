@@ -1,8 +1,0 @@
-use Rattle.std.proofs.Common.{◌≡◌, ◌+◌, ◌*◌, take}
-use Rattle.lms_bytes.specs.Bytes.{joined}
-use Rattle.reference_value.specs.Dealing.{leaf_part}
-use Rattle.dealer.specs.Secrets.{dealing_with}
-use Rattle.dealer.proofs.leaves.write_run.Given as goal
-
-abbrev pub invariant-leaves : goal.invariant-leaves
-invariant-leaves l = take (l.size * l.i) l.out ≡ joined (λ k. leaf_part (dealing_with l.params l.plan l.secrets) (l.run.first + k)) l.i
