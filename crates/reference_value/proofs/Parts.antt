@@ -1,10 +1,10 @@
 -- Parts of joined strings that are worked on one after the other.
-use Rattle.std.proofs.Common.{◌≡◌, ℕ, ◌+◌, ◌-◌, ◌*◌, ◌≤◌, List, ◌++◌, length, take, drop, refl, sym, ◌∙◌, ap, arith, add-one, length-take, length-drop, mul-zero, mul-suc}
+use Rattle.std.proofs.Common.{◌≡◌, ℕ, ◌+◌, ◌-◌, ◌*◌, ◌<◌, ◌≤◌, List, ◌++◌, length, take, drop, refl, sym, ◌∙◌, ap, arith, add-one, length-take, length-take-le, length-drop, mul-zero, mul-suc}
 use Rattle.std.proofs.lemmas.List.{drop-drop}
 use Rattle.std.proofs.lemmas.Slice.{take-put_mid, drop-put_mid}
 use borrow.Rule.Slice.PartMut.{put_mid}
 use Rattle.lms_bytes.specs.Bytes.{bytes_at, joined}
-use Rattle.lms_bytes.proofs.Joined.{joined-none, joined-more}
+use Rattle.lms_bytes.proofs.Joined.{front-more, joined-none, joined-more, row-fits}
 
 -- a value is masked where the others before it are, and those behind it are as they were
 pub record IsMasking (f : ℕ → List ℕ) (first : List ℕ) (n i : ℕ) (out : List ℕ) : Type 0 where
@@ -44,3 +44,21 @@ put-part place n old part within sized =
       front = take-put_mid place _ old part (place + n) (omega arith) inside;
       behind = drop-put_mid place _ old part (place + n) (omega arith) inside (omega arith);
     }
+
+-- a part lies within as many parts
+pub part-within : (size each i count room : ℕ) → size ≡ each → room ≡ each * count → i < count → size * i + size ≤ room
+part-within size each i count room same all inside = rw (all, same) (row-fits each i count inside)
+
+-- a part of a list is as long as was asked
+pub length_part : {X : Type 0} (place count : ℕ) (xs : List X) → place + count ≤ length xs → length (take (place + count - place) (drop place xs)) ≡ count
+length_part place count xs within =
+    let rest = length-drop place xs in
+    length-take-le (place + count - place) (drop place xs) (omega (arith, rest, within)) ∙ omega arith
+
+-- one part more is written behind those before it
+pub part-written : (f : ℕ → List ℕ) (size i : ℕ) (old part : List ℕ) → size * i + size ≤ length old
+    → length part ≡ length (take (size * i + size - size * i) (drop (size * i) old)) → part ≡ f i → take (size * i) old ≡ joined f i
+    → take (size * (i + 1)) (put_mid (size * i) (size * i + size - size * i) old part) ≡ joined f (i + 1)
+part-written f size i old part within alike is before =
+    let put = put-part (size * i) size old part within alike in
+    front-more f size i old _ part is put.size before (rw put.size put.front)

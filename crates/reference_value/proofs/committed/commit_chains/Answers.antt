@@ -1,11 +1,11 @@
 use Rattle.std.proofs.Common.{◌≡◌, ℕ, List, ◌*◌, ◌^◌, ◌∙◌, length, refl, arith, mul-zero}
 use Rattle.lms_bytes.specs.Bytes.{joined}
-use Rattle.lms_bytes.proofs.Joined.{front-all, front-more, joined-at, joined-none, joined-same, row-fits}
+use Rattle.lms_bytes.proofs.Joined.{front-all, joined-at, joined-none, joined-same}
 use Rattle.reference_value.specs.Committing.{masked_cell, masked_row, row_commits}
 use Rattle.reference_value.specs.Dealing.{value_of_seed, values_of_seed}
 use Rattle.reference_value.specs.declared.committed.Leaf.{Leaf}
 use Rattle.reference_value.proofs.Members.{length-value_of_seed}
-use Rattle.reference_value.proofs.Parts.{put-part}
+use Rattle.reference_value.proofs.Parts.{length_part, part-within, part-written}
 use Rattle.reference_value.proofs.committed.commit_chains.Goals as goal
 
 -- the masked values of a chain are those of the seed, masked
@@ -26,25 +26,77 @@ chains-init c =
       commits = rw (empty, joined-none (row_commits c.args.leaf.now)) refl;
     }
 
+pub overflow_mul-place : goal.overflow_mul-place
+overflow_mul-place c =
+    let within = part-within _ _ c.chains.i c.args.leaf.now.params.now.p (length c.chains.out) c.chain_bytes-size.ensures.length (c.chains.auto.out ∙ c.requires.values) c.chains-test.true in
+    omega (arith, within)
+
+pub overflow_add-chain : goal.overflow_add-chain
+overflow_add-chain c =
+    let within = part-within _ _ c.chains.i c.args.leaf.now.params.now.p (length c.chains.out) c.chain_bytes-size.ensures.length (c.chains.auto.out ∙ c.requires.values) c.chains-test.true in
+    omega (arith, within)
+
+pub slice_bounds-chain-end : goal.slice_bounds-chain-end
+slice_bounds-chain-end c =
+    let within = part-within _ _ c.chains.i c.args.leaf.now.params.now.p (length c.chains.out) c.chain_bytes-size.ensures.length (c.chains.auto.out ∙ c.requires.values) c.chains-test.true in
+    omega (arith, within)
+
+pub write_chain-requires-clause-index : goal.write_chain-requires-clause-index
+write_chain-requires-clause-index c = c.chains-test.true
+
+pub write_chain-requires-clause-seed : goal.write_chain-requires-clause-seed
+write_chain-requires-clause-seed c = c.requires.seed
+
+pub write_chain-requires-clause-room : goal.write_chain-requires-clause-room
+write_chain-requires-clause-room c =
+    let within = part-within _ _ c.chains.i c.args.leaf.now.params.now.p (length c.chains.out) c.chain_bytes-size.ensures.length (c.chains.auto.out ∙ c.requires.values) c.chains-test.true in
+    length_part (c.chain_bytes-size.result * c.chains.i) _ c.chains.out within ∙ c.chain_bytes-size.ensures.length
+
+pub overflow_mul-start : goal.overflow_mul-start
+overflow_mul-start c =
+    let row = rw c.size.ensures.number at c.chain_commits_bytes-row.ensures.length in
+    let within = part-within _ _ c.chains.i c.args.leaf.now.params.now.p (length c.chains.commits) row (c.chains.auto.commits ∙ c.requires.room) c.chains-test.true in
+    omega (arith, within)
+
+pub overflow_add-start : goal.overflow_add-start
+overflow_add-start c =
+    let row = rw c.size.ensures.number at c.chain_commits_bytes-row.ensures.length in
+    let within = part-within _ _ c.chains.i c.args.leaf.now.params.now.p (length c.chains.commits) row (c.chains.auto.commits ∙ c.requires.room) c.chains-test.true in
+    omega (arith, within)
+
+pub slice_bounds-commit_chain-end : goal.slice_bounds-commit_chain-end
+slice_bounds-commit_chain-end c =
+    let row = rw c.size.ensures.number at c.chain_commits_bytes-row.ensures.length in
+    let within = part-within _ _ c.chains.i c.args.leaf.now.params.now.p (length c.chains.commits) row (c.chains.auto.commits ∙ c.requires.room) c.chains-test.true in
+    omega (arith, within)
+
+pub commit_chain-requires-clause-members : goal.commit_chain-requires-clause-members
+commit_chain-requires-clause-members c = c.requires.members
+
+pub commit_chain-requires-clause-values : goal.commit_chain-requires-clause-values
+commit_chain-requires-clause-values c =
+    let within = part-within _ _ c.chains.i c.args.leaf.now.params.now.p (length c.chains.out) c.chain_bytes-size.ensures.length (c.chains.auto.out ∙ c.requires.values) c.chains-test.true in
+    c.write_chain.auto.out ∙ (length_part (c.chain_bytes-size.result * c.chains.i) _ c.chains.out within ∙ c.chain_bytes-size.ensures.length)
+
+pub commit_chain-requires-clause-room : goal.commit_chain-requires-clause-room
+commit_chain-requires-clause-room c =
+    let row = rw c.size.ensures.number at c.chain_commits_bytes-row.ensures.length in
+    let within = part-within _ _ c.chains.i c.args.leaf.now.params.now.p (length c.chains.commits) row (c.chains.auto.commits ∙ c.requires.room) c.chains-test.true in
+    length_part (c.chain_commits_bytes-row.result * c.chains.i) _ c.chains.commits within ∙ row
+
 pub chains-preserved : goal.chains-preserved
 chains-preserved c =
     let leaf = c.args.leaf.now in
-    let params = leaf.params.now in
-    let size = c.chain_bytes-size.result in
-    let row = c.chain_commits_bytes-row.result in
+    let count = leaf.params.now.p in
     let i = c.chains.i in
-    let room : length c.chains.out ≡ size * params.p = rw c.chain_bytes-size.ensures.length (omega arith) in
-    let within = row-fits size i params.p (omega arith) in
-    let put = put-part (size * i) size c.chains.out c.commit_chain.new.out (omega arith) (c.commit_chain.auto.out ∙ c.write_chain.auto.out) in
-    let wide : length c.chains.commits ≡ row * params.p = rw (c.chain_commits_bytes-row.ensures.length, c.size.ensures.number) (omega arith) in
-    let inside = row-fits row i params.p (omega arith) in
-    let commits = put-part (row * i) row c.chains.commits c.commit_chain.new.commits (omega arith) c.commit_chain.auto.commits in
+    let cell = part-within _ _ i count (length c.chains.out) c.chain_bytes-size.ensures.length (c.chains.auto.out ∙ c.requires.values) c.chains-test.true in
+    let row = rw c.size.ensures.number at c.chain_commits_bytes-row.ensures.length in
+    let part = part-within _ _ i count (length c.chains.commits) row (c.chains.auto.commits ∙ c.requires.room) c.chains-test.true in
     record {
-      cells = front-more (masked_row leaf c.args.seed.now) size i c.chains.out _ c.commit_chain.new.out
-          (row-is leaf c.args.seed.now c.write_chain.new.out c.commit_chain.new.out i c.write_chain.ensures c.commit_chain.ensures.masked)
-          put.size c.chains.invariant.cells (rw put.size put.front);
-      commits = front-more (row_commits leaf) row i c.chains.commits _ c.commit_chain.new.commits c.commit_chain.ensures.commits
-          commits.size c.chains.invariant.commits (rw commits.size commits.front);
+      cells = part-written (masked_row leaf c.args.seed.now) _ i c.chains.out c.commit_chain.new.out cell (c.commit_chain.auto.out ∙ c.write_chain.auto.out)
+          (row-is leaf c.args.seed.now c.write_chain.new.out c.commit_chain.new.out i c.write_chain.ensures c.commit_chain.ensures.masked) c.chains.invariant.cells;
+      commits = part-written (row_commits leaf) _ i c.chains.commits c.commit_chain.new.commits part c.commit_chain.auto.commits c.commit_chain.ensures.commits
+          c.chains.invariant.commits;
     }
 
 pub returns-clause-cells : goal.returns-clause-cells

@@ -1,4 +1,5 @@
 use Rattle.std.proofs.Common.{IsTrue, ◌≡◌, ℕ, List, ◌*◌, ◌∙◌, length, sym, ap, refl, arith, mul-zero}
+use Rattle.coalition_map.specs.Coalitions.{PlanNumbers}
 use Rattle.lms_bytes.specs.Bytes.{xor, bytes_at}
 use Rattle.lms_bytes.specs.Digits.{digit_of}
 use Rattle.lms_bytes.specs.declared.params.Params.{Params}
@@ -26,11 +27,17 @@ value_is n cell sum part made value written size long a b d e =
     let same : length cell ≡ length sum = size ∙ (sym long ∙ ap length a) in
     (is, ap length is ∙ (length-xor cell sum same ∙ size))
 
+-- a cell of the same leaves at the same place
+same-cell : (set params : Params) (plan plan' : PlanNumbers) (leaves leaves' : List ℕ) (q i j j' : ℕ) (cell : List ℕ) → set ≡ params → plan ≡ plan' → leaves ≡ leaves'
+    → j ≡ j' → cell ≡ cell_in set plan leaves q i j → cell ≡ cell_in params plan' leaves' q i j'
+same-cell set params plan plan' leaves leaves' q i j j' cell a b e k is = rw (← a, ← b, ← e, ← k) is
+
 pub put-requires : goal.put-requires
 put-requires g c =
     let params = c.args.params.now in
     let size : length c.in_ok-cell.cell ≡ params.n = c.in_ok-cell.ensures.length ∙ ap (λ (p : Params). p.n) (c.chains.invariant.stays.set ∙ c.requires.set) in
-    let v = value_is params.n c.in_ok-cell.cell _ _ _ _ c.bytes.result.now size c.part.ensures.length c.part.ensures.bytes c.of.ensures c.xor-value.ensures c.bytes.ensures.bytes in
+    let sum = bytes_at c.args.sums.now (params.n * c.chains.i) params.n in
+    let v = value_is params.n c.in_ok-cell.cell sum c.part.result.now c.of.result c.xor-value.result c.bytes.result.now size c.part.ensures.length c.part.ensures.bytes c.of.ensures c.xor-value.ensures c.bytes.ensures.bytes in
     let within = row-fits params.n c.chains.i params.p (omega arith) in
     omega (arith, v.1)
 
@@ -41,7 +48,8 @@ chains-preserved g c =
     let cells = c.args.cells.now in
     let set = before.stays.set ∙ c.requires.set in
     let size : length c.in_ok-cell.cell ≡ params.n = c.in_ok-cell.ensures.length ∙ ap (λ (p : Params). p.n) set in
-    let v = value_is params.n c.in_ok-cell.cell _ _ _ _ c.bytes.result.now size c.part.ensures.length c.part.ensures.bytes c.of.ensures c.xor-value.ensures c.bytes.ensures.bytes in
+    let sum = bytes_at c.args.sums.now (params.n * c.chains.i) params.n in
+    let v = value_is params.n c.in_ok-cell.cell sum c.part.result.now c.of.result c.xor-value.result c.bytes.result.now size c.part.ensures.length c.part.ensures.bytes c.of.ensures c.xor-value.ensures c.bytes.ensures.bytes in
     let f = joined_chain params (g.R.Cells.plan cells) (g.R.Cells.leaves cells) c.args.q c.args.digest.now c.args.sums.now in
     record {
       stays = record {
@@ -55,8 +63,10 @@ chains-preserved g c =
       front = λ told.
           let now : IsTrue (g.R.Cells.told c.chains.cells) = rw before.stays.told told in
           let cell : c.in_ok-cell.cell ≡ cell_in params (g.R.Cells.plan cells) (g.R.Cells.leaves cells) c.args.q c.chains.i (digit_of params c.args.digest.now c.chains.i) =
-          c.in_ok-cell.ensures.value now ∙ rw (set, before.stays.plan, before.stays.leaves told, c.digit.ensures) refl in
-          front-more f params.n c.chains.i c.chains.out c.put.new.out c.bytes.result.now (v.0 ∙ ap (λ (x : List ℕ). xor x (bytes_at c.args.sums.now (params.n * c.chains.i) params.n)) cell)
+          same-cell (g.R.Cells.set c.chains.cells) params (g.R.Cells.plan c.chains.cells) (g.R.Cells.plan cells) (g.R.Cells.leaves c.chains.cells) (g.R.Cells.leaves cells)
+          c.args.q c.chains.i c.digit.result (digit_of params c.args.digest.now c.chains.i) c.in_ok-cell.cell
+          set before.stays.plan (before.stays.leaves told) c.digit.ensures (c.in_ok-cell.ensures.value now) in
+          front-more f params.n c.chains.i c.chains.out c.put.new.out c.bytes.result.now (v.0 ∙ ap (λ (x : List ℕ). xor x sum) cell)
           v.1 (before.front told) c.put.ensures.front;
     }
 
