@@ -1,14 +1,12 @@
 -- Leaves that several threads build, each a run of them.
-use Rattle.std.proofs.Common.{◌≡◌, ℕ, zero, suc, ◌+◌, ◌^◌, ◌<◌, List, [], ◌++◌, length, map, get_or, refl, sym, ap, ◌∙◌, arith, append-nil, append_assoc, take, take_all, drop, ◌-◌, ◌*◌, ◌≤◌}
+use Rattle.std.proofs.Common.{◌≡◌, ℕ, zero, suc, ◌+◌, ◌^◌, ◌<◌, List, [], ◌++◌, length, map, get_or, refl, sym, ap, ◌∙◌, arith, append-nil, append_assoc, take, take_all, ◌*◌, ◌≤◌}
 use Rattle.std.specs.List.{range_with_len}
 use Rattle.std.proofs.Math.Nat.{mul-add}
 use Rattle.std.proofs.lemmas.List.{ext_get_or}
 use Rattle.std.proofs.lemmas.List.FromFn.{get_or-map-range_with_len, length-map-range_with_len}
-use borrow.Rule.Slice.PartMut.{put_mid}
 use Rattle.lms_bytes.specs.Bytes.{joined}
-use Rattle.lms_bytes.proofs.Joined.{front-more, joined-none, joined-same, joined-suc, row-fits}
+use Rattle.lms_bytes.proofs.Joined.{joined-none, joined-same, joined-suc}
 use Rattle.reference_value.specs.Dealing.{Dealing, leaf_part, reference}
-use Rattle.reference_value.proofs.Parts.{put-part}
 use Rattle.dealer.specs.Runs.{run_leaves}
 use Rattle.dealer.specs.declared.runs.Run.{Run}
 
@@ -51,18 +49,6 @@ run-written f size i count out room last taken =
     let all : length out ≤ size * i = rw last (omega (arith, room)) in
     sym (take_all (size * i) out all) ∙ (taken ∙ ap (joined f) last)
 
--- the part of a leaf lies within those of a run
-pub part-within : (size each i count room : ℕ) → size ≡ each → room ≡ each * count → i < count → size * i + size ≤ room
-part-within size each i count room same all inside = rw (all, same) (row-fits each i count inside)
-
--- a part of a leaf that was written behind those before it
-pub part-written : (f : ℕ → List ℕ) (size i : ℕ) (old part : List ℕ) → size * i + size ≤ length old → length part ≡ length (take (size * i + size - size * i) (drop (size * i) old))
-    → part ≡ f i → take (size * i) old ≡ joined f i
-    → take (size * (i + 1)) (put_mid (size * i) (size * i + size - size * i) old part) ≡ joined f (i + 1)
-part-written f size i old part within alike is before =
-    let put = put-part (size * i) size old part within alike in
-    front-more f size i old _ part is put.size before (rw put.size put.front)
-
 -- the room of a run's first leaves, and of the others
 pub part-first : (size each first room : ℕ) → size ≡ each → room ≡ size * first → room ≡ each * first
 part-first size each first room same cut = cut ∙ ap (λ (s : ℕ). s * first) same
@@ -73,3 +59,10 @@ part-behind size each first next count room rest same all cut left =
     let start : size * first ≡ each * first = ap (λ (s : ℕ). s * first) same in
     let whole : each * (first + next) ≡ each * count = ap (λ (n : ℕ). each * n) cut in
     omega (arith, start, whole, all, left, mul-add each first next)
+
+-- the first leaves lie within those of the run
+pub first-within : (size each first next count room : ℕ) → size ≡ each → room ≡ each * count → first + next ≡ count → size * first ≤ room
+first-within size each first next count room same all cut =
+    let start : size * first ≡ each * first = ap (λ (s : ℕ). s * first) same in
+    let whole : each * (first + next) ≡ each * count = ap (λ (n : ℕ). each * n) cut in
+    omega (arith, start, whole, all, mul-add each first next)

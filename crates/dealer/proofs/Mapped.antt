@@ -1,5 +1,5 @@
 -- Values that are computed one after the other.
-use Rattle.std.proofs.Common.{◌≡◌, ℕ, zero, suc, ◌+◌, ◌-◌, ◌<◌, ◌≤◌, List, [], ◌∷◌, ◌++◌, length, map, get_or, take, drop, subst, refl, sym, ap, ◌∙◌, arith, length-drop, length-take-le}
+use Rattle.std.proofs.Common.{◌≡◌, ℕ, zero, suc, ◌+◌, ◌<◌, List, [], ◌∷◌, ◌++◌, length, map, get_or, take, drop, subst, refl, sym, ap, ◌∙◌, arith}
 use Rattle.std.specs.Prelude.{All}
 use Rattle.std.specs.List.{range_with_len}
 use Rattle.std.proofs.lemmas.List.{take_at}
@@ -35,9 +35,3 @@ all_over P count out old size all = subst (All P) (sym (take_at out (drop (lengt
 
 pub length_over : {X : Type 0} (count : ℕ) (out old : List X) → length out ≡ count → length (take count (out ++ drop (length out) old)) ≡ count
 length_over count out old size = ap length (take_at out (drop (length out) old) count size) ∙ size
-
--- a part of a list is as long as was asked
-pub length_part : {X : Type 0} (place count : ℕ) (xs : List X) → place + count ≤ length xs → length (take (place + count - place) (drop place xs)) ≡ count
-length_part place count xs within =
-    let rest = length-drop place xs in
-    length-take-le (place + count - place) (drop place xs) (omega (arith, rest, within)) ∙ omega arith

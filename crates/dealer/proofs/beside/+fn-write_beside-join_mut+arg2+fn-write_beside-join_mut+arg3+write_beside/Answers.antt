@@ -1,12 +1,51 @@
-use Rattle.std.proofs.Common.{rules, ◌≡◌, ◌*◌, length}
+use Rattle.std.proofs.Common.{rules, arith, ◌≡◌, ◌*◌, length}
 use Rattle.std.specs.Prelude.{is_some}
 use Rattle.std.proofs.iter.Serving.{serving}
 use Rattle.reference_value.specs.Dealing.{leaf_part}
 use Rattle.mask_prf.specs.Lengths.{leaf_length}
 use Rattle.dealer.specs.Runs.{asked_length, leaf_asked}
 use Rattle.dealer.specs.Secrets.{dealing_with}
-use Rattle.dealer.proofs.Joins.{part-behind, part-first, runs-written}
+use Rattle.dealer.proofs.Joins.{first-within, part-behind, part-first, runs-written}
 use Rattle.dealer.proofs.beside.+fn-write_beside-join_mut+arg2+fn-write_beside-join_mut+arg3+write_beside.Goals as goal
+
+pub write_run-requires-clause-suit : goal.write_run-requires-clause-suit
+write_run-requires-clause-suit g t c = c.requires.suit
+
+pub write_run-requires-clause-within : goal.write_run-requires-clause-within
+write_run-requires-clause-within g t c = c.requires.within
+
+pub write_run-requires-clause-leaves : goal.write_run-requires-clause-leaves
+write_run-requires-clause-leaves g t c = c.requires.leaves
+
+pub write_run-requires-clause-commits : goal.write_run-requires-clause-commits
+write_run-requires-clause-commits g t c = c.requires.commits
+
+pub returns-then-threads-lt2-clause-leaves : goal.returns-then-threads-lt2-clause-leaves
+returns-then-threads-lt2-clause-leaves g t c = c.write_run.ensures.leaves
+
+pub returns-then-threads-lt2-clause-commits : goal.returns-then-threads-lt2-clause-commits
+returns-then-threads-lt2-clause-commits g t c = c.write_run.ensures.commits
+
+pub overflow_mul-leaf_bytes : goal.overflow_mul-leaf_bytes
+overflow_mul-leaf_bytes g t c =
+    let same : c.leaf_bytes.result ≡ leaf_length c.args.params.now c.args.plan.now.k = rw c.k.ensures.value at c.leaf_bytes.ensures in
+    let within = first-within _ _ c.cut.result.0.count c.cut.result.1.count c.args.run.count (length c.args.out.now) same c.requires.leaves c.cut.ensures.all in
+    omega (arith, within)
+
+pub split_at_mut-front-requires : goal.split_at_mut-front-requires
+split_at_mut-front-requires g t c =
+    let same : c.leaf_bytes.result ≡ leaf_length c.args.params.now c.args.plan.now.k = rw c.k.ensures.value at c.leaf_bytes.ensures in
+    first-within _ _ c.cut.result.0.count c.cut.result.1.count c.args.run.count (length c.args.out.now) same c.requires.leaves c.cut.ensures.all
+
+pub overflow_mul-row : goal.overflow_mul-row
+overflow_mul-row g t c =
+    let within =
+    first-within _ _ c.cut.result.0.count c.cut.result.1.count c.args.run.count (length c.args.commits.now) c.asked_bytes-row.ensures c.requires.commits c.cut.ensures.all in
+    omega (arith, within)
+
+pub split_at_mut-ahead-requires : goal.split_at_mut-ahead-requires
+split_at_mut-ahead-requires g t c =
+    first-within _ _ c.cut.result.0.count c.cut.result.1.count c.args.run.count (length c.args.commits.now) c.asked_bytes-row.ensures c.requires.commits c.cut.ensures.all
 
 pub join_mut-requires-after_bounds : goal.join_mut-requires-after_bounds
 join_mut-requires-after_bounds g t c κs within =

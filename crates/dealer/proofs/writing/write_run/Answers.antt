@@ -3,10 +3,10 @@ use Rattle.std.specs.Prelude.{is_some}
 use Rattle.mask_prf.specs.Lengths.{leaf_length}
 use Rattle.reference_value.specs.Dealing.{leaf_part}
 use Rattle.lms_bytes.proofs.Joined.{joined-none}
+use Rattle.reference_value.proofs.Parts.{length_part, part-within, part-written}
 use Rattle.dealer.specs.Runs.{leaf_asked}
 use Rattle.dealer.specs.Secrets.{dealing_with}
-use Rattle.dealer.proofs.Joins.{part-within, part-written, run-written}
-use Rattle.dealer.proofs.Mapped.{length_part}
+use Rattle.dealer.proofs.Joins.{run-written}
 use Rattle.dealer.proofs.writing.write_run.Goals as goal
 
 pub leaves-init : goal.leaves-init
