@@ -27,6 +27,22 @@ value_is n cell sum part made value written size long a b d e =
     let same : length cell ≡ length sum = size ∙ (sym long ∙ ap length a) in
     (is, ap length is ∙ (length-xor cell sum same ∙ size))
 
+pub overflow_mul-place : goal.overflow_mul-place
+overflow_mul-place g c =
+    let within = row-fits c.args.params.now.n c.chains.i c.args.params.now.p c.chains-test.true in
+    omega (arith, within, c.requires.sums)
+
+pub digit-requires-clause-index : goal.digit-requires-clause-index
+digit-requires-clause-index g c = c.chains-test.true
+
+pub digit-requires-clause-digest : goal.digit-requires-clause-digest
+digit-requires-clause-digest g c = c.requires.digest
+
+pub part-requires : goal.part-requires
+part-requires g c =
+    let within = row-fits c.args.params.now.n c.chains.i c.args.params.now.p c.chains-test.true in
+    omega (arith, within, c.requires.sums)
+
 -- a cell of the same leaves at the same place
 same-cell : (set params : Params) (plan plan' : PlanNumbers) (leaves leaves' : List ℕ) (q i j j' : ℕ) (cell : List ℕ) → set ≡ params → plan ≡ plan' → leaves ≡ leaves'
     → j ≡ j' → cell ≡ cell_in set plan leaves q i j → cell ≡ cell_in params plan' leaves' q i j'
