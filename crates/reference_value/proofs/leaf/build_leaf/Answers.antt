@@ -5,6 +5,31 @@ use Rattle.reference_value.proofs.Members.{building-none, building-more, built, 
 use Rattle.reference_value.proofs.leaf.build_leaf.Goals as goal
 use Rattle.reference_value.proofs.leaf.build_leaf.Goals.{then-has, else-has}
 
+pub coalition_of-requires : goal.coalition_of-requires
+coalition_of-requires c = rw c.requires.height c.requires.leaf
+
+pub members-members-requires : goal.members-members-requires
+members-members-requires c = c.coalition_of.ensures.within
+
+pub split_at_mut-front-requires : goal.split_at_mut-front-requires
+split_at_mut-front-requires c = omega (arith, c.k.ensures.value, c.requires.room)
+
+pub write_chains-requires-clause-seed : goal.write_chains-requires-clause-seed
+write_chains-requires-clause-seed c = c.requires.seed
+
+pub write_chains-requires-clause-room : goal.write_chains-requires-clause-room
+write_chains-requires-clause-room c = omega (arith, c.split_at_mut-front.ensures.back_len, c.k.ensures.value, c.requires.room)
+
+pub put-requires : goal.put-requires
+put-requires c = omega (arith, ap length c.bytes.ensures.bytes, c.randomizer-c.ensures.length, c.split_at_mut-front.ensures.front_len)
+
+pub add_member-requires-clause-behind : goal.add_member-requires-clause-behind
+add_member-requires-clause-behind c = omega (arith, c.trustees.invariant.ends)
+
+pub add_member-requires-clause-chains : goal.add_member-requires-clause-chains
+add_member-requires-clause-chains c =
+    omega (arith, c.trustees.auto.chains, c.write_chains.auto.out, c.split_at_mut-front.ensures.back_len, c.k.ensures.value, c.requires.room)
+
 pub trustees-init : goal.trustees-init
 trustees-init c =
     let none = below-none 1 _ 1 c.members-members.result c.members-members.ensures.subset.ascending (omega arith) in
