@@ -1,6 +1,4 @@
 use Rattle.std.proofs.Common.{[], ◌∷◌, ◌++◌, length, Err, refl, sym, ap, subst, ◌≤◌, ◌∙◌, ℕ, arith, append-nil, true≢false}
-use Rattle.std.specs.Option.{option_map}
-use Rattle.trustee_core.specs.Approved.{ids_of}
 use Rattle.trustee_node.specs.Connections.{ServerState, clock_state, read_none}
 use Rattle.trustee_node.specs.Replies.{outcome_in, reply_bytes}
 use Rattle.trustee_node.proofs.Asking.{heard-more, replied-more}
@@ -35,18 +33,10 @@ loop-init g c =
 
 pub returns-in-Err-clause-conversation : goal.returns-in-Err-clause-conversation
 returns-in-Err-clause-conversation g c =
-    let talk = g.L.Stream.talk in
-    let clock = clock_state g.C.Clock.told g.C.Clock.answers in
     let v = c.loop.invariant in
-    let share = c.args.share.now in
-    let ids = option_map (λ b. ids_of b.now) c.args.book in
-    let old : ServerState = record { pass = c.args.pass.now; clock = clock c.args.clock.now } in
-    let mid : ServerState = record { pass = c.loop.pass; clock = clock c.loop.clock } in
-    let first = talk c.args.link.now in
-    let link = talk c.loop.link in
     let r = c.in-Err.ensures in
-    ends-unread share ids old mid first link (g.L.Faults.steady c.args.link.now) v.turns c.loop.frames _ v.heard v.replied v.fresh v.frames v.many
-    (talk c.next_ask.new.source) c.in-Err.fault c.end_by-ended.result c.end_by-ended.ensures c.loop-test.true
+    ends-unread _ _ _ _ _ _ (g.L.Faults.steady c.args.link.now) _ _ _ v.heard v.replied v.fresh v.frames v.many
+    (g.L.Stream.talk c.next_ask.new.source) c.in-Err.fault c.end_by-ended.result c.end_by-ended.ensures c.loop-test.true
     r.told r.only r.cause (λ steady. r.answers (v.steady ∙ steady)) r.no_memory
 
 pub returns-in-Err-clause-answers : goal.returns-in-Err-clause-answers
@@ -56,104 +46,58 @@ returns-in-Err-clause-answers g c steady same =
 
 pub returns-in-Err-write_reply-clause-conversation : goal.returns-in-Err-write_reply-clause-conversation
 returns-in-Err-write_reply-clause-conversation g c =
-    let talk = g.L.Stream.talk in
-    let clock = clock_state g.C.Clock.told g.C.Clock.answers in
     let v = c.loop.invariant in
-    let share = c.args.share.now in
-    let ids = option_map (λ b. ids_of b.now) c.args.book in
-    let old : ServerState = record { pass = c.args.pass.now; clock = clock c.args.clock.now } in
-    let mid : ServerState = record { pass = c.loop.pass; clock = clock c.loop.clock } in
-    let first = talk c.args.link.now in
-    let link = talk c.loop.link in
-    let last = talk c.next_ask.new.source in
-    let next = talk c.write_reply.new.link in
     let r = c.in-Ok.ensures in
     let m = c.now-moment.ensures in
     let d = c.decide_in_turn-answer in
-    let t = d.ensures.turn in
-    let given = d.result in
-    let turn = turn_of c.in-Ok.ask c.now-moment.result t.seen (outcome_in given) t.added in
-    let new : ServerState = record { pass = d.new.pass; clock = clock c.now-moment.new.self } in
-    let w = c.in-Err-write_reply.ensures.sends in
-    ends-unwritten share ids old mid first link (g.L.Faults.steady c.args.link.now) v.turns c.loop.frames _ v.heard v.replied v.fresh v.frames v.many
-    new last next turn c.loop-test.true r.only
-    (heard-more share v.turns turn ids old mid new first link last next v.heard v.clock_told t.serves m.answer m.later r.told r.only w.only c.in-Err-write_reply.ensures.length)
-    (worn-few given) (r.cause.same (λ is. absurd (cc))) w.wrote w.cause.later w.cause.failed
-    (λ steady fits. true≢false (sym (w.succeeds (r.steady ∙ (v.steady ∙ steady))
-    (subst (λ (n : ℕ). length (reply_bytes share c.in-Ok.ask (outcome_in given)) ≤ n) (g.met.L.Sink.rooms c.next_ask.new.source) fits))))
+    let w = c.in-Err-write_reply.ensures in
+    let turn = turn_of c.in-Ok.ask c.now-moment.result d.ensures.turn.seen (outcome_in d.result) d.ensures.turn.added in
+    let new : ServerState = record { pass = d.new.pass; clock = clock_state g.C.Clock.told g.C.Clock.answers c.now-moment.new.self } in
+    ends-unwritten _ _ _ _ _ _ (g.L.Faults.steady c.args.link.now) _ _ _ v.heard v.replied v.fresh v.frames v.many new _ _ turn c.loop-test.true r.only
+    (heard-more _ _ turn _ _ _ new _ _ _ _ v.heard v.clock_told d.ensures.turn.serves m.answer m.later r.told r.only w.sends.only w.length)
+    (worn-few d.result) (r.cause.same (λ is. absurd (cc))) w.sends.wrote w.sends.cause.later w.sends.cause.failed
+    (λ steady fits. true≢false (sym (w.sends.succeeds (r.steady ∙ (v.steady ∙ steady))
+    (subst (λ (n : ℕ). length (reply_bytes c.args.share.now c.in-Ok.ask (outcome_in d.result)) ≤ n) (g.met.L.Sink.rooms c.next_ask.new.source) fits))))
 
 pub returns-then-is_worn-clause-conversation : goal.returns-then-is_worn-clause-conversation
 returns-then-is_worn-clause-conversation g c =
-    let talk = g.L.Stream.talk in
-    let clock = clock_state g.C.Clock.told g.C.Clock.answers in
     let v = c.loop.invariant in
-    let share = c.args.share.now in
-    let ids = option_map (λ b. ids_of b.now) c.args.book in
-    let old : ServerState = record { pass = c.args.pass.now; clock = clock c.args.clock.now } in
-    let mid : ServerState = record { pass = c.loop.pass; clock = clock c.loop.clock } in
-    let first = talk c.args.link.now in
-    let link = talk c.loop.link in
-    let last = talk c.next_ask.new.source in
-    let next = talk c.write_reply.new.link in
     let r = c.in-Ok.ensures in
     let m = c.now-moment.ensures in
     let d = c.decide_in_turn-answer in
-    let t = d.ensures.turn in
-    let given = d.result in
-    let turn = turn_of c.in-Ok.ask c.now-moment.result t.seen (outcome_in given) t.added in
-    let new : ServerState = record { pass = d.new.pass; clock = clock c.now-moment.new.self } in
-    let w = c.in_default.ensures.sends in
-    ends-worn share ids old mid first link (g.L.Faults.steady c.args.link.now) v.turns c.loop.frames _ v.heard v.replied v.fresh v.frames v.many
-    new last next turn c.loop-test.true r.only
-    (heard-more share v.turns turn ids old mid new first link last next v.heard v.clock_told t.serves m.answer m.later r.told r.only w.only c.in_default.ensures.length)
-    (worn-is given (sym c.is_worn.ensures ∙ c.if-is_worn.true))
-    (replied-more share v.turns turn first link last next (g.L.Sink.room c.next_ask.new.source) (g.L.Sink.room c.write_reply.new.link) v.replied v.heard.told r.only (r.cause.same (λ is. absurd (cc))) w.wrote w.cause.succeeded
-    (g.met.L.Sink.rooms c.next_ask.new.source) (g.met.L.Sink.rooms c.write_reply.new.link) w.room)
+    let w = c.in_default.ensures in
+    let turn = turn_of c.in-Ok.ask c.now-moment.result d.ensures.turn.seen (outcome_in d.result) d.ensures.turn.added in
+    let new : ServerState = record { pass = d.new.pass; clock = clock_state g.C.Clock.told g.C.Clock.answers c.now-moment.new.self } in
+    ends-worn _ _ _ _ _ _ (g.L.Faults.steady c.args.link.now) _ _ _ v.heard v.replied v.fresh v.frames v.many new _ _ turn c.loop-test.true r.only
+    (heard-more _ _ turn _ _ _ new _ _ _ _ v.heard v.clock_told d.ensures.turn.serves m.answer m.later r.told r.only w.sends.only w.length)
+    (worn-is d.result (sym c.is_worn.ensures ∙ c.if-is_worn.true))
+    (replied-more _ _ turn _ _ _ _ _ _ v.replied v.heard.told r.only (r.cause.same (λ is. absurd (cc))) w.sends.wrote w.sends.cause.succeeded
+    (g.met.L.Sink.rooms c.next_ask.new.source) (g.met.L.Sink.rooms c.write_reply.new.link) w.sends.room)
 
 pub loop-preserved : goal.loop-preserved
 loop-preserved g c =
-    let talk = g.L.Stream.talk in
-    let clock = clock_state g.C.Clock.told g.C.Clock.answers in
     let v = c.loop.invariant in
-    let share = c.args.share.now in
-    let ids = option_map (λ b. ids_of b.now) c.args.book in
-    let old : ServerState = record { pass = c.args.pass.now; clock = clock c.args.clock.now } in
-    let mid : ServerState = record { pass = c.loop.pass; clock = clock c.loop.clock } in
-    let first = talk c.args.link.now in
-    let link = talk c.loop.link in
-    let last = talk c.next_ask.new.source in
-    let next = talk c.write_reply.new.link in
     let r = c.in-Ok.ensures in
     let m = c.now-moment.ensures in
     let d = c.decide_in_turn-answer in
-    let t = d.ensures.turn in
-    let given = d.result in
-    let turn = turn_of c.in-Ok.ask c.now-moment.result t.seen (outcome_in given) t.added in
-    let new : ServerState = record { pass = d.new.pass; clock = clock c.now-moment.new.self } in
-    let w = c.in_default.ensures.sends in
+    let w = c.in_default.ensures in
+    let turn = turn_of c.in-Ok.ask c.now-moment.result d.ensures.turn.seen (outcome_in d.result) d.ensures.turn.added in
+    let new : ServerState = record { pass = d.new.pass; clock = clock_state g.C.Clock.told g.C.Clock.answers c.now-moment.new.self } in
     record {
       turns = v.turns ++ turn ∷ [];
-      heard = heard-more share v.turns turn ids old mid new first link last next v.heard v.clock_told t.serves m.answer m.later r.told r.only w.only c.in_default.ensures.length;
-      replied = replied-more share v.turns turn first link last next (g.L.Sink.room c.next_ask.new.source) (g.L.Sink.room c.write_reply.new.link) v.replied v.heard.told r.only (r.cause.same (λ is. absurd (cc))) w.wrote w.cause.succeeded
-          (g.met.L.Sink.rooms c.next_ask.new.source) (g.met.L.Sink.rooms c.write_reply.new.link) w.room;
+      heard = heard-more _ _ turn _ _ _ new _ _ _ _ v.heard v.clock_told d.ensures.turn.serves m.answer m.later r.told r.only w.sends.only w.length;
+      replied = replied-more _ _ turn _ _ _ _ _ _ v.replied v.heard.told r.only (r.cause.same (λ is. absurd (cc))) w.sends.wrote w.sends.cause.succeeded
+          (g.met.L.Sink.rooms c.next_ask.new.source) (g.met.L.Sink.rooms c.write_reply.new.link) w.sends.room;
       pass = d.ensures.pass;
-      fresh = worn-more v.turns turn 0 v.fresh (fresh-is given (sym c.is_worn.ensures ∙ c.if-is_worn.false));
+      fresh = worn-more v.turns turn 0 v.fresh (fresh-is d.result (sym c.is_worn.ensures ∙ c.if-is_worn.false));
       frames = (let a = v.frames in omega (arith, a));
       many = (let b = v.many in omega (arith, b, length-more v.turns turn));
-      steady = w.steady ∙ (r.steady ∙ v.steady);
+      steady = w.sends.steady ∙ (r.steady ∙ v.steady);
       clock_told = m.told ∙ v.clock_told;
     }
 
 pub returns-clause-conversation : goal.returns-clause-conversation
 returns-clause-conversation g c =
-    let talk = g.L.Stream.talk in
-    let clock = clock_state g.C.Clock.told g.C.Clock.answers in
     let v = c.loop.invariant in
-    let share = c.args.share.now in
-    let ids = option_map (λ b. ids_of b.now) c.args.book in
-    let old : ServerState = record { pass = c.args.pass.now; clock = clock c.args.clock.now } in
-    let mid : ServerState = record { pass = c.loop.pass; clock = clock c.loop.clock } in
-    let first = talk c.args.link.now in
-    let link = talk c.loop.link in
-    ends-full share ids old mid first link (g.L.Faults.steady c.args.link.now) v.turns c.loop.frames _ v.heard v.replied v.fresh v.frames v.many
+    ends-full _ _ _ _ _ _ (g.L.Faults.steady c.args.link.now) _ _ _ v.heard v.replied v.fresh v.frames v.many
     (let a = v.many in let b = c.loop-test.false in omega (arith, a, b))
