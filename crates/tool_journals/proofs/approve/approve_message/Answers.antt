@@ -19,14 +19,12 @@ use Rattle.tool_journals.proofs.approve.approve_message.Goals as goal
 
 pub returns-in-Err : goal.returns-in-Err
 returns-in-Err g c =
-    record { ended = unshared g.S.Store.state c.args.store.now c.read_share_file.new.store c.args.share.now c.in-Err.ensures.unchanged (ApproveEnds _ c.args.share.now c.args.book.now c.args.message.now) _ (λ end fails. no_share end fails) c.in-Err.ensures.refused }
+    record { ended = unshared g.S.Store.state c.args.store.now c.read_share_file.new.store c.args.share.now c.in-Err.ensures.unchanged _ _ (λ end fails. no_share end fails) c.in-Err.ensures.refused }
 
 pub returns-in-Err-read_message : goal.returns-in-Err-read_message
 returns-in-Err-read_message g c =
-    let read = c.in-Ok.ensures in
-    let next = c.in-Err-read_message.ensures in
-    let before = next_fails g.S.Store.state c.args.store.now c.read_share_file.new.store c.args.share.now read.unchanged c.read_message.new.store c.in-Ok.found in
-    record { ended = before (λ run. FailsToRead run c.args.message.now (ending c.in-Err-read_message.end)) (ApproveEnds _ c.args.share.now c.args.book.now c.args.message.now) _ (λ share fails. no_message c.in-Ok.found _ share fails) read.share next.unchanged next.refused }
+    let before = next_fails g.S.Store.state c.args.store.now c.read_share_file.new.store c.args.share.now c.in-Ok.ensures.unchanged c.read_message.new.store c.in-Ok.found in
+    record { ended = before (λ run. FailsToRead run c.args.message.now (ending c.in-Err-read_message.end)) _ _ (λ share fails. no_message c.in-Ok.found _ share fails) c.in-Ok.ensures.share c.in-Err-read_message.ensures.unchanged c.in-Err-read_message.ensures.refused }
 
 pub returns-in-Err-open_book : goal.returns-in-Err-open_book
 returns-in-Err-open_book g c =

@@ -16,14 +16,12 @@ use Rattle.tool_journals.proofs.migrate.migrate_journal.Goals as goal
 
 pub returns-in-Err : goal.returns-in-Err
 returns-in-Err g c =
-    record { ended = unshared g.S.Store.state c.args.store.now c.read_share_file.new.store c.args.share.now c.in-Err.ensures.unchanged (MigrateEnds _ c.args.share.now c.args.journal.now c.args.new.now) _ (λ end fails. no_share end fails) c.in-Err.ensures.refused }
+    record { ended = unshared g.S.Store.state c.args.store.now c.read_share_file.new.store c.args.share.now c.in-Err.ensures.unchanged _ _ (λ end fails. no_share end fails) c.in-Err.ensures.refused }
 
 pub returns-in-Err-test_new : goal.returns-in-Err-test_new
 returns-in-Err-test_new g c =
-    let read = c.in-Ok.ensures in
-    let next = c.in-Err-test_new.ensures in
-    let before = next_fails g.S.Store.state c.args.store.now c.read_share_file.new.store c.args.share.now read.unchanged c.test_new.new.store c.in-Ok.found in
-    record { ended = before (λ run. IsNotNew run c.args.new.now (ending c.in-Err-test_new.end)) (MigrateEnds _ c.args.share.now c.args.journal.now c.args.new.now) _ (λ share fails. not_new c.in-Ok.found _ share fails) read.share next.unchanged next.refused }
+    let before = next_fails g.S.Store.state c.args.store.now c.read_share_file.new.store c.args.share.now c.in-Ok.ensures.unchanged c.test_new.new.store c.in-Ok.found in
+    record { ended = before (λ run. IsNotNew run c.args.new.now (ending c.in-Err-test_new.end)) _ _ (λ share fails. not_new c.in-Ok.found _ share fails) c.in-Ok.ensures.share c.in-Err-test_new.ensures.unchanged c.in-Err-test_new.ensures.refused }
 
 pub returns-in-Err-Failed : goal.returns-in-Err-Failed
 returns-in-Err-Failed g c =

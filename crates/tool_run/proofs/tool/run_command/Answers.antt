@@ -1,24 +1,21 @@
 use Rattle.std.proofs.Common.{◌≡◌, [], refl}
-use Rattle.tool_base.specs.World.{from_to}
-use Rattle.tool_base.proofs.Writing.{ends_untouched}
 use Rattle.tool_base.proofs.Nets.{net_none}
 use Rattle.tool_base.proofs.Runs.{back_unchanged, unchanged_none}
 use Rattle.tool_run.specs.Drill.{DrillEnds}
 use Rattle.tool_keys.specs.HssCheck.{HssCheckEnds}
 use Rattle.tool_keys.specs.Verify.{VerifyEnds}
 use Rattle.tool_show.specs.Show.{ShowEnds}
+use Rattle.tool_run.proofs.Running.{untouched}
 use Rattle.tool_run.proofs.tool.run_command.Goals as goal
 
 pub returns-in-Verify : goal.returns-in-Verify
 returns-in-Verify g c =
-    let run = from_to (g.S.Store.state c.args.store.now) (g.S.Store.state c.verify_files.new.store) in
-    let verify = c.in-Verify in
+    let words = c.in-Verify in
+    let done = c.verify_files.ensures in
     record {
-      ended = rw c.in-Verify.is (record {
-        run = ends_untouched _ _ c.verify_files.ensures.unchanged (VerifyEnds run verify.key.now verify.message.now verify.signature.now) _ c.verify_files.ensures.ended;
-        net = refl;
-      });
-      back = back_unchanged _ _ c.verify_files.ensures.unchanged;
+      ended = rw words.is
+          (untouched (λ store. VerifyEnds store words.key.now words.message.now words.signature.now) _ _ _ done.unchanged refl done.ended);
+      back = back_unchanged _ _ done.unchanged;
       net = net_none _;
       time = refl;
     }
@@ -97,14 +94,12 @@ returns-in-HssSign g c = record {
 
 pub returns-in-HssCheck : goal.returns-in-HssCheck
 returns-in-HssCheck g c =
-    let run = from_to (g.S.Store.state c.args.store.now) (g.S.Store.state c.hss_check_files.new.store) in
-    let check = c.in-HssCheck in
+    let words = c.in-HssCheck in
+    let done = c.hss_check_files.ensures in
     record {
-      ended = rw c.in-HssCheck.is (record {
-        run = ends_untouched _ _ c.hss_check_files.ensures.unchanged (HssCheckEnds run check.key.now check.message.now check.signature.now) _ c.hss_check_files.ensures.ended;
-        net = refl;
-      });
-      back = back_unchanged _ _ c.hss_check_files.ensures.unchanged;
+      ended = rw words.is
+          (untouched (λ store. HssCheckEnds store words.key.now words.message.now words.signature.now) _ _ _ done.unchanged refl done.ended);
+      back = back_unchanged _ _ done.unchanged;
       net = net_none _;
       time = refl;
     }
@@ -118,28 +113,25 @@ returns-in-Aggregate g c = record {
 }
 
 pub returns-in-Drill : goal.returns-in-Drill
-returns-in-Drill g c = record {
-  ended = rw c.in-Drill.is (record {
-    run = ends_untouched _ _ (unchanged_none _) (λ end written. DrillEnds c.in-Drill.words.number c.in-Drill.words.sessions c.in-Drill.words.events end × (written ≡ [])) _
-        (c.drill_sessions.ensures, refl);
-    net = refl;
-  });
-  back = back_unchanged _ _ (unchanged_none _);
-  net = net_none _;
-  time = refl;
-}
+returns-in-Drill g c =
+    let words = c.in-Drill.words in
+    record {
+      ended = rw c.in-Drill.is
+          (untouched (λ store end written. DrillEnds words.number words.sessions words.events end × (written ≡ [])) _ _ _ (unchanged_none _) refl
+          (c.drill_sessions.ensures, refl));
+      back = back_unchanged _ _ (unchanged_none _);
+      net = net_none _;
+      time = refl;
+    }
 
 pub returns-in-Show : goal.returns-in-Show
 returns-in-Show g c =
-    let run = from_to (g.S.Store.state c.args.store.now) (g.S.Store.state c.show_file.new.store) in
-    let show = c.in-Show in
+    let words = c.in-Show in
+    let done = c.show_file.ensures in
     record {
-      ended = rw c.in-Show.is (record {
-        run = ends_untouched _ _ c.show_file.ensures.unchanged (λ end written. ShowEnds run show.file.now show.leaves end × (written ≡ [])) _
-            (c.show_file.ensures.ended, refl);
-        net = refl;
-      });
-      back = back_unchanged _ _ c.show_file.ensures.unchanged;
+      ended = rw words.is
+          (untouched (λ store end written. ShowEnds store words.file.now words.leaves end × (written ≡ [])) _ _ _ done.unchanged refl (done.ended, refl));
+      back = back_unchanged _ _ done.unchanged;
       net = net_none _;
       time = refl;
     }
