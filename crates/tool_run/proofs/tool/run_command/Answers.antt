@@ -1,20 +1,14 @@
-use Rattle.std.proofs.Common.{◌≡◌, [], refl}
+use Rattle.std.proofs.Common.{refl}
 use Rattle.tool_base.proofs.Nets.{net_none}
 use Rattle.tool_base.proofs.Runs.{back_unchanged, unchanged_none}
-use Rattle.tool_run.specs.Drill.{DrillEnds}
-use Rattle.tool_keys.specs.HssCheck.{HssCheckEnds}
-use Rattle.tool_keys.specs.Verify.{VerifyEnds}
-use Rattle.tool_show.specs.Show.{ShowEnds}
 use Rattle.tool_run.proofs.Running.{untouched}
 use Rattle.tool_run.proofs.tool.run_command.Goals as goal
 
 pub returns-in-Verify : goal.returns-in-Verify
 returns-in-Verify g c =
-    let words = c.in-Verify in
     let done = c.verify_files.ensures in
     record {
-      ended = rw words.is
-          (untouched (λ store. VerifyEnds store words.key.now words.message.now words.signature.now) _ _ _ done.unchanged refl done.ended);
+      ended = rw c.in-Verify.is (untouched _ _ _ _ done.unchanged refl done.ended);
       back = back_unchanged _ _ done.unchanged;
       net = net_none _;
       time = refl;
@@ -94,11 +88,9 @@ returns-in-HssSign g c = record {
 
 pub returns-in-HssCheck : goal.returns-in-HssCheck
 returns-in-HssCheck g c =
-    let words = c.in-HssCheck in
     let done = c.hss_check_files.ensures in
     record {
-      ended = rw words.is
-          (untouched (λ store. HssCheckEnds store words.key.now words.message.now words.signature.now) _ _ _ done.unchanged refl done.ended);
+      ended = rw c.in-HssCheck.is (untouched _ _ _ _ done.unchanged refl done.ended);
       back = back_unchanged _ _ done.unchanged;
       net = net_none _;
       time = refl;
@@ -113,24 +105,18 @@ returns-in-Aggregate g c = record {
 }
 
 pub returns-in-Drill : goal.returns-in-Drill
-returns-in-Drill g c =
-    let words = c.in-Drill.words in
-    record {
-      ended = rw c.in-Drill.is
-          (untouched (λ store end written. DrillEnds words.number words.sessions words.events end × (written ≡ [])) _ _ _ (unchanged_none _) refl
-          (c.drill_sessions.ensures, refl));
-      back = back_unchanged _ _ (unchanged_none _);
-      net = net_none _;
-      time = refl;
-    }
+returns-in-Drill g c = record {
+  ended = rw c.in-Drill.is (untouched _ _ _ _ (unchanged_none _) refl (c.drill_sessions.ensures, refl));
+  back = back_unchanged _ _ (unchanged_none _);
+  net = net_none _;
+  time = refl;
+}
 
 pub returns-in-Show : goal.returns-in-Show
 returns-in-Show g c =
-    let words = c.in-Show in
     let done = c.show_file.ensures in
     record {
-      ended = rw words.is
-          (untouched (λ store end written. ShowEnds store words.file.now words.leaves end × (written ≡ [])) _ _ _ done.unchanged refl (done.ended, refl));
+      ended = rw c.in-Show.is (untouched _ _ _ _ done.unchanged refl (done.ended, refl));
       back = back_unchanged _ _ done.unchanged;
       net = net_none _;
       time = refl;
