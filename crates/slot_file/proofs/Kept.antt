@@ -1,6 +1,6 @@
 -- A write within a slot leaves a file what it is.
-use Rattle.std.proofs.Common.{ℕ, ◌+◌, ◌<◌, ◌≤◌, List, length, refl, ◌∙◌, arith, inl, inr}
-use Rattle.std.proofs.Math.Nat.{mul-le-mul_left}
+use Rattle.std.proofs.Common.{ℕ, ◌+◌, ◌*◌, ◌<◌, ◌≤◌, List, length, refl, ◌∙◌, arith, inl, inr}
+use Rattle.std.proofs.Math.Nat.{mul-add, mul-le-mul_left}
 use Rattle.disk_trait.specs.Images.{written}
 use Rattle.slot_file.specs.declared.header.Header.{Header}
 use Rattle.slot_file.specs.Layout.{slot_size, slot_start, file_size}
@@ -9,11 +9,13 @@ use Rattle.slot_file.specs.Gated.{Gated}
 use Rattle.slot_file.proofs.Parts.{Outside, outside_torn, outside_written, outside_both, outside_wider}
 use Rattle.slot_file.proofs.Puts.{header-outside, opens-outside}
 
--- a slot ends within the file
+-- so many slots end within the file
+pub run-within : (version first n count : ℕ) → first + n ≤ count → slot_start version first + slot_size version * n ≤ file_size version count
+run-within version first n count below =
+    omega (arith, mul-add (slot_size version) first n, mul-le-mul_left (slot_size version) below)
+
 pub slot-within : (version slot count : ℕ) → slot < count → slot_start version slot + slot_size version ≤ file_size version count
-slot-within version slot count below =
-    let step : slot + 1 ≤ count = omega arith in
-    omega (arith, mul-le-mul_left (slot_size version) step)
+slot-within version slot count below = omega (arith, run-within version slot 1 count (omega arith))
 
 module _ (header : Header) (count at : ℕ) (body : List ℕ) (gate_at gate : ℕ) (old : List ℕ) (file : IsFile header count old) (behind : 128 ≤ at) (fits : at + length body ≤ file_size header.version count) (gate_behind : 128 ≤ gate_at) (gate_fits : gate_at < file_size header.version count) where
   stays : (from n : ℕ) (new : List ℕ) → 128 ≤ from → Outside from n old new → IsFile header count new

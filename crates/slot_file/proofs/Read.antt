@@ -1,5 +1,9 @@
 -- Why a file is not loaded.
-use Rattle.std.proofs.Common.{◌≡◌, ◌⊎◌, ◌<◌, ◌+◌, ◌-◌, ℕ, List, length, None, Some, false, inl, inr, refl, sym, ◌∙◌, ap, subst, arith}
+use Rattle.std.proofs.Common.{◌≡◌, ◌⊎◌, ◌<◌, ◌+◌, ◌-◌, ℕ, List, length, None, Some, false, replicate, inl, inr, refl, sym, ◌∙◌, ap, subst, arith}
+use Rattle.std.proofs.lemmas.List.{length-replicate, with_items_is}
+use Rattle.std.specs.Vec.{with_items}
+use Rattle.std.specs.declared.alloc.Global.{Global}
+use Rattle.std.specs.declared.vec.Vec.{Vec}
 use Rattle.disk_trait.specs.declared.disk.Pages as pages
 use Rattle.disk_trait.specs.declared.faults.Faults as faults
 use Rattle.slot_file.specs.Loading.{LoadRefused, damaged, device, other_file}
@@ -13,6 +17,7 @@ use Rattle.slot_file.specs.Copies.{is_damaged}
 use Rattle.slot_file.specs.Layout.{load_fault, slot_at}
 use Rattle.slot_file.specs.Runs.{IsRun}
 use Rattle.slot_file.specs.declared.slot.Slot.{Slot}
+use Rattle.slot_file.specs.declared.slot.Slot.TheVariants.{Free}
 use Rattle.slot_file.specs.declared.header.Header.{Header}
 use Rattle.slot_file.specs.declared.header.LoadFault.{LoadFault}
 use Rattle.slot_file.specs.declared.slots.Slots.{Slots}
@@ -71,7 +76,7 @@ pub record AllRead (header : Header) (count : ℕ) (told : Type 0) (file : List 
   pub whole : IsWhole list
   pub has : told → HasSlots header list file
 
-pub all-read : {D : Type 0} {p : pages.Ghosts D} {f : faults.Ghosts D} (header : Header) (count : ℕ) (disk : D) (slots : Slots D p f) (list read : List Slot)
+all-read : {D : Type 0} {p : pages.Ghosts D} {f : faults.Ghosts D} (header : Header) (count : ℕ) (disk : D) (slots : Slots D p f) (list read : List Slot)
     → IsOpened p f header count disk slots → list ≡ read → length read ≡ count → IsWhole read
     → (IsTold slots → (k : ℕ) → k < count → slot_now slots k ≡ slot_in read k) → AllRead header count (IsTold slots) (file_of slots) list
 all-read {p} header count disk slots list read opened is size whole shows =
@@ -87,3 +92,12 @@ all-read {p} header count disk slots list read opened is size whole shows =
           (ap (load_fault header count) (opened.unwritten.same told) ∙ opened.opens told) same
           (λ k below. ap is_damaged (same k below) ∙ sound k (omega (arith, below, long)));
     }
+
+-- the same, where the slots were read into memory that was taken for so many
+pub all-cached : {D : Type 0} {p : pages.Ghosts D} {f : faults.Ghosts D} (header : Header) (count : ℕ) (disk : D) (slots : Slots D p f) (cached : Vec Slot Global) (free read : List Slot)
+    → IsOpened p f header count disk slots → cached.items ≡ replicate count Free → free ≡ cached.items → length read ≡ length free → IsWhole read
+    → (IsTold slots → (k : ℕ) → k < length free → slot_now slots k ≡ slot_in read k) → AllRead header count (IsTold slots) (file_of slots) (with_items cached read).items
+all-cached header count disk slots cached free read opened is lent size whole shows =
+    let many : length free ≡ count = ap length (lent ∙ is) ∙ length-replicate count Free in
+    all-read header count disk slots (with_items cached read).items read opened (with_items_is cached read (size ∙ ap length lent ∙ sym cached.ok.0)) (size ∙ many) whole
+    (λ told k below. shows told k (omega (arith, below, many)))

@@ -1,12 +1,12 @@
 -- What a call that writes nothing leaves of a file of slots.
-use Rattle.std.proofs.Common.{◌≡◌, ◌≤◌, ◌+◌, ◌==◌, ◌&&◌, Bool, nat_le, nat_lt, ap, ℕ, List, Result, Ok, Err, IsErr, IfOk, is_ok, if◌then◌else◌, IsTrue, refl, sym, ◌∙◌, subst, arith}
+use Rattle.std.proofs.Common.{◌≡◌, ◌≤◌, ◌+◌, ◌==◌, ◌&&◌, Bool, true, false, nat_le, nat_lt, ap, ℕ, List, Result, Ok, Err, IsErr, IfOk, OnOk, is_ok, if◌then◌else◌, IsTrue, refl, sym, ◌∙◌, subst, arith}
 use Rattle.std.proofs.lemmas.Bool.{false≢true}
 use Rattle.std.proofs.lemmas.Bool.Decides.{nat_tests}
 use Rattle.disk_trait.specs.Images.{Only}
 use Rattle.disk_trait.specs.declared.disk.Pages as pages
 use Rattle.disk_trait.specs.declared.faults.Faults as faults
 use Rattle.slot_file.specs.Disks.{Unwritten}
-use Rattle.slot_file.specs.Doubts.{IsSure, looked, looked_run}
+use Rattle.slot_file.specs.Doubts.{IsSure, looked, looked_run, settled}
 use Rattle.slot_file.specs.Files.{IsFile}
 use Rattle.slot_file.specs.Layout.{file_size}
 use Rattle.slot_file.specs.Reading.{LooksOnly}
@@ -33,11 +33,12 @@ module _ {D : Type 0} {p : pages.Ghosts D} {f : faults.Ghosts D} (slots : Slots 
       let was = sym unwritten.stays.honest ∙ honest in
       slots.stable sure was_told was image (unwritten.images was image leaves) ∙ sym (unwritten.same was_told)
 
-  pub synced-stable : (IsTrue (p.honest slots.disk) → IsTrue (p.told slots.disk) → Only (p.reads slots.disk) (p.may_leave disk))
-      → IsTrue (p.told disk) → IsTrue (p.honest disk) → Only (p.reads disk) (p.may_leave disk)
-  synced-stable only told honest image leaves =
+  pub synced-stable : {T X : Type 0} (done : Result T X) → (IsTrue (p.honest slots.disk) → IsTrue (p.told slots.disk) → OnOk done (Only (p.reads slots.disk) (p.may_leave disk)))
+      → OnOk done (IsTrue (p.told disk) → IsTrue (p.honest disk) → Only (p.reads disk) (p.may_leave disk))
+  synced-stable (Ok value) only = λ told honest image leaves.
       let was_told = sym unwritten.stays.told ∙ told in
       only (sym unwritten.stays.honest ∙ honest) was_told image leaves ∙ sym (unwritten.same was_told)
+  synced-stable (Err fault) only = tt
 
 -- slots that are only looked at
 pub looks-only : {E : Type 0} {q : pages.Ghosts E} {h : faults.Ghosts E} (old new : Slots E q h) → OnlyLooked old new → LooksOnly old new
@@ -47,10 +48,27 @@ looks-only old new looked = record {
   stays = looked.stays;
 }
 
-pub sure-run : (first count : ℕ) (doubt : Doubt) → IsSure (looked_run first count doubt) → IsSure doubt
-sure-run first count Nowhere sure = tt
-sure-run first count (Refused slot) sure = absurd sure
-sure-run first count (Settled slot) sure = tt
+-- what holds where no put was refused, after a settle
+pub sure-settled : {T X : Type 0} (done : Result T X) (was doubt : Doubt) (S : Type 0) → doubt ≡ (if is_ok done then settled was else was) → (IsSure was → S) → OnOk done S → IsSure doubt → S
+sure-settled (Ok value) was doubt S is before after sure = after
+sure-settled (Err fault) was doubt S is before after sure = before (subst IsSure is sure)
+
+-- a look settles no put that was refused, and brings none in doubt
+still-sure : (done : Bool) (first count : ℕ) (doubt : Doubt) → IsSure (if done then looked_run first count doubt else doubt) → IsSure doubt
+still-sure true first count Nowhere sure = tt
+still-sure true first count (Refused slot) sure = absurd sure
+still-sure true first count (Settled slot) sure = tt
+still-sure false first count doubt sure = sure
+
+pub sure-run : (done : Bool) (first count : ℕ) (was doubt : Doubt) → doubt ≡ (if done then looked_run first count was else was) → IsSure doubt → IsSure was
+sure-run done first count was doubt is sure = still-sure done first count was (subst IsSure is sure)
+
+still-nowhere : (done : Bool) (first count : ℕ) (doubt : Doubt) → doubt ≡ Nowhere → (if done then looked_run first count doubt else doubt) ≡ Nowhere
+still-nowhere true first count doubt none = ap (looked_run first count) none
+still-nowhere false first count doubt none = none
+
+pub nowhere-run : (done : Bool) (first count : ℕ) (was doubt : Doubt) → doubt ≡ (if done then looked_run first count was else was) → was ≡ Nowhere → doubt ≡ Nowhere
+nowhere-run done first count was doubt is none = is ∙ still-nowhere done first count was none
 
 -- a look at one slot
 looked-at : (slot doubted : ℕ) → (nat_le slot doubted && nat_lt doubted (slot + 1)) ≡ (doubted == slot)

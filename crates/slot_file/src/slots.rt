@@ -1,9 +1,9 @@
 //! A file of slots that is open.
 
-ghost use Rattle.std.specs.Prelude.{◌≡◌, ◌≢◌, ◌⊎◌, ◌≤◌, ◌<◌, ◌↔◌, ◌+◌, ℕ, List, length, take, IsTrue, None, Some};
+ghost use Rattle.std.specs.Prelude.{◌≡◌, ◌≢◌, ◌⊎◌, ◌≤◌, ◌<◌, ◌↔◌, ◌+◌, ◌*◌, ℕ, List, length, take, drop, IsTrue, None, Some};
 ghost use Rattle.std.specs.Prelude.{IsOk, IfOk, IfErr, OnOk, OnErr, Ok, Err, if◌then◌else◌, is_ok};
 ghost use Rattle.disk_trait.specs.Faults.{HasCause};
-ghost use Rattle.slot_file.specs.Doubts.{IsSure, looked_run};
+ghost use Rattle.slot_file.specs.Doubts.{IsSure, looked_run, settled};
 ghost use Rattle.disk_trait.specs.Images.{Only};
 ghost use Rattle.slot_file.specs.Disks.{RisesAt, Unwritten};
 ghost use Rattle.slot_file.specs.Gated.{second_body};
@@ -41,13 +41,24 @@ impl Doubt {
         }
     }
 
-    /// The doubt after a look at so many slots from one on.
-    fn after_look(self, first: u32, count: usize) -> Doubt
-        ensures { result ≡ looked_run first count self }
+    /// The doubt after a look at so many slots from one on, which was done or failed.
+    fn after_look(self, first: u32, count: usize, done: Result<(), DiskFault>) -> Doubt
+        ensures { result ≡ (if is_ok done then looked_run first count self else self) }
     {
         match self {
-            Doubt::Settled(slot) if first <= slot && ((slot - first) as usize) < count =>
+            Doubt::Settled(slot)
+                if done.is_ok() && first <= slot && ((slot - first) as usize) < count =>
                 Doubt::Nowhere,
+            Doubt::Nowhere | Doubt::Refused(_) | Doubt::Settled(_) => self,
+        }
+    }
+
+    /// The doubt after a settle, which was done or failed.
+    fn after_settle(self, done: Result<(), DiskFault>) -> Doubt
+        ensures { result ≡ (if is_ok done then settled self else self) }
+    {
+        match self {
+            Doubt::Refused(slot) if done.is_ok() => Doubt::Settled(slot),
             Doubt::Nowhere | Doubt::Refused(_) | Doubt::Settled(_) => self,
         }
     }
@@ -118,7 +129,7 @@ impl<D: Disk> Slots<D> {
     ghost use Rattle.slot_file.specs.Slots.{OnlyLooked, Stays, count_of, disk_of, doubt_of, faults_of, file_of};
     ghost use Rattle.slot_file.specs.Slots.{header_of, slot_now};
     ghost use Rattle.slot_file.specs.Runs.{AreShown, IsRun};
-    ghost use Rattle.slot_file.specs.Doubts.{settled, looked};
+    ghost use Rattle.slot_file.specs.Doubts.{looked};
 
     /// Opens a file: syncs, and tests its length and its header. A refusal gives the disk back.
     pub fn load(disk: D, header: &Header, count: u32) -> Result<Slots<D>, (D, LoadFault)>
@@ -151,11 +162,9 @@ impl<D: Disk> Slots<D> {
         ensures cause { HasCause (faults_of self.old) (faults_of self.new) result }
         ensures stays { Stays self.old self.new }
     {
-        self.disk.sync()?;
-        if let Doubt::Refused(slot) = self.doubt {
-            self.doubt = Doubt::Settled(slot);
-        }
-        Ok(())
+        let done = self.disk.sync();
+        self.doubt = self.doubt.after_settle(done);
+        done
     }
 
     /// A slot as a read gives it.
@@ -175,8 +184,7 @@ impl<D: Disk> Slots<D> {
         let version = self.header.version;
         let mut block = [0; 160];
         let bytes = &mut block[..slot_len(version)];
-        self.disk.read_at(slot_start(version, slot), bytes)?;
-        self.doubt = self.doubt.after_look(slot, 1);
+        self.read(slot, 1, bytes)?;
         Ok(Slot::of_bytes(version, bytes))
     }
 
@@ -197,10 +205,28 @@ impl<D: Disk> Slots<D> {
         let version = self.header.version;
         let mut block = [0; MOST_IN_RUN * 160];
         let bytes = &mut block[..slot_len(version) * out.len()];
-        self.disk.read_at(slot_start(version, first), bytes)?;
-        self.doubt = self.doubt.after_look(first, out.len());
+        self.read(first, out.len(), bytes)?;
         read_block(version, bytes, out);
         Ok(())
+    }
+
+    /// Reads the bytes of so many slots from one on, which are looked at then. After a refusal `out` holds any bytes.
+    fn read(&mut self, first: u32, count: usize, out: &mut [u8]) -> Result<(), DiskFault>
+        requires within { first + count ≤ count_of self.old }
+        requires size { length out.old ≡ slot_size (header_of self.old).version * count }
+        ensures bytes { IsTold self.old → OnOk result (out.new
+            ≡ take (length out.old) (drop (slot_start (header_of self.old).version first) (file_of self.old))) }
+        ensures looked { OnlyLooked self.old self.new }
+        ensures doubt { doubt_of self.new
+            ≡ (if is_ok result then looked_run first count (doubt_of self.old) else doubt_of self.old) }
+        ensures succeeds { IsSteady self.old → IsTold self.old → IsOk result }
+        ensures cause { HasCause (faults_of self.old) (faults_of self.new) result }
+    {
+        let done = self
+            .disk
+            .read_at(slot_start(self.header.version, first), out);
+        self.doubt = self.doubt.after_look(first, count, done);
+        done
     }
 
     /// Puts body A into a free slot, by four calls of the disk. In each image that a crash may

@@ -1,5 +1,5 @@
-use Rattle.std.proofs.Common.{◌≡◌, ℕ, List, length, None, refl, sym, ◌∙◌, ap, subst, arith}
-use Rattle.std.proofs.lemmas.List.{length-replicate, with_items_is}
+use Rattle.std.proofs.Common.{◌≡◌, ℕ, List, length, None, refl, sym, ◌∙◌, ap, subst}
+use Rattle.std.proofs.lemmas.List.{length-replicate}
 use Rattle.std.specs.Vec.{with_items}
 use Rattle.slot_file.specs.Reading.{IsReadRefused}
 use Rattle.slot_file.specs.State.{HasSlots}
@@ -10,7 +10,7 @@ use Rattle.slot_file.specs.declared.slot.Slot.TheVariants.{Free}
 use Rattle.slot_file.specs.declared.slots.Doubt.TheVariants.{Nowhere}
 use Rattle.slot_file.proofs.Unwritten.{unwritten-then}
 use Rattle.slot_file.proofs.Files.{doubt-none}
-use Rattle.slot_file.proofs.Read.{all-read, refused-file, refused-read}
+use Rattle.slot_file.proofs.Read.{all-cached, refused-file, refused-read}
 use Rattle.slot_file.proofs.Sure.{images-sure, reads-sure}
 use Rattle.std.proofs.Common.{◌≢◌, Result, Err}
 use Rattle.slot_file.specs.Disks.{Unwritten}
@@ -56,10 +56,7 @@ invariant_of-result g c =
     let cached = c.in-Ok-free_slots.cached in
     let list = (with_items cached read).items in
     let call = c.in-Ok-read_slots.ensures in
-    let same_length = ap length c.deref_mut.ensures.value in
-    let free = same_length ∙ ap length c.in-Ok-free_slots.ensures ∙ length-replicate c.args.count Free in
-    let all = all-read header c.args.count c.args.disk start list read opened (with_items_is cached read (call.size ∙ same_length ∙ sym cached.ok.0)) (call.size ∙ free) call.whole
-    (λ told k below. call.shows told k (omega (arith, below, free))) in
+    let all = all-cached header c.args.count c.args.disk start cached _ read opened c.in-Ok-free_slots.ensures c.deref_mut.ensures.value call.size call.whole call.shows in
     let names : header_of new ≡ header = call.looks.stays.header ∙ opened.named in
     let nowhere : doubt_of new ≡ Nowhere = call.looks.doubt opened.doubt in
     let has : IsTold new → HasSlots header list (file_of new) = λ told_new.
@@ -84,10 +81,7 @@ returns-in-Ok-read_slots-clause-loaded g c =
     let cached = c.in-Ok-free_slots.cached in
     let list = (with_items cached read).items in
     let call = c.in-Ok-read_slots.ensures in
-    let same_length = ap length c.deref_mut.ensures.value in
-    let free = same_length ∙ ap length c.in-Ok-free_slots.ensures ∙ length-replicate c.args.count Free in
-    let all = all-read header c.args.count c.args.disk start list read opened (with_items_is cached read (call.size ∙ same_length ∙ sym cached.ok.0)) (call.size ∙ free) call.whole
-    (λ told k below. call.shows told k (omega (arith, below, free))) in
+    let all = all-cached header c.args.count c.args.disk start cached _ read opened c.in-Ok-free_slots.ensures c.deref_mut.ensures.value call.size call.whole call.shows in
     record {
       file = λ told. subst (HasSlots header list) (opened.unwritten.same told) (all.has (opened.unwritten.stays.told ∙ told));
       settled = refl;
