@@ -1,4 +1,4 @@
-use Rattle.std.proofs.Common.{◌≡◌, ℕ, List, length, None, refl, sym, ◌∙◌, ap, subst}
+use Rattle.std.proofs.Common.{◌≡◌, ℕ, List, length, None, refl, sym, ◌∙◌, ap, subst, arith}
 use Rattle.std.proofs.lemmas.List.{length-replicate}
 use Rattle.std.specs.Vec.{with_items}
 use Rattle.slot_file.specs.Reading.{IsReadRefused}
@@ -164,3 +164,8 @@ returns-in-Ok-read_slots-clause-succeeds g c = λ steady told. tt
 
 pub returns-in-Ok-read_slots-clause-cause : goal.returns-in-Ok-read_slots-clause-cause
 returns-in-Ok-read_slots-clause-cause g c = tt
+
+pub read_slots-requires-clause-small : goal.read_slots-requires-clause-small
+read_slots-requires-clause-small g c =
+    let many = ap length c.deref_mut.ensures.value ∙ ap length c.in-Ok-free_slots.ensures ∙ length-replicate c.args.count Free in
+    omega (arith, many, c.ranges.count)
