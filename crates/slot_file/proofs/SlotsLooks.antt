@@ -14,6 +14,7 @@ use Rattle.slot_file.specs.Slots.{OnlyLooked}
 use Rattle.slot_file.specs.declared.slots.Doubt.{Doubt}
 use Rattle.slot_file.specs.declared.slots.Doubt.TheVariants.{Nowhere, Refused, Settled}
 use Rattle.slot_file.specs.declared.slots.Slots.{Slots}
+use Rattle.slot_file.proofs.Unwritten.{same-then, unwritten-then}
 
 module _ {D : Type 0} {p : pages.Ghosts D} {f : faults.Ghosts D} (slots : Slots D p f) (disk : D) (unwritten : Unwritten p f slots.disk disk) where
   pub kept-whole : IsTrue (p.told disk) → IsFile slots.header slots.count (p.reads disk)
@@ -46,6 +47,18 @@ looks-only old new looked = record {
   unwritten = record { same = looked.same; images = λ honest image leaves. (looked.images honest image).0 leaves; stays = looked.stays.disk };
   doubt = looked.doubt;
   stays = looked.stays;
+}
+
+-- and then looked at again
+pub looks-then : {E : Type 0} {q : pages.Ghosts E} {h : faults.Ghosts E} (old mid new : Slots E q h) → LooksOnly old mid → LooksOnly mid new → LooksOnly old new
+looks-then {q} {h} old mid new first next = record {
+  unwritten = unwritten-then q h old.disk mid.disk new.disk first.unwritten next.unwritten;
+  doubt = λ none. next.doubt (first.doubt none);
+  stays = record {
+    header = next.stays.header ∙ first.stays.header;
+    count = next.stays.count ∙ first.stays.count;
+    disk = same-then q h old.disk mid.disk new.disk first.stays.disk next.stays.disk;
+  };
 }
 
 -- what holds where no put was refused, after a settle

@@ -1,9 +1,8 @@
 use Rattle.std.proofs.Common.{◌≡◌, ◌<◌, ◌≤◌, ◌-◌, ℕ, length, false}
 use Rattle.slot_file.specs.State.{slot_in}
 use Rattle.slot_file.specs.Copies.{is_damaged}
-use Rattle.slot_file.specs.Disks.{Unwritten}
-use Rattle.slot_file.specs.Slots.{IsTold, Stays, disk_of, doubt_of, faults_of, slot_now}
-use Rattle.slot_file.specs.declared.slots.Doubt.TheVariants.{Nowhere}
+use Rattle.slot_file.specs.Reading.{LooksOnly}
+use Rattle.slot_file.specs.Slots.{IsTold, faults_of, slot_now}
 use Rattle.slot_file.proofs.reading.read_slots.Given as goal
 
 abbrev pub invariant-runs : goal.invariant-runs
@@ -12,10 +11,8 @@ invariant-runs g l = record {
   shows : IsTold l.initial.slots → (slot : ℕ) → slot < l.first → slot_now l.initial.slots slot ≡ slot_in l.out slot;
   whole : (slot : ℕ) → slot < l.first → is_damaged (slot_in l.out slot) ≡ false;
   size : length l.out ≡ length l.initial.out;
-  unwritten : Unwritten g.D.Pages g.D.Faults (disk_of l.initial.slots) (disk_of l.slots);
-  doubt : doubt_of l.initial.slots ≡ Nowhere → doubt_of l.slots ≡ Nowhere;
+  looks : LooksOnly l.initial.slots l.slots;
   count : faults_of l.slots ≡ faults_of l.initial.slots;
-  stays : Stays l.initial.slots l.slots;
 }
 
 abbrev pub decreases-runs : goal.decreases-runs
