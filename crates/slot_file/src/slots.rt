@@ -1,7 +1,7 @@
 //! A file of slots that is open.
 
-ghost use Rattle.std.specs.Prelude.{◌≡◌, ◌≢◌, ◌⊎◌, ◌≤◌, ◌<◌, ◌↔◌, ◌+◌, ◌*◌, ℕ, List, length, take, drop, IsTrue, None, Some};
-ghost use Rattle.std.specs.Prelude.{IsOk, IfOk, IfErr, OnOk, OnErr, Ok, Err, if◌then◌else◌, is_ok};
+ghost use Rattle.std.specs.Prelude.{◌≡◌, ◌≢◌, ◌⊎◌, ◌≤◌, ◌<◌, ◌↔◌, ◌+◌, ◌*◌, ℕ, List, length, take, drop, None, Some};
+ghost use Rattle.std.specs.Prelude.{IsTrue, IsOk, IfOk, IfErr, OnOk, OnErr, Ok, Err, if◌then◌else◌, is_ok};
 ghost use Rattle.disk_trait.specs.Faults.{HasCause};
 ghost use Rattle.slot_file.specs.Doubts.{IsSure, looked_run, settled};
 ghost use Rattle.disk_trait.specs.Images.{Only};
@@ -210,7 +210,7 @@ impl<D: Disk> Slots<D> {
         Ok(())
     }
 
-    /// Reads the bytes of so many slots from one on, which are looked at then. After a refusal `out` holds any bytes.
+    /// Reads the bytes of so many slots from one on, and so looks at them. After a refusal `out` holds any bytes.
     fn read(&mut self, first: u32, count: usize, out: &mut [u8]) -> Result<(), DiskFault>
         requires within { first + count ≤ count_of self.old }
         requires size { length out.old ≡ slot_size (header_of self.old).version * count }
