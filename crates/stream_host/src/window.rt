@@ -8,8 +8,8 @@ ghost use Rattle.stream_io.specs.Talk.{OnlyRead};
 use std::marker::Model;
 use stream_io::{Failed, Sink, Source};
 
-/// How many bytes it has room for: seven replies with the masks of 67 chains.
-const ROOM: usize = 16_384;
+/// How many bytes it has room for: a page, which a reply with the masks of 67 chains leaves half free.
+const ROOM: usize = 4096;
 
 /// Bytes, the oldest first: those between two places of its room. They stand in their link and not in memory of their
 /// own, since a link that is accepted or dialled takes no memory.
@@ -27,7 +27,7 @@ impl Model for Window {
 
     ghost view = { λ a. take (a.end - a.place) (drop a.place a.bytes) };
 
-    ghost invariant = { λ a. (a.place ≤ a.end) × (a.end ≤ 16384) };
+    ghost invariant = { λ a. (a.place ≤ a.end) × (a.end ≤ 4096) };
 }
 
 impl Window {
