@@ -70,15 +70,15 @@ static ROWS: [Row; 12] = [
     // where there is no room for the next piece, and when the link is hung up;
     (
         "",
-        &[(READ, Ok(2)), (WRITE, Ok(10_000)), (WRITE, Ok(10_000))],
-        "link dial 0; ok take 0 1 1 0; ok give 0 10000 10000 0; ok give 0 10000 10000 10000; \
+        &[(READ, Ok(2)), (WRITE, Ok(3000)), (WRITE, Ok(3000))],
+        "link dial 0; ok take 0 1 1 0; ok give 0 3000 3000 0; ok give 0 3000 3000 3000; \
          ok count 0 0; ok hang 0 0; ok faults 0 0 0",
     ),
     // a piece that is larger than all the room is not held.
     (
         "",
         &[(READ, Ok(2)), (WRITE, Ok(10)), (WRITE, Ok(7))],
-        "link dial 0; ok take 0 1 1 0; ok give 0 10 10 0; ok give 0 20000 7 10; ok count 0 0; \
+        "link dial 0; ok take 0 1 1 0; ok give 0 10 10 0; ok give 0 4097 7 10; ok count 0 0; \
          ok hang 0 0; ok faults 0 0 0",
     ),
     // What is held goes out whole, also where the system takes it by parts.
@@ -106,8 +106,8 @@ static ROWS: [Row; 12] = [
     ),
     (
         "",
-        &[(READ, Ok(2)), (WRITE, Ok(0)), (WRITE, Ok(10_000))],
-        "link dial 0; ok take 0 1 1 0; ok give 0 10000 10000 0; failed give 0 10000 0 10000; \
+        &[(READ, Ok(2)), (WRITE, Ok(0)), (WRITE, Ok(3000))],
+        "link dial 0; ok take 0 1 1 0; ok give 0 3000 3000 0; failed give 0 3000 0 3000; \
          ok count 0 1; ok hang 0 0; ok faults 0 1 0",
     ),
     // Bytes that are lost when a link is hung up are a fault of its port.
