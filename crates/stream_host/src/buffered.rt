@@ -1,7 +1,7 @@
 //! Links that read ahead and hold back what is written.
 
-ghost use Rattle.std.specs.Prelude.{◌≡◌, ◌+◌, ◌-◌, ◌<◌, ◌≤◌, ◌++◌, [], length, take, min, refl, false, IsTrue, IsOk};
-ghost use Rattle.std.specs.Prelude.{IfOk, OnErr};
+ghost use Rattle.std.specs.Prelude.{◌≡◌, ◌≢◌, ◌+◌, ◌-◌, ◌<◌, ◌≤◌, ◌++◌, [], length, take, min, refl, false, IsTrue, IsOk};
+ghost use Rattle.std.specs.Prelude.{IfOk, MatchBool, OnErr};
 ghost use Rattle.disk_trait.specs.Faults.{HasCause};
 ghost use Rattle.stream_host.specs.Buffered.{Ends, Passes, ReadsAhead, SameBytes, buffered_talk};
 ghost use Rattle.stream_io.specs.Talk.{HasRead, HasWritten, OnlyRead, OnlyWrote, TakesRoom, Took};
@@ -80,6 +80,17 @@ impl<L: Source + Sink> Buffered<L> {
         ensures steady { L.steady self.new.link ≡ L.steady self.old.link }
     {
         self.behind.flush(&mut self.link)
+    }
+
+    /// Holds a whole piece back, if bytes that were read ahead are left and there is room for it, and says whether it did.
+    fn hold(&mut self, piece: &[u8]) -> bool
+        ensures held { MatchBool result (self.new.behind ≡ self.old.behind ++ piece.now)
+            (self.new.behind ≡ self.old.behind) }
+        ensures waits { IsTrue result → self.old.ahead ≢ [] }
+        ensures link { self.new.link ≡ self.old.link }
+        ensures ahead { self.new.ahead ≡ self.old.ahead }
+    {
+        !self.ahead.is_empty() && self.behind.hold(piece)
     }
 
     /// Reads ahead from the link below, for which nothing is held back.
@@ -210,11 +221,11 @@ impl<L: Source + Sink> Sink for Buffered<L> {
         if bytes.is_empty() {
             return Ok(0);
         }
-        if !self.ahead.is_empty() && self.behind.hold(bytes) {
+        if self.hold(bytes) {
             return Ok(bytes.len());
         }
         self.flush()?;
-        if !self.ahead.is_empty() && self.behind.hold(bytes) {
+        if self.hold(bytes) {
             return Ok(bytes.len());
         }
         self.link.write(bytes)
