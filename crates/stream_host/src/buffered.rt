@@ -1,7 +1,7 @@
 //! Links that read ahead and hold back what is written.
 
-ghost use Rattle.std.specs.Prelude.{◌≡◌, ◌≢◌, ◌+◌, ◌-◌, ◌<◌, ◌≤◌, ◌++◌, [], length, take, min, refl, false, IsTrue, IsOk};
-ghost use Rattle.std.specs.Prelude.{IfOk, MatchBool, OnErr};
+ghost use Rattle.std.specs.Prelude.{◌≡◌, ◌≢◌, ◌+◌, ◌-◌, ◌<◌, ◌≤◌, ◌++◌, [], length, take, min, refl, false, IsTrue};
+ghost use Rattle.std.specs.Prelude.{IfOk, IsOk, MatchBool, OnErr};
 ghost use Rattle.disk_trait.specs.Faults.{HasCause};
 ghost use Rattle.stream_host.specs.Buffered.{Ends, Passes, ReadsAhead, SameBytes, buffered_talk};
 ghost use Rattle.stream_io.specs.Talk.{HasRead, HasWritten, OnlyRead, OnlyWrote, TakesRoom, Took};
@@ -82,7 +82,8 @@ impl<L: Source + Sink> Buffered<L> {
         self.behind.flush(&mut self.link)
     }
 
-    /// Holds a whole piece back, if bytes that were read ahead are left and there is room for it, and says whether it did.
+    /// Holds a whole piece back, if bytes that were read ahead are left and there is room for it, and says whether it
+    /// did.
     fn hold(&mut self, piece: &[u8]) -> bool
         ensures held { MatchBool result (self.new.behind ≡ self.old.behind ++ piece.now)
             (self.new.behind ≡ self.old.behind) }
