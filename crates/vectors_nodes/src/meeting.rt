@@ -2,25 +2,30 @@
 //! last of these answers in neither session before the other session has dialled it as well. Both clients are given
 //! signatures that are accepted, by different leaves: no turn of the table is held through a session.
 
-ghost use Rattle.std.specs.Prelude.{◌≡◌, ◌≤◌, IfSome, length, vec_len};
+ghost use Rattle.std.specs.Prelude.{◌≡◌, ◌≤◌, All, IfSome, length, vec_len};
+ghost use Rattle.aggregator_session.specs.Desks.{ReadsFor};
+ghost use Rattle.leaf_table.specs.Table.{plan_of};
 
 mod ports;
 mod scene;
 
 use crate::files::file;
 use aggregator_node::serve_clients;
+use aggregator_session::Desk;
 use coalition_map::Members;
-use disk_trait::MemDisk;
+use disk_trait::{Disk, MemDisk};
 use leaf_table::{Lease, Table};
 use lms_bytes::{Params, PublicKey};
 use lms_verify::{Verdict, verify};
 use ports::{Meeting, MeetingPort};
+use reference_value::{Cells, Paged};
 use round_frames::{Outcome, next_result, write_request};
 use scene::Scene;
 use std::alloc::Global;
 use std::io;
 use std::sync::Wait;
 use std::thread::Threads;
+use stream_io::Port;
 use stream_memory::{Bell, MemSink, MemSource};
 
 /// The trustees 3, 4 and 5.
@@ -100,6 +105,40 @@ fn ports_of<'a, W: Wait>(
     vec![in alloc; first, second].ok()
 }
 
+/// Cells for both workers, of what the aggregator signs with.
+fn cells_of(alloc: Global, scene: &Scene, desk: &Desk) -> Option<Vec<Paged<MemDisk>>>
+    requires key { desk.now.key.now ≡ scene.now.dealt.public }
+    requires plan { desk.now.plan.now ≡ scene.now.plan }
+    ensures count { IfSome result (λ cells. vec_len cells ≡ 2) }
+    ensures reads { IfSome result (λ cells. All (λ own.
+        (⟦<Paged<MemDisk> as Cells>⟧.set own ≡ desk.now.key.now.params)
+        × (⟦<Paged<MemDisk> as Cells>⟧.plan own ≡ desk.now.plan.now)) cells.items) }
+{
+    let first = scene.cells(alloc)?;
+    let second = scene.cells(alloc)?;
+    vec![in alloc; first, second].ok()
+}
+
+/// Serves the clients at two ports with a table and cells, and gives the table that came back.
+fn serve_with<R: Threads + Wait + Sync, X: Cells + Send, D: Disk + Send + Drop, P: Port + Send>(
+    rt: &R,
+    alloc: Global,
+    desk: &Desk,
+    table: Table<D>,
+    cells: &mut Vec<X>,
+    ports: &mut Vec<P>,
+) -> Option<Table<D>>
+    requires plan { plan_of table ≡ desk.now.plan.now }
+    requires cells { All (ReadsFor X.Cells.own desk.now) cells.old.items }
+    requires two { (vec_len cells.old ≡ 2) × (vec_len ports.old ≡ 2) }
+{
+    let (table, served) = serve_clients(rt, alloc, desk, table, cells, ports, 1);
+    match served {
+        Ok(_) => Some(table),
+        Err(_) => None,
+    }
+}
+
 /// Serves the clients at two ports, and gives the table that came back.
 fn serve<'a, R: Threads + Wait + Sync>(
     rt: &R,
@@ -109,14 +148,24 @@ fn serve<'a, R: Threads + Wait + Sync>(
 ) -> Option<Table<MemDisk>>
     requires { vec_len ports.old ≡ 2 }
 {
-    let mut cells = Vec::new(alloc);
-    cells.push(scene.cells(alloc)?).ok()?;
-    cells.push(scene.cells(alloc)?).ok()?;
-    let table = scene.table(alloc)?;
     let desk = scene.desk();
-    let (table, served) = serve_clients(rt, alloc, &desk, table, &mut cells, ports, 1);
-    served.ok()?;
-    Some(table)
+    let mut cells = cells_of(alloc, scene, &desk)?;
+    let table = scene.table(alloc)?;
+    serve_with(rt, alloc, &desk, table, &mut cells, ports)
+}
+
+/// Serves the clients at two ports, and gives what came of their requests.
+fn serve_at<'a, R: Threads + Wait + Sync>(
+    rt: &R,
+    alloc: Global,
+    scene: &Scene,
+    ports: &mut Vec<MeetingPort<'a, R>>,
+) -> Option<Met>
+    requires { vec_len ports.old ≡ 2 }
+{
+    let table = serve(rt, alloc, scene, ports)?;
+    let signed = signed_leaves(alloc, &scene.dealt.public, ports);
+    Some(Met { signed, table })
 }
 
 /// Serves both clients.
@@ -127,23 +176,28 @@ fn serve_both<'a, R: Threads + Wait + Sync>(
     meeting: &'a Meeting<'a, R>,
 ) -> Option<Met> {
     let mut ports = ports_of(alloc, meeting)?;
-    let table = serve(rt, alloc, scene, &mut ports)?;
-    Some(Met {
-        signed: signed_leaves(alloc, &scene.dealt.public, &ports),
-        table,
-    })
+    serve_at(rt, alloc, scene, &mut ports)
+}
+
+/// Serves both clients with what was dealt.
+fn meet_with<R: Threads + Wait + Sync>(threads: &R, alloc: Global, scene: &Scene) -> Option<Met> {
+    let meeting = Meeting {
+        waits: threads,
+        alloc,
+        shares: &scene.dealt.shares,
+        bell: Bell::new(LOOKS),
+    };
+    serve_both(threads, alloc, scene, &meeting)
+}
+
+/// Deals the key of the entropy that the program reads.
+fn dealt(rt: HostRuntime) -> Option<Scene> {
+    Scene::deal(rt.alloc(), &file(rt, "entropy")?)
 }
 
 /// Deals the key and serves both clients.
 fn meet<R: Threads + Wait + Sync>(threads: &R, rt: HostRuntime) -> Option<Met> {
-    let scene = Scene::deal(rt.alloc(), &file(rt, "entropy")?)?;
-    let meeting = Meeting {
-        waits: threads,
-        alloc: rt.alloc(),
-        shares: &scene.dealt.shares,
-        bell: Bell::new(LOOKS),
-    };
-    serve_both(threads, rt.alloc(), &scene, &meeting)
+    meet_with(threads, rt.alloc(), &dealt(rt)?)
 }
 
 /// Prints whether a signature was accepted.
@@ -185,10 +239,15 @@ fn print_met(rt: HostRuntime, met: &Met) -> io::Result<()> {
     print_leases(rt, met.table.entries())
 }
 
+/// Prints that the clients were not served.
+fn print_unserved(rt: HostRuntime) -> io::Result<()> {
+    println!(rt; "not served")
+}
+
 /// Runs the meeting, and prints what came of it.
 pub(crate) fn print_runs<R: Threads + Wait + Sync>(threads: &R, rt: HostRuntime) -> io::Result<()> {
     match meet(threads, rt) {
         Some(met) => print_met(rt, &met),
-        None => println!(rt; "not served"),
+        None => print_unserved(rt),
     }
 }

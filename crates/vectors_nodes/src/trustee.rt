@@ -14,6 +14,7 @@ use slot_file::Header;
 use std::alloc::Global;
 use std::sync::Wait;
 use stream_io::{Sink, Source};
+use stream_memory::MemLink;
 use trustee_core::{Clock, Trustee};
 use trustee_node::serve_connection;
 use turn_lock::TurnLock;
@@ -83,6 +84,11 @@ fn serve_over<D: Disk + Drop, L: Source + Sink>(
     Some(())
 }
 
+/// Serves a link of a trustee of this share whose journal is empty, or gives nothing where memory ran out.
+fn serve_link(waits: &impl Wait, alloc: Global, share: &Share, link: &mut MemLink) -> Option<()> {
+    serve_over(waits, alloc, trustee(alloc, share)?, share, link)
+}
+
 /// What a trustee of this share whose journal is empty replies to these asks, or nothing where memory ran out.
 pub(crate) fn replies(
     waits: &impl Wait,
@@ -90,8 +96,7 @@ pub(crate) fn replies(
     share: &Share,
     asks: &[u8],
 ) -> Option<Vec<u8>> {
-    let trustee = trustee(alloc, share)?;
     let mut link = link(alloc, asks)?;
-    serve_over(waits, alloc, trustee, share, &mut link)?;
+    serve_link(waits, alloc, share, &mut link)?;
     Vec::from_slice(alloc, link.conversation().written()).ok()
 }

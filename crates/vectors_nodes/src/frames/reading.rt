@@ -53,8 +53,8 @@ fn left<S: Source>(source: &mut S) -> usize {
 fn fault_text(alloc: Global, fault: FrameFault) -> Result<String, AllocError> {
     let name = fault_name(fault);
     match fault_number(fault) {
-        Some(got) => format!(in alloc; "fault\t{name} {got}"),
-        None => format!(in alloc; "fault\t{name} "),
+        Some(got) => format!(in alloc; "{name}{got}"),
+        None => String::from_str(alloc, name),
     }
 }
 
@@ -67,17 +67,17 @@ fn fault_number(fault: FrameFault) -> Option<u32> {
     }
 }
 
-/// The number and the name of a fault.
+/// The number and the name of a fault, as a reading begins with them.
 fn fault_name(fault: FrameFault) -> &'static str {
     match fault {
-        FrameFault::End => "1\tEnd",
-        FrameFault::Cut => "2\tCut",
-        FrameFault::Magic => "3\tMagic",
-        FrameFault::Kind { .. } => "4\tKind",
-        FrameFault::TooLong { .. } => "5\tTooLong",
-        FrameFault::Shape => "6\tShape",
-        FrameFault::ReadFault => "7\tReadFault",
-        FrameFault::NoMemory => "8\tNoMemory",
+        FrameFault::End => "fault\t1\tEnd ",
+        FrameFault::Cut => "fault\t2\tCut ",
+        FrameFault::Magic => "fault\t3\tMagic ",
+        FrameFault::Kind { .. } => "fault\t4\tKind ",
+        FrameFault::TooLong { .. } => "fault\t5\tTooLong ",
+        FrameFault::Shape => "fault\t6\tShape ",
+        FrameFault::ReadFault => "fault\t7\tReadFault ",
+        FrameFault::NoMemory => "fault\t8\tNoMemory ",
     }
 }
 

@@ -34,10 +34,19 @@ impl Scene {
     pub(crate) fn deal(alloc: Global, entropy: &[u8]) -> Option<Scene> {
         let params = Params::of_codes(5, 3).ok()?;
         let plan = Plan::new(5, 3, params.h).ok()?;
+        Scene::of_plan(alloc, &params, plan, entropy)
+    }
+
+    /// Deals the key of this entropy, of these parameters and for the coalitions of this plan.
+    fn of_plan(alloc: Global, params: &Params, plan: Plan, entropy: &[u8]) -> Option<Scene>
+        requires { plan.h ≡ params.now.h }
+    {
+        let addresses = addresses(alloc)?;
+        let dealt = dealing(alloc, params, &plan, entropy)?;
         Some(Scene {
-            dealt: dealing(alloc, &params, &plan, entropy)?,
+            dealt,
             plan,
-            addresses: addresses(alloc)?,
+            addresses,
         })
     }
 
