@@ -2,7 +2,7 @@
 //! times, and prints the exclusive or of the first bytes. `bench/frames` times both.
 
 use crate::hashing::first_byte;
-use crate::refuse;
+use crate::{refuse, word_and_number};
 use lms_bytes::{IdHash, Params, Val};
 use ots_chain::MessageHash;
 use round_frames::next_ask;
@@ -52,23 +52,36 @@ fn hash(params: &Params, bytes: &[u8]) -> u8 {
     first_byte(&id.finish().hash) ^ first_byte(digest.finish().bytes())
 }
 
-/// Reads or hashes so often, and gives the status.
-pub(crate) fn run(rt: HostRuntime, words: &[String]) -> io::Result<u8> {
-    let ([way, times], Ok(params)) = (words, Params::of_codes(5, 3)) else {
-        return refuse(rt, WORDS);
-    };
-    let Ok(times) = times.parse::<u32>() else {
-        return refuse(rt, WORDS);
-    };
+/// The first bytes of both hashes of a new frame, in one of both ways.
+fn read_or_hash(alloc: Global, params: &Params, way: &str) -> Result<u8, AllocError> {
+    let bytes = frame(alloc)?;
+    if way == "read" {
+        Ok(read(alloc, params, bytes))
+    } else {
+        Ok(hash(params, &bytes))
+    }
+}
+
+/// Reads or hashes so often.
+fn repeat(alloc: Global, params: &Params, way: &str, times: u32) -> Result<u8, AllocError> {
     let mut all = 0;
     for _ in 0..times {
-        let bytes = frame(rt.alloc())?;
-        all ^= if way.as_str() == "read" {
-            read(rt.alloc(), &params, bytes)
-        } else {
-            hash(&params, bytes.as_slice())
-        };
+        all ^= read_or_hash(alloc, params, way)?;
     }
+    Ok(all)
+}
+
+/// Reads or hashes so often, and gives the status.
+fn run_way(rt: HostRuntime, params: &Params, way: &str, times: u32) -> io::Result<u8> {
+    let all = repeat(rt.alloc(), params, way, times)?;
     println!(rt; "{times} messages: {all}")?;
     Ok(0)
+}
+
+/// Reads or hashes as the words say, and gives the status.
+pub(crate) fn run(rt: HostRuntime, words: &[String]) -> io::Result<u8> {
+    match (word_and_number(words), Params::of_codes(5, 3)) {
+        (Some((way, times)), Ok(params)) => run_way(rt, &params, way, times),
+        _ => refuse(rt, WORDS),
+    }
 }

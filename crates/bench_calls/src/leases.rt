@@ -1,9 +1,10 @@
 //! Leases the leaves of a table over a disk in memory and asks for them again, or makes just the calls of the disk that
 //! leasing makes. `bench/leases` times both.
 
-ghost use Rattle.std.specs.Prelude.{◌≡◌};
+ghost use Rattle.std.specs.Prelude.{◌≡◌, IfSome};
+ghost use Rattle.leaf_table.specs.Table.{plan_of};
 
-use crate::refuse;
+use crate::{lack, refuse, word_and_number};
 use coalition_map::Plan;
 use disk_trait::{Disk, DiskFault, MemDisk};
 use leaf_table::Table;
@@ -82,29 +83,53 @@ fn call(disk: &mut MemDisk, times: u32) -> u32 {
     right
 }
 
-/// Does one or the other so many times, over a new table of coalitions of three of five trustees.
-fn repeat(alloc: Global, way: &str, times: u32) -> Option<u32> {
+/// Makes the calls of so many puts on a new disk.
+fn call_new(alloc: Global, times: u32) -> Option<u32> {
     let mut disk = prepared(alloc)?;
-    if way == "call" {
-        return Some(call(&mut disk, times));
-    }
+    Some(call(&mut disk, times))
+}
+
+/// A new table of coalitions of three of five trustees.
+fn table_of(alloc: Global, plan: &Plan) -> Option<Table<MemDisk>>
+    ensures { IfSome result (λ table. plan_of table ≡ plan.now) }
+{
+    Table::load(alloc, prepared(alloc)?, &header(), plan).ok()
+}
+
+/// Leases so many times from a new table.
+fn lease_new(alloc: Global, times: u32) -> Option<u32> {
     let plan = Plan::new(5, 3, 10).ok()?;
-    let mut table = Table::load(alloc, disk, &header(), &plan).ok()?;
+    let mut table = table_of(alloc, &plan)?;
     Some(lease(&mut table, &plan, times))
 }
 
-/// Leases or calls so often, and gives the status.
-pub(crate) fn run(rt: HostRuntime, words: &[String]) -> io::Result<u8> {
-    let [way, times] = words else {
-        return refuse(rt, WORDS);
-    };
-    let Ok(times) = times.parse::<u32>() else {
-        return refuse(rt, WORDS);
-    };
-    let Some(right) = repeat(rt.alloc(), way.as_str(), times) else {
-        println!(rt; "no memory")?;
-        return Ok(14);
-    };
+/// Does one or the other so many times.
+fn repeat(alloc: Global, way: &str, times: u32) -> Option<u32> {
+    if way == "call" {
+        call_new(alloc, times)
+    } else {
+        lease_new(alloc, times)
+    }
+}
+
+/// Prints how often it went right, and gives the status.
+fn print_right(rt: HostRuntime, right: u32, times: u32) -> io::Result<u8> {
     println!(rt; "{right} of {times}")?;
     Ok(0)
+}
+
+/// Leases or calls so often, and gives the status.
+fn run_way(rt: HostRuntime, way: &str, times: u32) -> io::Result<u8> {
+    match repeat(rt.alloc(), way, times) {
+        Some(right) => print_right(rt, right, times),
+        None => lack(rt),
+    }
+}
+
+/// Leases or calls as the words say, and gives the status.
+pub(crate) fn run(rt: HostRuntime, words: &[String]) -> io::Result<u8> {
+    match word_and_number(words) {
+        Some((way, times)) => run_way(rt, way, times),
+        None => refuse(rt, WORDS),
+    }
 }

@@ -2,10 +2,11 @@
 //! `bench/leaves` times both.
 
 use crate::hashing::{hash_blocks, last_byte};
-use crate::refuse;
+use crate::{refuse, word_and_number};
 use coalition_map::Plan;
 use lms_bytes::{Params, Val};
 use reference_value::{build_leaf, leaf_bytes};
+use std::alloc::{AllocError, Global};
 use std::io;
 
 /// The words behind the first.
@@ -43,20 +44,46 @@ fn build(params: &Params, plan: &Plan, leaves: u32, out: &mut [u8]) -> u8 {
     all
 }
 
+/// Builds so many leaves, or hashes as many blocks as they take.
+fn repeat(
+    alloc: Global,
+    params: &Params,
+    plan: &Plan,
+    way: &str,
+    leaves: u32,
+) -> Result<u8, AllocError> {
+    if way == "hash" {
+        return Ok(hash_blocks(u64::from(leaves) * u64::from(BLOCKS)));
+    }
+    let mut out = vec![in alloc; 0; leaf_bytes(params, plan.k())]?;
+    Ok(build(params, plan, leaves, &mut out))
+}
+
 /// Builds so many leaves, or hashes as many blocks as they take, and gives the status.
-pub(crate) fn run(rt: HostRuntime, words: &[String]) -> io::Result<u8> {
-    let ([way, leaves], Ok(params)) = (words, Params::of_codes(6, 3)) else {
-        return refuse(rt, WORDS);
-    };
-    let (Ok(leaves), Ok(plan)) = (leaves.parse::<u32>(), Plan::new(5, 3, params.h)) else {
-        return refuse(rt, WORDS);
-    };
-    let all = if way.as_str() == "hash" {
-        hash_blocks(u64::from(leaves) * u64::from(BLOCKS))
-    } else {
-        let mut out = vec![in rt.alloc(); 0; leaf_bytes(&params, plan.k())]?;
-        build(&params, &plan, leaves, &mut out)
-    };
+fn run_way(
+    rt: HostRuntime,
+    params: &Params,
+    plan: &Plan,
+    way: &str,
+    leaves: u32,
+) -> io::Result<u8> {
+    let all = repeat(rt.alloc(), params, plan, way, leaves)?;
     println!(rt; "{leaves} leaves: {all}")?;
     Ok(0)
+}
+
+/// Builds leaves or hashes blocks, for coalitions of three of five trustees, and gives the status.
+fn run_set(rt: HostRuntime, params: &Params, way: &str, leaves: u32) -> io::Result<u8> {
+    match Plan::new(5, 3, params.h) {
+        Ok(plan) => run_way(rt, params, &plan, way, leaves),
+        Err(_) => refuse(rt, WORDS),
+    }
+}
+
+/// Builds leaves or hashes blocks as the words say, and gives the status.
+pub(crate) fn run(rt: HostRuntime, words: &[String]) -> io::Result<u8> {
+    match (word_and_number(words), Params::of_codes(6, 3)) {
+        (Some((way, leaves)), Ok(params)) => run_set(rt, &params, way, leaves),
+        _ => refuse(rt, WORDS),
+    }
 }

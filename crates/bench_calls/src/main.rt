@@ -44,6 +44,20 @@ fn words_of(alloc: Global, text: &str) -> Result<Vec<String>, AllocError> {
     Ok(words)
 }
 
+/// The word and the number that two words are.
+fn word_and_number(words: &[String]) -> Option<(&str, u32)> {
+    match words {
+        [word, number] => Some((word.as_str(), number.parse().ok()?)),
+        _ => None,
+    }
+}
+
+/// Says that memory ran out, and gives the status for that.
+fn lack(rt: HostRuntime) -> io::Result<u8> {
+    println!(rt; "no memory")?;
+    Ok(14)
+}
+
 /// Says which words are wanted, and gives the status for that.
 fn refuse(rt: HostRuntime, wanted: &str) -> io::Result<u8> {
     println!(rt; "wanted: {wanted}")?;

@@ -2,7 +2,7 @@
 //! first bytes. `bench/masks` times both.
 
 use crate::hashing::first_byte;
-use crate::refuse;
+use crate::{refuse, word_and_number};
 use lms_bytes::Params;
 use mask_prf::{MacKey, chain_mask};
 use std::io;
@@ -35,19 +35,26 @@ fn plain(params: &Params, masks: u32) -> u8 {
     all
 }
 
-/// Computes so many masks, and gives the status.
-pub(crate) fn run(rt: HostRuntime, words: &[String]) -> io::Result<u8> {
-    let ([way, masks], Ok(params)) = (words, Params::of_codes(5, 4)) else {
-        return refuse(rt, WORDS);
-    };
-    let Ok(masks) = masks.parse::<u32>() else {
-        return refuse(rt, WORDS);
-    };
-    let all = if way.as_str() == "plain" {
-        plain(&params, masks)
+/// Computes so many masks in one of both ways.
+fn repeat(params: &Params, way: &str, masks: u32) -> u8 {
+    if way == "plain" {
+        plain(params, masks)
     } else {
-        keyed(&params, masks)
-    };
+        keyed(params, masks)
+    }
+}
+
+/// Computes so many masks, and gives the status.
+fn run_way(rt: HostRuntime, params: &Params, way: &str, masks: u32) -> io::Result<u8> {
+    let all = repeat(params, way, masks);
     println!(rt; "{masks} masks: {all}")?;
     Ok(0)
+}
+
+/// Computes masks as the words say, and gives the status.
+pub(crate) fn run(rt: HostRuntime, words: &[String]) -> io::Result<u8> {
+    match (word_and_number(words), Params::of_codes(5, 4)) {
+        (Some((way, masks)), Ok(params)) => run_way(rt, &params, way, masks),
+        _ => refuse(rt, WORDS),
+    }
 }

@@ -3,7 +3,7 @@
 
 use crate::hashing::hash_blocks;
 use crate::refuse;
-use hss_levels::{HssVerdict, hss_verify, read_hss_key};
+use hss_levels::{HssKey, HssVerdict, hss_verify, read_hss_key};
 use lms_bytes::{Params, PublicKey, SigView, Val, digit, read_public, read_signature};
 use lms_verify::{Verdict, verify};
 use ots_chain::MessageHash;
@@ -104,50 +104,90 @@ fn blocks(key: &PublicKey, signed: &Signed) -> Option<usize> {
     )
 }
 
-/// Verifies the signature of this name so often, or says how many blocks that takes in, and gives the status.
-fn run_signed(rt: HostRuntime, way: &str, name: &str, times: u32) -> io::Result<u8> {
-    let mut store = FileStore::new(rt);
-    let Some(signed) = read_signed(rt.alloc(), &mut store, name) else {
-        println!(rt; "{name} cannot be read")?;
-        return Ok(3);
-    };
-    let Ok(key) = read_public(&signed.key) else {
-        println!(rt; "{name}.key is no key")?;
-        return Ok(4);
-    };
-    if way == "blocks" {
-        println!(rt; "{} blocks", blocks(&key, &signed).unwrap_or(0))?;
-        return Ok(0);
-    }
-    let Verdict::Accepted { leaf } = verify_often(&key, &signed, times) else {
-        println!(rt; "not accepted")?;
-        return Ok(1);
+/// Says that a file of this name cannot be read, and gives the status for that.
+fn unread(rt: HostRuntime, name: &str) -> io::Result<u8> {
+    println!(rt; "{name} cannot be read")?;
+    Ok(3)
+}
+
+/// Says that the key of this name is none, and gives the status for that.
+fn no_key(rt: HostRuntime, name: &str) -> io::Result<u8> {
+    println!(rt; "{name}.key is no key")?;
+    Ok(4)
+}
+
+/// Says that a signature is not accepted, and gives the status for that.
+fn not_accepted(rt: HostRuntime) -> io::Result<u8> {
+    println!(rt; "not accepted")?;
+    Ok(1)
+}
+
+/// Prints how many blocks a verification takes in, and gives the status.
+fn print_blocks(rt: HostRuntime, count: usize) -> io::Result<u8> {
+    println!(rt; "{count} blocks")?;
+    Ok(0)
+}
+
+/// Prints what came of a verification, and gives the status.
+fn print_verdict(rt: HostRuntime, verdict: Verdict) -> io::Result<u8> {
+    let Verdict::Accepted { leaf } = verdict else {
+        return not_accepted(rt);
     };
     println!(rt; "accepted leaf {leaf}")?;
     Ok(0)
 }
 
-/// Verifies the HSS signature of this name so often, at least once, and gives the status.
-fn run_levels(rt: HostRuntime, name: &str, times: u32) -> io::Result<u8> {
-    let mut store = FileStore::new(rt);
-    let Some(signed) = read_signed(rt.alloc(), &mut store, name) else {
-        println!(rt; "{name} cannot be read")?;
-        return Ok(3);
-    };
-    let Ok(key) = read_hss_key(&signed.key) else {
-        println!(rt; "{name}.key is no key")?;
-        return Ok(4);
-    };
-    let mut verdict = hss_verify(&key, &signed.message, &signed.signature);
-    for _ in 1..times {
-        verdict = hss_verify(&key, &signed.message, &signed.signature);
-    }
+/// Prints what came of a verification of several levels, and gives the status.
+fn print_levels(rt: HostRuntime, verdict: HssVerdict) -> io::Result<u8> {
     let HssVerdict::Accepted { levels } = verdict else {
-        println!(rt; "not accepted")?;
-        return Ok(1);
+        return not_accepted(rt);
     };
     println!(rt; "accepted levels {levels}")?;
     Ok(0)
+}
+
+/// Verifies an HSS signature so often, at least once, and gives what came of the last time.
+fn verify_levels(key: &HssKey, signed: &Signed, times: u32) -> HssVerdict {
+    let mut verdict = hss_verify(key, &signed.message, &signed.signature);
+    for _ in 1..times {
+        verdict = hss_verify(key, &signed.message, &signed.signature);
+    }
+    verdict
+}
+
+/// Verifies this signature so often, or says how many blocks that takes in, and gives the status.
+fn run_read(rt: HostRuntime, way: &str, name: &str, signed: &Signed, times: u32) -> io::Result<u8> {
+    match read_public(&signed.key) {
+        Ok(key) if way == "blocks" => print_blocks(rt, blocks(&key, signed).unwrap_or(0)),
+        Ok(key) => print_verdict(rt, verify_often(&key, signed, times)),
+        Err(_) => no_key(rt, name),
+    }
+}
+
+/// Verifies this HSS signature so often, at least once, and gives the status.
+fn run_levels_read(rt: HostRuntime, name: &str, signed: &Signed, times: u32) -> io::Result<u8> {
+    match read_hss_key(&signed.key) {
+        Ok(key) => print_levels(rt, verify_levels(&key, signed, times)),
+        Err(_) => no_key(rt, name),
+    }
+}
+
+/// Verifies the signature of this name so often, or says how many blocks that takes in, and gives the status.
+fn run_signed(rt: HostRuntime, way: &str, name: &str, times: u32) -> io::Result<u8> {
+    let mut store = FileStore::new(rt);
+    match read_signed(rt.alloc(), &mut store, name) {
+        Some(signed) => run_read(rt, way, name, &signed, times),
+        None => unread(rt, name),
+    }
+}
+
+/// Verifies the HSS signature of this name so often, at least once, and gives the status.
+fn run_levels(rt: HostRuntime, name: &str, times: u32) -> io::Result<u8> {
+    let mut store = FileStore::new(rt);
+    match read_signed(rt.alloc(), &mut store, name) {
+        Some(signed) => run_levels_read(rt, name, &signed, times),
+        None => unread(rt, name),
+    }
 }
 
 /// Verifies, counts blocks or hashes, and gives the status.

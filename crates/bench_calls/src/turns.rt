@@ -4,7 +4,7 @@ ghost use Rattle.std.specs.Prelude.{◌≡◌, ◌+◌, ◌-◌, ◌*◌, ◌^�
 ghost use Rattle.turn_lock.specs.Pass.{first_pass};
 ghost use Rattle.bench_calls.specs.Turns.{IsDone};
 
-use crate::refuse;
+use crate::{lack, refuse};
 use std::alloc::Global;
 use std::sync::Wait;
 use std::thread::Threads;
@@ -127,25 +127,38 @@ fn take_turns<R: Threads + Wait + Sync>(
     Some(count.turns)
 }
 
+/// Prints how many turns were taken, and gives the status.
+fn print_turns(rt: HostRuntime, turns: u64) -> io::Result<u8> {
+    println!(rt; "{turns} turns")?;
+    Ok(0)
+}
+
+/// The numbers of threads and of turns that two words are, where there may be so many threads.
+fn numbers_of(words: &[String]) -> Option<(u32, u64)>
+    ensures { IfSome result (λ numbers. (1 ≤ numbers.0) × (numbers.0 ≤ 4096)) }
+{
+    let [threads, each] = words else {
+        return None;
+    };
+    let threads: u32 = threads.parse().ok()?;
+    let each: u64 = each.parse().ok()?;
+    if threads == 0 || threads > MOST {
+        return None;
+    }
+    Some((threads, each))
+}
+
 /// Takes so many turns in each of so many threads, and gives the status.
 pub(crate) fn run<R: Threads + Wait + Sync>(
     host: &R,
     rt: HostRuntime,
     words: &[String],
 ) -> io::Result<u8> {
-    let [threads, each] = words else {
+    let Some((threads, each)) = numbers_of(words) else {
         return refuse(rt, WORDS);
     };
-    let (Ok(threads), Ok(each)) = (threads.parse::<u32>(), each.parse::<u64>()) else {
-        return refuse(rt, WORDS);
-    };
-    if threads == 0 || threads > MOST {
-        return refuse(rt, WORDS);
+    match take_turns(host, rt.alloc(), threads, each) {
+        Some(turns) => print_turns(rt, turns),
+        None => lack(rt),
     }
-    let Some(turns) = take_turns(host, rt.alloc(), threads, each) else {
-        println!(rt; "no memory")?;
-        return Ok(14);
-    };
-    println!(rt; "{turns} turns")?;
-    Ok(0)
 }
