@@ -80,24 +80,44 @@ fn run<R: Threads + Wait + Sync>(host: &R, rt: HostRuntime, words: &[String]) ->
     }
 }
 
+/// Makes the calls that the words of a text say, and gives the status.
+fn run_text<R: Threads + Wait + Sync>(host: &R, rt: HostRuntime, text: &str) -> io::Result<u8> {
+    let words = words_of(rt.alloc(), text)?;
+    run(host, rt, &words)
+}
+
 /// Makes a few calls of each kind, and gives the greatest status.
 fn run_all<R: Threads + Wait + Sync>(host: &R, rt: HostRuntime) -> io::Result<u8> {
     let mut greatest = 0;
     for text in FEW {
-        let words = words_of(rt.alloc(), text)?;
-        greatest = run(host, rt, &words)?.max(greatest);
+        greatest = run_text(host, rt, text)?.max(greatest);
     }
     Ok(greatest)
 }
 
-fn main(rt: HostRuntime) -> io::Result<ExitCode> {
+/// Makes the calls that the words of the program say, and gives the status.
+fn run_given<R: Threads + Wait + Sync>(
+    host: &R,
+    rt: HostRuntime,
+    words: &[String],
+) -> io::Result<u8> {
+    match words {
+        [word] if word.as_str() == "all" => run_all(host, rt),
+        words => run(host, rt, words),
+    }
+}
+
+/// The words of the program.
+fn given_words(rt: HostRuntime) -> io::Result<Vec<String>> {
     let mut words = Vec::new(rt.alloc());
     for word in env::args(&rt)?.skip(1) {
         words.push(word)?;
     }
-    let status = match words.as_slice() {
-        [word] if word.as_str() == "all" => run_all(&rt, rt)?,
-        words => run(&rt, rt, words)?,
-    };
+    Ok(words)
+}
+
+fn main(rt: HostRuntime) -> io::Result<ExitCode> {
+    let words = given_words(rt)?;
+    let status = run_given(&rt, rt, &words)?;
     Ok(ExitCode::from(status))
 }
