@@ -1,7 +1,7 @@
 //! Tests of disks over files of the machine, and over files in memory that do as little as a system may.
 
 use crate::disk_calls::plays;
-use crate::scripts::is_text;
+use crate::scripts::{is_text, none_wrong};
 use disk_trait::MemDisk;
 use memory::NoMemory;
 use std::alloc::Global;
@@ -18,25 +18,40 @@ fn open(rt: &HostRuntime, name: &str) -> io::Result<File> {
     how.open(rt, name)
 }
 
+/// A disk over a file of the machine, whose lock it has.
+fn locked(rt: &HostRuntime, name: &str) -> io::Result<FileDisk<HostFile<File>>> {
+    FileDisk::locked(open(rt, name)?)
+}
+
+/// Whether a file of the machine cannot be locked, though it can be opened.
+fn is_locked(rt: &HostRuntime, name: &str) -> io::Result<bool> {
+    Ok(FileDisk::locked(open(rt, name)?).is_err())
+}
+
 /// Does the calls of a script on a disk over a file of the machine: the first that went wrong, or nothing.
 fn wrong_at(mut disk: FileDisk<HostFile<File>>, script: &'static str) -> &'static str {
     plays(&mut disk, script)
+}
+
+/// The same of a disk that locks nothing.
+fn wrong_without_lock(
+    rt: &HostRuntime,
+    name: &str,
+    script: &'static str,
+) -> io::Result<&'static str> {
+    Ok(wrong_at(FileDisk::unlocked(open(rt, name)?), script))
 }
 
 /// A file of the machine as a disk, with its lock.
 #[test]
 fn a_file_is_a_disk(rt: HostRuntime) -> Result<(), Fail> {
     let name = "a_file_is_a_disk.bin";
-    let disk = FileDisk::locked(open(&rt, name)?)?;
-    assert!(rt; FileDisk::locked(open(&rt, name)?).is_err(), "locked twice");
+    let disk = locked(&rt, name)?;
+    assert!(rt; is_locked(&rt, name)?, "locked twice");
     let script = "ok write 0 abcdef; ok sync; ok write 4 XYZ; ok sync; ok length 7; ok read 4 XYZ";
-    let wrong = wrong_at(disk, script);
-    let pages = FileDisk::unlocked(open(&rt, name)?);
-    let also_wrong = wrong_at(pages, "ok read 4 XYZ; failed read 5 ...; ok faults 1");
-    assert!(rt;
-        wrong.is_empty() && also_wrong.is_empty(),
-        "{wrong}, {also_wrong}"
-    );
+    none_wrong(&rt, wrong_at(disk, script), script);
+    let script = "ok read 4 XYZ; failed read 5 ...; ok faults 1";
+    none_wrong(&rt, wrong_without_lock(&rt, name, script)?, script);
     Ok(remove_file(&rt, name)?)
 }
 
@@ -109,24 +124,29 @@ fn leaves(alloc: Global, disk: MemDisk, pick: u64, want: &str) -> bool {
 }
 
 /// Does the calls of a row on a disk over a file: what went wrong, or nothing.
-fn wrong_over(alloc: Global, row: &Crash) -> Result<&'static str, NoMemory> {
-    let (most, fails, script, pick, want) = *row;
-    let mut disk = FileDisk::over(MemFile::new(disk_of(alloc, fails)?, most));
-    let wrong = plays(&mut disk, script);
-    let is_left = leaves(alloc, disk.into_file().into_disk(), pick, want);
-    Ok(if wrong.is_empty() && !is_left {
+fn wrong_over(alloc: Global, row: &Crash, below: MemDisk) -> &'static str {
+    let mut disk = FileDisk::over(MemFile::new(below, row.0));
+    let wrong = plays(&mut disk, row.2);
+    let is_left = leaves(alloc, disk.into_file().into_disk(), row.3, row.4);
+    if wrong.is_empty() && !is_left {
         "what is left"
     } else {
         wrong
-    })
+    }
+}
+
+/// Does what a row says: what went wrong, or nothing.
+fn wrong_of(alloc: Global, row: &Crash) -> &'static str {
+    match disk_of(alloc, row.1) {
+        Ok(below) => wrong_over(alloc, row, below),
+        Err(NoMemory) => "no memory",
+    }
 }
 
 /// What a crash leaves below a disk over a file.
 #[test]
-fn a_disk_over_the_least_of_files_is_a_disk(rt: HostRuntime) -> Result<(), NoMemory> {
-    for row in CRASHES.iter() {
-        let wrong = wrong_over(rt.alloc(), row)?;
-        assert!(rt; wrong.is_empty(), "{wrong} of {}", row.2);
+fn a_disk_over_the_least_of_files_is_a_disk(rt: HostRuntime) {
+    for row in &CRASHES {
+        none_wrong(&rt, wrong_of(rt.alloc(), row), row.2);
     }
-    Ok(())
 }

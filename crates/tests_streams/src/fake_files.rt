@@ -2,6 +2,7 @@
 
 ghost use Rattle.std.specs.Prelude.{◌≤◌, IfOk};
 
+use crate::scripts::is_text;
 use std::alloc::{AllocError, Allocator, Global};
 use std::fs::{Metadata, OpenFile, OpenOptions};
 use std::io;
@@ -47,17 +48,29 @@ impl Record {
         names: usize,
         before: u64,
         words: &str,
-    ) -> Result<Record, AllocError> {
-        Ok(Record {
-            words: Vec::from_slice(alloc, words.as_bytes())?,
-            asked: AtomicUsize::new(0),
+    ) -> Result<Arc<Record>, AllocError> {
+        let words = Vec::from_slice(alloc, words.as_bytes())?;
+        let asked = AtomicUsize::new(0);
+        let record = Record {
+            words,
+            asked,
             names,
             before,
-        })
+        };
+        Ok(Arc::new(alloc, record)?)
+    }
+
+    /// What went wrong: this, or else what was to be asked, if something else was.
+    pub(crate) fn wrong(&self, wrong: &'static str, words: &'static str) -> &'static str {
+        if wrong.is_empty() && !self.is_done() {
+            words
+        } else {
+            wrong
+        }
     }
 
     /// Whether just this was asked.
-    pub(crate) fn is_done(&self) -> bool {
+    fn is_done(&self) -> bool {
         self.asked.load(Ordering::SeqCst) == self.words.len()
     }
 
@@ -109,15 +122,13 @@ impl Record {
 
     /// The letter of a name.
     fn what(&self, path: &str) -> u8 {
-        let [file, part, folder] = NAMES[self.names.min(4)];
-        if path == file {
-            b'a'
-        } else if path == part {
-            b'n'
-        } else if path == folder {
-            b'i'
-        } else {
-            b'?'
+        let names = &NAMES[self.names.min(4)];
+        let bytes = path.as_bytes();
+        match (is_text(bytes, names[0]), is_text(bytes, names[1])) {
+            (true, _) => b'a',
+            (_, true) => b'n',
+            _ if is_text(bytes, names[2]) => b'i',
+            _ => b'?',
         }
     }
 

@@ -2,6 +2,7 @@
 
 ghost use Rattle.std.specs.Prelude.{◌≤◌, IfOk};
 
+use std::alloc::{AllocError, Global};
 use std::io;
 use std::io::{ErrorKind, Read, Write};
 use std::net::{Net, OpenListener, OpenStream, SocketAddr};
@@ -33,11 +34,10 @@ pub(crate) struct Wire {
 
 impl Wire {
     /// A wire on which nothing was done.
-    pub(crate) fn new(steps: Vec<Step>) -> Wire {
-        Wire {
-            steps,
-            made: AtomicUsize::new(0),
-        }
+    pub(crate) fn new(alloc: Global, steps: &[Step]) -> Result<Arc<Wire>, AllocError> {
+        let steps = Vec::from_slice(alloc, steps)?;
+        let made = AtomicUsize::new(0);
+        Ok(Arc::new(alloc, Wire { steps, made })?)
     }
 
     /// Answers the next call, with room for so many bytes or with so many given.
@@ -58,8 +58,17 @@ impl Wire {
     }
 
     /// Whether just these calls were made.
-    pub(crate) fn is_done(&self) -> bool {
+    fn is_done(&self) -> bool {
         self.made.load(Ordering::SeqCst) == self.steps.len()
+    }
+
+    /// What went wrong, if something did or if not just these calls were made.
+    pub(crate) fn wrong(&self, wrong: &'static str) -> &'static str {
+        if wrong.is_empty() && !self.is_done() {
+            "the calls of the system"
+        } else {
+            wrong
+        }
     }
 }
 

@@ -3,6 +3,7 @@
 
 use crate::disk_calls::plays;
 use crate::fake_files::{FakeFile, FakeFiles, Record};
+use crate::scripts::none_wrong;
 use crate::store_calls::stores;
 use std::alloc::{AllocError, Global};
 use std::io;
@@ -140,26 +141,25 @@ static ROWS: [Row; 40] = [
     ),
 ];
 
+/// Does the calls of a script on a store of the files of a record: the first that went wrong, or nothing.
+fn wrong_in(record: &Arc<Record>, alloc: Global, script: &'static str) -> &'static str {
+    stores(&mut FileStore::new(FakeFiles(record)), alloc, script)
+}
+
 /// Does what a row says with a store: what went wrong, or nothing.
 fn wrong_of(alloc: Global, row: &Row) -> Result<&'static str, AllocError> {
-    let (names, script, words) = *row;
-    let record = Arc::new(alloc, Record::new(alloc, names, 0, words)?)?;
-    let wrong = stores(&mut FileStore::new(FakeFiles(&record)), alloc, script);
-    Ok(if wrong.is_empty() && !record.is_done() {
-        words
-    } else {
-        wrong
-    })
+    let record = Record::new(alloc, row.0, 0, row.2)?;
+    let wrong = wrong_in(&record, alloc, row.1);
+    Ok(record.wrong(wrong, row.2))
 }
 
 /// What a store asks of files that are made up.
 #[test]
-fn a_store_asks_files_for_what_it_has_to(rt: HostRuntime) -> Result<(), AllocError> {
+fn a_store_asks_files_for_what_it_has_to(rt: HostRuntime) {
     for row in &ROWS {
-        let wrong = wrong_of(rt.alloc(), row)?;
-        assert!(rt; wrong.is_empty(), "{wrong} in {}", row.1);
+        let wrong = wrong_of(rt.alloc(), row).unwrap_or("no memory");
+        none_wrong(&rt, wrong, row.1);
     }
-    Ok(())
 }
 
 /// How many bytes lie before a file that somebody reads or writes, what is done on a disk over it, and what the file
@@ -206,25 +206,24 @@ static OVER: [Over; 6] = [
     ),
 ];
 
+/// Does the calls of a script on a disk over the file of a record: the first that went wrong, or nothing.
+fn wrong_at(record: &Arc<Record>, script: &'static str) -> io::Result<&'static str> {
+    let file = FakeFile::new(record, b'a')?;
+    Ok(plays(&mut FileDisk::unlocked(file), script))
+}
+
 /// Does what a row says with a disk over a file: what went wrong, or nothing.
 fn wrong_over(alloc: Global, row: &Over) -> io::Result<&'static str> {
-    let (before, script, words) = *row;
-    let record = Arc::new(alloc, Record::new(alloc, 0, before, words)?)?;
-    let file = FakeFile::new(&record, b'a')?;
-    let wrong = plays(&mut FileDisk::unlocked(file), script);
-    Ok(if wrong.is_empty() && !record.is_done() {
-        words
-    } else {
-        wrong
-    })
+    let record = Record::new(alloc, 0, row.0, row.2)?;
+    let wrong = wrong_at(&record, row.1)?;
+    Ok(record.wrong(wrong, row.2))
 }
 
 /// What a disk asks of a file that is made up.
 #[test]
-fn a_disk_asks_a_file_for_what_it_has_to(rt: HostRuntime) -> io::Result<()> {
+fn a_disk_asks_a_file_for_what_it_has_to(rt: HostRuntime) {
     for row in &OVER {
-        let wrong = wrong_over(rt.alloc(), row)?;
-        assert!(rt; wrong.is_empty(), "{wrong} of {}", row.1);
+        let wrong = wrong_over(rt.alloc(), row).unwrap_or("no memory");
+        none_wrong(&rt, wrong, row.1);
     }
-    Ok(())
 }

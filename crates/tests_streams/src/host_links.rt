@@ -3,6 +3,7 @@
 
 use crate::fake_sockets::{ACCEPT, FakeNet, READ, Step, WRITE, Wire};
 use crate::port_calls::meet;
+use crate::scripts::none_wrong;
 use std::alloc::{AllocError, Global};
 use std::io::ErrorKind::{
     ConnectionAborted, ConnectionReset, HostUnreachable, Interrupted, NetworkDown,
@@ -133,25 +134,24 @@ static ROWS: [Row; 12] = [
     ),
 ];
 
-/// Does what a row says with the one port of a net: what went wrong, or nothing.
+/// Has the one port of a net over a wire do what a row says: what went wrong, or nothing.
+fn wrong_over(wire: &Arc<Wire>, alloc: Global, row: &Row) -> &'static str {
+    let mut net = TcpNet::new(FakeNet(wire));
+    meet(&mut net, alloc, "127.0.0.1:1", &(row.0, 1, "ok", row.2))
+}
+
+/// Does what a row says over a wire: what went wrong, or nothing.
 fn wrong_of(alloc: Global, row: &Row) -> Result<&'static str, AllocError> {
-    let (place, steps, script) = *row;
-    let wire = Arc::new(alloc, Wire::new(Vec::from_slice(alloc, steps)?))?;
-    let mut net = TcpNet::new(FakeNet(&wire));
-    let wrong = meet(&mut net, alloc, "127.0.0.1:1", &(place, 1, "ok", script));
-    Ok(if wrong.is_empty() && !wire.is_done() {
-        "the calls of the system"
-    } else {
-        wrong
-    })
+    let wire = Wire::new(alloc, row.1)?;
+    let wrong = wrong_over(&wire, alloc, row);
+    Ok(wire.wrong(wrong))
 }
 
 /// What links and ports ask of sockets that are made up.
 #[test]
-fn a_link_makes_few_calls_of_the_system(rt: HostRuntime) -> Result<(), AllocError> {
+fn a_link_makes_few_calls_of_the_system(rt: HostRuntime) {
     for row in &ROWS {
-        let wrong = wrong_of(rt.alloc(), row)?;
-        assert!(rt; wrong.is_empty(), "{wrong} of {}", row.2);
+        let wrong = wrong_of(rt.alloc(), row).unwrap_or("no memory");
+        none_wrong(&rt, wrong, row.2);
     }
-    Ok(())
 }

@@ -1,5 +1,6 @@
 //! Tests of the store of files over the files of the machine.
 
+use crate::scripts::none_wrong;
 use crate::store_calls::stores;
 use std::alloc::Global;
 use std::os::unix::fs::{MetadataExt, symlink};
@@ -76,6 +77,21 @@ where
     ]
 }
 
+/// The first of these that is not empty, or nothing.
+fn first_of(words: &[&'static str]) -> &'static str {
+    for word in words {
+        if !word.is_empty() {
+            return word;
+        }
+    }
+    ""
+}
+
+/// Does all of this with the store of the machine's files: what went wrong, or nothing.
+fn wrong_in(rt: HostRuntime) -> &'static str {
+    first_of(&wrong_of(&mut FileStore::new(rt), rt.alloc()))
+}
+
 /// Makes what the store finds.
 fn prepare(rt: &HostRuntime) -> io::Result<()> {
     fs::write(rt, "any", "")?;
@@ -87,18 +103,26 @@ fn prepare(rt: &HostRuntime) -> io::Result<()> {
 /// The names of all that there is in the end.
 const NAMES: [&'static str; 7] = ["any", "test", "left.new", "link", "own", "all", "disk"];
 
+/// Removes them.
+fn remove(rt: &HostRuntime) -> io::Result<()> {
+    for name in &NAMES {
+        fs::remove_file(rt, name)?;
+    }
+    Ok(())
+}
+
+/// Whether what is the owner's own may be read by nobody else, and what is new by whom any file may.
+fn has_modes(rt: &HostRuntime) -> io::Result<bool> {
+    let own = [mode(rt, "own")?, mode(rt, "disk")?];
+    let is_any = mode(rt, "all")? == mode(rt, "any")?;
+    Ok(is_any && own[0] == 0o600 && own[1] == 0o600)
+}
+
 /// A store of the machine's files.
 #[test]
 fn a_store_of_files_is_the_machine_s(rt: HostRuntime) -> io::Result<()> {
     prepare(&rt)?;
-    for wrong in &wrong_of(&mut FileStore::new(rt), rt.alloc()) {
-        assert!(rt; wrong.is_empty(), "{wrong}");
-    }
-    let any = mode(&rt, "any")?;
-    let modes = [mode(&rt, "own")?, mode(&rt, "all")?, mode(&rt, "disk")?];
-    assert!(rt; modes == [0o600, any, 0o600], "{modes:?}");
-    for name in &NAMES {
-        fs::remove_file(&rt, name)?;
-    }
-    Ok(())
+    none_wrong(&rt, wrong_in(rt), "a store");
+    assert!(rt; has_modes(&rt)?, "modes");
+    remove(&rt)
 }

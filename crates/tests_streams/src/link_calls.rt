@@ -92,13 +92,18 @@ pub(crate) fn done<L: Source + Sink>(link: &mut L, letter: u8, text: &str) -> &'
     }
 }
 
+/// What a call of a sink comes to, in a word, by its name and what that is given.
+fn outcome<K: Sink>(sink: &mut K, call: &str) -> &'static str {
+    let (name, text) = first_word(call);
+    said(sink, initial(name), text)
+}
+
 /// Does the calls of a script on a sink, each behind the word that it has to come to, as `failed send st`. The first
 /// that comes to another one, or nothing.
 pub(crate) fn says<K: Sink>(sink: &mut K, script: &'static str) -> &'static str {
     for step in script.split("; ") {
-        let (want, rest) = first_word(step);
-        let (call, text) = first_word(rest);
-        if said(sink, initial(call), text) != want {
+        let (want, call) = first_word(step);
+        if outcome(sink, call) != want {
             return step;
         }
     }

@@ -1,6 +1,7 @@
 //! Tests of standard output as a sink.
 
 use crate::link_calls::says;
+use crate::scripts::none_wrong;
 use std::cell::Cell;
 use std::fmt::Display;
 use std::io;
@@ -54,11 +55,8 @@ fn an_output_takes_all_bytes(rt: HostRuntime) {
         calls: Cell::new(0),
     };
     let script = "ok send abc; ok count 0; failed send d; ok count 1";
-    let wrong = says(&mut StdoutSink::new(output), script);
-    let also_wrong = says(
-        &mut StdoutSink::new(rt),
-        "ok send hello; ok write 0; ok count 0",
-    );
-    let is_right = wrong.is_empty() && also_wrong.is_empty() && taken.get() == b'c';
-    assert!(rt; is_right, "{wrong}, {also_wrong}");
+    none_wrong(&rt, says(&mut StdoutSink::new(output), script), script);
+    assert!(rt; taken.get() == b'c');
+    let script = "ok send hello; ok write 0; ok count 0";
+    none_wrong(&rt, says(&mut StdoutSink::new(rt), script), script);
 }

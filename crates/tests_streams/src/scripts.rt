@@ -1,6 +1,13 @@
 //! Scripts: the steps of a test as text, each with the word that it has to come to, the name of a call, whose first
 //! letter counts, and what that is given.
 
+use std::process::Abort;
+
+/// Stops the test, and says what went wrong in which row, unless nothing did.
+pub(crate) fn none_wrong(rt: &impl Abort, wrong: &str, row: &str) {
+    assert!(rt; wrong.is_empty(), "{wrong} of {row}");
+}
+
 /// The first word of a text, and what stands behind it.
 pub(crate) fn first_word(text: &str) -> (&str, &str) {
     text.split_once(' ').unwrap_or((text, ""))

@@ -1,6 +1,7 @@
 //! Tests of links, ports and nets over the machine's own sockets.
 
 use crate::port_calls::{Met, meet_all};
+use crate::scripts::none_wrong;
 use std::net::TcpListener;
 use std::test::Fail;
 use stream_host::TcpNet;
@@ -62,6 +63,6 @@ static MET: [Met; 4] = [
 fn links_and_ports_are_the_machine_s(rt: HostRuntime) -> Result<(), Fail> {
     let place = free_place(&rt)?;
     let wrong = meet_all(&mut TcpNet::new(rt), rt.alloc(), place.as_str(), &MET);
-    assert!(rt; wrong.is_empty(), "{wrong}");
+    none_wrong(&rt, wrong, "a net");
     Ok(())
 }

@@ -1,9 +1,10 @@
 //! Tests of what no contract says of a store in memory: that calls succeed, which of them fail, and how often that is
 //! counted.
 
+use crate::scripts::none_wrong;
 use crate::store_calls::stores;
 use memory::NoMemory;
-use std::alloc::Global;
+use std::alloc::{AllocError, Global};
 use stream_memory::MemStore;
 
 /// A store of a file `a` of the bytes `first`, a file `b` of none, and a second file `a`: the numbers of its calls
@@ -103,40 +104,46 @@ static ROWS: [Row; 15] = [
     ),
 ];
 
+/// A file of this name and these bytes.
+fn file(alloc: Global, name: &str, text: &str) -> Result<(String, Vec<u8>), AllocError> {
+    let bytes = Vec::from_slice(alloc, text.as_bytes())?;
+    Ok((String::from_str(alloc, name)?, bytes))
+}
+
 /// The store whose calls of these numbers fail.
 fn files(alloc: Global, failing: &[u64]) -> Result<MemStore, NoMemory> {
     let mut files = Vec::new(alloc);
     for (name, text) in &[("a", "first"), ("b", ""), ("a", "second file")] {
-        let bytes = Vec::from_slice(alloc, text.as_bytes())?;
-        files.push((String::from_str(alloc, name)?, bytes))?;
+        files.push(file(alloc, name, text)?)?;
     }
     MemStore::of_files(alloc, files, Vec::from_slice(alloc, failing)?)
 }
 
-/// Does the calls of a script on a store in memory: the first that went wrong, or nothing.
-fn wrong_of(
-    alloc: Global,
-    failing: &[u64],
-    set: [Option<u64>; 2],
-    script: &'static str,
-) -> Result<&'static str, NoMemory> {
-    let mut store = files(alloc, failing)?;
-    let [stops, fails] = set;
+/// Has a store stop the disks of new names, and fail views, where that is set.
+fn set_up(store: &mut MemStore, stops: Option<u64>, fails: Option<u64>) {
     if let Some(call) = stops {
         store.stop_new_disks(call);
     }
     if let Some(call) = fails {
         store.fail_views(call);
     }
-    Ok(stores(&mut store, alloc, script))
+}
+
+/// Does what a row says with a store in memory: the first that went wrong, or nothing.
+fn wrong_of(alloc: Global, row: &Row) -> &'static str {
+    match files(alloc, row.0) {
+        Ok(mut store) => {
+            set_up(&mut store, row.1[0], row.1[1]);
+            stores(&mut store, alloc, row.2)
+        }
+        Err(NoMemory) => "no memory",
+    }
 }
 
 /// What stores in memory do.
 #[test]
-fn a_store_in_memory_does_what_it_is_set_to(rt: HostRuntime) -> Result<(), NoMemory> {
-    for (failing, set, script) in ROWS.iter() {
-        let wrong = wrong_of(rt.alloc(), failing, *set, script)?;
-        assert!(rt; wrong.is_empty(), "{wrong} of {script}");
+fn a_store_in_memory_does_what_it_is_set_to(rt: HostRuntime) {
+    for row in &ROWS {
+        none_wrong(&rt, wrong_of(rt.alloc(), row), row.2);
     }
-    Ok(())
 }

@@ -3,6 +3,7 @@
 
 use crate::peers::{PEER, Peer, Script, Talk, is_talk, port_script};
 use crate::port_calls::meets;
+use crate::scripts::none_wrong;
 use memory::NoMemory;
 use std::alloc::Global;
 use std::thread;
@@ -34,6 +35,18 @@ fn port(alloc: Global) -> Result<MemPort, NoMemory> {
     MemPort::new(alloc, Some(String::from_str(alloc, "here")?), script)
 }
 
+/// What the links of a port wait for, if at all.
+fn hold_of<'a>(bell: &'a Bell, wait: &Option<(Before, u64)>) -> Option<Hold<'a>> {
+    match *wait {
+        Some((before, rings)) => Some(Hold {
+            before,
+            bell,
+            rings,
+        }),
+        None => None,
+    }
+}
+
 /// Two ports: the links of the first wait, if at all, until the bell was rung so often, and each of the second rings
 /// once so many bytes were written to it.
 fn two_ports<'a>(
@@ -42,18 +55,11 @@ fn two_ports<'a>(
     wait: &Option<(Before, u64)>,
     written: usize,
 ) -> Result<Vec<WaitingPort<'a>>, NoMemory> {
-    let hold = match *wait {
-        Some((before, rings)) => Some(Hold {
-            before,
-            bell,
-            rings,
-        }),
-        None => None,
-    };
-    let mut ports = Vec::with_capacity(alloc, 2)?;
-    ports.push(WaitingPort::new(port(alloc)?, hold, None))?;
-    let ring = Ring { bell, written };
-    ports.push(WaitingPort::new(port(alloc)?, None, Some(ring)))?;
+    let holds = WaitingPort::new(port(alloc)?, hold_of(bell, wait), None);
+    let rings = WaitingPort::new(port(alloc)?, None, Some(Ring { bell, written }));
+    let mut ports = Vec::new(alloc);
+    ports.push(holds)?;
+    ports.push(rings)?;
     Ok(ports)
 }
 
@@ -95,31 +101,39 @@ fn has_kept(port: &WaitingPort, want: &Talk) -> bool {
     is_talk(port.kept().talk(0), want)
 }
 
-/// Does what a row says with two ports: what went wrong, or nothing.
-fn wrong_of(alloc: Global, row: &Wait) -> Result<&'static str, NoMemory> {
-    let (wait, written, script, talk) = row;
-    let bell = Bell::new(3);
-    let mut ports = two_ports(alloc, &bell, wait, *written)?;
-    let wrong = meets(&mut ports, alloc, "b", script);
-    let is_kept = match ports.first() {
-        Some(port) => has_kept(port, talk),
+/// Whether this went over the first link that was hung up at the first port.
+fn has_first_kept(ports: &[WaitingPort], want: &Talk) -> bool {
+    match ports.first() {
+        Some(port) => has_kept(port, want),
         None => false,
-    };
-    Ok(if wrong.is_empty() && !is_kept {
+    }
+}
+
+/// Does what a row says with two ports: what went wrong, or nothing.
+fn wrong_over(ports: &mut [WaitingPort], alloc: Global, row: &Wait) -> &'static str {
+    let wrong = meets(ports, alloc, "b", row.2);
+    if wrong.is_empty() && !has_first_kept(ports, &row.3) {
         "what is kept"
     } else {
         wrong
-    })
+    }
+}
+
+/// Does what a row says: what went wrong, or nothing.
+fn wrong_of(alloc: Global, row: &Wait) -> &'static str {
+    let bell = Bell::new(3);
+    match two_ports(alloc, &bell, &row.0, row.1) {
+        Ok(mut ports) => wrong_over(&mut ports, alloc, row),
+        Err(NoMemory) => "no memory",
+    }
 }
 
 /// When links wait.
 #[test]
-fn a_link_waits_for_a_bell(rt: HostRuntime) -> Result<(), NoMemory> {
-    for row in WAITS.iter() {
-        let wrong = wrong_of(rt.alloc(), row)?;
-        assert!(rt; wrong.is_empty(), "{wrong} of {}", row.2);
+fn a_link_waits_for_a_bell(rt: HostRuntime) {
+    for row in &WAITS {
+        none_wrong(&rt, wrong_of(rt.alloc(), row), row.2);
     }
-    Ok(())
 }
 
 /// Accepts a link, reads and writes once each, and hangs up.
@@ -157,9 +171,9 @@ static HOLDS: [Option<(Before, u64)>; 3] = [
 /// Two threads that wait for each other.
 #[test]
 fn a_port_waits_until_another_has_answered(rt: HostRuntime) -> Result<(), NoMemory> {
-    for (number, wait) in HOLDS.iter().enumerate() {
+    for wait in &HOLDS {
         let bell = Bell::new(1_000_000_000);
-        assert!(rt; serve_both(&rt, rt.alloc(), &bell, wait)?, "hold {number}");
+        assert!(rt; serve_both(&rt, rt.alloc(), &bell, wait)?);
     }
     Ok(())
 }
