@@ -47,6 +47,16 @@ fn hold_of<'a>(bell: &'a Bell, wait: &Option<(Before, u64)>) -> Option<Hold<'a>>
     }
 }
 
+/// A port whose links wait, if at all.
+fn holding<'a>(alloc: Global, hold: Option<Hold<'a>>) -> Result<WaitingPort<'a>, NoMemory> {
+    Ok(WaitingPort::new(port(alloc)?, hold, None))
+}
+
+/// A port whose links ring.
+fn ringing<'a>(alloc: Global, ring: Ring<'a>) -> Result<WaitingPort<'a>, NoMemory> {
+    Ok(WaitingPort::new(port(alloc)?, None, Some(ring)))
+}
+
 /// Two ports: the links of the first wait, if at all, until the bell was rung so often, and each of the second rings
 /// once so many bytes were written to it.
 fn two_ports<'a>(
@@ -55,11 +65,9 @@ fn two_ports<'a>(
     wait: &Option<(Before, u64)>,
     written: usize,
 ) -> Result<Vec<WaitingPort<'a>>, NoMemory> {
-    let holds = WaitingPort::new(port(alloc)?, hold_of(bell, wait), None);
-    let rings = WaitingPort::new(port(alloc)?, None, Some(Ring { bell, written }));
     let mut ports = Vec::new(alloc);
-    ports.push(holds)?;
-    ports.push(rings)?;
+    ports.push(holding(alloc, hold_of(bell, wait))?)?;
+    ports.push(ringing(alloc, Ring { bell, written })?)?;
     Ok(ports)
 }
 
