@@ -3,12 +3,12 @@
 
 use crate::disk_calls::plays;
 use crate::fake_files::{FakeFile, FakeFiles, Record};
+use crate::kept_files::wrong_in;
 use crate::scripts::none_wrong;
-use crate::store_calls::stores;
 use std::alloc::{AllocError, Global};
 use std::io;
 use std::sync::Arc;
-use stream_host::{FileDisk, FileStore};
+use stream_host::FileDisk;
 
 /// Which names the files have, what is done with a store of them, and all that the system is asked.
 type Row = (usize, &'static str, &'static str);
@@ -141,15 +141,10 @@ static ROWS: [Row; 40] = [
     ),
 ];
 
-/// Does the calls of a script on a store of the files of a record: the first that went wrong, or nothing.
-fn wrong_in(record: &Arc<Record>, alloc: Global, script: &'static str) -> &'static str {
-    stores(&mut FileStore::new(FakeFiles(record)), alloc, script)
-}
-
 /// Does what a row says with a store: what went wrong, or nothing.
 fn wrong_of(alloc: Global, row: &Row) -> Result<&'static str, AllocError> {
     let record = Record::new(alloc, row.0, 0, row.2)?;
-    let wrong = wrong_in(&record, alloc, row.1);
+    let wrong = wrong_in(FakeFiles(&record), alloc, &[(b' ', row.1)]);
     Ok(record.wrong(wrong, row.2))
 }
 

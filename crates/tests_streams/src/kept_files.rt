@@ -3,9 +3,10 @@
 use crate::scripts::none_wrong;
 use crate::store_calls::stores;
 use std::alloc::Global;
-use std::os::unix::fs::{MetadataExt, symlink};
+use std::os::unix::fs::{FileExt, MetadataExt, symlink};
+use std::rt::Files;
 use std::{fs, io};
-use stream_host::FileStore;
+use stream_host::{FileStore, Lockable};
 use stream_io::Store;
 
 /// The permissions of a file.
@@ -13,20 +14,44 @@ fn mode(rt: &HostRuntime, name: &str) -> io::Result<u32> {
     Ok(fs::metadata(rt, name)?.mode() & 0o777)
 }
 
+/// What is out meanwhile, a disk (`d`), a view (`v`) or nothing, and what is done with a store.
+pub(crate) type Step = (u8, &'static str);
+
 /// What is done with the store, where `any`, `test` and `left.new` are files, and `link` leads nowhere.
-static SCRIPTS: [&'static str; 4] = [
+static STEPS: [Step; 6] = [
     // It takes a new file once.
-    "no has own; ok secret own first; yes has own; exists secret own second; ok read own 9 first; \
+    (
+        b' ',
+        "no has own; ok secret own first; yes has own; exists secret own second; ok read own 9 first; \
      no has own.new; ok faults 0",
-    "no has ./all; ok new ./all first; yes has ./all; exists new ./all second; ok read ./all 9 first; \
+    ),
+    (
+        b' ',
+        "no has ./all; ok new ./all first; yes has ./all; exists new ./all second; ok read ./all 9 first; \
      ok faults 0",
+    ),
     // What stands at a name takes it, and a file that was left is let alone.
-    "yes has link; exists new link first; yes has .; exists new . first; ok faults 0; \
+    (
+        b' ',
+        "yes has link; exists new link first; yes has .; exists new . first; ok faults 0; \
      no has left; failed new left first; ok faults 1; ok read left.new 9 left; \
      no has none/new; failed new none/new first; ok faults 2",
+    ),
     // It reads files.
-    "ok read test 5 first; ok read test 18446744073709551615 first; long read test 4 5; ok faults 2; \
+    (
+        b' ',
+        "ok read test 5 first; ok read test 18446744073709551615 first; long read test 4 5; ok faults 2; \
      failed read none 4; ok faults 3; failed read . 4096; ok faults 4",
+    ),
+    // A disk of a name is had by nobody else, and views of it are had at once.
+    (
+        b'd',
+        "failed write disk 0 abc; exists make disk abc; ok faults 5",
+    ),
+    (
+        b'v',
+        "ok look disk 0; ok write disk 0 abc; ok look disk 3 abc; ok faults 5; ok disks 0",
+    ),
 ];
 
 /// Does the calls of a script while a disk of a new name is out, which nobody gives back.
@@ -51,45 +76,32 @@ where
     }
 }
 
-/// Does all of this with a store: what went wrong, or nothing. A disk of a name is had by nobody else, and views of
-/// it are had at once.
-fn wrong_of<S: Store>(store: &mut S, alloc: Global) -> [&'static str; 6]
+/// Does all of this with a store: the first that went wrong, or nothing.
+fn wrong_of<S: Store>(store: &mut S, alloc: Global, steps: &[Step]) -> &'static str
 where
     S::Disk: Drop,
     S::View: Drop,
 {
-    let [new, all, taken, read] = SCRIPTS;
-    [
-        stores(store, alloc, new),
-        stores(store, alloc, all),
-        stores(store, alloc, taken),
-        stores(store, alloc, read),
-        beside_disk(
-            store,
-            alloc,
-            "failed write disk 0 abc; exists make disk abc; ok faults 5",
-        ),
-        beside_view(
-            store,
-            alloc,
-            "ok look disk 0; ok write disk 0 abc; ok look disk 3 abc; ok faults 5; ok disks 0",
-        ),
-    ]
-}
-
-/// The first of these that is not empty, or nothing.
-fn first_of(words: &[&'static str]) -> &'static str {
-    for word in words {
-        if !word.is_empty() {
-            return word;
+    for (out, script) in steps {
+        let wrong = match *out {
+            b'd' => beside_disk(store, alloc, script),
+            b'v' => beside_view(store, alloc, script),
+            _ => stores(store, alloc, script),
+        };
+        if !wrong.is_empty() {
+            return wrong;
         }
     }
     ""
 }
 
-/// Does all of this with the store of the machine's files: what went wrong, or nothing.
-fn wrong_in(rt: HostRuntime) -> &'static str {
-    first_of(&wrong_of(&mut FileStore::new(rt), rt.alloc()))
+/// Does all of this with a store of files, whose calls are proved for any runtime at once: the first that went wrong,
+/// or nothing.
+pub(crate) fn wrong_in<R: Files + Drop>(rt: R, alloc: Global, steps: &[Step]) -> &'static str
+where
+    R::File: FileExt + Lockable + Send,
+{
+    wrong_of(&mut FileStore::new(rt), alloc, steps)
 }
 
 /// Makes what the store finds.
@@ -122,7 +134,7 @@ fn has_modes(rt: &HostRuntime) -> io::Result<bool> {
 #[test]
 fn a_store_of_files_is_the_machine_s(rt: HostRuntime) -> io::Result<()> {
     prepare(&rt)?;
-    none_wrong(&rt, wrong_in(rt), "a store");
+    none_wrong(&rt, wrong_in(rt, rt.alloc(), &STEPS), "a store");
     assert!(rt; has_modes(&rt)?, "modes");
     remove(&rt)
 }
