@@ -69,6 +69,16 @@ fn push_refusal(page: &mut String, payload: &[u8]) -> Result<(), AllocError> {
     }
 }
 
+/// Adds the text of an aggregator's failure: its status, the member and the round, and the four bytes of its leaf.
+fn push_failure(page: &mut String, told: (u8, u8, u8), leaf: &[u8]) -> Result<(), AllocError> {
+    let (status, member, round) = told;
+    let leaf = number_at(leaf, 0).unwrap_or(u32::MAX);
+    write!(
+        page,
+        " failure {status} member {member} round {round} leaf {leaf};"
+    )
+}
+
 /// Adds the text of an answer: a mask, masks or a refusal of a trustee; a signature or a failure of an aggregator.
 fn push_answer(
     page: &mut String,
@@ -82,11 +92,7 @@ fn push_answer(
         (5, refusal) => push_refusal(page, refusal),
         (7, signature) => push_signature(page, store, signature),
         (8, [status, member, round, leaf @ ..]) if leaf.len() == 4 => {
-            let leaf = number_at(leaf, 0).unwrap_or(u32::MAX);
-            write!(
-                page,
-                " failure {status} member {member} round {round} leaf {leaf};"
-            )
+            push_failure(page, (*status, *member, *round), leaf)
         }
         _ => page.push_str(" what is no answer;"),
     }

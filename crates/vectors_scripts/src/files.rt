@@ -41,7 +41,7 @@ fn add_file(
 }
 
 /// Adds bytes that count up from 0 and begin again at a modulus.
-fn add_counted(bytes: &mut Vec<u8>, length: usize, modulus: usize) -> Result<(), AllocError> {
+fn add_counted(bytes: &mut Vec<u8>, length: usize, modulus: usize) -> io::Result<()> {
     for index in 0..length {
         bytes.push((index % modulus.clamp(1, 256)) as u8)?;
     }
@@ -70,30 +70,43 @@ fn byte_of(number: usize) -> u8 {
     (number % 256) as u8
 }
 
+/// Adds bytes.
+fn add_bytes(bytes: &mut Vec<u8>, added: &[u8]) -> io::Result<()> {
+    Ok(bytes.extend_from_slice(added)?)
+}
+
+/// Adds a number of four bytes, the greatest first.
+fn add_long(bytes: &mut Vec<u8>, number: usize) -> io::Result<()> {
+    let number = (number % (1 << 32)) as u32;
+    add_bytes(bytes, &number.to_be_bytes())
+}
+
 /// Adds a part that is not changed by those before it.
 fn add(world: &mut World, bytes: &mut Vec<u8>, part: (&str, &str, &str)) -> io::Result<()> {
     let (verb, first, second) = part;
     match verb {
-        "add" => Ok(bytes.push(byte_of(world.number(first)))?),
+        "add" => add_bytes(bytes, &[byte_of(world.number(first))]),
         "hex" => add_hex(world, bytes, first),
-        "long" => {
-            let number = (world.number(first) % (1 << 32)) as u32;
-            Ok(bytes.extend_from_slice(&number.to_be_bytes())?)
-        }
+        "long" => add_long(bytes, world.number(first)),
         "count" => {
             let length = world.number(first);
-            Ok(add_counted(bytes, length, world.number(second))?)
+            add_counted(bytes, length, world.number(second))
         }
         _ => add_file(world, bytes, verb, first, second),
     }
 }
 
-/// Adds a part, or changes what is there.
-fn add_part(world: &mut World, bytes: &mut Vec<u8>, part: &str) -> io::Result<()> {
+/// The first three words of a part, nothing for each that it does not have.
+fn words_of(part: &str) -> (&str, &str, &str) {
     let mut words = part.split(':');
     let verb = words.next().unwrap_or_default();
     let first = words.next().unwrap_or_default();
-    let second = words.next().unwrap_or_default();
+    (verb, first, words.next().unwrap_or_default())
+}
+
+/// Adds a part, or changes what is there.
+fn add_part(world: &mut World, bytes: &mut Vec<u8>, part: &str) -> io::Result<()> {
+    let (verb, first, second) = words_of(part);
     match verb {
         "cut" => bytes.truncate(world.number(first)),
         "set" => {

@@ -23,6 +23,13 @@ fn pieces_of(alloc: Global, length: usize, sizes: &[u8]) -> Result<Vec<usize>, A
     Ok(pieces)
 }
 
+/// A source that gives these bytes in these pieces.
+fn source_of(alloc: Global, bytes: &[u8], pieces: &[u8]) -> Result<MemSource, AllocError> {
+    let pieces = pieces_of(alloc, bytes.len(), pieces)?;
+    let bytes = Vec::from_slice(alloc, bytes)?;
+    Ok(MemSource::new(bytes, pieces, Vec::new(alloc)))
+}
+
 /// A link that gives these bytes in these pieces, with room for so many and for so many in one write. The call of one
 /// number fails, if there is one.
 fn link_of(
@@ -32,10 +39,10 @@ fn link_of(
     room: (usize, usize),
     call: Option<u64>,
 ) -> Result<MemLink, NoMemory> {
+    let failing = calls_of(alloc, call)?;
+    let source = source_of(alloc, bytes, pieces)?;
     let sink = MemSink::new(alloc, room.0, room.1.max(1), Vec::new(alloc))?;
-    let pieces = pieces_of(alloc, bytes.len(), pieces)?;
-    let source = MemSource::new(Vec::from_slice(alloc, bytes)?, pieces, Vec::new(alloc));
-    MemLink::new(alloc, source, sink, calls_of(alloc, call)?, None)
+    MemLink::new(alloc, source, sink, failing, None)
 }
 
 /// A link that gives a file in pieces whose lengths are the bytes of another.
@@ -80,15 +87,20 @@ pub(crate) fn take_net(world: &mut World) -> io::Result<MemNet> {
 }
 
 /// Has a link wait at the last port.
-pub(crate) fn wait(world: &mut World, rest: &str) -> io::Result<()> {
-    let (name, pieces) = rest.split_once(' ').unwrap_or((rest, "empty"));
-    let (name, call) = with_call(world, name);
-    let link = file_link(world, name, pieces, call)?;
+fn push_waiting(world: &mut World, link: MemLink) -> io::Result<()> {
     match world.ports.last_mut() {
         Some(port) => port.waiting.push(link)?,
         None => world.wrong = true,
     }
     Ok(())
+}
+
+/// Has a link to a file wait at the last port.
+pub(crate) fn wait(world: &mut World, rest: &str) -> io::Result<()> {
+    let (name, pieces) = rest.split_once(' ').unwrap_or((rest, "empty"));
+    let (name, call) = with_call(world, name);
+    let link = file_link(world, name, pieces, call)?;
+    push_waiting(world, link)
 }
 
 /// Has a link be dialled at a place from the last port.

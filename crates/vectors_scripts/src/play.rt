@@ -39,6 +39,20 @@ pub fn world_here(rt: HostRuntime) -> io::Result<World> {
     new_world(rt.alloc(), files)
 }
 
+/// Does what lines say, one after the other.
+fn obey_all<F: Fn(&[String], &mut MemStore, &mut MemNet, &mut MemSink) -> u8>(
+    run: &F,
+    world: &mut World,
+    lines: &[String],
+) -> io::Result<()>
+    requires { F.IsAlwaysCallable run.now }
+{
+    for line in lines {
+        obey(run, world, line)?;
+    }
+    Ok(())
+}
+
 /// Plays the script of this name, which is one of the files of a world, and prints what it prints.
 pub fn print_played<F: Fn(&[String], &mut MemStore, &mut MemNet, &mut MemSink) -> u8>(
     run: &F,
@@ -49,10 +63,20 @@ pub fn print_played<F: Fn(&[String], &mut MemStore, &mut MemNet, &mut MemSink) -
     requires { F.IsAlwaysCallable run.now }
 {
     let lines = lines_of(world, name)?;
-    for line in lines.iter() {
-        obey(run, world, line)?;
-    }
+    obey_all(run, world, &lines)?;
     print!(rt; "{}", world.said())
+}
+
+/// Plays the script of this name in a world of its own, and prints what it prints.
+fn print_script<F: Fn(&[String], &mut MemStore, &mut MemNet, &mut MemSink) -> u8>(
+    run: &F,
+    rt: HostRuntime,
+    name: &str,
+) -> io::Result<()>
+    requires { F.IsAlwaysCallable run.now }
+{
+    let mut world = world_here(rt)?;
+    print_played(run, rt, &mut world, name)
 }
 
 /// Plays each script of these names in a world of its own, and prints what it prints.
@@ -64,8 +88,7 @@ pub fn print_scripts<F: Fn(&[String], &mut MemStore, &mut MemNet, &mut MemSink) 
     requires { F.IsAlwaysCallable run.now }
 {
     for name in names {
-        let mut world = world_here(rt)?;
-        print_played(run, rt, &mut world, name)?;
+        print_script(run, rt, name)?;
     }
     Ok(())
 }

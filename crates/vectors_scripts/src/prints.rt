@@ -15,16 +15,16 @@ const LEAVES: usize = 32;
 
 const BLOCK: usize = 128;
 
-/// How these bytes are like those that are wanted.
+/// How these bytes are like those that are wanted, in words with a colon before them.
 fn likeness(got: &[u8], want: &[u8]) -> &'static str {
     if got.is_empty() {
-        "nothing"
+        ": nothing"
     } else if got == want {
-        "as given"
+        ": as given"
     } else if want.starts_with(got) {
-        "a beginning"
+        ": a beginning"
     } else {
-        "other bytes"
+        ": other bytes"
     }
 }
 
@@ -55,8 +55,7 @@ pub(crate) fn compare(world: &mut World, verb: &str, rest: &str) -> io::Result<(
     world.load(want)?;
     let likeness = likeness(got(world, verb, name), world.bytes(want));
     let name = if verb == "like" { name } else { want };
-    writeln!(world.page, "{name}: {likeness}")?;
-    Ok(())
+    world.say(name, likeness)
 }
 
 /// Who may read a file of a store, in a word with a space before it.
@@ -76,14 +75,18 @@ fn push_hex(page: &mut String, bytes: &[u8]) -> Result<(), AllocError> {
     Ok(())
 }
 
+/// Adds the first 16 bytes in digits, and the SHA-256 of all.
+fn push_digits(page: &mut String, bytes: &[u8]) -> Result<(), AllocError> {
+    push_hex(page, bytes.get(..16).unwrap_or_default())?;
+    page.push_str(" ")?;
+    push_hex(page, &Sha256::digest(bytes))
+}
+
 /// Adds the line of a file: its name, its length, its first 16 bytes, its SHA-256, and a word behind it.
 fn push_line(page: &mut String, name: &str, bytes: &[u8], word: &str) -> io::Result<()> {
     write!(page, "{name} {} ", bytes.len())?;
-    push_hex(page, bytes.get(..16).unwrap_or_default())?;
-    page.push_str(" ")?;
-    push_hex(page, &Sha256::digest(bytes))?;
-    writeln!(page, "{word}")?;
-    Ok(())
+    push_digits(page, bytes)?;
+    Ok(writeln!(page, "{word}")?)
 }
 
 /// Prints what a file of the store is, and who may read it.
@@ -91,7 +94,7 @@ pub(crate) fn tell_file(world: &mut World, name: &str) -> io::Result<()> {
     let reader = reader(&world.store, name);
     match world.store.bytes(name) {
         Some(bytes) => push_line(&mut world.page, name, bytes, reader),
-        None => Ok(writeln!(world.page, "{name} is not there")?),
+        None => world.say(name, " is not there"),
     }
 }
 
@@ -99,7 +102,7 @@ pub(crate) fn tell_file(world: &mut World, name: &str) -> io::Result<()> {
 pub(crate) fn tell_there(world: &mut World, name: &str) -> io::Result<()> {
     if world.store.bytes(name).is_some() {
         let reader = reader(&world.store, name);
-        writeln!(world.page, "{name}{reader}")?;
+        world.say(name, reader)?;
     }
     Ok(())
 }

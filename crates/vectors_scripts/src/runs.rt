@@ -6,33 +6,32 @@ use crate::given::words_of;
 use crate::links::{add_port, asked, take_net, wait};
 use crate::scene::made;
 use crate::world::World;
+use std::alloc::Global;
 use std::fmt::Write;
 use std::{io, str};
 use stream_memory::{MemNet, MemSink, MemStore};
 
-/// Runs a command over the store of a world and a net, and gives what the command printed and its status.
+/// Runs a command over a store and a net, with room for what it prints, and gives what it printed and its status.
 fn run_here<F: Fn(&[String], &mut MemStore, &mut MemNet, &mut MemSink) -> u8>(
     run: &F,
-    world: &mut World,
+    store: &mut MemStore,
     net: &mut MemNet,
+    alloc: Global,
+    room: usize,
     text: &str,
 ) -> io::Result<(MemSink, u8)>
     requires { F.IsAlwaysCallable run.now }
 {
-    let alloc = world.alloc;
     let words = words_of(alloc, text)?;
-    let mut out = made(MemSink::new(alloc, world.rooms.2, 7, Vec::new(alloc)))?;
-    let status = run(&words, &mut world.store, net, &mut out);
+    let mut out = made(MemSink::new(alloc, room, 7, Vec::new(alloc)))?;
+    let status = run(&words, store, net, &mut out);
     Ok((out, status))
 }
 
 /// Prints what a command printed, and its status.
-fn tell_ran(world: &mut World, line: &[u8], status: u8) -> io::Result<()> {
-    world
-        .page
-        .push_str(str::from_utf8(line).unwrap_or("no text"))?;
-    writeln!(world.page, "[status {status}]")?;
-    Ok(())
+fn tell_ran(page: &mut String, line: &[u8], status: u8) -> io::Result<()> {
+    let line = str::from_utf8(line).unwrap_or("no text");
+    Ok(writeln!(page, "{line}[status {status}]")?)
 }
 
 /// Runs a command over the store and the next net, and prints its line and its status.
@@ -43,10 +42,10 @@ pub(crate) fn run_line<F: Fn(&[String], &mut MemStore, &mut MemNet, &mut MemSink
 ) -> io::Result<()>
     requires { F.IsAlwaysCallable run.now }
 {
-    let mut net = take_net(world)?;
-    let (out, status) = run_here(run, world, &mut net, text)?;
-    world.net = net;
-    tell_ran(world, out.written(), status)
+    world.net = take_net(world)?;
+    let (alloc, room) = (world.alloc, world.rooms.2);
+    let (out, status) = run_here(run, &mut world.store, &mut world.net, alloc, room, text)?;
+    tell_ran(&mut world.page, out.written(), status)
 }
 
 /// Has what was asked at a place wait at the next port, under the name of the place.
@@ -74,6 +73,7 @@ pub(crate) fn reply<F: Fn(&[String], &mut MemStore, &mut MemNet, &mut MemSink) -
 {
     wait_asked(world, place)?;
     let mut net = take_net(world)?;
-    run_here(run, world, &mut net, text)?;
+    let (alloc, room) = (world.alloc, world.rooms.2);
+    run_here(run, &mut world.store, &mut net, alloc, room, text)?;
     keep_answer(world, &net, place)
 }

@@ -1,5 +1,6 @@
 //! Stores and nets in memory.
 
+use crate::given::words_of;
 use memory::NoMemory;
 use std::alloc::Global;
 use std::io::{self, ErrorKind};
@@ -29,7 +30,6 @@ pub fn file<'a>(store: &'a MemStore, name: &str) -> &'a [u8] {
 
 /// A net that offers the place `here`, with these ports.
 pub(crate) fn net_at_here(alloc: Global, ports: Vec<PortScript>) -> Result<MemNet, NoMemory> {
-    let mut places = Vec::new(alloc);
-    places.push(String::from_str(alloc, "here")?)?;
+    let places = words_of(alloc, "here")?;
     Ok(MemNet::new(places, ports, Vec::new(alloc)))
 }

@@ -47,21 +47,31 @@ fn add_lines(alloc: Global, all: &mut Lines, lines: &str, row: &str) -> Result<(
     Ok(())
 }
 
-/// Adds lines so often, with what prints them where they print something else than the time before.
+/// Adds lines with the words of a row, and what prints them.
+fn add_printed(alloc: Global, all: &mut Lines, lines: &str, row: &str) -> Result<(), AllocError> {
+    add_lines(alloc, all, lines, row)?;
+    add_lines(alloc, all, "print", "")
+}
+
+/// Adds lines for the turn of this number, with what prints them where they print something else than the time before.
+fn add_call(alloc: Global, all: &mut Lines, call: usize, lines: &str) -> Result<(), AllocError> {
+    let row = format!(in alloc; "{call}")?;
+    add_lines(alloc, all, lines, &row)?;
+    add_lines(alloc, all, "turn %0%", &row)
+}
+
+/// Adds lines so often.
 fn add_calls(alloc: Global, all: &mut Lines, count: usize, lines: &str) -> Result<(), AllocError> {
     for call in 0..count {
-        let row = format!(in alloc; "{call}")?;
-        add_lines(alloc, all, lines, &row)?;
-        all.push(format!(in alloc; "turn {call}")?)?;
+        add_call(alloc, all, call, lines)?;
     }
-    Ok(all.push(String::from_str(alloc, "turns")?)?)
+    add_lines(alloc, all, "turns", "")
 }
 
 /// Adds lines for each row of a file.
 fn add_rows(alloc: Global, all: &mut Lines, rows: &str, lines: &str) -> Result<(), AllocError> {
     for row in rows.lines() {
-        add_lines(alloc, all, lines, row)?;
-        all.push(String::from_str(alloc, "print")?)?;
+        add_printed(alloc, all, lines, row)?;
     }
     Ok(())
 }
@@ -81,8 +91,7 @@ fn add_turns(world: &mut World, all: &mut Lines, turns: &str) -> io::Result<()> 
 /// Adds the lines of a part.
 fn add_part(world: &mut World, all: &mut Lines, part: &str) -> io::Result<()> {
     let (lines, turns) = part.split_once("\neach ").unwrap_or((part, "0"));
-    add_lines(world.alloc, all, lines, "")?;
-    all.push(String::from_str(world.alloc, "print")?)?;
+    add_printed(world.alloc, all, lines, "")?;
     add_turns(world, all, turns)
 }
 

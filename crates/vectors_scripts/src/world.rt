@@ -2,7 +2,7 @@
 
 use crate::scene::{Files, LINE, made, net_at_here, store_of};
 use disk_trait::MemDisk;
-use std::alloc::Global;
+use std::alloc::{AllocError, Global};
 use std::fmt::Write;
 use std::{io, mem};
 use stream_memory::{MemNet, MemStore, PortScript};
@@ -59,6 +59,11 @@ fn last_of<'a>(files: &'a Files, name: &str) -> Option<&'a [u8]> {
     Some(file.1.as_slice())
 }
 
+/// Adds what the turn of this number printed.
+fn push_turn(said: &mut String, call: usize, page: &str) -> Result<(), AllocError> {
+    write!(said, "from {call}:\n{page}")
+}
+
 impl World {
     /// The number that a word is. Where it is none, the line is wrong.
     pub(crate) fn number(&mut self, word: &str) -> usize {
@@ -105,11 +110,16 @@ impl World {
         }
     }
 
+    /// Adds a line to what lines have printed: a name, and what is said of it.
+    pub(crate) fn say(&mut self, name: &str, said: &str) -> io::Result<()> {
+        Ok(writeln!(self.page, "{name}{said}")?)
+    }
+
     /// Adds a line that was wrong to what lines have printed.
     pub(crate) fn judge(&mut self, line: &str) -> io::Result<()> {
         if self.wrong {
             self.wrong = false;
-            writeln!(self.page, "wrong: {line}")?;
+            self.say("wrong: ", line)?;
         }
         Ok(())
     }
@@ -124,7 +134,7 @@ impl World {
     /// Does so behind the turn of this number, where it is not what lines printed in the turn before.
     pub(crate) fn print_turn(&mut self, call: usize) -> io::Result<()> {
         if self.page.as_str() != self.last.as_str() {
-            write!(self.said, "from {call}:\n{}", self.page)?;
+            push_turn(&mut self.said, call, &self.page)?;
         }
         mem::swap(&mut self.page, &mut self.last);
         self.page.clear();
