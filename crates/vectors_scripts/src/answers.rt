@@ -5,7 +5,6 @@ use crate::scene::file;
 use crate::world::World;
 use std::alloc::AllocError;
 use std::fmt::Write;
-use std::io;
 use stream_io::{Readers, Store};
 use stream_memory::{KeptPort, MemNet, MemStore};
 
@@ -17,9 +16,11 @@ const WORKERS: usize = 8;
 
 /// The first frame of these bytes, if there is one: its kind, its payload, and what is behind it.
 fn first_frame(bytes: &[u8]) -> Option<(u8, &[u8], &[u8])> {
-    let kind = bytes.strip_prefix(b"TL\x01")?.first()?;
-    let end = 8 + number_at(bytes, 4)? as usize;
-    Some((*kind, bytes.get(8..end)?, bytes.get(end..)?))
+    let [b'T', b'L', 1, kind, a, b, c, d, left @ ..] = bytes else {
+        return None;
+    };
+    let end = u32::from_be_bytes([*a, *b, *c, *d]) as usize;
+    Some((*kind, left.get(..end)?, left.get(end..)?))
 }
 
 /// What the client of this number was answered at a port; the first that was accepted there has the number 0.
@@ -43,10 +44,12 @@ pub(crate) fn answered(port: Option<&KeptPort>, client: usize) -> &[u8] {
         .unwrap_or_default()
 }
 
-/// The number that the four bytes at a place are.
-fn number_at(bytes: &[u8], place: usize) -> Option<u32> {
-    let found = bytes.get(place..)?.first_chunk()?;
-    Some(u32::from_be_bytes(*found))
+/// The leaf that the first four bytes are, the greatest number where there are fewer.
+fn leaf_at(bytes: &[u8]) -> u32 {
+    match bytes {
+        [a, b, c, d, ..] => u32::from_be_bytes([*a, *b, *c, *d]),
+        _ => u32::MAX,
+    }
 }
 
 /// Adds the text of a signature: its leaf, and whether it is the one that is given.
@@ -57,7 +60,7 @@ fn push_signature(page: &mut String, store: &MemStore, signature: &[u8]) -> Resu
     } else {
         ""
     };
-    let leaf = number_at(signature, 0).unwrap_or(u32::MAX);
+    let leaf = leaf_at(signature);
     write!(page, " signature of leaf {leaf}{likeness};")
 }
 
@@ -72,7 +75,7 @@ fn push_refusal(page: &mut String, payload: &[u8]) -> Result<(), AllocError> {
 /// Adds the text of an aggregator's failure: its status, the member and the round, and the four bytes of its leaf.
 fn push_failure(page: &mut String, told: (u8, u8, u8), leaf: &[u8]) -> Result<(), AllocError> {
     let (status, member, round) = told;
-    let leaf = number_at(leaf, 0).unwrap_or(u32::MAX);
+    let leaf = leaf_at(leaf);
     write!(
         page,
         " failure {status} member {member} round {round} leaf {leaf};"
@@ -111,10 +114,11 @@ fn push_answers(page: &mut String, store: &MemStore, written: &[u8]) -> Result<(
     if !left.is_empty() {
         write!(page, " {} bytes of an answer;", left.len())?;
     }
-    if written.is_empty() {
-        page.push_str(" nothing")?;
-    }
-    page.push_str("\n")
+    page.push_str(if written.is_empty() {
+        " nothing\n"
+    } else {
+        "\n"
+    })
 }
 
 /// Adds a line for each client at the port of a worker.
@@ -137,7 +141,7 @@ fn push_clients(
 }
 
 /// Prints what each client was answered.
-pub(crate) fn tell_clients(world: &mut World) -> io::Result<()> {
+pub(crate) fn tell_clients(world: &mut World) -> Result<(), AllocError> {
     for worker in 0..WORKERS {
         push_clients(&mut world.page, &world.store, &world.net, worker)?;
     }
@@ -146,7 +150,7 @@ pub(crate) fn tell_clients(world: &mut World) -> io::Result<()> {
 
 /// Puts the signature that the first client was answered into the store, under this name. Where there is none, or it
 /// cannot be written, the line is wrong.
-pub(crate) fn add_signature(world: &mut World, name: &str) -> io::Result<()> {
+pub(crate) fn add_signature(world: &mut World, name: &str) -> Result<(), AllocError> {
     let alloc = world.alloc;
     let written = match first_frame(answered(world.net.kept(0), 0)) {
         Some((7, signature, _)) => {

@@ -5,12 +5,11 @@
 //! for so many bytes that count up from 0 and begin again at the modulus. Others change what stands before them:
 //! `cut:LENGTH` leaves so many bytes, `set:PLACE:BYTE` puts a byte at a place, and `flip:PLACE` changes its lowest bit.
 
-use crate::scene::made;
+use crate::scene::held;
 use crate::world::World;
 use disk_trait::MemDisk;
 use memory::NoMemory;
 use std::alloc::{AllocError, Global};
-use std::io::{self, ErrorKind};
 use std::mem;
 use stream_io::Store;
 use stream_memory::MemStore;
@@ -31,7 +30,7 @@ fn add_file(
     name: &str,
     from: &str,
     to: &str,
-) -> io::Result<()> {
+) -> Result<(), AllocError> {
     world.load(name)?;
     match part_of(world, name, from, to) {
         Some(part) => bytes.extend_from_slice(part)?,
@@ -41,7 +40,7 @@ fn add_file(
 }
 
 /// Adds bytes that count up from 0 and begin again at a modulus.
-fn add_counted(bytes: &mut Vec<u8>, length: usize, modulus: usize) -> io::Result<()> {
+fn add_counted(bytes: &mut Vec<u8>, length: usize, modulus: usize) -> Result<(), AllocError> {
     for index in 0..length {
         bytes.push((index % modulus.clamp(1, 256)) as u8)?;
     }
@@ -49,7 +48,7 @@ fn add_counted(bytes: &mut Vec<u8>, length: usize, modulus: usize) -> io::Result
 }
 
 /// Adds the bytes of these digits. Where they are no digits of bytes, the line is wrong.
-fn add_hex(world: &mut World, bytes: &mut Vec<u8>, digits: &str) -> io::Result<()> {
+fn add_hex(world: &mut World, bytes: &mut Vec<u8>, digits: &str) -> Result<(), AllocError> {
     match hex::decode(world.alloc, digits) {
         Ok(decoded) => bytes.extend_from_slice(&decoded)?,
         Err(_) => world.wrong = true,
@@ -71,18 +70,18 @@ fn byte_of(number: usize) -> u8 {
 }
 
 /// Adds bytes.
-fn add_bytes(bytes: &mut Vec<u8>, added: &[u8]) -> io::Result<()> {
-    Ok(bytes.extend_from_slice(added)?)
+fn add_bytes(bytes: &mut Vec<u8>, added: &[u8]) -> Result<(), AllocError> {
+    bytes.extend_from_slice(added)
 }
 
 /// Adds a number of four bytes, the greatest first.
-fn add_long(bytes: &mut Vec<u8>, number: usize) -> io::Result<()> {
+fn add_long(bytes: &mut Vec<u8>, number: usize) -> Result<(), AllocError> {
     let number = (number % (1 << 32)) as u32;
     add_bytes(bytes, &number.to_be_bytes())
 }
 
 /// Adds a part that is not changed by those before it.
-fn add(world: &mut World, bytes: &mut Vec<u8>, part: (&str, &str, &str)) -> io::Result<()> {
+fn add(world: &mut World, bytes: &mut Vec<u8>, part: (&str, &str, &str)) -> Result<(), AllocError> {
     let (verb, first, second) = part;
     match verb {
         "add" => add_bytes(bytes, &[byte_of(world.number(first))]),
@@ -105,7 +104,7 @@ fn words_of(part: &str) -> (&str, &str, &str) {
 }
 
 /// Adds a part, or changes what is there.
-fn add_part(world: &mut World, bytes: &mut Vec<u8>, part: &str) -> io::Result<()> {
+fn add_part(world: &mut World, bytes: &mut Vec<u8>, part: &str) -> Result<(), AllocError> {
     let (verb, first, second) = words_of(part);
     match verb {
         "cut" => bytes.truncate(world.number(first)),
@@ -124,7 +123,7 @@ fn add_part(world: &mut World, bytes: &mut Vec<u8>, part: &str) -> io::Result<()
 }
 
 /// Makes a file of parts.
-pub(crate) fn make_file(world: &mut World, rest: &str) -> io::Result<()> {
+pub(crate) fn make_file(world: &mut World, rest: &str) -> Result<(), AllocError> {
     let (name, parts) = rest.split_once(' ').unwrap_or((rest, ""));
     let mut bytes = Vec::new(world.alloc);
     for part in parts.split_whitespace() {
@@ -134,7 +133,7 @@ pub(crate) fn make_file(world: &mut World, rest: &str) -> io::Result<()> {
 }
 
 /// Keeps a file of the store. Where it is not there, the line is wrong.
-pub(crate) fn keep(world: &mut World, name: &str) -> io::Result<()> {
+pub(crate) fn keep(world: &mut World, name: &str) -> Result<(), AllocError> {
     match world.store.bytes(name) {
         Some(bytes) => {
             let bytes = Vec::from_slice(world.alloc, bytes)?;
@@ -174,48 +173,48 @@ fn disk_of(alloc: Global, bytes: &[u8], call: Option<u64>) -> Result<MemDisk, No
 }
 
 /// Puts a disk into the store that is made next.
-fn push_disk(world: &mut World, name: &str, disk: MemDisk) -> io::Result<()> {
+fn push_disk(world: &mut World, name: &str, disk: MemDisk) -> Result<(), AllocError> {
     let name = String::from_str(world.alloc, name)?;
     Ok(world.disks.push((name, disk))?)
 }
 
 /// Puts a disk that stops at a call into the store that is made next.
-fn add_stopping(world: &mut World, name: &str, call: &str) -> io::Result<()> {
+fn add_stopping(world: &mut World, name: &str, call: &str) -> Result<(), AllocError> {
     let call = world.number(call) as u64;
     world.load(name)?;
-    let mut disk = made(disk_of(world.alloc, world.bytes(name), None))?;
+    let mut disk = held(disk_of(world.alloc, world.bytes(name), None))?;
     disk.stop_at(call);
     push_disk(world, name, disk)
 }
 
 /// Puts the disk of a file into the store that is made next.
-pub(crate) fn add_disk(world: &mut World, word: &str) -> io::Result<()> {
+pub(crate) fn add_disk(world: &mut World, word: &str) -> Result<(), AllocError> {
     if let Some((name, call)) = word.split_once("!!") {
         return add_stopping(world, name, call);
     }
     let (name, call) = with_call(world, word);
     world.load(name)?;
-    let disk = made(disk_of(world.alloc, world.bytes(name), call))?;
+    let disk = held(disk_of(world.alloc, world.bytes(name), call))?;
     push_disk(world, name, disk)
 }
 
 /// Puts what a crash leaves of a disk of the store into the store that is made next, if it is there.
-pub(crate) fn crash_disk(world: &mut World, pick: u64, name: &str) -> io::Result<()> {
+pub(crate) fn crash_disk(world: &mut World, pick: u64, name: &str) -> Result<(), AllocError> {
     let Ok(disk) = world.store.take_disk(name) else {
         return Ok(());
     };
     match disk.into_disk().crash(world.alloc, pick) {
         Ok(image) => push_disk(world, name, image),
-        Err(_) => Err(io::Error::from(ErrorKind::OutOfMemory)),
+        Err(_) => Err(AllocError),
     }
 }
 
 /// Makes the store of the disks that were made for it.
-pub(crate) fn make_store(world: &mut World, rest: &str) -> io::Result<()> {
+pub(crate) fn make_store(world: &mut World, rest: &str) -> Result<(), AllocError> {
     let alloc = world.alloc;
     let (_, call) = with_call(world, rest);
     let calls = calls_of(alloc, call)?;
     let disks = mem::replace(&mut world.disks, Vec::new(alloc));
-    world.store = made(MemStore::new(alloc, disks, calls))?;
+    world.store = held(MemStore::new(alloc, disks, calls))?;
     Ok(())
 }

@@ -1,11 +1,11 @@
 //! Links in memory, and what went over them.
 
 use crate::files::{calls_of, with_call};
-use crate::scene::{made, net_at_here};
+use crate::scene::{held, net_at_here};
 use crate::world::World;
 use memory::NoMemory;
 use std::alloc::{AllocError, Global};
-use std::{io, mem};
+use std::mem;
 use stream_memory::{KeptPort, MemLink, MemNet, MemSink, MemSource, PortScript};
 
 /// More conversations than a port here has.
@@ -51,10 +51,10 @@ fn file_link(
     name: &str,
     pieces: &str,
     call: Option<u64>,
-) -> io::Result<MemLink> {
+) -> Result<MemLink, AllocError> {
     world.load(name)?;
     world.load(pieces)?;
-    made(link_of(
+    held(link_of(
         world.alloc,
         world.bytes(name),
         world.bytes(pieces),
@@ -64,13 +64,13 @@ fn file_link(
 }
 
 /// Adds a port to the next run.
-pub(crate) fn add_port(world: &mut World) -> io::Result<()> {
+pub(crate) fn add_port(world: &mut World) -> Result<(), AllocError> {
     let port = PortScript::new(world.alloc);
     Ok(world.ports.push(port)?)
 }
 
 /// Has a call of the last port fail.
-pub(crate) fn deafen(world: &mut World, call: &str) -> io::Result<()> {
+pub(crate) fn deafen(world: &mut World, call: &str) -> Result<(), AllocError> {
     let call = world.number(call) as u64;
     match world.ports.last_mut() {
         Some(port) => port.failing.push(call)?,
@@ -80,14 +80,17 @@ pub(crate) fn deafen(world: &mut World, call: &str) -> io::Result<()> {
 }
 
 /// The net of the next run.
-pub(crate) fn take_net(world: &mut World) -> io::Result<MemNet> {
+pub(crate) fn take_net(world: &mut World) -> Result<MemNet, AllocError> {
     let alloc = world.alloc;
     let ports = mem::replace(&mut world.ports, Vec::new(alloc));
-    made(net_at_here(alloc, ports))
+    held(net_at_here(alloc, ports))
 }
 
-/// Has a link wait at the last port.
-fn push_waiting(world: &mut World, link: MemLink) -> io::Result<()> {
+/// Has a link to a file wait at the last port.
+pub(crate) fn wait(world: &mut World, rest: &str) -> Result<(), AllocError> {
+    let (name, pieces) = rest.split_once(' ').unwrap_or((rest, "empty"));
+    let (name, call) = with_call(world, name);
+    let link = file_link(world, name, pieces, call)?;
     match world.ports.last_mut() {
         Some(port) => port.waiting.push(link)?,
         None => world.wrong = true,
@@ -95,16 +98,8 @@ fn push_waiting(world: &mut World, link: MemLink) -> io::Result<()> {
     Ok(())
 }
 
-/// Has a link to a file wait at the last port.
-pub(crate) fn wait(world: &mut World, rest: &str) -> io::Result<()> {
-    let (name, pieces) = rest.split_once(' ').unwrap_or((rest, "empty"));
-    let (name, call) = with_call(world, name);
-    let link = file_link(world, name, pieces, call)?;
-    push_waiting(world, link)
-}
-
 /// Has a link be dialled at a place from the last port.
-fn push_dialled(world: &mut World, place: &str, link: MemLink) -> io::Result<()> {
+fn push_dialled(world: &mut World, place: &str, link: MemLink) -> Result<(), AllocError> {
     let entry = (String::from_str(world.alloc, place)?, link);
     match world.ports.last_mut() {
         Some(port) => port.dialled.push(entry)?,
@@ -114,7 +109,7 @@ fn push_dialled(world: &mut World, place: &str, link: MemLink) -> io::Result<()>
 }
 
 /// Has a link to a file be dialled from the last port.
-pub(crate) fn dial(world: &mut World, word: &str) -> io::Result<()> {
+pub(crate) fn dial(world: &mut World, word: &str) -> Result<(), AllocError> {
     let (place, name) = word.split_once('=').unwrap_or((word, ""));
     let (name, call) = with_call(world, name);
     let link = file_link(world, name, "empty", call)?;

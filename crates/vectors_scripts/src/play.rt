@@ -5,6 +5,7 @@ use crate::runs::{reply, run_line};
 use crate::script::lines_of;
 use crate::verbs::do_verb;
 use crate::world::{World, new_world};
+use std::alloc::AllocError;
 use std::io;
 use stream_memory::{MemNet, MemSink, MemStore};
 
@@ -18,7 +19,7 @@ fn obey<F: Fn(&[String], &mut MemStore, &mut MemNet, &mut MemSink) -> u8>(
     run: &F,
     world: &mut World,
     line: &str,
-) -> io::Result<()>
+) -> Result<(), AllocError>
     requires { F.IsAlwaysCallable run.now }
 {
     let (verb, rest) = split_first(line);
@@ -36,7 +37,7 @@ fn obey<F: Fn(&[String], &mut MemStore, &mut MemNet, &mut MemSink) -> u8>(
 /// A world with the files of the system that the file `index` names, and nothing else in it.
 pub fn world_here(rt: HostRuntime) -> io::Result<World> {
     let files = read_all(rt, "index")?;
-    new_world(rt.alloc(), files)
+    Ok(new_world(rt.alloc(), files)?)
 }
 
 /// Does what lines say, one after the other.
@@ -44,7 +45,7 @@ fn obey_all<F: Fn(&[String], &mut MemStore, &mut MemNet, &mut MemSink) -> u8>(
     run: &F,
     world: &mut World,
     lines: &[String],
-) -> io::Result<()>
+) -> Result<(), AllocError>
     requires { F.IsAlwaysCallable run.now }
 {
     for line in lines {

@@ -6,7 +6,6 @@ use crate::world::World;
 use sha2::{Digest, Sha256};
 use std::alloc::AllocError;
 use std::fmt::Write;
-use std::io;
 use stream_io::Readers;
 use stream_memory::{KeptPort, MemStore};
 
@@ -50,7 +49,7 @@ fn got<'a>(world: &'a World, verb: &str, name: &str) -> &'a [u8] {
 }
 
 /// Prints how bytes are like a file.
-pub(crate) fn compare(world: &mut World, verb: &str, rest: &str) -> io::Result<()> {
+pub(crate) fn compare(world: &mut World, verb: &str, rest: &str) -> Result<(), AllocError> {
     let (name, want) = rest.split_once(' ').unwrap_or((rest, ""));
     world.load(want)?;
     let likeness = likeness(got(world, verb, name), world.bytes(want));
@@ -83,14 +82,14 @@ fn push_digits(page: &mut String, bytes: &[u8]) -> Result<(), AllocError> {
 }
 
 /// Adds the line of a file: its name, its length, its first 16 bytes, its SHA-256, and a word behind it.
-fn push_line(page: &mut String, name: &str, bytes: &[u8], word: &str) -> io::Result<()> {
+fn push_line(page: &mut String, name: &str, bytes: &[u8], word: &str) -> Result<(), AllocError> {
     write!(page, "{name} {} ", bytes.len())?;
     push_digits(page, bytes)?;
-    Ok(writeln!(page, "{word}")?)
+    writeln!(page, "{word}")
 }
 
 /// Prints what a file of the store is, and who may read it.
-pub(crate) fn tell_file(world: &mut World, name: &str) -> io::Result<()> {
+pub(crate) fn tell_file(world: &mut World, name: &str) -> Result<(), AllocError> {
     let reader = reader(&world.store, name);
     match world.store.bytes(name) {
         Some(bytes) => push_line(&mut world.page, name, bytes, reader),
@@ -99,7 +98,7 @@ pub(crate) fn tell_file(world: &mut World, name: &str) -> io::Result<()> {
 }
 
 /// Prints who may read a file of the store, if it is there.
-pub(crate) fn tell_there(world: &mut World, name: &str) -> io::Result<()> {
+pub(crate) fn tell_there(world: &mut World, name: &str) -> Result<(), AllocError> {
     if world.store.bytes(name).is_some() {
         let reader = reader(&world.store, name);
         world.say(name, reader)?;
@@ -119,10 +118,9 @@ fn slots_with(table: &[u8], place: u8, byte: u8) -> u32 {
 }
 
 /// Prints how many leaves of a table are leased and burnt.
-pub(crate) fn tell_counts(world: &mut World, name: &str) -> io::Result<()> {
+pub(crate) fn tell_counts(world: &mut World, name: &str) -> Result<(), AllocError> {
     let table = file(&world.store, name);
     let leased = slots_with(table, 0, 0xb1);
     let burnt = slots_with(table, 40, 0xc2);
-    writeln!(world.page, "{name}: {leased} leased, {burnt} burnt")?;
-    Ok(())
+    writeln!(world.page, "{name}: {leased} leased, {burnt} burnt")
 }

@@ -4,11 +4,11 @@
 use crate::answers::answered;
 use crate::given::words_of;
 use crate::links::{add_port, asked, take_net, wait};
-use crate::scene::made;
+use crate::scene::held;
 use crate::world::World;
-use std::alloc::Global;
+use std::alloc::{AllocError, Global};
 use std::fmt::Write;
-use std::{io, str};
+use std::str;
 use stream_memory::{MemNet, MemSink, MemStore};
 
 /// Runs a command over a store and a net, with room for what it prints, and gives what it printed and its status.
@@ -19,19 +19,19 @@ fn run_here<F: Fn(&[String], &mut MemStore, &mut MemNet, &mut MemSink) -> u8>(
     alloc: Global,
     room: usize,
     text: &str,
-) -> io::Result<(MemSink, u8)>
+) -> Result<(MemSink, u8), AllocError>
     requires { F.IsAlwaysCallable run.now }
 {
     let words = words_of(alloc, text)?;
-    let mut out = made(MemSink::new(alloc, room, 7, Vec::new(alloc)))?;
+    let mut out = held(MemSink::new(alloc, room, 7, Vec::new(alloc)))?;
     let status = run(&words, store, net, &mut out);
     Ok((out, status))
 }
 
 /// Prints what a command printed, and its status.
-fn tell_ran(page: &mut String, line: &[u8], status: u8) -> io::Result<()> {
+fn tell_ran(page: &mut String, line: &[u8], status: u8) -> Result<(), AllocError> {
     let line = str::from_utf8(line).unwrap_or("no text");
-    Ok(writeln!(page, "{line}[status {status}]")?)
+    writeln!(page, "{line}[status {status}]")
 }
 
 /// Runs a command over the store and the next net, and prints its line and its status.
@@ -39,7 +39,7 @@ pub(crate) fn run_line<F: Fn(&[String], &mut MemStore, &mut MemNet, &mut MemSink
     run: &F,
     world: &mut World,
     text: &str,
-) -> io::Result<()>
+) -> Result<(), AllocError>
     requires { F.IsAlwaysCallable run.now }
 {
     world.net = take_net(world)?;
@@ -49,7 +49,7 @@ pub(crate) fn run_line<F: Fn(&[String], &mut MemStore, &mut MemNet, &mut MemSink
 }
 
 /// Has what was asked at a place wait at the next port, under the name of the place.
-fn wait_asked(world: &mut World, place: &str) -> io::Result<()> {
+fn wait_asked(world: &mut World, place: &str) -> Result<(), AllocError> {
     let asks = Vec::from_slice(world.alloc, asked(world.net.kept(0), place))?;
     world.put(place, asks)?;
     add_port(world)?;
@@ -57,7 +57,7 @@ fn wait_asked(world: &mut World, place: &str) -> io::Result<()> {
 }
 
 /// Keeps what a client was answered over a net under this name.
-fn keep_answer(world: &mut World, net: &MemNet, name: &str) -> io::Result<()> {
+fn keep_answer(world: &mut World, net: &MemNet, name: &str) -> Result<(), AllocError> {
     let answer = Vec::from_slice(world.alloc, answered(net.kept(0), 0))?;
     world.put(name, answer)
 }
@@ -68,7 +68,7 @@ pub(crate) fn reply<F: Fn(&[String], &mut MemStore, &mut MemNet, &mut MemSink) -
     world: &mut World,
     place: &str,
     text: &str,
-) -> io::Result<()>
+) -> Result<(), AllocError>
     requires { F.IsAlwaysCallable run.now }
 {
     wait_asked(world, place)?;

@@ -2,7 +2,7 @@
 
 use crate::given::words_of;
 use memory::NoMemory;
-use std::alloc::Global;
+use std::alloc::{AllocError, Global};
 use std::io::{self, ErrorKind};
 use stream_memory::{MemNet, MemStore, PortScript};
 
@@ -17,10 +17,19 @@ pub fn made<T>(value: Result<T, NoMemory>) -> io::Result<T> {
     value.map_err(|_| io::Error::from(ErrorKind::OutOfMemory))
 }
 
+/// The same, with the error that every allocation here has, so that it is handed on as it is.
+pub(crate) fn held<T>(value: Result<T, NoMemory>) -> Result<T, AllocError> {
+    value.map_err(|_| AllocError)
+}
+
 /// A store with these files. The listed calls fail.
-pub(crate) fn store_of(alloc: Global, files: Files, failing: &[u64]) -> io::Result<MemStore> {
+pub(crate) fn store_of(
+    alloc: Global,
+    files: Files,
+    failing: &[u64],
+) -> Result<MemStore, AllocError> {
     let failing = Vec::from_slice(alloc, failing)?;
-    made(MemStore::of_files(alloc, files, failing))
+    held(MemStore::of_files(alloc, files, failing))
 }
 
 /// The bytes of a file of a store, none where it is not there.

@@ -6,15 +6,14 @@
 
 use crate::world::World;
 use std::alloc::{AllocError, Global};
-use std::io;
 
 /// Lines that are done one after the other.
 type Lines = Vec<String>;
 
 /// The text of a file.
-fn text_of(world: &mut World, name: &str) -> io::Result<String> {
+fn text_of(world: &mut World, name: &str) -> Result<String, AllocError> {
     world.load(name)?;
-    Ok(String::from_utf8_lossy(world.alloc, world.bytes(name))?)
+    String::from_utf8_lossy(world.alloc, world.bytes(name))
 }
 
 /// The word of this number of a row, which begins with the word 0.
@@ -77,26 +76,26 @@ fn add_rows(alloc: Global, all: &mut Lines, rows: &str, lines: &str) -> Result<(
 }
 
 /// Adds lines behind the first, which says how often they are done, or has the name of a file with rows.
-fn add_turns(world: &mut World, all: &mut Lines, turns: &str) -> io::Result<()> {
+fn add_turns(world: &mut World, all: &mut Lines, turns: &str) -> Result<(), AllocError> {
     let (head, lines) = turns.split_once('\n').unwrap_or((turns, ""));
     match head.parse() {
-        Ok(count) => Ok(add_calls(world.alloc, all, count, lines)?),
+        Ok(count) => add_calls(world.alloc, all, count, lines),
         Err(_) => {
             let rows = text_of(world, head)?;
-            Ok(add_rows(world.alloc, all, &rows, lines)?)
+            add_rows(world.alloc, all, &rows, lines)
         }
     }
 }
 
 /// Adds the lines of a part.
-fn add_part(world: &mut World, all: &mut Lines, part: &str) -> io::Result<()> {
+fn add_part(world: &mut World, all: &mut Lines, part: &str) -> Result<(), AllocError> {
     let (lines, turns) = part.split_once("\neach ").unwrap_or((part, "0"));
     add_printed(world.alloc, all, lines, "")?;
     add_turns(world, all, turns)
 }
 
 /// The lines of the script of this name, which is one of the world's files, in the order in which they are done.
-pub(crate) fn lines_of(world: &mut World, name: &str) -> io::Result<Vec<String>> {
+pub(crate) fn lines_of(world: &mut World, name: &str) -> Result<Vec<String>, AllocError> {
     let parts = text_of(world, name)?;
     let mut all = Vec::new(world.alloc);
     for part in parts.split("\n\n") {

@@ -24,7 +24,7 @@ use crate::files::{add_disk, crash_disk, keep, make_file, make_store};
 use crate::links::{add_port, deafen, dial, wait};
 use crate::prints::{compare, tell_counts, tell_file, tell_there};
 use crate::world::World;
-use std::io;
+use std::alloc::AllocError;
 
 /// Sets the room of links, the most that a write takes, and the room for what a command prints.
 fn set_rooms(world: &mut World, rest: &str) {
@@ -36,13 +36,13 @@ fn set_rooms(world: &mut World, rest: &str) {
 }
 
 /// Keeps a file with nothing in it.
-fn clear(world: &mut World, name: &str) -> io::Result<()> {
+fn clear(world: &mut World, name: &str) -> Result<(), AllocError> {
     let nothing = Vec::new(world.alloc);
     world.put(name, nothing)
 }
 
 /// Does a line whose verb takes one word, with that word.
-fn do_word(world: &mut World, verb: &str, word: &str) -> io::Result<()> {
+fn do_word(world: &mut World, verb: &str, word: &str) -> Result<(), AllocError> {
     match verb {
         "disks" => add_disk(world, word),
         "synced" => crash_disk(world, 0, word),
@@ -61,7 +61,7 @@ fn do_word(world: &mut World, verb: &str, word: &str) -> io::Result<()> {
 }
 
 /// Does a line whose verb takes any number of words, with each of them.
-fn do_words(world: &mut World, verb: &str, words: &str) -> io::Result<()> {
+fn do_words(world: &mut World, verb: &str, words: &str) -> Result<(), AllocError> {
     if words.is_empty() {
         world.wrong = true;
     }
@@ -72,7 +72,7 @@ fn do_words(world: &mut World, verb: &str, words: &str) -> io::Result<()> {
 }
 
 /// Does a line that sets a number or forgets something.
-fn set(world: &mut World, verb: &str, rest: &str) -> io::Result<()> {
+fn set(world: &mut World, verb: &str, rest: &str) -> Result<(), AllocError> {
     match verb {
         "room" => set_rooms(world, rest),
         "views" => {
@@ -91,7 +91,7 @@ fn set(world: &mut World, verb: &str, rest: &str) -> io::Result<()> {
 }
 
 /// Does a line that prints.
-fn tell(world: &mut World, verb: &str, rest: &str) -> io::Result<()> {
+fn tell(world: &mut World, verb: &str, rest: &str) -> Result<(), AllocError> {
     match verb {
         "like" | "asked" | "answered" => compare(world, verb, rest),
         "clients" => tell_clients(world),
@@ -106,7 +106,7 @@ fn tell(world: &mut World, verb: &str, rest: &str) -> io::Result<()> {
 }
 
 /// Does a line whose verb is none of those that run a command.
-pub(crate) fn do_verb(world: &mut World, verb: &str, rest: &str) -> io::Result<()> {
+pub(crate) fn do_verb(world: &mut World, verb: &str, rest: &str) -> Result<(), AllocError> {
     match verb {
         "file" => make_file(world, rest),
         "store" => make_store(world, rest),

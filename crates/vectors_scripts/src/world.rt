@@ -1,10 +1,10 @@
 //! What a script works on: files by their names, a store and links in memory, and what is to be printed.
 
-use crate::scene::{Files, LINE, made, net_at_here, store_of};
+use crate::scene::{Files, LINE, held, net_at_here, store_of};
 use disk_trait::MemDisk;
 use std::alloc::{AllocError, Global};
 use std::fmt::Write;
-use std::{io, mem};
+use std::mem;
 use stream_memory::{MemNet, MemStore, PortScript};
 
 /// What a script works on.
@@ -36,15 +36,17 @@ pub struct World {
 }
 
 /// A world with these files from the start, and nothing else in it.
-pub(crate) fn new_world(alloc: Global, given: Files) -> io::Result<World> {
+pub(crate) fn new_world(alloc: Global, given: Files) -> Result<World, AllocError> {
+    let store = store_of(alloc, Vec::new(alloc), &[])?;
+    let net = held(net_at_here(alloc, Vec::new(alloc)))?;
     Ok(World {
         alloc,
         given,
         files: Vec::new(alloc),
         disks: Vec::new(alloc),
-        store: store_of(alloc, Vec::new(alloc), &[])?,
+        store,
         ports: Vec::new(alloc),
-        net: made(net_at_here(alloc, Vec::new(alloc)))?,
+        net,
         rooms: (8192, 4096, LINE),
         page: String::new(alloc),
         last: String::new(alloc),
@@ -87,14 +89,14 @@ impl World {
     }
 
     /// Keeps a file under this name, before those that have it.
-    pub(crate) fn put(&mut self, name: &str, bytes: Vec<u8>) -> io::Result<()> {
+    pub(crate) fn put(&mut self, name: &str, bytes: Vec<u8>) -> Result<(), AllocError> {
         let name = String::from_str(self.alloc, name)?;
         Ok(self.files.push((name, bytes))?)
     }
 
     /// Has the file of this name found: where it was not made or kept, and is not in the store, it is one of those that
     /// are there from the start. Where it is nowhere, the line is wrong.
-    pub(crate) fn load(&mut self, name: &str) -> io::Result<()> {
+    pub(crate) fn load(&mut self, name: &str) -> Result<(), AllocError> {
         if self.find(name).is_some() {
             return Ok(());
         }
@@ -111,12 +113,12 @@ impl World {
     }
 
     /// Adds a line to what lines have printed: a name, and what is said of it.
-    pub(crate) fn say(&mut self, name: &str, said: &str) -> io::Result<()> {
-        Ok(writeln!(self.page, "{name}{said}")?)
+    pub(crate) fn say(&mut self, name: &str, said: &str) -> Result<(), AllocError> {
+        writeln!(self.page, "{name}{said}")
     }
 
     /// Adds a line that was wrong to what lines have printed.
-    pub(crate) fn judge(&mut self, line: &str) -> io::Result<()> {
+    pub(crate) fn judge(&mut self, line: &str) -> Result<(), AllocError> {
         if self.wrong {
             self.wrong = false;
             self.say("wrong: ", line)?;
@@ -125,14 +127,14 @@ impl World {
     }
 
     /// Adds what lines have printed to what the script prints.
-    pub(crate) fn print(&mut self) -> io::Result<()> {
+    pub(crate) fn print(&mut self) -> Result<(), AllocError> {
         self.said.push_str(&self.page)?;
         self.page.clear();
         Ok(())
     }
 
     /// Does so behind the turn of this number, where it is not what lines printed in the turn before.
-    pub(crate) fn print_turn(&mut self, call: usize) -> io::Result<()> {
+    pub(crate) fn print_turn(&mut self, call: usize) -> Result<(), AllocError> {
         if self.page.as_str() != self.last.as_str() {
             push_turn(&mut self.said, call, &self.page)?;
         }
