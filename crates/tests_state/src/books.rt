@@ -78,6 +78,20 @@ fn a_message_is_listed_once(rt: HostRuntime) {
     assert!(rt; two & has_two(&after_crash(&rt, rt.alloc(), book, 0)));
 }
 
+/// What is answered where the disk stops at a call of a listing.
+fn stopped(call: u64) -> Result<Entered, BookFault> {
+    if call < 4 {
+        Err(BookFault::Device)
+    } else {
+        Ok(Entered::New)
+    }
+}
+
+/// Whether a listing that stops at a call is made, by this pick of a crash.
+fn is_made(call: u64, pick: u64) -> bool {
+    call == 4 || call == 3 && pick == 1
+}
+
 /// Lists `abc`, stopped at a call of the disk: whether that is answered by this, and the book of what a crash leaves
 /// lists it or not.
 fn adds_or_not(rt: &impl Abort, alloc: Global, call: u64, pick: u64) -> bool {
@@ -89,15 +103,9 @@ fn adds_or_not(rt: &impl Abort, alloc: Global, call: u64, pick: u64) -> bool {
         LOAD_CALLS.saturating_add(call),
     );
     let mut book = loaded(rt, alloc, disk);
-    let want = if call < 4 {
-        Err(BookFault::Device)
-    } else {
-        Ok(Entered::New)
-    };
-    let answered = adds(&mut book, b"abc", want);
-    let book = after_crash(rt, alloc, book, pick);
-    let is_made = call == 4 || call == 3 && pick == 1;
-    answered & (lists(&book, b"abc") == is_made)
+    let answered = adds(&mut book, b"abc", stopped(call));
+    let listed = lists(&after_crash(rt, alloc, book, pick), b"abc");
+    answered & (listed == is_made(call, pick))
 }
 
 /// Lists `abc` by a disk that fails at a call, and then another message: whether so many are listed then.
@@ -118,8 +126,8 @@ fn adds_again(rt: &impl Abort, alloc: Global, call: u64, count: u32) -> bool {
 #[test]
 fn a_listing_is_before_or_after_and_a_doubt_is_settled(rt: HostRuntime) {
     for call in 0..5 {
-        assert!(rt; adds_or_not(&rt, rt.alloc(), call, 0));
-        assert!(rt; adds_or_not(&rt, rt.alloc(), call, 1));
+        let whole = adds_or_not(&rt, rt.alloc(), call, 0);
+        assert!(rt; whole & adds_or_not(&rt, rt.alloc(), call, 1));
     }
     for call in 0..3 {
         assert!(rt; adds_again(&rt, rt.alloc(), call, 1));
@@ -208,10 +216,15 @@ fn denies(book: &Approved, trustee: &mut Trustee<MemDisk>, key: [u8; 16]) -> boo
     listed & other & first & foreign & (code(None, trustee, key, 10, b"xyz") == 0)
 }
 
+/// Whether a new trustee decides on what a book lists, and all else is denied.
+fn denies_others(rt: &impl Abort, alloc: Global, book: &Approved) -> bool {
+    let mut trustee = trustee_on(rt, alloc, empty_journal(rt, alloc));
+    denies(book, &mut trustee, share(rt).id)
+}
+
 #[test]
 fn what_is_not_listed_is_denied(rt: HostRuntime) {
     let mut book = empty_book(&rt, rt.alloc());
     let added = adds(&mut book, b"abc", Ok(Entered::New));
-    let mut trustee = trustee_on(&rt, rt.alloc(), empty_journal(&rt, rt.alloc()));
-    assert!(rt; added & denies(book.approved(), &mut trustee, share(&rt).id));
+    assert!(rt; added & denies_others(&rt, rt.alloc(), book.approved()));
 }

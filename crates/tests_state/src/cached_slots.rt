@@ -114,19 +114,39 @@ fn a_refused_put_is_settled(rt: HostRuntime) {
     assert!(rt; is_settled(&rt, rt.alloc(), 7, Settled::Made, Slot::Half(A)));
 }
 
+/// Whether a put and settling it fail, and leave the doubt.
+fn stays_doubted(cache: &mut Cache) -> bool {
+    let refused = cache.put_next().is_err();
+    let fails = cache.settles(Err(SettleFault::Device));
+    refused & fails & cache.is_doubted()
+}
+
 // The last call of a put fails, and those of settling.
 #[test]
 fn a_doubt_stays_where_the_disk_fails(rt: HostRuntime) {
     let disk = stopping_file(&rt, rt.alloc(), &header(1, 3), 8, 7);
-    let mut cache = Cache::open(&rt, rt.alloc(), disk);
-    let refused = cache.put_next().is_err();
-    let fails = cache.settles(Err(SettleFault::Device));
-    assert!(rt; refused & fails & cache.is_doubted());
+    assert!(rt; stays_doubted(&mut Cache::open(&rt, rt.alloc(), disk)));
 }
 
 /// Whether the file of a disk is refused for this.
 fn is_refused(alloc: Global, disk: MemDisk, why: CacheLoad) -> bool {
     Cache::load(alloc, disk).err() == Some(why)
+}
+
+/// Whether a file with two damaged slots is refused for the first one.
+fn refuses_damaged(rt: &impl Abort, alloc: Global) -> bool {
+    let disk = free_file(rt, alloc, &header(1, 3), 8);
+    let disk = with_byte(rt, disk, 168 + 128, 0xC2);
+    let disk = with_byte(rt, disk, 168 + 256, 0xC2);
+    let (slot, a, b) = (1, 0, 0xC2);
+    is_refused(alloc, disk, CacheLoad::Damaged { slot, a, b })
+}
+
+/// Whether a file that is not ready is refused.
+fn refuses_shut(rt: &impl Abort, alloc: Global) -> bool {
+    let disk = with_byte(rt, free_file(rt, alloc, &header(1, 3), 8), 0, 0);
+    let shut = CacheLoad::Slots(LoadFault::NotReady { gate: 0 });
+    is_refused(alloc, disk, shut)
 }
 
 #[test]
@@ -135,13 +155,5 @@ fn another_file_is_refused(rt: HostRuntime) {
         let disk = failing_file(&rt, rt.alloc(), &header(1, 3), 8, call);
         assert!(rt; is_refused(rt.alloc(), disk, CacheLoad::Device));
     }
-    let disk = free_file(&rt, rt.alloc(), &header(1, 3), 8);
-    let disk = with_byte(&rt, disk, 168 + 128, 0xC2);
-    let disk = with_byte(&rt, disk, 168 + 256, 0xC2);
-    let (slot, a, b) = (1, 0, 0xC2);
-    assert!(rt; is_refused(rt.alloc(), disk, CacheLoad::Damaged { slot, a, b }));
-    let disk = free_file(&rt, rt.alloc(), &header(1, 3), 8);
-    let disk = with_byte(&rt, disk, 0, 0);
-    let shut = CacheLoad::Slots(LoadFault::NotReady { gate: 0 });
-    assert!(rt; is_refused(rt.alloc(), disk, shut));
+    assert!(rt; refuses_damaged(&rt, rt.alloc()) & refuses_shut(&rt, rt.alloc()));
 }

@@ -195,12 +195,17 @@ fn enters_or_not(rt: &impl Abort, alloc: Global, call: u64, pick: u64) -> bool {
     binds & opens & listed & leaves.binds(1, &TWO, again)
 }
 
+/// Whether that is so by each pick.
+fn enters_by_each_pick(rt: &impl Abort, alloc: Global, call: u64) -> bool {
+    let none = enters_or_not(rt, alloc, call, 0);
+    let all = enters_or_not(rt, alloc, call, 1);
+    none & all & enters_or_not(rt, alloc, call, 5)
+}
+
 #[test]
 fn an_entry_is_before_or_after(rt: HostRuntime) {
     for call in 0..9 {
-        for pick in &[0, 1, 5] {
-            assert!(rt; enters_or_not(&rt, rt.alloc(), call, *pick));
-        }
+        assert!(rt; enters_by_each_pick(&rt, rt.alloc(), call));
     }
 }
 

@@ -17,6 +17,13 @@ fn has<T: Ord + Copy>(list: &SortedList<T>, items: &[T]) -> bool {
     list.items() == items
 }
 
+/// Whether a list finds an item, alone and as the least that is not below another, and none from behind it on.
+fn finds<T: Ord + Copy>(list: &SortedList<T>, item: T, below: T, behind: T) -> bool {
+    let held = list.holds(&item) & !list.holds(&below);
+    let least = list.least_from(&below) == Some(item);
+    held & least & (list.least_from(&behind) == None)
+}
+
 /// Whether a list of three ascending items has them in their order, finds the one in the middle, alone and as the least
 /// that is not below another, finds none from behind them on, and has the others once that one is taken out.
 fn keeps<T: Ord + Copy>(alloc: Global, items: &[T; 3], below: T, behind: T) -> bool {
@@ -24,11 +31,9 @@ fn keeps<T: Ord + Copy>(alloc: Global, items: &[T; 3], below: T, behind: T) -> b
         return false;
     };
     let taken = has(&list, items);
-    let held = list.holds(&items[1]) & !list.holds(&below);
-    let least = list.least_from(&below) == Some(items[1]);
-    let none = list.least_from(&behind) == None;
+    let found = finds(&list, items[1], below, behind);
     list.remove(&items[1]);
-    taken & held & least & none & has(&list, &[items[0], items[2]])
+    taken & found & has(&list, &[items[0], items[2]])
 }
 
 #[test]

@@ -112,6 +112,20 @@ fn burn<D: Disk>(table: &mut Table<D>, by: u8) -> Result<u32, TableFault> {
     enter(table, FIRST_AND_THIRD, &ONE, Some(by))
 }
 
+/// Whether trustees 1 and 3 who ask for a leaf are answered this.
+fn leases<D: Disk>(
+    table: &mut Table<D>,
+    message: &MessageId,
+    want: Result<u32, TableFault>,
+) -> bool {
+    lease(table, FIRST_AND_THIRD, message) == want
+}
+
+/// Whether burning their leaf for message `ONE` as reported by a member is answered by this.
+fn burns<D: Disk>(table: &mut Table<D>, by: u8, want: Result<u32, TableFault>) -> bool {
+    burn(table, by) == want
+}
+
 /// Whether these are the entries.
 fn lists(table: &Table<MemDisk>, want: &[Lease]) -> bool {
     table.entries() == want
@@ -123,9 +137,9 @@ fn leased(leaf: u32, message: MessageId) -> Lease {
 
 /// Whether trustees 1 and 3 have a leaf for each message, and three trustees have none.
 fn leases_two(table: &mut Table<MemDisk>) -> bool {
-    let first = lease(table, FIRST_AND_THIRD, &ONE) == Ok(1);
-    let second = lease(table, FIRST_AND_THIRD, &TWO) == Ok(4);
-    let again = lease(table, FIRST_AND_THIRD, &ONE) == Ok(1);
+    let first = leases(table, &ONE, Ok(1));
+    let second = leases(table, &TWO, Ok(4));
+    let again = leases(table, &ONE, Ok(1));
     first & second & again & (lease(table, 0b111, &ONE) == Err(TableFault::NotACoalition))
 }
 
@@ -146,8 +160,8 @@ fn is_reported(disk: &MemDisk) -> bool {
 #[test]
 fn a_burnt_leaf_is_leased_no_more(rt: HostRuntime) {
     let mut table = empty_table(&rt, rt.alloc());
-    let burnt = burn(&mut table, 3) == Ok(1);
-    let next = lease(&mut table, FIRST_AND_THIRD, &ONE) == Ok(4);
+    let burnt = burns(&mut table, 3, Ok(1));
+    let next = leases(&mut table, &ONE, Ok(4));
     let disk = table.end();
     let reported = is_reported(&disk);
     let table = small(&rt, rt.alloc(), disk);
@@ -155,15 +169,27 @@ fn a_burnt_leaf_is_leased_no_more(rt: HostRuntime) {
     assert!(rt; burnt & next & reported & lists(&table, &want));
 }
 
+/// Whether trustees 1 and 2 lease eleven leaves, from 0 on.
+fn leases_eleven(table: &mut Table<MemDisk>) -> bool {
+    for i in 0..11u32 {
+        if lease(table, 0b11, &numbered(i)) != Ok(i * 3) {
+            return false;
+        }
+    }
+    true
+}
+
+/// Whether they lease no more, and another coalition does.
+fn has_run_out(table: &mut Table<MemDisk>) -> bool {
+    let none = lease(table, 0b11, &ONE) == Err(TableFault::NoLeaf { coalition: 0 });
+    none & leases(table, &ONE, Ok(1))
+}
+
 #[test]
 fn a_coalition_runs_out_of_leaves(rt: HostRuntime) {
     let mut table = empty_table(&rt, rt.alloc());
-    for i in 0..11u32 {
-        let leaf = lease(&mut table, 0b11, &numbered(i));
-        assert!(rt; leaf == Ok(i * 3));
-    }
-    let none = lease(&mut table, 0b11, &ONE) == Err(TableFault::NoLeaf { coalition: 0 });
-    assert!(rt; none & (lease(&mut table, FIRST_AND_THIRD, &ONE) == Ok(1)));
+    let eleven = leases_eleven(&mut table);
+    assert!(rt; eleven & has_run_out(&mut table));
 }
 
 /// What is answered where the disk stops at a call of an entry of leaf 1.
@@ -175,25 +201,35 @@ fn stopped(call: u64) -> Result<u32, TableFault> {
     }
 }
 
+/// Whether so many of the lease of leaf 1 and its burning are the entries.
+fn lists_first(table: &Table<MemDisk>, count: u64) -> bool {
+    let whole = [leased(1, ONE), Lease::Burnt { leaf: 1 }];
+    lists(table, &whole[..count.min(2) as usize])
+}
+
 /// Whether leasing leaf 1 and then burning it leaves each as before or as after, where the disk stops at a call: an
 /// entry takes four, and by pick 1 a crash keeps what was written and not synced.
 fn enters_or_not(rt: &impl Abort, alloc: Global, call: u64, pick: u64) -> bool {
     let at = LOAD_CALLS.saturating_add(call);
     let mut table = small(rt, alloc, stopping_file(rt, alloc, &header(1, 0), 32, at));
-    let leases = lease(&mut table, FIRST_AND_THIRD, &ONE) == stopped(call);
-    let burns = call < 4 || burn(&mut table, 3) == stopped(call - 4);
+    let leased = leases(&mut table, &ONE, stopped(call));
+    let burnt = call < 4 || burns(&mut table, 3, stopped(call - 4));
     let table = after_crash(rt, alloc, table, pick);
-    let whole = [leased(1, ONE), Lease::Burnt { leaf: 1 }];
     let count = call.saturating_add(u64::from(pick == 1)) / 4;
-    leases & burns & lists(&table, &whole[..count.min(2) as usize])
+    leased & burnt & lists_first(&table, count)
+}
+
+/// Whether that is so by each pick.
+fn enters_by_each_pick(rt: &impl Abort, alloc: Global, call: u64) -> bool {
+    let none = enters_or_not(rt, alloc, call, 0);
+    let all = enters_or_not(rt, alloc, call, 1);
+    none & all & enters_or_not(rt, alloc, call, 5)
 }
 
 #[test]
 fn an_entry_is_before_or_after(rt: HostRuntime) {
     for call in 0..9 {
-        for pick in &[0, 1, 5] {
-            assert!(rt; enters_or_not(&rt, rt.alloc(), call, *pick));
-        }
+        assert!(rt; enters_by_each_pick(&rt, rt.alloc(), call));
     }
 }
 
@@ -201,17 +237,17 @@ fn an_entry_is_before_or_after(rt: HostRuntime) {
 /// leaves.
 fn leases_again(rt: &impl Abort, alloc: Global, call: u64, two: u32, one: u32) -> bool {
     let mut table = failing_table(rt, alloc, call);
-    let fails = lease(&mut table, FIRST_AND_THIRD, &ONE) == Err(TableFault::Device);
-    let second = lease(&mut table, FIRST_AND_THIRD, &TWO) == Ok(two);
-    fails & second & (lease(&mut table, FIRST_AND_THIRD, &ONE) == Ok(one))
+    let fails = leases(&mut table, &ONE, Err(TableFault::Device));
+    let second = leases(&mut table, &TWO, Ok(two));
+    fails & second & leases(&mut table, &ONE, Ok(one))
 }
 
 /// Burns leaf 1 as reported by member 3, which fails at a call, and then the leaf of the message as reported by member
 /// 5: whether that is this leaf, and this member is kept for leaf 1.
 fn burns_again(rt: &impl Abort, alloc: Global, call: u64, leaf: u32, reporter: u8) -> bool {
     let mut table = failing_table(rt, alloc, call.saturating_add(4));
-    let fails = burn(&mut table, 3) == Err(TableFault::Device);
-    let burnt = burn(&mut table, 5) == Ok(leaf);
+    let fails = burns(&mut table, 3, Err(TableFault::Device));
+    let burnt = burns(&mut table, 5, Ok(leaf));
     let disk = table.end();
     fails & burnt & (disk.bytes().get(336) == Some(&reporter))
 }
@@ -239,16 +275,22 @@ fn has_leaves(table: &mut Table<MemDisk>, bits: u16, c: u32, step: u32, count: u
     lease(table, bits, &ONE) == Err(TableFault::NoLeaf { coalition: c })
 }
 
+/// Whether there is a coalition `c` of a plan, and it has so many leaves, each 924 after the last.
+fn has_own(table: &mut Table<MemDisk>, plan: &Plan, c: u32, count: u32) -> bool
+    requires { (c ≤ 1024) × (count ≤ 4) }
+{
+    c < plan.count() && has_leaves(table, plan.members(c).bits(), c, 924, count)
+}
+
 // 1,024 leaves for six of twelve trustees, of whom there are 924 coalitions.
 #[test]
 fn a_hundred_of_924_coalitions_have_two_leaves(rt: HostRuntime) {
     let plan = plan_of(&rt, 12, 6, 10);
     let disk = free_file(&rt, rt.alloc(), &header(1, 0), 1024);
     let mut table = loaded(&rt, rt.alloc(), disk, &plan);
-    for (c, count) in &[(99, 2), (100, 1), (923, 1)] {
-        assert!(rt; *c < plan.count());
-        assert!(rt; has_leaves(&mut table, plan.members(*c).bits(), *c, 924, *count));
-    }
+    let first = has_own(&mut table, &plan, 99, 2);
+    let second = has_own(&mut table, &plan, 100, 1);
+    assert!(rt; first & second & has_own(&mut table, &plan, 923, 1));
 }
 
 /// Whether trustees 3, 4 and 5 lease leaves 9, 19 and 29, each for one message, and no more.
@@ -281,7 +323,7 @@ fn handed_on<K: Kept>(kept: K) -> K
 #[test]
 fn a_table_may_stand_under_a_lock(rt: HostRuntime) {
     let mut table = empty_table(&rt, rt.alloc());
-    let first = lease(&mut table, FIRST_AND_THIRD, &ONE) == Ok(1);
+    let first = leases(&mut table, &ONE, Ok(1));
     let table = handed_on(table);
     assert!(rt; first & lists(&table, &[leased(1, ONE)]));
 }

@@ -1,6 +1,6 @@
 //! A journal of 1,024 leaves in a file of the system, up to its last slot.
 
-ghost use Rattle.std.specs.Prelude.{◌≡◌};
+ghost use Rattle.std.specs.Prelude.{◌≡◌, length};
 ghost use Rattle.opening_journal.specs.Journal.{params_of};
 
 use disk_trait::Disk;
@@ -63,6 +63,13 @@ fn header(params: &Params) -> Header
     }
 }
 
+/// A value of these bytes.
+fn value(byte: u8) -> Val
+    ensures { length result ≡ 32 }
+{
+    Val::of(&[byte; 32])
+}
+
 impl<D: Disk + Drop> Tall<D> {
     /// Loads the journal of a disk.
     fn open(rt: &impl Abort, alloc: Global, disk: D) -> Tall<D> {
@@ -73,11 +80,25 @@ impl<D: Disk + Drop> Tall<D> {
         }
     }
 
+    /// Whether binding the last leaf is answered by this.
+    fn binds_last(&mut self, message: &MessageId, want: Result<Entered, JournalFault>) -> bool {
+        self.journal.bind(LAST, message) == want
+    }
+
+    /// Whether the last leaf is opened.
+    fn opens_last(&mut self) -> bool {
+        let (c, digest) = (value(0xCC), value(0xDD));
+        self.journal.open_leaf(LAST, &ONE, &c, &digest, 7) == Ok(Entered::New)
+    }
+
     /// Binds and opens the last leaf.
     fn enter_last(&mut self) -> bool {
-        let (c, digest) = (Val::of(&[0xCC; 32]), Val::of(&[0xDD; 32]));
-        self.journal.bind(LAST, &ONE) == Ok(Entered::New)
-            && self.journal.open_leaf(LAST, &ONE, &c, &digest, 7) == Ok(Entered::New)
+        self.binds_last(&ONE, Ok(Entered::New)) && self.opens_last()
+    }
+
+    /// Whether these are the entries.
+    fn lists(&self, want: &[Entry]) -> bool {
+        self.journal.entries() == want
     }
 
     /// Whether the last leaf alone was bound and opened, and is bound to no other message.
@@ -89,13 +110,23 @@ impl<D: Disk + Drop> Tall<D> {
         let opened = Entry::Opened {
             leaf: LAST,
             message: ONE,
-            c: Val::of(&[0xCC; 32]),
-            digest: Val::of(&[0xDD; 32]),
+            c: value(0xCC),
+            digest: value(0xDD),
             moment: 7,
         };
-        self.journal.entries() == [bound, opened].as_slice()
-            && self.journal.bind(LAST, &TWO) == Err(JournalFault::Spent { kept: ONE })
+        let spent = Err(JournalFault::Spent { kept: ONE });
+        self.lists(&[bound, opened]) && self.binds_last(&TWO, spent)
     }
+}
+
+/// Whether a disk is made a journal of 1,024 leaves.
+fn is_prepared<D: Disk>(rt: &impl Abort, disk: &mut D) -> bool {
+    prepare(disk, &header(&params(rt)), 1024) == Ok(())
+}
+
+/// Whether the last leaf is entered in the journal of a disk.
+fn enters_last<D: Disk + Drop>(rt: &impl Abort, alloc: Global, disk: D) -> bool {
+    Tall::open(rt, alloc, disk).enter_last()
 }
 
 /// Makes a journal of this name, and enters its last leaf.
@@ -105,9 +136,7 @@ where
 {
     let made = store.new_disk(alloc, name, BYTES);
     let mut disk = made.ok().expect(rt, "a new file");
-    assert!(rt; prepare(&mut disk, &header(&params(rt)), 1024) == Ok(()));
-    let mut journal = Tall::open(rt, alloc, disk);
-    assert!(rt; journal.enter_last());
+    assert!(rt; is_prepared(rt, &mut disk) && enters_last(rt, alloc, disk));
 }
 
 /// Takes that journal, and looks for the leaf.
@@ -116,8 +145,7 @@ where
     S::Disk: Drop,
 {
     let disk = store.take_disk(name).ok().expect(rt, "the file");
-    let mut journal = Tall::open(rt, alloc, disk);
-    assert!(rt; journal.has_last());
+    assert!(rt; Tall::open(rt, alloc, disk).has_last());
 }
 
 /// Makes that journal, takes it, and looks for the leaf.

@@ -255,21 +255,39 @@ fn a_grant_gives_the_masks_of_its_round(rt: HostRuntime) {
     assert!(rt; random & again & gives_chain_masks(&mut signer, &share));
 }
 
-/// Asks for leaf 0 in round one over a disk that fails at a call, and then for another message. Whether that one is
-/// refused.
-fn is_refused_after_failing(rt: &impl Abort, alloc: Global, call: u64) -> Option<bool> {
+/// A trustee that has answered nothing yet, over a disk that fails at a call after the load.
+fn failing(rt: &impl Abort, alloc: Global, call: u64) -> Signer {
     let mut disk = empty_journal(rt, alloc);
     disk.fail_once(LOAD_CALLS.saturating_add(call));
-    let mut signer = Signer::open(rt, alloc, disk);
-    let (key, kept) = (share(rt).id, MessageId::of(b"abc"));
-    if !signer.refuses(&first(key, 0, kept), Refusal::Device) {
-        return None;
-    }
-    match signer.grant(&first(key, 0, MessageId::of(b""))) {
+    Signer::open(rt, alloc, disk)
+}
+
+/// Whether an ask is refused since its leaf is bound to `abc`, or `None` where it is refused for another cause.
+fn is_spent(signer: &mut Signer, question: &Question) -> Option<bool> {
+    let kept = MessageId::of(b"abc");
+    match signer.grant(question) {
         Ok(_) => Some(false),
         Err(why) if why == Refusal::Spent { kept } => Some(true),
         Err(_) => None,
     }
+}
+
+/// Asks for leaf 0 in round one, which fails, and then for another message. Whether that one is refused.
+fn is_spent_after_failing(signer: &mut Signer, key: [u8; 16]) -> Option<bool> {
+    let (abc, empty) = (
+        first(key, 0, MessageId::of(b"abc")),
+        first(key, 0, MessageId::of(b"")),
+    );
+    let failed = signer.refuses(&abc, Refusal::Device);
+    let spent = is_spent(signer, &empty);
+    if failed { spent } else { None }
+}
+
+/// Asks for leaf 0 in round one over a disk that fails at a call, and then for another message. Whether that one is
+/// refused.
+fn is_refused_after_failing(rt: &impl Abort, alloc: Global, call: u64) -> Option<bool> {
+    let key = share(rt).id;
+    is_spent_after_failing(&mut failing(rt, alloc, call), key)
 }
 
 #[test]

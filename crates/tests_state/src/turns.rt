@@ -171,16 +171,32 @@ fn opened(
     }
 }
 
+/// Whether the first of two passes has one turn, after which neither has another.
+fn wears(
+    rt: &impl Wait,
+    lock: &TurnLock<Numbers>,
+    first: &mut Pass<Numbers>,
+    second: &mut Pass<Numbers>,
+) -> bool
+    requires first { (first.old.lock ≡ lock.now) × (first.old.in_turn ≡ false) }
+    requires second { (second.old.lock ≡ lock.now) × (second.old.in_turn ≡ false) }
+{
+    let has_one = add_one(rt, lock, first, 0);
+    let other = add_one(rt, lock, second, 0);
+    let again = add_one(rt, lock, second, 0);
+    has_one & !other & !again & !add_one(rt, lock, first, 0)
+}
+
 #[test]
 fn a_worn_pass_has_no_more_turns(rt: HostRuntime) {
     let (lock, mut passes) = opened(&rt, rt.alloc(), 4, 2, (1 << 62) - 1);
-    let (Some(mut second), Some(mut first)) = (passes.pop(), passes.pop()) else {
+    let Some(mut second) = passes.pop() else {
         panic!(rt; "two passes")
     };
-    assert!(rt; add_one(&rt, &lock, &mut first, 0));
-    assert!(rt; !add_one(&rt, &lock, &mut second, 0));
-    assert!(rt; !add_one(&rt, &lock, &mut second, 0));
-    assert!(rt; !add_one(&rt, &lock, &mut first, 0));
+    let Some(mut first) = passes.pop() else {
+        panic!(rt; "two passes")
+    };
+    assert!(rt; wears(&rt, &lock, &mut first, &mut second));
 }
 
 #[test]

@@ -3,7 +3,7 @@
 ghost use Rattle.std.specs.Prelude.{[], false};
 ghost use Rattle.std.proofs.lemmas.Bool.{false≢true};
 
-use super::{FIRST_AND_THIRD, ONE, TWO, burn, lease, small};
+use super::{ONE, TWO, burns, leases, small};
 use crate::disks::{LOAD_CALLS, failing_file, header};
 use disk_trait::{Disk, DiskFault, Faults, Pages};
 use leaf_table::TableFault;
@@ -80,10 +80,9 @@ fn is_told(
     );
     let mut table = small(rt, alloc, Rotten { disk, place, byte });
     let (leaf, a, b) = (1, gates.0, gates.1);
-    let fails = burn(&mut table, 3) == Err(TableFault::Device);
-    let two = lease(&mut table, FIRST_AND_THIRD, &TWO) == Err(TableFault::Damaged { leaf, a, b });
-    let one = lease(&mut table, FIRST_AND_THIRD, &ONE) == Err(TableFault::Damaged { leaf, a, b });
-    fails & two & one
+    let fails = burns(&mut table, 3, Err(TableFault::Device));
+    let two = leases(&mut table, &TWO, Err(TableFault::Damaged { leaf, a, b }));
+    fails & two & leases(&mut table, &ONE, Err(TableFault::Damaged { leaf, a, b }))
 }
 
 // Slot 1 begins at 256: gate A, body A at 260, gate B at 296.
