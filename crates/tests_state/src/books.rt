@@ -108,6 +108,13 @@ fn adds_or_not(rt: &impl Abort, alloc: Global, call: u64, pick: u64) -> bool {
     answered & (listed == is_made(call, pick))
 }
 
+/// Lists `abc`, which fails, and then another message: whether so many are listed then.
+fn adds_after_failing(book: &mut Book<MemDisk>, count: u32) -> bool {
+    let fails = adds(book, b"abc", Err(BookFault::Device));
+    let other = adds(book, b"", Ok(Entered::New));
+    fails & other & (book.count() == count)
+}
+
 /// Lists `abc` by a disk that fails at a call, and then another message: whether so many are listed then.
 fn adds_again(rt: &impl Abort, alloc: Global, call: u64, count: u32) -> bool {
     let disk = failing_file(
@@ -117,10 +124,7 @@ fn adds_again(rt: &impl Abort, alloc: Global, call: u64, count: u32) -> bool {
         1024,
         LOAD_CALLS.saturating_add(call),
     );
-    let mut book = loaded(rt, alloc, disk);
-    let fails = adds(&mut book, b"abc", Err(BookFault::Device));
-    let other = adds(&mut book, b"", Ok(Entered::New));
-    fails & other & (book.count() == count)
+    adds_after_failing(&mut loaded(rt, alloc, disk), count)
 }
 
 #[test]

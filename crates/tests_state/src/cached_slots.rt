@@ -84,25 +84,39 @@ fn is_idle(cache: &mut Cache) -> bool {
     idle & count & cache.is_sure() & cache.has(7, Slot::Free)
 }
 
+/// Whether both bodies are put into slot 1 of a cache that is idle.
+fn puts_both(cache: &mut Cache) -> bool {
+    let idle = is_idle(cache);
+    let first = cache.put_next().is_ok();
+    let second = cache.put_next().is_ok();
+    idle & first & second
+}
+
+/// Whether slot 1 has both bodies, and slot 0 is free.
+fn has_both(cache: &Cache) -> bool {
+    cache.has(1, Slot::Full(A, B, 0)) & cache.has(0, Slot::Free)
+}
+
 #[test]
 fn slots_are_kept(rt: HostRuntime) {
     let disk = free_file(&rt, rt.alloc(), &header(1, 3), 8);
     let mut cache = Cache::open(&rt, rt.alloc(), disk);
-    assert!(rt; is_idle(&mut cache));
-    let first = cache.put_next().is_ok();
-    let second = cache.put_next().is_ok();
-    let last = Cache::open(&rt, rt.alloc(), cache.end());
-    assert!(rt; first & second & last.has(1, Slot::Full(A, B, 0)) & last.has(0, Slot::Free));
+    let put = puts_both(&mut cache);
+    assert!(rt; put & has_both(&Cache::open(&rt, rt.alloc(), cache.end())));
+}
+
+/// Puts body A into slot 1, which fails, and settles it: whether that finds this, and keeps the slot as this.
+fn settles_as(cache: &mut Cache, found: Settled, kept: Slot) -> bool {
+    let refused = cache.put_next().is_err();
+    let doubted = cache.is_doubted();
+    let settled = cache.settles(Ok(found));
+    refused & doubted & settled & cache.is_sure() & cache.has(1, kept)
 }
 
 /// Puts body A into slot 1, which fails at a call, and settles it: whether that finds this, and keeps the slot as this.
 fn is_settled(rt: &impl Abort, alloc: Global, call: u64, found: Settled, kept: Slot) -> bool {
     let disk = failing_file(rt, alloc, &header(1, 3), 8, call);
-    let mut cache = Cache::open(rt, alloc, disk);
-    let refused = cache.put_next().is_err();
-    let doubted = cache.is_doubted();
-    let settled = cache.settles(Ok(found));
-    refused & doubted & settled & cache.is_sure() & cache.has(1, kept)
+    settles_as(&mut Cache::open(rt, alloc, disk), found, kept)
 }
 
 // Loading makes four calls, of which one reads all slots, and a put the next four.

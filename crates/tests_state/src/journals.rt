@@ -240,11 +240,11 @@ fn opens_again(
 #[test]
 fn a_doubtful_entry_is_settled(rt: HostRuntime) {
     for call in 0..3 {
-        assert!(rt; binds_again(&rt, rt.alloc(), call, Ok(Entered::New), TWO));
-        assert!(rt; opens_again(&rt, rt.alloc(), call, Ok(Entered::New)));
+        let binds = binds_again(&rt, rt.alloc(), call, Ok(Entered::New), TWO);
+        assert!(rt; binds & opens_again(&rt, rt.alloc(), call, Ok(Entered::New)));
     }
-    assert!(rt; binds_again(&rt, rt.alloc(), 3, SPENT, ONE));
-    assert!(rt; opens_again(&rt, rt.alloc(), 3, other_digest()));
+    let binds = binds_again(&rt, rt.alloc(), 3, SPENT, ONE);
+    assert!(rt; binds & opens_again(&rt, rt.alloc(), 3, other_digest()));
 }
 
 /// Whether the journal of a trustee is refused for this.

@@ -197,21 +197,25 @@ fn puts_or_not(
 #[test]
 fn a_put_is_before_or_after(rt: HostRuntime) {
     let half = Slot::Half(A);
-    assert!(rt; puts_or_not(&rt, rt.alloc(), 2, 4, Slot::Free, half));
-    assert!(rt; puts_or_not(&rt, rt.alloc(), 2, 9, half, Slot::Full(A, B, 7)));
-    assert!(rt; puts_or_not(&rt, rt.alloc(), 1, 4, Slot::Free, half));
-    assert!(rt; puts_or_not(&rt, rt.alloc(), 1, 9, half, Slot::Full(A, B, 0)));
+    let first = puts_or_not(&rt, rt.alloc(), 2, 4, Slot::Free, half);
+    assert!(rt; first & puts_or_not(&rt, rt.alloc(), 2, 9, half, Slot::Full(A, B, 7)));
+    let first = puts_or_not(&rt, rt.alloc(), 1, 4, Slot::Free, half);
+    assert!(rt; first & puts_or_not(&rt, rt.alloc(), 1, 9, half, Slot::Full(A, B, 0)));
 }
 
-/// Puts body A into slot 1, which fails at a call: whether settling finds the slot as this, and a put is made then.
-fn is_settled(rt: &impl Abort, alloc: Global, call: u64, found: Slot) -> bool {
-    let disk = failing_file(rt, alloc, &header(2, 3), 32, call);
-    let mut file = File::open(rt, disk, 2);
+/// Puts body A into slot 1, which fails: whether settling finds the slot as this, and a put is made then.
+fn settles_as(file: &mut File, found: Slot) -> bool {
     let fails = file.put_first(1).is_err();
     let settled = file.settles();
     let finds = file.has(1, found);
     let again = file.put_first(1).is_ok();
     fails & settled & finds & again & file.has(1, Slot::Half(A))
+}
+
+/// Puts body A into slot 1, which fails at a call: whether settling finds the slot as this, and a put is made then.
+fn is_settled(rt: &impl Abort, alloc: Global, call: u64, found: Slot) -> bool {
+    let disk = failing_file(rt, alloc, &header(2, 3), 32, call);
+    settles_as(&mut File::open(rt, disk, 2), found)
 }
 
 #[test]

@@ -157,6 +157,12 @@ fn is_reported(disk: &MemDisk) -> bool {
     id & (disk.bytes().get(335..338) == Some([0x11, 3, 0].as_slice()))
 }
 
+/// Whether a table lists that report, and the next leaf for the same message.
+fn lists_next(table: &Table<MemDisk>) -> bool {
+    let want = [leased(1, ONE), Lease::Burnt { leaf: 1 }, leased(4, ONE)];
+    lists(table, &want)
+}
+
 #[test]
 fn a_burnt_leaf_is_leased_no_more(rt: HostRuntime) {
     let mut table = empty_table(&rt, rt.alloc());
@@ -164,9 +170,7 @@ fn a_burnt_leaf_is_leased_no_more(rt: HostRuntime) {
     let next = leases(&mut table, &ONE, Ok(4));
     let disk = table.end();
     let reported = is_reported(&disk);
-    let table = small(&rt, rt.alloc(), disk);
-    let want = [leased(1, ONE), Lease::Burnt { leaf: 1 }, leased(4, ONE)];
-    assert!(rt; burnt & next & reported & lists(&table, &want));
+    assert!(rt; burnt & next & reported & lists_next(&small(&rt, rt.alloc(), disk)));
 }
 
 /// Whether trustees 1 and 2 lease eleven leaves, from 0 on.
@@ -233,13 +237,17 @@ fn an_entry_is_before_or_after(rt: HostRuntime) {
     }
 }
 
+/// Leases for one message, which fails, and then for another and for the first again: whether these are the leaves.
+fn leases_after_failing(table: &mut Table<MemDisk>, two: u32, one: u32) -> bool {
+    let fails = leases(table, &ONE, Err(TableFault::Device));
+    let second = leases(table, &TWO, Ok(two));
+    fails & second & leases(table, &ONE, Ok(one))
+}
+
 /// Leases for one message, which fails at a call, and then for another and for the first again: whether these are the
 /// leaves.
 fn leases_again(rt: &impl Abort, alloc: Global, call: u64, two: u32, one: u32) -> bool {
-    let mut table = failing_table(rt, alloc, call);
-    let fails = leases(&mut table, &ONE, Err(TableFault::Device));
-    let second = leases(&mut table, &TWO, Ok(two));
-    fails & second & leases(&mut table, &ONE, Ok(one))
+    leases_after_failing(&mut failing_table(rt, alloc, call), two, one)
 }
 
 /// Burns leaf 1 as reported by member 3, which fails at a call, and then the leaf of the message as reported by member

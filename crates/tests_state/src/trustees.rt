@@ -145,15 +145,18 @@ fn refuses_others(signer: &mut Signer, key: [u8; 16]) -> bool {
     other & none & too_long & foreign & (got == 16_777_217)
 }
 
+/// Whether a trustee that is loaded from what an earlier life left goes on with that life.
+fn goes_on(rt: &impl Abort, alloc: Global, disk: MemDisk, key: [u8; 16]) -> bool {
+    binds_once(&mut Signer::open(rt, alloc, disk), key)
+}
+
 #[test]
 fn round_one_is_for_one_message(rt: HostRuntime) {
     let mut signer = Signer::new(&rt, rt.alloc());
     let key = share(&rt).id;
     let once = binds_once(&mut signer, key);
-    assert!(rt; once & refuses_others(&mut signer, key));
-    // A trustee that is loaded from what an earlier life left goes on with that life.
-    let mut again = Signer::open(&rt, rt.alloc(), signer.end());
-    assert!(rt; binds_once(&mut again, key));
+    let others = refuses_others(&mut signer, key);
+    assert!(rt; once & others & goes_on(&rt, rt.alloc(), signer.end(), key));
 }
 
 /// Whether leaf 10 is opened for one randomizer, once it is bound.

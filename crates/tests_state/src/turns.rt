@@ -94,6 +94,24 @@ fn add_in_threads<R: Threads + Wait + Sync>(
     thread::for_each_mut(rt, passes, threads, &add);
 }
 
+/// A pass in which another one is joined, or the other one in which this one is.
+fn met_by(
+    lock: &TurnLock<Numbers>,
+    pass: Pass<Numbers>,
+    other: Pass<Numbers>,
+    forwards: bool,
+) -> Pass<Numbers>
+    requires idle { (pass.lock ≡ lock.now) × (pass.in_turn ≡ false) }
+    requires other { (other.lock ≡ lock.now) × (other.in_turn ≡ false) }
+    ensures { (result.lock ≡ lock.now) × (result.in_turn ≡ false) }
+{
+    if forwards {
+        met(lock, other, pass)
+    } else {
+        met(lock, pass, other)
+    }
+}
+
 /// A pass in which another one is joined.
 fn met(lock: &TurnLock<Numbers>, pass: Pass<Numbers>, other: Pass<Numbers>) -> Pass<Numbers>
     requires idle { (pass.lock ≡ lock.now) × (pass.in_turn ≡ false) }
@@ -116,11 +134,7 @@ fn meet_all(
 {
     let mut joined = passes.pop()?;
     while let Some(other) = passes.pop() {
-        joined = if forwards {
-            met(lock, other, joined)
-        } else {
-            met(lock, joined, other)
-        };
+        joined = met_by(lock, joined, other, forwards);
     }
     Some(joined)
 }
@@ -229,15 +243,23 @@ fn added_in_threads<R: Threads + Wait + Sync + Abort>(
     close(rt, lock, pass, threads)
 }
 
+/// Whether each of so many threads added so many numbers, each in a turn of its own.
+fn has_all(rt: &impl Abort, numbers: &Numbers, threads: u32, each: u64) -> bool
+    requires { (threads ≤ 4096) × (each ≤ 100) }
+{
+    let all = u64::from(threads) * each;
+    let mut right = numbers.turns == all && numbers.items.len() as u64 == all;
+    for place in 0..u64::from(threads) {
+        let next = next_after(rt, numbers.items.as_slice(), place * 100);
+        right &= next == place * 100 + each;
+    }
+    right
+}
+
 #[test]
 fn many_threads_take_turns(rt: HostRuntime) {
     for (threads, each, forwards) in [(2, 100, false), (64, 10, false), (64, 10, true)] {
         let numbers = added_in_threads(&rt, rt.alloc(), threads, each, forwards);
-        let all = u64::from(threads) * each;
-        assert!(rt; numbers.turns == all && numbers.items.len() as u64 == all);
-        for place in 0..u64::from(threads) {
-            let next = next_after(&rt, numbers.items.as_slice(), place * 100);
-            assert!(rt; next == place * 100 + each);
-        }
+        assert!(rt; has_all(&rt, &numbers, threads, each));
     }
 }

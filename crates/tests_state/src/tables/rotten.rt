@@ -6,7 +6,7 @@ ghost use Rattle.std.proofs.lemmas.Bool.{false≢true};
 use super::{ONE, TWO, burns, leases, small};
 use crate::disks::{LOAD_CALLS, failing_file, header};
 use disk_trait::{Disk, DiskFault, Faults, Pages};
-use leaf_table::TableFault;
+use leaf_table::{Table, TableFault};
 use std::alloc::Global;
 use std::process::Abort;
 
@@ -61,6 +61,14 @@ impl<D: Disk> Disk for Rotten<D> {
     ghost leaves_no_longer = { λ _ _ honest _ _. absurd (false≢true honest) };
 }
 
+/// Whether burning leaf 1 fails, and each later call tells the two gates of the leaf.
+fn tells<D: Disk>(table: &mut Table<D>, gates: (u8, u8)) -> bool {
+    let (leaf, a, b) = (1, gates.0, gates.1);
+    let fails = burns(table, 3, Err(TableFault::Device));
+    let two = leases(table, &TWO, Err(TableFault::Damaged { leaf, a, b }));
+    fails & two & leases(table, &ONE, Err(TableFault::Damaged { leaf, a, b }))
+}
+
 /// Leases leaf 1 and burns it, until a call fails. The byte at a place is another one from then on. Whether each later
 /// call tells the two gates of the leaf.
 fn is_told(
@@ -78,22 +86,19 @@ fn is_told(
         32,
         LOAD_CALLS.saturating_add(call),
     );
-    let mut table = small(rt, alloc, Rotten { disk, place, byte });
-    let (leaf, a, b) = (1, gates.0, gates.1);
-    let fails = burns(&mut table, 3, Err(TableFault::Device));
-    let two = leases(&mut table, &TWO, Err(TableFault::Damaged { leaf, a, b }));
-    fails & two & leases(&mut table, &ONE, Err(TableFault::Damaged { leaf, a, b }))
+    tells(&mut small(rt, alloc, Rotten { disk, place, byte }), gates)
 }
 
 // Slot 1 begins at 256: gate A, body A at 260, gate B at 296.
 #[test]
 fn a_damaged_slot_is_told(rt: HostRuntime) {
     // Gate B is open before the lease is made: torn.
-    assert!(rt; is_told(&rt, rt.alloc(), 0, 296, 0xC2, (0, 0xC2)));
+    let torn = is_told(&rt, rt.alloc(), 0, 296, 0xC2, (0, 0xC2));
     // The lease is for another message.
-    assert!(rt; is_told(&rt, rt.alloc(), 3, 260, 0x77, (0xB1, 0)));
+    let foreign = is_told(&rt, rt.alloc(), 3, 260, 0x77, (0xB1, 0));
     // The leaf is free when it is to be burnt.
-    assert!(rt; is_told(&rt, rt.alloc(), 4, 256, 0, (0, 0)));
+    let free = is_told(&rt, rt.alloc(), 4, 256, 0, (0, 0));
     // It is burnt by another member.
-    assert!(rt; is_told(&rt, rt.alloc(), 7, 336, 0x77, (0xB1, 0xC2)));
+    let burnt = is_told(&rt, rt.alloc(), 7, 336, 0x77, (0xB1, 0xC2));
+    assert!(rt; torn & foreign & free & burnt);
 }
