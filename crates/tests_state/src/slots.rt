@@ -41,13 +41,21 @@ fn moment_of(version: u8) -> u64
 }
 
 impl File {
+    /// The open file of these slots, which are of this version.
+    fn of_slots(slots: Slots<MemDisk>, version: u8) -> File
+        requires count { count_of slots ≡ 32 }
+        requires version { (header_of slots).version ≡ version }
+    {
+        File {
+            slots,
+            moment: moment_of(version),
+        }
+    }
+
     /// Opens the file of a disk, if it opens as one of this version.
     fn load(disk: MemDisk, version: u8) -> Result<File, LoadFault> {
         match Slots::load(disk, &header(version, 3), 32) {
-            Ok(slots) => Ok(File {
-                slots,
-                moment: moment_of(version),
-            }),
+            Ok(slots) => Ok(File::of_slots(slots, version)),
             Err((_, fault)) => Err(fault),
         }
     }

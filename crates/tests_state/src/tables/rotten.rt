@@ -69,6 +69,11 @@ fn tells<D: Disk>(table: &mut Table<D>, gates: (u8, u8)) -> bool {
     fails & two & leases(table, &ONE, Err(TableFault::Damaged { leaf, a, b }))
 }
 
+/// Whether the table of a disk tells them.
+fn tells_on<D: Disk + Drop>(rt: &impl Abort, alloc: Global, disk: D, gates: (u8, u8)) -> bool {
+    tells(&mut small(rt, alloc, disk), gates)
+}
+
 /// Leases leaf 1 and burns it, until a call fails. The byte at a place is another one from then on. Whether each later
 /// call tells the two gates of the leaf.
 fn is_told(
@@ -86,7 +91,7 @@ fn is_told(
         32,
         LOAD_CALLS.saturating_add(call),
     );
-    tells(&mut small(rt, alloc, Rotten { disk, place, byte }), gates)
+    tells_on(rt, alloc, Rotten { disk, place, byte }, gates)
 }
 
 // Slot 1 begins at 256: gate A, body A at 260, gate B at 296.
