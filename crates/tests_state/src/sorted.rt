@@ -1,14 +1,24 @@
 //! Sorted lists: items that are taken in, found and taken out.
 
+ghost use Rattle.std.specs.Prelude.{◌≡◌, ◌≤◌, []};
+
 use sorted_list::SortedList;
 use std::alloc::Global;
+
+/// Takes three items into an empty list, the greatest first.
+fn take_in<T: Ord + Copy>(list: &mut SortedList<T>, items: &[T; 3])
+    requires empty { list.old.items ≡ [] }
+    requires room { 4 ≤ list.old.room }
+{
+    list.insert(items[2]);
+    list.insert(items[0]);
+    list.insert(items[1]);
+}
 
 /// A list with room for four items into which three were taken, the greatest first.
 fn list_of<T: Ord + Copy>(alloc: Global, items: &[T; 3]) -> Option<SortedList<T>> {
     let mut list = SortedList::with_room(alloc, 4).ok()?;
-    list.insert(items[2]);
-    list.insert(items[0]);
-    list.insert(items[1]);
+    take_in(&mut list, items);
     Some(list)
 }
 

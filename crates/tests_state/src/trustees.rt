@@ -67,6 +67,13 @@ fn second(share: &Share, leaf: u32, message: MessageId, byte: u8, tagged: u8) ->
 }
 
 impl Granted {
+    /// What this question is granted.
+    fn of(question: &Question, grant: Grant) -> Granted
+        requires { ask_of grant ≡ question.now.ask }
+    {
+        Granted { grant }
+    }
+
     /// How many masks there are.
     fn count(&self, share: &Share) -> u16 {
         mask_count(&share.params, &self.grant)
@@ -100,7 +107,7 @@ impl Signer {
     /// What an ask is granted.
     fn grant(&mut self, question: &Question) -> Result<Granted, Refusal> {
         match self.trustee.decide(&question.ask, 7) {
-            Ok(grant) => Ok(Granted { grant }),
+            Ok(grant) => Ok(Granted::of(question, grant)),
             Err(why) => Err(why),
         }
     }
