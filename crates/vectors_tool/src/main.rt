@@ -15,7 +15,7 @@ use std::thread::Threads;
 use stream_memory::{MemNet, MemSink, MemStore};
 use tool::run_over;
 use tool_run::MemClocks;
-use vectors_scripts::{World, print_played, print_scripts, world_here};
+use vectors_scripts::{print_played, print_scripts, world_here};
 
 /// The scripts, each a file of the system, in their order.
 const SCRIPTS: &[&str] = &[
@@ -33,18 +33,8 @@ const WITNESSES: &str = "runs.witnesses";
 /// The moment at which each clock of a script begins.
 const START: u64 = 1000;
 
-/// Makes the files of the witnesses in a world, and runs them.
-fn print_witnesses<
-    R: Threads + Wait + Sync,
-    F: Fn(&[String], &mut MemStore, &mut MemNet, &mut MemSink) -> u8,
->(threads: &R, rt: HostRuntime, run: &F, world: &mut World) -> io::Result<()>
-    requires { F.IsAlwaysCallable run.now }
-{
-    print_played(run, rt, world, WITNESSES)?;
-    witnesses::print_runs(threads, rt, &world.store)
-}
-
-/// Plays all scripts by what runs a command, and runs what no script runs.
+/// Plays all scripts by what runs a command, and runs what no script runs: the drills, and the witnesses over files that
+/// a script makes.
 fn print_all<
     R: Threads + Wait + Sync,
     F: Fn(&[String], &mut MemStore, &mut MemNet, &mut MemSink) -> u8,
@@ -54,7 +44,8 @@ fn print_all<
     print_scripts(run, rt, SCRIPTS)?;
     drills::print_runs(rt)?;
     let mut world = world_here(rt)?;
-    print_witnesses(threads, rt, run, &mut world)
+    print_played(run, rt, &mut world, WITNESSES)?;
+    witnesses::print_runs(threads, rt, &world.store)
 }
 
 /// Does so by the tool.
