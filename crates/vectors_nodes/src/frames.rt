@@ -155,11 +155,7 @@ fn print_row(rt: HostRuntime, name: &str, number: usize, line: &str) -> io::Resu
 /// Prints the number of each row of a table that is read otherwise than it says, and counts the others.
 fn print_rows(rt: HostRuntime, name: &str, table: &str) -> io::Result<u32> {
     let mut agreed: u32 = 0;
-    let mut number: usize = 0;
-    let mut lines = table.lines();
-    lines.next();
-    for line in lines {
-        number = number.saturating_add(1);
+    for (number, line) in table.lines().enumerate().skip(1) {
         if print_row(rt, name, number, line)? {
             agreed = agreed.saturating_add(1);
         }
