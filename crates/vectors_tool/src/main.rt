@@ -33,8 +33,8 @@ const WITNESSES: &str = "runs.witnesses";
 /// The moment at which each clock of a script begins.
 const START: u64 = 1000;
 
-/// Plays all scripts by what runs a command, and runs what no script runs: the drills, and the witnesses over files that
-/// a script makes.
+/// Plays all scripts by what runs a command, and runs what no script runs: the drills, and the witnesses over files
+/// that a script makes.
 fn print_all<
     R: Threads + Wait + Sync,
     F: Fn(&[String], &mut MemStore, &mut MemNet, &mut MemSink) -> u8,
