@@ -2,23 +2,11 @@
 #![tactic(auto)]
 
 #[cfg(test)]
-mod books;
-#[cfg(test)]
-mod cached_slots;
-#[cfg(test)]
 mod disks;
 #[cfg(test)]
-mod journals;
-#[cfg(test)]
-mod shares;
+mod entries;
 #[cfg(test)]
 mod slots;
-#[cfg(test)]
-mod sorted;
-#[cfg(test)]
-mod tables;
-#[cfg(test)]
-mod tall;
 #[cfg(test)]
 mod trustees;
 #[cfg(test)]

@@ -1,16 +1,18 @@
 //! Trustees: the answers of one of a whole dealing, each refusal by its number, and its masks.
 
+pub(crate) mod shares;
+
 ghost use Rattle.std.specs.Prelude.{◌≡◌, length, IfSome};
 ghost use Rattle.std.proofs.Props.{props};
 ghost use Rattle.trustee_core.specs.Grants.{ask_of};
 ghost use Rattle.trustee_core.specs.Trustee.{share_of};
 
 use crate::disks::LOAD_CALLS;
-use crate::shares::{empty_journal, share, trustee_on};
 use disk_trait::MemDisk;
 use lms_bytes::{Ask, LIMIT, MessageId, Second, Val};
 use mask_prf::{chain_mask, check_tag, random_mask};
 use share_files::Share;
+use shares::{empty_journal, share, trustee_on};
 use std::alloc::Global;
 use std::process::Abort;
 use trustee_core::{Grant, Refusal, Trustee, mask_count, release};

@@ -3,7 +3,7 @@
 ghost use Rattle.std.specs.Prelude.{◌<◌, ◌^◌, length};
 
 use crate::disks::{crashed, failing_file, free_file, header, stopping_file, with_byte};
-use crate::shares::{empty_journal, share, trustee_on};
+use crate::trustees::shares::{empty_journal, share, trustee_on};
 use approval_book::{Approved, Book, BookFault, Denial, decide_approved};
 use disk_trait::{Disk, MemDisk};
 use lms_bytes::{Ask, MessageId};
