@@ -44,7 +44,7 @@ pub(crate) fn make(disk: &mut MemDisk, header: &Header, count: u32) -> Result<()
 /// A file of so many free slots, on a disk that was not called yet.
 pub(crate) fn free_file(rt: &impl Abort, alloc: Global, header: &Header, count: u32) -> MemDisk {
     let mut disk = empty(rt, alloc, count);
-    assert!(rt; make(&mut disk, header, count) == Ok(()));
+    make(&mut disk, header, count).expect(rt, "a file");
     holding(rt, alloc, disk.bytes())
 }
 
@@ -77,14 +77,11 @@ pub(crate) fn stopping_file(
 /// The disk with another byte at a place.
 pub(crate) fn with_byte(rt: &impl Abort, disk: MemDisk, place: u64, byte: u8) -> MemDisk {
     let mut disk = disk;
-    assert!(rt; disk.write_at(place, &[byte]) == Ok(()));
+    disk.write_at(place, &[byte]).expect(rt, "a byte");
     disk
 }
 
 /// What a crash leaves, by this pick.
 pub(crate) fn crashed(rt: &impl Abort, alloc: Global, disk: MemDisk, pick: u64) -> MemDisk {
-    match disk.crash(alloc, pick) {
-        Ok(image) => image,
-        Err(_) => panic!(rt; "memory"),
-    }
+    disk.crash(alloc, pick).ok().expect(rt, "memory")
 }

@@ -175,9 +175,7 @@ fn opened(
     ensures count { vec_len result.1 ≡ passes }
     ensures idle { All (λ p. (p.lock ≡ result.0) × (p.in_turn ≡ false)) result.1.items }
 {
-    let Ok(items) = Vec::with_capacity(alloc, room) else {
-        panic!(rt; "memory")
-    };
+    let items = Vec::with_capacity(alloc, room).expect(rt, "memory");
     let numbers = Numbers { items, turns: 0 };
     match TurnLock::new(alloc, numbers, passes, first) {
         Ok(made) => made,
@@ -204,21 +202,15 @@ fn wears(
 #[test]
 fn a_worn_pass_has_no_more_turns(rt: HostRuntime) {
     let (lock, mut passes) = opened(&rt, rt.alloc(), 4, 2, (1 << 62) - 1);
-    let Some(mut second) = passes.pop() else {
-        panic!(rt; "two passes")
-    };
-    let Some(mut first) = passes.pop() else {
-        panic!(rt; "two passes")
-    };
+    let mut second = passes.pop().expect(&rt, "two passes");
+    let mut first = passes.pop().expect(&rt, "two passes");
     assert!(rt; wears(&rt, &lock, &mut first, &mut second));
 }
 
 #[test]
 fn one_pass_takes_turns(rt: HostRuntime) {
     let (lock, mut passes) = opened(&rt, rt.alloc(), 4, 1, 1 << 61);
-    let Some(mut pass) = passes.pop() else {
-        panic!(rt; "one pass")
-    };
+    let mut pass = passes.pop().expect(&rt, "one pass");
     assert!(rt; passes.is_empty());
     assert!(rt; add_each(&rt, &lock, &mut pass, 7, 3));
     let numbers = close(&rt, lock, pass, 1);
@@ -237,9 +229,7 @@ fn added_in_threads<R: Threads + Wait + Sync + Abort>(
 {
     let (lock, mut passes) = opened(rt, alloc, 640, threads, 0);
     add_in_threads(rt, &lock, passes.as_mut_slice(), each);
-    let Some(pass) = meet_all(&lock, passes, forwards) else {
-        panic!(rt; "passes")
-    };
+    let pass = meet_all(&lock, passes, forwards).expect(rt, "passes");
     close(rt, lock, pass, threads)
 }
 

@@ -26,10 +26,7 @@ fn load(alloc: Global, disk: MemDisk) -> Result<Book<MemDisk>, CacheLoad> {
 
 /// Loads the book of a disk.
 fn loaded(rt: &impl Abort, alloc: Global, disk: MemDisk) -> Book<MemDisk> {
-    match load(alloc, disk) {
-        Ok(book) => book,
-        Err(fault) => panic!(rt; "load: {fault}"),
-    }
+    load(alloc, disk).expect(rt, "load")
 }
 
 /// A book that lists nothing.

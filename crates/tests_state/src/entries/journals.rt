@@ -89,10 +89,7 @@ impl Leaves {
 
     /// Loads the journal of a disk.
     fn open(rt: &impl Abort, alloc: Global, disk: MemDisk) -> Leaves {
-        match Leaves::load(rt, alloc, disk, 3) {
-            Ok(leaves) => leaves,
-            Err(fault) => panic!(rt; "load: {fault}"),
-        }
+        Leaves::load(rt, alloc, disk, 3).expect(rt, "load")
     }
 
     /// Whether binding a leaf is answered by this.

@@ -56,10 +56,7 @@ fn load<D: Disk + Drop>(alloc: Global, disk: D, plan: &Plan) -> Result<Table<D>,
 
 /// Loads the table of a disk.
 fn loaded<D: Disk + Drop>(rt: &impl Abort, alloc: Global, disk: D, plan: &Plan) -> Table<D> {
-    match load(alloc, disk, plan) {
-        Ok(table) => table,
-        Err(fault) => panic!(rt; "load: {fault:?}"),
-    }
+    load(alloc, disk, plan).expect(rt, "load")
 }
 
 /// Loads the table of a disk for the coalitions {1, 2}, {1, 3} and {2, 3}.

@@ -32,10 +32,7 @@ impl Cache {
 
     /// Loads the file of a disk.
     fn open(rt: &impl Abort, alloc: Global, disk: MemDisk) -> Cache {
-        match Cache::load(alloc, disk) {
-            Ok(cache) => cache,
-            Err(fault) => panic!(rt; "load: {fault}"),
-        }
+        Cache::load(alloc, disk).expect(rt, "load")
     }
 
     /// Puts into slot 1 the body that is next, where no put is in doubt.

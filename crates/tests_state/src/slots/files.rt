@@ -62,10 +62,7 @@ impl File {
 
     /// Opens the file of a disk.
     fn open(rt: &impl Abort, disk: MemDisk, version: u8) -> File {
-        match File::load(disk, version) {
-            Ok(file) => file,
-            Err(fault) => panic!(rt; "load: {fault:?}"),
-        }
+        File::load(disk, version).expect(rt, "load")
     }
 
     /// Puts body A into a slot that is free, where none is in doubt.

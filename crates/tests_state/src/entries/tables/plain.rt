@@ -26,7 +26,7 @@ const PLANS: [(u8, u8); 10] = [
 ];
 
 /// What a leaf is to the plain search.
-#[derive(Clone, Copy, Debug, PartialEq, Eq)]
+#[derive(Clone, Copy, PartialEq, Eq)]
 enum Leaf {
     Free,
     Leased(u32),
