@@ -1,5 +1,5 @@
 -- What is said of objects that tell nothing of their content: their counts, and the place of a port.
-use Rattle.std.specs.Prelude.{ℕ, false, List, [], Option, None}
+use Rattle.std.specs.Prelude.{◌≡◌, ℕ, false, List, [], Option, None, IsFalse}
 use Rattle.stream_io.specs.Net.{NetState, PortState}
 use Rattle.stream_io.specs.Store.{StoreState}
 use Rattle.stream_io.specs.Talk.{Talk}
@@ -30,6 +30,13 @@ untold_store count disk_count = record {
   out = λ _. None;
   readers = λ _. None;
 }
+
+-- the store tells nothing of its content, no call of it has failed, and no disk or view was given back that had failed
+pub record IsNewStore (store : StoreState) : Type 0 where
+  pub told : IsFalse store.told
+  pub steady : IsFalse store.steady
+  pub count : store.count ≡ 0
+  pub disk_count : store.disk_count ≡ 0
 
 -- a port that listens at this place, or only dials, with its count of faults and that of accepting
 abbrev pub untold_port : Option (List ℕ) → ℕ → ℕ → PortState

@@ -1,7 +1,7 @@
 //! The store of files.
 
-ghost use Rattle.std.specs.Prelude.{◌≡◌, ◌<◌, ◌≤◌, ℕ, Err, length, IfOk, IsFalse, false, refl};
-ghost use Rattle.stream_host.specs.Untold.{untold_store};
+ghost use Rattle.std.specs.Prelude.{◌≡◌, ◌<◌, ◌≤◌, ℕ, Err, length, IfOk, false, refl};
+ghost use Rattle.stream_host.specs.Untold.{IsNewStore, untold_store};
 ghost use Rattle.stream_io.specs.declared.store.ReadAllFault.{ReadAllFault};
 
 use crate::causes::{call_fault, new_fault, read_fault};
@@ -38,12 +38,9 @@ impl<R: Files + Drop> FileStore<R>
 where
     R::File: FileExt + Lockable + Send,
 {
-    /// The store of the files of this runtime.
+    /// The store of the files of this runtime. No call has failed yet.
     pub fn new(rt: R) -> FileStore<R>
-        ensures told { IsFalse (⟦<FileStore<R> as Store>⟧.state result).told }
-        ensures steady { IsFalse (⟦<FileStore<R> as Store>⟧.state result).steady }
-        ensures count { (⟦<FileStore<R> as Store>⟧.state result).count ≡ 0 }
-        ensures disk_count { (⟦<FileStore<R> as Store>⟧.state result).disk_count ≡ 0 }
+        ensures { IsNewStore (⟦<FileStore<R> as Store>⟧.state result) }
     {
         FileStore {
             rt,

@@ -30,12 +30,9 @@ where
     R::Stream: Send,
     R::Listener: Send + Sync,
 {
-    /// The net of this runtime's sockets.
+    /// The net of this runtime's sockets. No call has failed yet.
     pub fn new(rt: R) -> TcpNet<R>
-        ensures told { IsFalse (⟦<TcpNet<R> as Net>⟧.state result).told }
-        ensures steady { IsFalse (⟦<TcpNet<R> as Net>⟧.state result).steady }
-        ensures count { (⟦<TcpNet<R> as Net>⟧.state result).count ≡ 0 }
-        ensures port_count { (⟦<TcpNet<R> as Net>⟧.state result).port_count ≡ 0 }
+        ensures { ⟦<TcpNet<R> as Net>⟧.state result ≡ untold_net 0 0 }
     {
         TcpNet {
             rt,

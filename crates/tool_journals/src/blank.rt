@@ -1,21 +1,24 @@
-//! Blank files of slots under new names.
+//! Blank files of slots: which goes with a file, and made under new names.
 
-ghost use Rattle.std.specs.Prelude.{◌≡◌, ◌^◌, IfOk, IfErr};
+ghost use Rattle.std.specs.Prelude.{◌≡◌, ◌^◌, None, Some, IfOk, OnOk, IfErr};
 ghost use Rattle.slot_file.specs.Layout.{file_size};
 ghost use Rattle.stream_io.specs.Store.{pages_state};
 ghost use Rattle.tool_base.specs.Endings.{ending};
+ghost use Rattle.tool_base.specs.Grammars.{FailsGrammar};
 ghost use Rattle.tool_base.specs.Touched.{EndsTouching};
-ghost use Rattle.tool_base.specs.World.{IsUnchanged, from_to};
+ghost use Rattle.tool_base.specs.World.{InAnyRun, IsUnchanged, from_to};
 ghost use Rattle.tool_base.specs.Headers.{book_header};
 ghost use Rattle.tool_journals.specs.Blanks.{IsBlankDisk, IsNotMade};
+ghost use Rattle.tool_journals.specs.Enrol.{GoWith, IsEnrolled, enrol_fault};
+ghost use Rattle.tool_journals.specs.Enrol.{enrol_fault_number, table_header};
 ghost use Rattle.trustee_core.specs.Trustee.{journal_header};
 
 use crate::faults::{end_of_new, end_of_prepare};
-use share_files::Share;
+use share_files::{FileFault, RefHeader, Share, read_reference, read_share};
 use slot_file::{Header, prepare};
 use std::alloc::Global;
 use stream_io::Store;
-use tool_base::{Ending, header_of};
+use tool_base::{Ending, FILE_LIMIT, header_of, read_file, unreadable};
 
 /// A blank file of slots.
 #[derive(Clone, Copy)]
@@ -85,4 +88,58 @@ pub(crate) fn new_blank<S: Store>(
         return Err(end_of_prepare(fault));
     }
     Ok(disk)
+}
+
+/// Reads the file that the blank file is to go with.
+pub(crate) fn read_blank<S: Store>(alloc: Global, store: &mut S, file: &str) -> Result<Blank, Ending>
+    ensures blank { InAnyRun S.state store.old store.new (λ run.
+        IfOk result (λ blank. IsEnrolled run file.now blank.header blank.count)) }
+    ensures refused { InAnyRun S.state store.old store.new (λ run.
+        IfErr result (λ end. FailsGrammar enrol_fault_number run file.now (ending end))) }
+    ensures unchanged { IsUnchanged (S.state store.old) (S.state store.new) }
+{
+    let bytes = read_file(alloc, store, file, FILE_LIMIT)?;
+    match blank_of(&bytes) {
+        Ok(blank) => Ok(blank),
+        Err(fault) => Err(unreadable(alloc, file, fault.number())),
+    }
+}
+
+/// The blank file that goes with these bytes, by the letters that they begin with.
+#[tactic(auto, unfolding(crate::specs::Enrol::enrol_fault))]
+fn blank_of(bytes: &[u8]) -> Result<Blank, FileFault>
+    ensures blank { IfOk result (λ blank. GoWith bytes.now blank.header blank.count) }
+    ensures refused { IfErr result (λ fault. enrol_fault bytes.now ≡ Some fault) }
+    ensures faultless { OnOk result (enrol_fault bytes.now ≡ None) }
+{
+    if bytes.starts_with(b"TLSH") {
+        return match read_share(bytes) {
+            Ok(share) => Ok(Blank::journal_of(&share)),
+            Err(fault) => Err(fault),
+        };
+    }
+    if bytes.starts_with(b"TLRF") {
+        return match read_reference(bytes) {
+            Ok(reference) => Ok(table_of(&reference.header)),
+            Err(fault) => Err(fault),
+        };
+    }
+    Err(FileFault::Magic)
+}
+
+/// The leaf table of an aggregator.
+fn table_of(reference: &RefHeader) -> Blank
+    ensures header { result.header ≡ table_header reference.now }
+    ensures count { result.count ≡ 2 ^ reference.now.params.h }
+{
+    Blank {
+        header: Header {
+            version: 1,
+            number: 0,
+            lms: reference.params.lms,
+            ots: reference.params.ots,
+            id: reference.id,
+        },
+        count: reference.params.leaves(),
+    }
 }

@@ -2,12 +2,10 @@
 //! approved messages.
 #![tactic(auto)]
 
-mod approve;
 mod blank;
-mod enrol;
+mod book;
+mod commands;
+mod copying;
 mod faults;
-mod migrate;
 
-pub use approve::approve_message;
-pub use enrol::enrol_file;
-pub use migrate::migrate_journal;
+pub use commands::{approve_message, enrol_file, migrate_journal};

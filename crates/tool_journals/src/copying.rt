@@ -1,16 +1,16 @@
-//! The command `migrate`.
+//! The slots of an old journal, copied into a new one.
 
 ghost use Rattle.std.specs.Prelude.{◌≡◌, None, IsTrue};
 ghost use Rattle.slot_file.specs.Layout.{load_fault};
 ghost use Rattle.slot_file.specs.Disks.{Unwritten};
 ghost use Rattle.slot_file.specs.Slots.{IsSteady, IsTold, OnlyLooked, count_of, faults_of, file_of};
 ghost use Rattle.slot_file.specs.Slots.{header_of as slots_header};
+ghost use Rattle.tool_base.specs.Disks.{OneFails};
 ghost use Rattle.tool_base.specs.Endings.{ending};
 ghost use Rattle.tool_base.specs.Outputs.{IsNew};
 ghost use Rattle.tool_base.specs.Touched.{EndsTouching};
 ghost use Rattle.tool_base.specs.World.{from_to};
-ghost use Rattle.tool_base.specs.Disks.{OneFails};
-ghost use Rattle.tool_journals.specs.Migrate.{CopyEnds, MigrateEnds, old_header, slot_count};
+ghost use Rattle.tool_journals.specs.Migrate.{CopyEnds, old_header, slot_count};
 
 use crate::blank::file_length;
 use crate::faults::{end_of_copy, end_of_load, end_of_new};
@@ -18,39 +18,11 @@ use disk_trait::Disk;
 use share_files::Share;
 use slot_file::{Slots, copy_slots};
 use std::alloc::Global;
-use stream_io::{CallFault, Store};
-use tool_base::{Ending, header_of, read_share_file, test_new};
-
-/// Copies the journal of version 1 of a share's trustee into a new journal, all three by the names of their files.
-pub fn migrate_journal<S: Store>(
-    alloc: Global,
-    store: &mut S,
-    share: &str,
-    journal: &str,
-    new: &str,
-) -> Ending
-    ensures ended { let run = from_to (S.state store.old) (S.state store.new) in
-        EndsTouching (MigrateEnds run share.now journal.now new.now) run (ending result) }
-{
-    let found = match read_share_file(alloc, store, share) {
-        Ok(found) => found,
-        Err(end) => return end,
-    };
-    if let Err(end) = test_new(alloc, store, new) {
-        return end;
-    }
-    let disk = match store.take_disk(journal) {
-        Ok(disk) => disk,
-        Err(CallFault::Failed) => return Ending::StoreFailed,
-        Err(CallFault::NoMemory) => return Ending::NoMemory,
-    };
-    let (disk, end) = copy_disk(alloc, store, disk, &found, new);
-    store.return_disk(journal, disk);
-    end
-}
+use stream_io::Store;
+use tool_base::{Ending, header_of};
 
 /// Opens the disk of the old journal and copies its slots into the new one.
-fn copy_disk<S: Store, D: Disk>(
+pub(crate) fn copy_disk<S: Store, D: Disk>(
     alloc: Global,
     store: &mut S,
     disk: D,

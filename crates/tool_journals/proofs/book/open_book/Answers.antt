@@ -13,7 +13,7 @@ use Rattle.tool_journals.proofs.Blanks.{new_unchanged}
 use Rattle.tool_base.proofs.Outs.{ends_unchanged, ends_map, taken_out}
 use Rattle.tool_base.proofs.Takes.{taken_unchanged}
 use Rattle.tool_journals.proofs.Approving.{blank_unchanged, if_err_map, if_ok_map}
-use Rattle.tool_journals.proofs.approve.open_book.Goals as goal
+use Rattle.tool_journals.proofs.book.open_book.Goals as goal
 
 pub returns-in-Err-Failed-take_disk-clause-refused :
     goal.returns-in-Err-Failed-take_disk-clause-refused

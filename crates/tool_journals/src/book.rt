@@ -1,4 +1,4 @@
-//! The command `approve`.
+//! The book of approved messages: its disk, and a message in it.
 
 ghost use Rattle.std.specs.Prelude.{◌≡◌, IfOk, IfErr};
 ghost use Rattle.lms_bytes.specs.MessageId.{message_id_bytes};
@@ -9,7 +9,7 @@ ghost use Rattle.tool_base.specs.Reads.{FailsToRead};
 ghost use Rattle.tool_base.specs.Touched.{EndsTouching};
 ghost use Rattle.tool_base.specs.World.{InAnyRun, IsUnchanged, from_to};
 ghost use Rattle.tool_journals.specs.Adding.{AddEnds, DiskFails, disk_run};
-ghost use Rattle.tool_journals.specs.Approve.{ApproveEnds, IsBookDisk, IsMessageRead, IsNotOpened};
+ghost use Rattle.tool_journals.specs.Approve.{IsBookDisk, IsMessageRead, IsNotOpened};
 
 use crate::blank::{Blank, new_blank};
 use crate::faults::end_of_add;
@@ -19,40 +19,10 @@ use lms_bytes::MessageId;
 use slot_file::Header;
 use std::alloc::Global;
 use stream_io::{CallFault, Store};
-use tool_base::{Ending, FILE_LIMIT, end_of_slots, read_file, read_share_file};
-
-/// Lists a message in the book of a share's trustee, all three by the names of their files. A book that is not in the
-/// store is made.
-pub fn approve_message<S: Store>(
-    alloc: Global,
-    store: &mut S,
-    share: &str,
-    book: &str,
-    message: &str,
-) -> Ending
-    ensures ended { let run = from_to (S.state store.old) (S.state store.new) in
-        EndsTouching (ApproveEnds run share.now book.now message.now) run (ending result) }
-{
-    let found = match read_share_file(alloc, store, share) {
-        Ok(found) => found,
-        Err(end) => return end,
-    };
-    let id = match read_message(alloc, store, message) {
-        Ok(id) => id,
-        Err(end) => return end,
-    };
-    let blank = Blank::book_of(&found);
-    let disk = match open_book(alloc, store, book, &blank) {
-        Ok(disk) => disk,
-        Err(end) => return end,
-    };
-    let (disk, end) = add_message(alloc, disk, &blank.header, &id);
-    store.return_disk(book, disk);
-    end
-}
+use tool_base::{Ending, FILE_LIMIT, end_of_slots, read_file};
 
 /// Reads a message for its id.
-fn read_message<S: Store>(alloc: Global, store: &mut S, name: &str) -> Result<MessageId, Ending>
+pub(crate) fn read_message<S: Store>(alloc: Global, store: &mut S, name: &str) -> Result<MessageId, Ending>
     ensures id { InAnyRun S.state store.old store.new (λ run.
         IfOk result (λ id. IsMessageRead run name.now (message_id_bytes id))) }
     ensures refused { InAnyRun S.state store.old store.new (λ run.
@@ -64,7 +34,7 @@ fn read_message<S: Store>(alloc: Global, store: &mut S, name: &str) -> Result<Me
 }
 
 /// Takes the disk of the book out of the store, or makes the book where it is not there.
-fn open_book<S: Store>(
+pub(crate) fn open_book<S: Store>(
     alloc: Global,
     store: &mut S,
     book: &str,
@@ -91,7 +61,7 @@ fn open_book<S: Store>(
 }
 
 /// Loads the book of a disk and adds a message.
-fn add_message<D: Disk>(alloc: Global, disk: D, header: &Header, id: &MessageId) -> (D, Ending)
+pub(crate) fn add_message<D: Disk>(alloc: Global, disk: D, header: &Header, id: &MessageId) -> (D, Ending)
     requires { header.now.version ≡ 3 }
     ensures ended { AddEnds (DiskFails D.Pages.own D.Faults disk result.0) (disk_run D.Pages.own disk result.0)
         header.now (message_id_bytes id.now) (ending result.1) }

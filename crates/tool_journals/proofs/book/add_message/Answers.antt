@@ -6,7 +6,7 @@ use Rattle.slot_file.specs.declared.header.Header.{Header}
 use Rattle.tool_base.specs.Endings.{ending}
 use Rattle.tool_journals.specs.Adding.{DiskFails, Stands, disk_run}
 use Rattle.tool_journals.proofs.Adding.{add_ends, load_ends}
-use Rattle.tool_journals.proofs.approve.add_message.Goals as goal
+use Rattle.tool_journals.proofs.book.add_message.Goals as goal
 
 pub returns-in-Ok-clause-ended : goal.returns-in-Ok-clause-ended
 returns-in-Ok-clause-ended g c =

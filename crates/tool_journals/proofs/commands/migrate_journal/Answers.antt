@@ -12,7 +12,7 @@ use Rattle.tool_journals.proofs.Copying.{Later, copy_later}
 use Rattle.tool_base.proofs.Outs.{Round, new_beside, new_differs, out_unchanged, out_same, round, taken_out}
 use Rattle.tool_journals.proofs.Migrating.{untaken}
 use Rattle.tool_journals.proofs.Sharing.{next_fails, unshared}
-use Rattle.tool_journals.proofs.migrate.migrate_journal.Goals as goal
+use Rattle.tool_journals.proofs.commands.migrate_journal.Goals as goal
 
 pub returns-in-Err : goal.returns-in-Err
 returns-in-Err g c =

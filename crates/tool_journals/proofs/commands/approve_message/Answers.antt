@@ -15,7 +15,7 @@ use Rattle.tool_base.proofs.Outs.{IsBackAs}
 use Rattle.tool_journals.proofs.Approving.{book_ends, book_out}
 use Rattle.tool_base.proofs.Outs.{back_as, ends_map, out_unchanged, out_here, out_same}
 use Rattle.tool_journals.proofs.Sharing.{next_fails, unshared}
-use Rattle.tool_journals.proofs.approve.approve_message.Goals as goal
+use Rattle.tool_journals.proofs.commands.approve_message.Goals as goal
 
 pub returns-in-Err : goal.returns-in-Err
 returns-in-Err g c =

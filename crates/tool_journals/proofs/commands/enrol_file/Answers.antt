@@ -7,7 +7,7 @@ use Rattle.tool_journals.specs.Blanks.{IsNotMade}
 use Rattle.tool_journals.specs.Enrol.{EnrolEnds, enrolled, not_made, not_read}
 use Rattle.tool_journals.proofs.Blanks.{made_of}
 use Rattle.tool_base.proofs.Outs.{IsBackAs, back_as, ends_unchanged, ends_map, out_unchanged}
-use Rattle.tool_journals.proofs.enrol.enrol_file.Goals as goal
+use Rattle.tool_journals.proofs.commands.enrol_file.Goals as goal
 
 pub returns-in-Err : goal.returns-in-Err
 returns-in-Err g c =

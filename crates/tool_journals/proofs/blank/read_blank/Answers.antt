@@ -1,7 +1,7 @@
 use Rattle.std.proofs.lemmas.Result.{err_from_is_err_and}
 use Rattle.tool_base.specs.Grammars.{not_read}
 use Rattle.tool_journals.proofs.Enrolling.{enrol_refused}
-use Rattle.tool_journals.proofs.enrol.read_blank.Goals as goal
+use Rattle.tool_journals.proofs.blank.read_blank.Goals as goal
 
 pub returns-in_err-bytes-clause-refused : goal.returns-in_err-bytes-clause-refused
 returns-in_err-bytes-clause-refused g c =

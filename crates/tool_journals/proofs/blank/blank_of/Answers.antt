@@ -1,5 +1,5 @@
 use Rattle.tool_journals.proofs.Enrolling.{reference_goes, share_goes}
-use Rattle.tool_journals.proofs.enrol.blank_of.Goals as goal
+use Rattle.tool_journals.proofs.blank.blank_of.Goals as goal
 
 pub returns-in-Ok-clause-blank : goal.returns-in-Ok-clause-blank
 returns-in-Ok-clause-blank c =
