@@ -26,10 +26,11 @@ use share_files::HEAD;
 use std::alloc::Global;
 use std::thread;
 use std::thread::{Threads, join_mut};
+use stream_io::Progress;
 
 /// Deals the key that the entropy stands for, which has been tested, with its commitment file if it is asked for. The
 /// greatest memory is taken before the first thread is made, since the C library keeps the room of the stacks.
-pub(crate) fn build_beside<R: Threads + Sync>(
+pub(crate) fn build_beside<R: Threads + Progress + Sync>(
     rt: &R,
     alloc: Global,
     params: &Params,
@@ -53,7 +54,7 @@ pub(crate) fn build_beside<R: Threads + Sync>(
 
 /// The leaves of the masked reference value, with room for the head of their file, and the commitment file if it is
 /// asked for.
-fn leaves_beside<R: Threads + Sync>(
+fn leaves_beside<R: Threads + Progress + Sync>(
     rt: &R,
     alloc: Global,
     params: &Params,
@@ -68,12 +69,13 @@ fn leaves_beside<R: Threads + Sync>(
     let mut leaves = room_for_leaves(alloc, params, plan)?;
     let mut file = room_asked(alloc, params, plan, secrets)?;
     write_leaves_beside(rt, params, plan, secrets, &mut leaves, &mut file);
+    rt.all_built(params.leaves());
     Ok((leaves, file))
 }
 
 /// Writes the leaves of the masked reference value, and the commitments to their masks behind the head of their file,
 /// where there is one.
-fn write_leaves_beside<R: Threads + Sync>(
+fn write_leaves_beside<R: Threads + Progress + Sync>(
     rt: &R,
     params: &Params,
     plan: &Plan,
@@ -94,7 +96,7 @@ fn write_leaves_beside<R: Threads + Sync>(
 
 /// Writes the leaves of a run, one behind the other, and the commitments to their masks if they are asked for, by at
 /// most so many threads.
-fn write_beside<R: Threads + Sync>(
+fn write_beside<R: Threads + Progress + Sync>(
     rt: &R,
     params: &Params,
     plan: &Plan,
@@ -114,7 +116,7 @@ fn write_beside<R: Threads + Sync>(
         ≡ run_asked (is_some secrets.now.macs) (dealing_with params.now plan.now secrets.now) run }
 {
     if threads < 2 || run.count < 2 {
-        write_run(params, plan, secrets, run, out, commits);
+        write_run(rt, params, plan, secrets, run, out, commits);
         return;
     }
     let some = threads / 2;

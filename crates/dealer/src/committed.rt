@@ -18,6 +18,7 @@ use memory::NoMemory;
 use share_files::length_of_commits;
 use std::alloc::Global;
 use std::thread::Threads;
+use stream_io::Progress;
 use thiserror::Error;
 
 /// The most bytes that a commitment file has which is made.
@@ -53,8 +54,9 @@ pub fn deal_committed(
 }
 
 /// Deals the key that the entropy stands for, as `deal_committed` does, with its leaves and their commitments built
-/// beside each other by as many threads as there are processors. Where no thread can be had this one builds them.
-pub fn deal_committed_beside<R: Threads + Sync>(
+/// beside each other by as many threads as there are processors. Where no thread can be had this one builds them. The
+/// runtime is told how far it is.
+pub fn deal_committed_beside<R: Threads + Progress + Sync>(
     rt: &R,
     alloc: Global,
     params: &Params,

@@ -17,6 +17,7 @@ use merkle_path::Tree;
 use share_files::Share;
 use std::alloc::Global;
 use std::thread::Threads;
+use stream_io::Progress;
 
 /// What a dealing gives.
 #[derive(Drop)]
@@ -49,8 +50,8 @@ pub fn deal(alloc: Global, params: &Params, plan: &Plan, entropy: &[u8]) -> Resu
 }
 
 /// Deals the key that the entropy stands for, as `deal` does, with its leaves built beside each other by as many
-/// threads as there are processors. Where no thread can be had this one builds them.
-pub fn deal_beside<R: Threads + Sync>(
+/// threads as there are processors. Where no thread can be had this one builds them. The runtime is told how far it is.
+pub fn deal_beside<R: Threads + Progress + Sync>(
     rt: &R,
     alloc: Global,
     params: &Params,

@@ -1,5 +1,5 @@
 //! Thin adapters over the system for the traits of the outside, which tell nothing but their counts of faults; links
-//! that read ahead and write behind, over any link; and disks over any file.
+//! that read ahead and write behind, over any link; disks over any file; and a line of progress on a terminal.
 #![tactic(auto)]
 
 mod buffered;
@@ -15,6 +15,7 @@ mod new_file;
 mod next_sync;
 mod open_file;
 mod pieces;
+mod progress_line;
 mod stdout_sink;
 mod tcp_link;
 mod tcp_net;
@@ -27,6 +28,7 @@ pub use file_disk::FileDisk;
 pub use file_store::FileStore;
 pub use host_file::HostFile;
 pub use lockable::Lockable;
+pub use progress_line::ProgressLine;
 pub use stdout_sink::StdoutSink;
 pub use tcp_link::TcpLink;
 pub use tcp_net::TcpNet;

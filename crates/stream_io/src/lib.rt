@@ -1,10 +1,12 @@
-//! Streams, files, stores and nets: the traits by which the code above meets the outside.
+//! Streams, files, stores and nets: the traits by which the code above meets the outside, and the one by which it tells
+//! how far it is.
 #![tactic(auto)]
 
 mod call_fault;
 mod failed;
 mod net;
 mod port;
+mod progress;
 mod raw_file;
 mod sink;
 mod source;
@@ -16,6 +18,7 @@ pub use call_fault::CallFault;
 pub use failed::Failed;
 pub use net::Net;
 pub use port::{Accepted, Port};
+pub use progress::{Progress, Silent};
 pub use raw_file::RawFile;
 pub use sink::{Sink, write_whole};
 pub use source::{Source, read_whole};

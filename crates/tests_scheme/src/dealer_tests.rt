@@ -8,7 +8,9 @@ use lms_bytes::write_public;
 use share_files::{Share, write_share, write_tree_head};
 use std::alloc::Global;
 use std::process::Abort;
+use std::sync::atomic::{AtomicU32, Ordering};
 use std::thread::Threads;
+use stream_io::{Progress, Silent};
 
 /// Typecodes of dealings to coalitions of three of five trustees, with SHA-256 of the files of the public key, of the
 /// tree, of the reference and of the last share.
@@ -84,7 +86,7 @@ fn files_are_those_of_another_implementation(rt: HostRuntime) {
 /// A dealing of typecodes 5 and 3 to coalitions of three of five trustees, by several threads.
 fn dealt_beside<R: Threads + Sync + Abort>(rt: &R, alloc: Global) -> Dealt {
     let (params, plan) = scheme_of(rt, (5, 3), (5, 3));
-    deal_beside(rt, alloc, &params, &plan, &count_up()).expect(rt, "a dealing")
+    deal_beside(&(rt, Silent), alloc, &params, &plan, &count_up()).expect(rt, "a dealing")
 }
 
 /// The same with its commitments, by one thread.
@@ -96,7 +98,8 @@ fn committed(rt: &impl Abort, alloc: Global) -> (Dealt, Vec<u8>) {
 /// The same with its commitments, by several threads.
 fn committed_beside<R: Threads + Sync + Abort>(rt: &R, alloc: Global) -> (Dealt, Vec<u8>) {
     let (params, plan) = scheme_of(rt, (5, 3), (5, 3));
-    deal_committed_beside(rt, alloc, &params, &plan, &count_up()).expect(rt, "a dealing")
+    deal_committed_beside(&(rt, Silent), alloc, &params, &plan, &count_up())
+        .expect(rt, "a dealing")
 }
 
 /// The files of a dealing.
@@ -132,6 +135,71 @@ fn commit_alike<R: Threads + Sync + Abort>(rt: &R, alloc: Global) -> bool {
 fn several_threads_deal_as_one_does(rt: HostRuntime) {
     assert!(rt; deal_alike(&rt, rt.alloc()));
     assert!(rt; commit_alike(&rt, rt.alloc()));
+}
+
+/// Counts what it is told of a dealing of 32 leaves.
+#[derive(Drop)]
+struct Counted {
+    leaves: AtomicU32,
+    ends: AtomicU32,
+    /// Leaves of another number than 32, leaves behind the end, and an end before the last leaf.
+    wrong: AtomicU32,
+}
+
+impl Counted {
+    /// Nothing yet.
+    fn new() -> Counted {
+        Counted {
+            leaves: AtomicU32::new(0),
+            ends: AtomicU32::new(0),
+            wrong: AtomicU32::new(0),
+        }
+    }
+
+    /// Whether each leaf was told of once, and then the end, once.
+    fn is_whole(&self) -> bool {
+        let leaves = self.leaves.load(Ordering::Acquire) == 32;
+        let ends = self.ends.load(Ordering::Acquire) == 1;
+        leaves & ends & (self.wrong.load(Ordering::Acquire) == 0)
+    }
+}
+
+impl Progress for Counted {
+    fn leaf_built(&self, all: u32) {
+        self.leaves.fetch_add(1, Ordering::AcqRel);
+        if all != 32 || self.ends.load(Ordering::Acquire) > 0 {
+            self.wrong.fetch_add(1, Ordering::AcqRel);
+        }
+    }
+
+    fn all_built(&self, all: u32) {
+        self.ends.fetch_add(1, Ordering::AcqRel);
+        if all != 32 || self.leaves.load(Ordering::Acquire) != 32 {
+            self.wrong.fetch_add(1, Ordering::AcqRel);
+        }
+    }
+}
+
+/// Whether a dealing by several threads tells of each leaf.
+fn tells_of_leaves<R: Threads + Sync + Abort>(rt: &R, alloc: Global) -> bool {
+    let (params, plan) = scheme_of(rt, (5, 3), (5, 3));
+    let beside = (rt, Counted::new());
+    let dealt = deal_beside(&beside, alloc, &params, &plan, &count_up());
+    dealt.is_ok() & beside.1.is_whole()
+}
+
+/// Whether a dealing with commitments does.
+fn tells_of_commitments<R: Threads + Sync + Abort>(rt: &R, alloc: Global) -> bool {
+    let (params, plan) = scheme_of(rt, (5, 3), (5, 3));
+    let beside = (rt, Counted::new());
+    let dealt = deal_committed_beside(&beside, alloc, &params, &plan, &count_up());
+    dealt.is_ok() & beside.1.is_whole()
+}
+
+#[test]
+fn each_leaf_is_told_of_once(rt: HostRuntime) {
+    assert!(rt; tells_of_leaves(&rt, rt.alloc()));
+    assert!(rt; tells_of_commitments(&rt, rt.alloc()));
 }
 
 /// Whether this entropy is refused for this.

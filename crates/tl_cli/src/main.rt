@@ -8,7 +8,7 @@ use standard::hold_standard;
 use std::env;
 use std::io::ErrorKind;
 use std::process::ExitCode;
-use stream_host::{FileStore, StdoutSink, TcpNet};
+use stream_host::{FileStore, ProgressLine, StdoutSink, TcpNet};
 use stream_io::write_whole;
 use tool_run::{SystemClocks, run_tool};
 
@@ -32,7 +32,7 @@ fn main(rt: HostRuntime) -> ExitCode {
     let mut net = TcpNet::new(rt);
     let mut time = SystemClocks::new(rt);
     ExitCode::from(run_tool(
-        &rt,
+        &(rt, ProgressLine::new(rt)),
         rt.alloc(),
         words.as_slice(),
         &mut store,

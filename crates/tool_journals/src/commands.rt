@@ -9,7 +9,7 @@ ghost use Rattle.tool_journals.specs.Migrate.{MigrateEnds};
 
 use crate::blank::{Blank, new_blank, read_blank};
 use crate::book::{add_message, open_book, read_message};
-use crate::copying::copy_disk;
+use crate::old_journal::copy_disk;
 use std::alloc::Global;
 use stream_io::{CallFault, Store};
 use tool_base::{Ending, read_share_file, test_new};

@@ -5,7 +5,7 @@
 mod blank;
 mod book;
 mod commands;
-mod copying;
 mod faults;
+mod old_journal;
 
 pub use commands::{approve_message, enrol_file, migrate_journal};

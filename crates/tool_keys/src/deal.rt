@@ -24,12 +24,12 @@ use lms_bytes::Params;
 use memory::NoMemory;
 use std::alloc::{AllocError, Global};
 use std::thread::Threads;
-use stream_io::{Readers, Store};
+use stream_io::{Progress, Readers, Store};
 use tool_base::{Ending, FILE_LIMIT, Output, Undealt, read_file, test_all_new, write_all};
 use tool_words::DealWords;
 
 /// Deals a key, and writes its files. The leaves are built by as many threads as there are processors.
-pub fn deal_files<R: Threads + Sync, S: Store>(
+pub fn deal_files<R: Threads + Progress + Sync, S: Store>(
     rt: &R,
     alloc: Global,
     store: &mut S,
@@ -50,7 +50,7 @@ pub fn deal_files<R: Threads + Sync, S: Store>(
 }
 
 /// Reads the entropy, deals, and tests the names of the outputs. It answers these and the end once all are written.
-fn new_outputs<R: Threads + Sync, S: Store>(
+fn new_outputs<R: Threads + Progress + Sync, S: Store>(
     rt: &R,
     alloc: Global,
     store: &mut S,
@@ -69,7 +69,7 @@ fn new_outputs<R: Threads + Sync, S: Store>(
 }
 
 /// The files of the dealing that the words ask for, and the end once they are written.
-fn dealt_outputs<R: Threads + Sync>(
+fn dealt_outputs<R: Threads + Progress + Sync>(
     rt: &R,
     alloc: Global,
     words: &DealWords,
@@ -93,7 +93,7 @@ fn dealt_outputs<R: Threads + Sync>(
 }
 
 /// The files of the dealing of this set, plan and entropy, and its commitment file where the words ask for it.
-fn dealt_files<R: Threads + Sync>(
+fn dealt_files<R: Threads + Progress + Sync>(
     rt: &R,
     alloc: Global,
     words: &DealWords,
@@ -116,7 +116,7 @@ fn dealt_files<R: Threads + Sync>(
 }
 
 /// The dealing of this set, plan and entropy, and its commitment file where the words ask for it.
-fn deal_as_asked<R: Threads + Sync>(
+fn deal_as_asked<R: Threads + Progress + Sync>(
     rt: &R,
     alloc: Global,
     words: &DealWords,

@@ -11,7 +11,7 @@ use crate::drilling::drill_sessions;
 use std::alloc::Global;
 use std::sync::Wait;
 use std::thread::Threads;
-use stream_io::{Failed, Net, Sink, Store, write_whole};
+use stream_io::{Failed, Net, Progress, Sink, Store, write_whole};
 use tool_aggregate::aggregate;
 use tool_base::Ending;
 use tool_blame::blame;
@@ -22,8 +22,9 @@ use tool_sign::{hss_sign, sign};
 use tool_trustee::{Clocks, serve_trustee};
 use tool_words::{Command, command_of};
 
-/// Does what the words ask for, and answers the status. The words begin with the command.
-pub fn run_tool<R: Threads + Wait + Sync, S: Store, N: Net, T: Clocks, O: Sink>(
+/// Does what the words ask for, and answers the status. The words begin with the command. The runtime is told how far a
+/// dealing is.
+pub fn run_tool<R: Threads + Wait + Progress + Sync, S: Store, N: Net, T: Clocks, O: Sink>(
     rt: &R,
     alloc: Global,
     words: &[String],
@@ -45,7 +46,7 @@ pub fn run_tool<R: Threads + Wait + Sync, S: Store, N: Net, T: Clocks, O: Sink>(
 }
 
 /// Does what the words ask for, and answers how it ends.
-fn run_words<R: Threads + Wait + Sync, S: Store, N: Net, T: Clocks>(
+fn run_words<R: Threads + Wait + Progress + Sync, S: Store, N: Net, T: Clocks>(
     rt: &R,
     alloc: Global,
     words: &[String],
@@ -68,7 +69,7 @@ fn run_words<R: Threads + Wait + Sync, S: Store, N: Net, T: Clocks>(
 }
 
 /// Does what a command asks for, and answers how it ends.
-fn run_command<R: Threads + Wait + Sync, S: Store, N: Net, T: Clocks>(
+fn run_command<R: Threads + Wait + Progress + Sync, S: Store, N: Net, T: Clocks>(
     rt: &R,
     alloc: Global,
     command: &Command,

@@ -10,7 +10,7 @@ use disk_trait::Faults;
 use std::alloc::Global;
 use std::sync::Wait;
 use std::thread::Threads;
-use stream_io::{Net, Sink, Store, Stream};
+use stream_io::{Net, Silent, Sink, Store, Stream};
 use stream_memory::{MemNet, MemSink, MemStore};
 use tool_run::{Clocks, MemClocks, run_tool};
 
@@ -31,5 +31,5 @@ pub(crate) fn run_over<R: Threads + Wait + Sync>(
         (output_run ⟦<MemSink as Faults>⟧.steady ⟦<MemSink as Sink>⟧.room ⟦<MemSink as Stream>⟧.talk out.old out.new))
         result }
 {
-    run_tool(rt, alloc, words, store, net, time, out)
+    run_tool(&(rt, Silent), alloc, words, store, net, time, out)
 }

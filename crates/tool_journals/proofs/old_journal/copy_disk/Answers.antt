@@ -7,7 +7,7 @@ use Rattle.tool_base.specs.Disks.{OneFails}
 use Rattle.tool_journals.specs.Migrate.{CopyEnds, old_header, slot_count}
 use Rattle.tool_journals.proofs.Copying.{copy_later, later_none, load_fails, load_is}
 use Rattle.tool_base.proofs.Outs.{ends_unchanged, ends_map}
-use Rattle.tool_journals.proofs.copying.copy_disk.Goals as goal
+use Rattle.tool_journals.proofs.old_journal.copy_disk.Goals as goal
 
 pub returns-in-Ok-clause-ended : goal.returns-in-Ok-clause-ended
 returns-in-Ok-clause-ended g c =

@@ -13,7 +13,7 @@ use Rattle.tool_journals.specs.Migrate.{CopyEnds, IsCopied, migrated, not_made, 
 use Rattle.tool_journals.proofs.Blanks.{IsMadeAndBack, made_and_back}
 use Rattle.tool_journals.proofs.Copying.{copy_fails, copy_is, damaged_is, not_written_of, taken_is}
 use Rattle.tool_base.proofs.Outs.{ends_unchanged}
-use Rattle.tool_journals.proofs.copying.copy_journal.Goals as goal
+use Rattle.tool_journals.proofs.old_journal.copy_journal.Goals as goal
 use Rattle.trustee_core.specs.Trustee.{journal_header}
 
 pub returns-in-Err-clause-ended : goal.returns-in-Err-clause-ended

@@ -1,0 +1,32 @@
+//! Who is told how far a dealing is.
+
+/// Is told how far a dealing is, by the threads that work at it. Neither call promises anything, so what is dealt is
+/// the same whoever is told.
+pub trait Progress {
+    /// One more leaf is built, of so many in all.
+    fn leaf_built(&self, all: u32);
+
+    /// All leaves are built, so many. No thread tells of a leaf any more.
+    fn all_built(&self, all: u32);
+}
+
+/// Is told, and does nothing.
+#[derive(Clone, Copy)]
+pub struct Silent;
+
+impl Progress for Silent {
+    fn leaf_built(&self, _all: u32) {}
+
+    fn all_built(&self, _all: u32) {}
+}
+
+/// A runtime, and who is told beside it.
+impl<R, P: Progress> Progress for (R, P) {
+    fn leaf_built(&self, all: u32) {
+        self.1.leaf_built(all);
+    }
+
+    fn all_built(&self, all: u32) {
+        self.1.all_built(all);
+    }
+}
