@@ -1,5 +1,5 @@
 -- The frames of asks.
-use Rattle.std.proofs.Common.{◌≡◌, ◌+◌, ◌≤◌, ℕ, Bool, true, false, List, length, IsTrue, Option, None, Some, Result, refl, ap, ◌∙◌, arith}
+use Rattle.std.proofs.Common.{◌≡◌, ◌+◌, ◌≤◌, ℕ, Bool, true, false, List, [], length, IsTrue, Option, None, Some, Result, refl, sym, ap, ◌∙◌, arith}
 use Rattle.aggregator_session.specs.Runs.{AskedAgain, IsSecondFrame, SecondFrames, asked, first_frame, not_read, second_frame}
 use Rattle.aggregator_session.specs.declared.fault.SignFault.{SignFault}
 use Rattle.lms_bytes.specs.declared.ask.Ask.{Ask}
@@ -22,6 +22,13 @@ pub first-frame : (s : State) (digest message : List ℕ) (ask : Ask) → s.c �
 unfolding first_frame
 first-frame s digest message ask none a =
     ap (λ (x : Ask). ask_frame x message) a.same ∙ ap (λ (c : Option (List ℕ)). ask_frame (made s c a.tag digest) message) none
+
+-- the ask of round one has no digest
+pub any-digest : (s : State) (digest : List ℕ) (ask : Ask) → s.c ≡ None → IsAskOf s digest ask → IsAskOf s [] ask
+any-digest s digest ask none a = record {
+  tag = a.tag;
+  same = a.same ∙ (ap (λ (c : Option (List ℕ)). made s c a.tag digest) none ∙ sym (ap (λ (c : Option (List ℕ)). made s c a.tag []) none));
+}
 
 -- how long the ask of round one is
 pub first-length : (params : Params) (s : State) (digest message : List ℕ) (ask : Ask) → s.c ≡ None → IsAskOf s digest ask → ask_length params ask message ≡ 64

@@ -3,7 +3,8 @@ use Rattle.std.proofs.Common.{◌≡◌, ◌≢◌, ◌⊎◌, ◌++◌, ℕ, su
 use Rattle.aggregator_session.specs.Faults.{why_of}
 use Rattle.aggregator_session.specs.Hearing.{Came, by_frame, is_heard, hear, is_answer, or_lost, unread}
 use Rattle.aggregator_session.specs.declared.fault.SignFault.{SignFault}
-use Rattle.aggregator_session.specs.declared.fault.SignFault.TheVariants.{Lost, Stray}
+use Rattle.aggregator_session.specs.declared.fault.SignFault.TheVariants.{Lost, Session, Stray}
+use Rattle.aggregator_session.specs.declared.fault.Why.{Why}
 use Rattle.aggregator_session.specs.declared.fault.Why.TheVariants.{ReadFailed}
 use Rattle.lms_bytes.specs.declared.ask.ReplyHead.{ReplyHead}
 use Rattle.lms_bytes.specs.declared.params.Params.{Params}
@@ -14,6 +15,7 @@ use Rattle.round_frames.specs.declared.fault.FrameFault.{FrameFault}
 use Rattle.round_frames.specs.declared.fault.FrameFault.TheVariants.{End, Cut, Magic, Kind, TooLong, Shape}
 use Rattle.round_frames.specs.declared.fault.FrameFault.TheVariants.{ReadFault, NoMemory}
 use Rattle.session_core.specs.State.{State, round_of}
+use Rattle.session_core.specs.declared.faults.SessionFault.TheVariants.{Reference}
 use Rattle.stream_io.specs.Store.{RisesWhere}
 use Rattle.stream_io.specs.Talk.{OnlyRead, Talk, Took}
 
@@ -125,3 +127,10 @@ heard-why (TooLong got) = refl
 heard-why Shape = refl
 heard-why ReadFault = refl
 heard-why NoMemory = refl
+
+-- a member that is lost or strays is no reference that was not read
+pub lost-reference : {V : Type 0} (member round : ℕ) (why : Why) → ◌≡◌ {A = Result V SignFault} (Err (Lost member round why)) (Err (Session Reference)) → ⊥
+lost-reference member round why is = absurd (cc)
+
+pub stray-reference : {V : Type 0} (member round : ℕ) → ◌≡◌ {A = Result V SignFault} (Err (Stray member round)) (Err (Session Reference)) → ⊥
+stray-reference member round is = absurd (cc)

@@ -12,7 +12,6 @@ pub mod Sessions
 pub mod Tasks
 pub mod Telling
 pub mod Writing
-pub mod Answering
 pub mod Ending
 pub mod Running
 pub mod Signing

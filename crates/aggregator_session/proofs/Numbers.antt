@@ -31,11 +31,42 @@ one-over a b le = omega arith
 pub all-gone : (size count end items : ℕ) → size + count ≡ end → end ≤ count → size ≡ items → items ≡ 0
 all-gone size count end items is done same = omega arith
 
+pub steps-first : (most : ℕ) → most + 0 ≡ 8 → 8 ≡ most
+steps-first most is = omega arith
+
 pub steps-more : (most n : ℕ) → most + (n + 1) ≡ 8 → suc most + n ≡ 8
 steps-more most n is = omega arith
 
 pub steps-done : (n : ℕ) → 8 ≤ n → n ≤ 8 → 0 + n ≡ 8
 steps-done n least most = omega arith
+
+pub all-dialled : (dialled i many : ℕ) → dialled ≡ i → many ≤ i → i ≤ many → dialled ≡ many
+all-dialled dialled i many is done most = omega arith
+
+pub space-left : (dialled i many room : ℕ) → dialled ≡ i → i < many → many ≤ room → dialled < room
+space-left dialled i many room is more fits = omega arith
+
+-- a count that stayed the same did not rise
+pub is-most : (now before : ℕ) → now ≡ before → now ≤ before
+is-most now before same = omega arith
+
+-- the room of a link that had a port's room, and on which the ask of round one was written
+pub room-asked : (port had left size : ℕ) → size ≡ 64 → port ≤ had → had ≤ left + size → port ≤ left + 64
+room-asked port had left size is some kept = omega arith
+
+pub room-first : (port had size : ℕ) → size ≡ 64 → port ≤ had → 64 ≤ port → size ≤ had
+room-first port had size is some fits = omega arith
+
+-- what is left of a link's room where an ask was written and an answer read
+pub room-after : (old mid new told seen frame size : ℕ) → old ≤ mid + frame → frame ≡ size → told ≤ seen → told ≡ mid → seen ≡ new → old ≤ new + size
+room-after old mid new told seen frame size wrote long read before after = omega arith
+
+-- links that are still to be hung up
+pub none-gone : (len end : ℕ) → end ≡ len → len + 0 ≡ end
+none-gone len end is = omega arith
+
+pub some-left : (len count end items : ℕ) → len + count ≡ end → count < end → len ≡ items → 0 < items
+some-left len count end items is more same = omega arith
 
 pub inside : (i many links : ℕ) → links ≡ many → i < many → i < links
 inside i many links same lt = omega arith

@@ -29,6 +29,13 @@ onward-then a b c x y = record {
   room = (let p = x.room in let q = y.room in omega arith);
 }
 
+pub dials-none : (a : PortState) → OnlyDials a a
+dials-none a = record {
+  onward = record { told = refl; steady = refl; place = refl; count = le_refl _; accept_count = le_refl _; room = le_refl _ };
+  talks = refl;
+  accepting = refl;
+}
+
 pub dials-then : (a b c : PortState) → OnlyDials a b → OnlyDials b c → OnlyDials a c
 dials-then a b c x y = record { onward = onward-then a b c x.onward y.onward; talks = y.talks ∙ x.talks; accepting = y.accepting ∙ x.accepting }
 

@@ -95,5 +95,8 @@ fn is_answer(session: &mut Session, member: u8, head: &ReplyHead, body: &[u8]) -
     ensures state { session.new ≡ (if result then with_delivery session.old head.now body.now else session.old) }
     ensures same { SameAsk session.old session.new }
 {
-    head.member == member && session.take(head, body) == Step::Kept
+    if head.member != member {
+        return false;
+    }
+    matches!(session.take(head, body), Step::Kept)
 }

@@ -11,4 +11,4 @@ mod sign;
 pub use desk::{Address, Desk};
 pub use fault::{SignFault, Why};
 pub use session::run_session;
-pub use sign::{Ended, Signed, run_leased, run_on, sign_leased, spent_by};
+pub use sign::{Ended, Signed, run_leased, run_on, sign_leased, signed_with, spent_by};

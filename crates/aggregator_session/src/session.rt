@@ -1,7 +1,7 @@
 //! A session over links.
 
-ghost use Rattle.std.specs.Prelude.{◌≡◌, ◌⊎◌, ◌+◌, ◌<◌, ◌≤◌, ◌++◌, [], All, Contains, length};
-ghost use Rattle.std.specs.Prelude.{IfOk, IfSome, IsSome, IsTrue, OnOk, map};
+ghost use Rattle.std.specs.Prelude.{◌≡◌, ◌⊎◌, ◌+◌, ◌*◌, ◌<◌, ◌≤◌, ◌++◌, [], All, Contains, length};
+ghost use Rattle.std.specs.Prelude.{IfOk, IfSome, IsSome, IsTrue, None, OnOk, map};
 ghost use Rattle.aggregator_session.specs.Causes.{DialCauses, LinkCauses, PortCauses, ReferenceCauses, asks_length};
 ghost use Rattle.std.specs.Vec.{vec_capacity, vec_len};
 ghost use Rattle.aggregator_session.specs.Runs.{AskedAgain, First, HasCalled, HasRun, SameSession, Second, SignRun};
@@ -9,6 +9,7 @@ ghost use Rattle.aggregator_session.specs.Runs.{bytes_in, first_frame, reads_of,
 ghost use Rattle.aggregator_session.specs.Desks.{ReadsFor, desk_state};
 ghost use Rattle.aggregator_session.specs.Tasks.{AddsAsked, AreAsked, HangsUpAll, MayRun, StandsAgain, StandsFirst};
 ghost use Rattle.coalition_map.specs.Coalitions.{leaf_members};
+ghost use Rattle.session_core.specs.Asks.{IsAskOf};
 ghost use Rattle.session_core.specs.State.{SameAsk};
 ghost use Rattle.session_core.specs.Verdicts.{AreMasks, digest_of};
 
@@ -17,7 +18,7 @@ use crate::desk::{Desk, place_of};
 use crate::fault::{SignFault, Why};
 use coalition_map::Plan;
 use disk_trait::Faults;
-use lms_bytes::{PublicKey, Val};
+use lms_bytes::{Ask, Params, PublicKey, Val};
 use ots_chain::MessageHash;
 use reference_value::Cells;
 use session_core::Session;
@@ -50,10 +51,8 @@ pub fn run_session<R: Cells, P: Port>(
     ensures port { PortCauses message.now (P.state port.old) (P.state port.new) result }
     ensures cells { ReferenceCauses R.Cells.own R.Faults cells.old cells.new result }
 {
-    let members = members_of(alloc, desk.plan, session.leaf())?;
-    let params = &desk.key.params;
-    let mut room = vec![in alloc; 0; params.p as usize * params.n as usize]?;
-    let mut links = Vec::with_capacity(alloc, members.len())?;
+    let memory = take_memory(alloc, desk, session.leaf())?;
+    let (members, mut room, mut links) = memory;
     let task = Task {
         desk,
         members: &members,
@@ -62,6 +61,26 @@ pub fn run_session<R: Cells, P: Port>(
     let result = ask_all(alloc, &task, cells, port, session, &mut links, &mut room);
     hang_up_all(port, links);
     result
+}
+
+/// Takes the memory for a session of a leaf: the list of its members, room for the masks of all chains, and room for a
+/// link to each member.
+fn take_memory<L>(
+    alloc: Global,
+    desk: &Desk,
+    leaf: u32,
+) -> Result<(Vec<u8>, Vec<u8>, Vec<L>), AllocError>
+    ensures members { IfOk result (λ memory. memory.0.items ≡ leaf_members desk.now.plan.now leaf) }
+    ensures room { IfOk result (λ memory.
+        length memory.1.items ≡ desk.now.key.now.params.p * desk.now.key.now.params.n) }
+    ensures links { IfOk result (λ memory. memory.2.items ≡ []) }
+    ensures space { IfOk result (λ memory. length memory.0.items ≤ vec_capacity memory.2) }
+{
+    let members = members_of(alloc, desk.plan, leaf)?;
+    let params = &desk.key.params;
+    let room = vec![in alloc; 0; params.p as usize * params.n as usize]?;
+    let links = Vec::with_capacity(alloc, members.len())?;
+    Ok((members, room, links))
 }
 
 /// The members of a leaf, in ascending order.
@@ -182,8 +201,7 @@ fn dial_member<R: Cells, P: Port>(
         × OnOk result (vec_len links.new ≡ vec_len links.old + 1) }
 {
     let params = &task.desk.key.params;
-    // The ask of round one has no digest.
-    let ask = session.ask(cells, member, &Val::cut(&[0; 32], params.n))?;
+    let ask = first_ask(params, cells, session, member);
     let Some(place) = place_of(task.desk.addresses, member) else {
         return Err(SignFault::Lost {
             member,
@@ -201,6 +219,20 @@ fn dial_member<R: Cells, P: Port>(
     let answer = ask_member(params, session, member, &ask, task.message, &mut link, room);
     links.push_reserved(link);
     answer
+}
+
+/// The ask of round one to a member. It has no digest, and reads no cell, so it is always made.
+fn first_ask<R: Cells>(params: &Params, cells: &mut R, session: &Session, member: u8) -> Ask
+    requires round { session.now.c ≡ None }
+    requires member { Contains (leaf_members session.now.plan session.now.leaf) member }
+    requires cells { (R.set cells.old ≡ session.now.key.params) × (R.plan cells.old ≡ session.now.plan) }
+    ensures ask { IsAskOf session.now [] result }
+    ensures cells { cells.new ≡ cells.old }
+{
+    let Ok(ask) = session.ask(cells, member, &Val::cut(&[0; 32], params.n)) else {
+        unreachable!()
+    };
+    ask
 }
 
 /// Round two, until a member refuses.

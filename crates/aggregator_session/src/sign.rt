@@ -115,7 +115,7 @@ fn not_begun(fault: SignFault) -> Ended<Result<Signed, SignFault>>
 }
 
 /// A signature with the leaf that signed, or the fault.
-fn signed_with(leaf: u32, outcome: Result<Vec<u8>, SignFault>) -> Result<Signed, SignFault>
+pub fn signed_with(leaf: u32, outcome: Result<Vec<u8>, SignFault>) -> Result<Signed, SignFault>
     ensures answer { signature_in result ≡ signed_with leaf (bytes_in outcome) }
     ensures ok { IfOk result (λ signed. (outcome ≡ Ok signed.bytes) × (signed.leaf ≡ leaf)) }
     ensures err { IfErr result (λ fault. outcome ≡ Err fault) }

@@ -1,13 +1,13 @@
-use Rattle.std.proofs.Common.{◌≡◌, ◌+◌, ◌-◌, ◌<◌, ℕ, suc, true, false, Ok, Err, IsTrue, take, refl, sym, ap, subst, ◌∙◌, arith, inl, inr}
+use Rattle.std.proofs.Common.{◌≡◌, ◌+◌, ◌-◌, ◌<◌, ◌≤◌, ◌*◌, ℕ, suc, true, false, Ok, Err, IsTrue, take, refl, sym, ap, subst, ◌∙◌, arith, inl, inr}
 use Rattle.aggregator_session.specs.Faults.{why_of}
 use Rattle.std.proofs.lemmas.Bool.{false≢true}
-use Rattle.aggregator_session.specs.Hearing.{is_answer, is_heard, kept_in}
+use Rattle.aggregator_session.specs.Hearing.{hear, is_answer, is_heard, kept_in}
 use Rattle.aggregator_session.specs.declared.fault.SignFault.TheVariants.{Lost, Stray}
 use Rattle.aggregator_session.specs.declared.fault.Why.{Why}
 use Rattle.round_frames.specs.Replies.{Reply}
 use Rattle.session_core.specs.State.{State, round_of}
-use Rattle.aggregator_session.proofs.Hearing.{hear-answered, heard-why, hear-lost, hear-none, hear-passed, lost-cause, none-lost, only-then, quiet-cause, read-all, read-failed, reads-as}
-use Rattle.aggregator_session.proofs.Numbers.{ok-never, steps-done, steps-more}
+use Rattle.aggregator_session.proofs.Hearing.{hear-answered, heard-why, hear-lost, hear-none, hear-passed, lost-cause, lost-reference, none-lost, only-same, only-then, quiet-cause, read-all, read-failed, reads-as, stray-reference}
+use Rattle.aggregator_session.proofs.Numbers.{ok-never, steps-done, steps-first, steps-more}
 use Rattle.aggregator_session.proofs.Tasks.{same-none, same-then}
 use Rattle.aggregator_session.proofs.asks.hear.Goals as goal
 
@@ -150,3 +150,33 @@ returns-in-Err-clause-same g c = same-none _ _ c.loop.invariant.session
 
 pub returns-clause-same : goal.returns-clause-same
 returns-clause-same g c = same-none _ _ c.loop.invariant.session
+
+pub loop-init : goal.loop-init
+loop-init g c =
+    let talk = g.L.Stream.talk c.args.link.now in
+    record {
+      only = only-same talk;
+      all = λ told. refl;
+      heard = λ told most many. ap (λ (n : ℕ). hear c.args.session.now c.args.member n talk.left) (steps-first most many);
+      quiet = refl;
+      session = refl;
+      steady = refl;
+    }
+
+pub returns-in-Err-clause-reference : goal.returns-in-Err-clause-reference
+returns-in-Err-clause-reference g c = lost-reference _ _ _
+
+pub returns-clause-reference : goal.returns-clause-reference
+returns-clause-reference g c = stray-reference _ _
+
+pub returns-then-is_answer-clause-steady : goal.returns-then-is_answer-clause-steady
+returns-then-is_answer-clause-steady g c = c.in-Ok.ensures.steady ∙ c.loop.invariant.steady
+
+pub returns-in-Err-clause-steady : goal.returns-in-Err-clause-steady
+returns-in-Err-clause-steady g c = c.in-Err.ensures.steady ∙ c.loop.invariant.steady
+
+pub returns-clause-steady : goal.returns-clause-steady
+returns-clause-steady g c = c.loop.invariant.steady
+
+pub next_reply-requires : goal.next_reply-requires
+next_reply-requires g c = subst (λ (n : ℕ). c.args.params.now.p * c.args.params.now.n ≤ n) (sym c.loop.auto.room) c.requires.room

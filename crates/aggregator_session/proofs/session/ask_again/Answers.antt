@@ -10,7 +10,7 @@ use Rattle.aggregator_session.proofs.Numbers.{holds-behind, inside}
 use Rattle.aggregator_session.proofs.Digests.{same-digest}
 use Rattle.aggregator_session.proofs.Sessions.{cells-ok, err-as, exact-stays}
 use Rattle.aggregator_session.proofs.Standing.{member-of, stands-as}
-use Rattle.aggregator_session.proofs.Tasks.{lost-as, rose-later, same-then}
+use Rattle.aggregator_session.proofs.Tasks.{lost-as, rose-later, same-none, same-then}
 use Rattle.reference_value.proofs.Staying.{stays-then}
 use Rattle.aggregator_session.proofs.session.ask_again.Goals as goal
 
@@ -113,3 +113,32 @@ returns-then-not-branch-clause-cells g c =
 
 pub returns-clause-cells : goal.returns-clause-cells
 returns-clause-cells g c = cells-ok _ c.members.invariant.stays
+
+pub members-init : goal.members-init
+members-init g c = record {
+  run = λ news last end run. run;
+  many = sym c.args.links.now.ok.0 ∙ c.requires.links;
+  steady = λ all. all;
+  rooms = λ all k d low lt. all k d lt;
+  same = same-none _ _ refl;
+  count = le_refl _;
+  stays = record { set = refl; plan = refl; told = refl; steady = refl; leaves = λ told. refl };
+}
+
+pub returns-then-not-branch-clause-links : goal.returns-then-not-branch-clause-links
+returns-then-not-branch-clause-links g c = record { dialled = λ lost. lost; reads = λ all lost. lost; writes = λ all wide lost. lost }
+
+pub returns-clause-links : goal.returns-clause-links
+returns-clause-links g c = record { dialled = λ lost. lost; reads = λ all lost. lost; writes = λ all wide lost. lost }
+
+pub returns-in_err-ask_once_more-clause-count : goal.returns-in_err-ask_once_more-clause-count
+returns-in_err-ask_once_more-clause-count g c = le_trans c.members.invariant.count c.ask_once_more.ensures.count
+
+pub returns-then-not-branch-clause-count : goal.returns-then-not-branch-clause-count
+returns-then-not-branch-clause-count g c = le_trans c.members.invariant.count c.ask_once_more.ensures.count
+
+pub returns-clause-count : goal.returns-clause-count
+returns-clause-count g c = c.members.invariant.count
+
+pub returns-clause-same : goal.returns-clause-same
+returns-clause-same g c = c.members.invariant.same

@@ -1,12 +1,18 @@
 use Rattle.std.specs.Prelude.{IfSome, IsSome}
-use Rattle.std.proofs.Common.{◌≡◌, Option, length, ℕ, List, [], sym, ap, subst, ◌∙◌, inl, inr}
+use Rattle.std.proofs.Common.{◌≡◌, Option, length, ℕ, List, [], Result, Err, sym, ap, subst, ◌∙◌, inl, inr}
+use Rattle.std.specs.declared.alloc.Global.{Global}
+use Rattle.std.specs.declared.vec.Vec.{Vec}
 use Rattle.std.proofs.lemmas.Bool.{false≢true}
 use Rattle.std.proofs.lemmas.List.{length-map}
 use Rattle.std.proofs.lemmas.Result.{err_from_is_err_and}
 use Rattle.session_core.specs.State.{State}
 use Rattle.session_core.specs.declared.faults.SessionFault.TheVariants.{Reference}
 use Rattle.aggregator_session.proofs.Standing.{round-turned, same-asked, same-turned, stands-again, stands-as}
-use Rattle.aggregator_session.specs.Runs.{SameSession, judged_in_one, judged_in_two, lost_in_one, lost_in_two, signed}
+use Rattle.aggregator_session.specs.Desks.{DeskState}
+use Rattle.aggregator_session.specs.Runs.{CellsRead, SameSession, SignRun, bytes_in, judged_in_one, judged_in_two, lost_in_one, lost_in_two, signed}
+use Rattle.aggregator_session.specs.declared.fault.SignFault.{SignFault}
+use Rattle.stream_io.specs.Net.{PortState}
+use Rattle.stream_io.specs.Talk.{Talk}
 use Rattle.std.proofs.Math.Nat.{le_trans}
 use Rattle.aggregator_session.proofs.Numbers.{count-on, first-fits, ok-err, second-fits}
 use Rattle.aggregator_session.proofs.Tasks.{dials-on, judged-none, lost-as, once-as, once-of, rose-later}
@@ -18,10 +24,18 @@ use Rattle.session_core.specs.Dealing.{IsAnswered}
 use Rattle.aggregator_session.proofs.Digests.{same-digest}
 use Rattle.aggregator_session.proofs.session.ask_all.Goals as goal
 
+-- a run that ends with a fault, told as the call's answer
+module _ {desk : DeskState} {reads : CellsRead} {message : List ℕ} {port : PortState} {s last : State} {talks : List Talk} where
+  run-err : (result : Result (Vec ℕ Global) SignFault) (other fault : SignFault) → result ≡ Err other → other ≡ fault → SignRun desk reads message port s talks last (Err fault)
+      → SignRun desk reads message port s talks last (bytes_in result)
+  run-err result other fault is same run =
+      subst (λ (r : Result (Vec ℕ Global) SignFault). SignRun desk reads message port s talks last (bytes_in r)) (sym is)
+      (subst (λ (f : SignFault). SignRun desk reads message port s talks last (Err f)) (sym same) run)
+
 pub returns-in_err-dial_all-clause-run : goal.returns-in_err-dial_all-clause-run
 returns-in_err-dial_all-clause-run g c =
     let p = err_from_is_err_and c.from_residual.result c.from_residual.ensures.1 in
-    rw (p.1, p.2) (lost_in_one _ c.dial_all.new.session c.in_err-dial_all.field-0.0
+    run-err c.from_residual.result p.0 _ p.1 p.2 (lost_in_one _ c.dial_all.new.session c.in_err-dial_all.field-0.0
     (first-as _ _ _ c.args.session.now _ _ _ _ _ _ c.requires.task.stands.all c.in_err-dial_all.was c.dial_all.ensures.run))
 
 pub returns-in_err-turn-clause-run : goal.returns-in_err-turn-clause-run
@@ -29,7 +43,7 @@ returns-in_err-turn-clause-run g c =
     let p = err_from_is_err_and c.from_residual-in_err-turn.result c.from_residual-in_err-turn.ensures.1 in
     let count = g.R.Faults.count in
     let same = ap count c.dial_all.ensures.cells in
-    rw (p.1, p.2) (run-as c.dial_all.new.session c.turn.new.self c.in_err-turn.ensures.same
+    run-err c.from_residual-in_err-turn.result p.0 _ p.1 p.2 (run-as c.dial_all.new.session c.turn.new.self c.in_err-turn.ensures.same
     (judged_in_one _ c.dial_all.new.session c.in_err-turn.field-0.0
     (first-as _ _ _ c.args.session.now _ _ _ _ _ _ c.requires.task.stands.all c.in_ok-dial_all.was c.dial_all.ensures.run)
     (stops-later _ [] _ _ _ _ (count-as _ _ same) c.in_err-turn.ensures.cause)))
@@ -41,7 +55,7 @@ returns-in_err-ask_again-clause-run g c =
     let t = c.in_ok-turn.ensures in
     let many = length-map c.dial_all.new.links.items g.P.Link.Stream.talk ∙ sym c.dial_all.new.links.ok.0 in
     let stays = stays-as d.cells t.onward.stays in
-    rw (p.1, p.2) (lost_in_two _ _ c.turn.new.self c.ask_again.new.session c.in_err-ask_again.field-0.0
+    run-err c.from_residual-in_err-ask_again.result p.0 _ p.1 p.2 (lost_in_two _ _ c.turn.new.self c.ask_again.new.session c.in_err-ask_again.field-0.0
     (opens-by g.R.Cells d.cells c.args.session.now c.dial_all.new.session c.turn.new.self c.requires.task.stands.all
     d.run c.in_ok-dial_all.was c.in_ok-dial_all.ensures.whole many t.turns)
     (second-end _ _ _ _ _ _ _ _ stays.told stays.leaves c.requires.task.stands.all c.in_err-ask_again.was c.ask_again.ensures.run))
@@ -64,7 +78,7 @@ returns-in_err-finish_with-clause-run g c =
     let count = g.R.Faults.count in
     let le = le_trans (count-on _ _ _ (ap count d.cells) t.onward.count) a.count in
     let digest = c.digest_of-digest.ensures ∙ same-digest c.turn.new.self c.ask_again.new.session c.args.task.now.message.now a.same in
-    rw (p.1, p.2) (judged_in_two _ _ c.turn.new.self c.ask_again.new.session c.in_err-finish_with.field-0.0
+    run-err c.from_residual-in_err-finish_with.result p.0 _ p.1 p.2 (judged_in_two _ _ c.turn.new.self c.ask_again.new.session c.in_err-finish_with.field-0.0
     (opens-by g.R.Cells d.cells c.args.session.now c.dial_all.new.session c.turn.new.self c.requires.task.stands.all
     d.run c.in_ok-dial_all.was c.in_ok-dial_all.ensures.whole many t.turns)
     (second-end _ _ _ _ _ _ _ _ stays.told stays.leaves c.requires.task.stands.all c.in_ok-ask_again.was a.run)

@@ -1,13 +1,14 @@
-use Rattle.std.proofs.Common.{◌+◌, ◌≤◌, ℕ, true, false, length, sym, ap, subst, ◌∙◌, inr}
+use Rattle.std.proofs.Common.{◌+◌, ◌++◌, ◌≤◌, ℕ, List, true, false, length, map, refl, sym, ap, subst, ◌∙◌, inl, inr}
 use Rattle.std.proofs.lemmas.Result.{err_from_is_err_and}
-use Rattle.aggregator_session.proofs.Adding.{asked-more}
-use Rattle.std.proofs.Math.Nat.{le_trans}
-use Rattle.aggregator_session.proofs.Numbers.{one-over}
+use Rattle.aggregator_session.proofs.Adding.{asked-more, asked-none}
+use Rattle.std.proofs.Math.Nat.{le_refl, le_trans}
+use Rattle.aggregator_session.proofs.Numbers.{all-dialled, one-over, space-left}
 use Rattle.aggregator_session.proofs.Refusing.{called-refused}
 use Rattle.aggregator_session.proofs.Rounds.{first-done, first-ends, first-more, first-refuses, ok-is}
 use Rattle.aggregator_session.proofs.Standing.{member-of, stands-first}
-use Rattle.aggregator_session.proofs.Tasks.{called-as, dials-then, frame-same, lost-as, ok-not, once-as, once-of, rises-later, rose-later, same-then}
-use Rattle.aggregator_session.specs.Runs.{first_frame}
+use Rattle.aggregator_session.proofs.Tasks.{called-as, dials-none, dials-then, frame-same, lost-as, ok-not, once-as, once-of, rises-later, rose-later, same-none, same-then}
+use Rattle.aggregator_session.specs.Runs.{First, first_frame}
+use Rattle.aggregator_session.specs.Tasks.{AreAsked}
 use Rattle.aggregator_session.proofs.session.dial_all.Goals as goal
 
 pub returns-in_err-dial_member-clause-run : goal.returns-in_err-dial_member-clause-run
@@ -121,3 +122,44 @@ returns-then-not-branch-clause-same g c = same-then _ _ _ c.members.invariant.sa
 
 pub returns-then-not-branch-clause-cells : goal.returns-then-not-branch-clause-cells
 returns-then-not-branch-clause-cells g c = c.dial_member.ensures.cells ∙ c.members.invariant.cells
+
+pub members-init : goal.members-init
+members-init g c =
+    let talk = g.P.Link.Stream.talk in
+    let port = g.P.Port.state c.args.port.now in
+    let none = c.requires.room.0 in
+    record {
+      run = λ rest last end run.
+          subst (λ (l : List _). First c.args.task.now.desk.now.addresses.now (first_frame c.args.session.now) port c.args.session.now c.args.task.now.members.now (map talk l ++ rest) last end) (sym none) run;
+      many = c.args.links.now.ok.0 ∙ ap (λ (l : List _). length l) none;
+      room = c.requires.room.1;
+      links = subst (λ (l : List _). AreAsked g.P.Link.Faults.steady g.P.Link.Sink.room port l) (sym none) (asked-none g.P.Link.Faults.steady g.P.Link.Sink.room port);
+      port = dials-none port;
+      undialled = le_refl _;
+      same = same-none _ _ refl;
+      cells = refl;
+    }
+
+pub returns-in_err-dial_member-clause-whole : goal.returns-in_err-dial_member-clause-whole
+returns-in_err-dial_member-clause-whole g c =
+    let p = err_from_is_err_and c.from_residual.result c.from_residual.ensures.1 in
+    rw p.1 tt
+
+pub returns-clause-whole : goal.returns-clause-whole
+returns-clause-whole g c =
+    let v = c.members.invariant in
+    inl (all-dialled _ c.members.i _ v.many c.members-test.false c.members.auto.i-end)
+
+pub returns-clause-links : goal.returns-clause-links
+returns-clause-links g c = c.members.invariant.links
+
+pub returns-clause-same : goal.returns-clause-same
+returns-clause-same g c = c.members.invariant.same
+
+pub returns-clause-cells : goal.returns-clause-cells
+returns-clause-cells g c = c.members.invariant.cells
+
+pub dial_member-requires-clause-space : goal.dial_member-requires-clause-space
+dial_member-requires-clause-space g c κs within =
+    let v = c.members.invariant in
+    space-left _ c.members.i _ _ v.many c.members-test.true v.room

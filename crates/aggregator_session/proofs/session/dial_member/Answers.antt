@@ -1,5 +1,4 @@
-use Rattle.std.proofs.Common.{[], ◌∷◌, ℕ, List, Err, map, refl, sym, ap, subst, ◌∙◌, arith}
-use Rattle.std.proofs.lemmas.Bool.{false≢true}
+use Rattle.std.proofs.Common.{[], ◌∷◌, ℕ, List, Err, map, refl, sym, ap, subst, ◌∙◌}
 use Rattle.std.proofs.lemmas.List.{append-nil, map_push}
 use Rattle.aggregator_session.specs.Hearing.{Asked}
 use Rattle.aggregator_session.specs.Runs.{dialled, nowhere, undialled}
@@ -9,6 +8,7 @@ use Rattle.aggregator_session.proofs.Adding.{adds-none, adds-one}
 use Rattle.aggregator_session.proofs.Standing.{may-ask}
 use Rattle.aggregator_session.proofs.Frames.{first-frame, first-length}
 use Rattle.aggregator_session.proofs.Tasks.{dials-failed, dials-nowhere}
+use Rattle.aggregator_session.proofs.Numbers.{is-most, one-over, room-asked, room-first}
 use Rattle.stream_io.specs.Net.{Dials}
 use Rattle.aggregator_session.proofs.session.dial_member.Goals as goal
 
@@ -42,7 +42,7 @@ returns-clause-called g c =
     let h = c.ask_member-answer.ensures.asked in
     let start = talk c.in-Ok.link in
     let last = talk c.ask_member-answer.new.link in
-    let frame = first-frame c.args.session.now _ c.args.task.now.message.now c.in_ok-ask.ask c.requires.task.round c.in_ok-ask.ensures.ask in
+    let frame = first-frame c.args.session.now _ c.args.task.now.message.now c.first_ask-ask.result c.requires.task.round c.first_ask-ask.ensures.ask in
     record {
       answer = h.answer;
       talks = last ∷ [];
@@ -63,45 +63,29 @@ returns-in_default-dial-clause-links g c = adds-none g.P.Link.Faults.steady g.P.
 
 pub returns-clause-links : goal.returns-clause-links
 returns-clause-links g c =
-    let size = first-length c.args.task.now.desk.now.key.now.params c.args.session.now _ c.args.task.now.message.now c.in_ok-ask.ask c.requires.task.round c.in_ok-ask.ensures.ask in
+    let size = first-length c.args.task.now.desk.now.key.now.params c.args.session.now _ c.args.task.now.message.now c.first_ask-ask.result c.requires.task.round c.first_ask-ask.ensures.ask in
     let had = c.in-Ok.ensures.link.link.room in
     let has = c.ask_member-answer.ensures.room in
     adds-one g.P.Link.Faults.steady g.P.Link.Sink.room (g.P.Port.state c.args.port.now) c.args.links.now.items _ c.ask_member-answer.new.link c.push_reserved.ensures.items
-    (λ steady. c.ask_member-answer.ensures.steady ∙ c.in-Ok.ensures.link.link.steady steady) (omega (arith, size, had, has))
+    (λ steady. c.ask_member-answer.ensures.steady ∙ c.in-Ok.ensures.link.link.steady steady) (room-asked _ _ _ _ size had has)
 
 pub returns-clause-dials : goal.returns-clause-dials
 returns-clause-dials g c =
-    let size = first-length c.args.task.now.desk.now.key.now.params c.args.session.now _ c.args.task.now.message.now c.in_ok-ask.ask c.requires.task.round c.in_ok-ask.ensures.ask in
+    let size = first-length c.args.task.now.desk.now.key.now.params c.args.session.now _ c.args.task.now.message.now c.first_ask-ask.result c.requires.task.round c.first_ask-ask.ensures.ask in
     let d = c.in-Ok.ensures in
     let had = d.link.link.room in
     let same = d.cause.succeeded in
     let links = c.ask_member-answer.ensures.links in
     record {
       dialled = λ lost. absurd (links.dialled lost);
-      once = record { once = omega (arith, same); same = λ _. omega (arith, same) };
+      once = record { once = one-over _ _ (is-most _ _ same); same = λ _. is-most _ _ same };
       reads = λ steady lost. links.reads (d.link.link.steady steady) lost;
-      writes = λ steady fits lost. links.writes (d.link.link.steady steady) (omega (arith, fits, size, had)) lost;
+      writes = λ steady fits lost. links.writes (d.link.link.steady steady) (room-first _ _ _ size had fits) lost;
       only = record { onward = d.onward; talks = d.link.talks; accepting = d.accepting };
     }
 
 pub ask_member-answer-requires : goal.ask_member-answer-requires
-ask_member-answer-requires g c = record { ask = may-ask _ _ _ _ _ _ _ c.requires.task.stands c.in_ok-ask.ensures.ask }
-
--- the ask of round one reads no cell, so it is made
-pub returns-in_err-ask-clause-called : goal.returns-in_err-ask-clause-called
-returns-in_err-ask-clause-called g c = absurd (false≢true (c.in_err-ask.ensures.first c.requires.task.round).0)
-
-pub returns-in_err-ask-clause-dials : goal.returns-in_err-ask-clause-dials
-returns-in_err-ask-clause-dials g c = absurd (false≢true (c.in_err-ask.ensures.first c.requires.task.round).0)
-
-pub returns-in_err-ask-clause-links : goal.returns-in_err-ask-clause-links
-returns-in_err-ask-clause-links g c = absurd (false≢true (c.in_err-ask.ensures.first c.requires.task.round).0)
-
-pub returns-in_err-ask-clause-cells : goal.returns-in_err-ask-clause-cells
-returns-in_err-ask-clause-cells g c = absurd (false≢true (c.in_err-ask.ensures.first c.requires.task.round).0)
-
-pub returns-in_err-ask-clause-room : goal.returns-in_err-ask-clause-room
-returns-in_err-ask-clause-room g c = absurd (false≢true (c.in_err-ask.ensures.first c.requires.task.round).0)
+ask_member-answer-requires g c = record { ask = may-ask _ _ _ _ _ _ _ c.requires.task.stands c.first_ask-ask.ensures.ask }
 
 pub returns-in_default-clause-dials : goal.returns-in_default-clause-dials
 returns-in_default-clause-dials g c = dials-nowhere _ _ _
@@ -113,10 +97,25 @@ returns-in_default-dial-clause-dials g c =
     (record { onward = d.onward; talks = d.refused.talks; accepting = d.accepting })
 
 pub returns-in_default-clause-cells : goal.returns-in_default-clause-cells
-returns-in_default-clause-cells g c = (c.in_ok-ask.ensures.first c.requires.task.round).1
+returns-in_default-clause-cells g c = c.first_ask-ask.ensures.cells
 
 pub returns-in_default-dial-clause-cells : goal.returns-in_default-dial-clause-cells
-returns-in_default-dial-clause-cells g c = (c.in_ok-ask.ensures.first c.requires.task.round).1
+returns-in_default-dial-clause-cells g c = c.first_ask-ask.ensures.cells
 
 pub returns-clause-cells : goal.returns-clause-cells
-returns-clause-cells g c = (c.in_ok-ask.ensures.first c.requires.task.round).1
+returns-clause-cells g c = c.first_ask-ask.ensures.cells
+
+pub first_ask-ask-requires-clause-round : goal.first_ask-ask-requires-clause-round
+first_ask-ask-requires-clause-round g c = c.requires.task.round
+
+pub first_ask-ask-requires-clause-member : goal.first_ask-ask-requires-clause-member
+first_ask-ask-requires-clause-member g c = c.requires.member
+
+pub first_ask-ask-requires-clause-cells : goal.first_ask-ask-requires-clause-cells
+first_ask-ask-requires-clause-cells g c = (c.requires.task.stands.set, c.requires.task.stands.plan)
+
+pub returns-in_default-clause-room : goal.returns-in_default-clause-room
+returns-in_default-clause-room g c = (refl, tt)
+
+pub returns-in_default-dial-clause-room : goal.returns-in_default-dial-clause-room
+returns-in_default-dial-clause-room g c = (refl, tt)

@@ -1,6 +1,6 @@
 use Rattle.std.proofs.Common.{◌<◌, [], ◌∷◌, ◌++◌, List, length, map, refl, sym, ap, ◌∙◌, arith, append_assoc}
 use Rattle.aggregator_session.proofs.Lasts.{first-of, hung-all, hung-more, hung-none}
-use Rattle.aggregator_session.proofs.Numbers.{all-gone}
+use Rattle.aggregator_session.proofs.Numbers.{all-gone, none-gone, some-left}
 use Rattle.aggregator_session.proofs.session.hang_up_all.Goals as goal
 
 pub loop-init : goal.loop-init
@@ -8,7 +8,7 @@ loop-init g c = record {
   gone = [];
   all = refl;
   hung_up = hung-none (g.P.Port.state c.args.port.now);
-  many = omega (arith, c.len-end.ensures);
+  many = none-gone _ _ c.len-end.ensures;
 }
 
 pub loop-preserved : goal.loop-preserved
@@ -20,7 +20,7 @@ loop-preserved g c =
     let h = c.hang_up.ensures in
     let one = talk c.remove.result in
     let rest = c.remove.new.self.items in
-    let some : 0 < length c.loop.links.items = (let many = v.many in let more = c.loop-test.true in let ok = c.loop.links.ok in omega (arith, many, more, ok)) in
+    let some : 0 < length c.loop.links.items = some-left _ _ _ _ v.many c.loop-test.true c.loop.links.ok.0 in
     let first = first-of c.loop.links.items rest c.remove.result some r.value r.items in
     record {
       gone = v.gone ++ one ∷ [];

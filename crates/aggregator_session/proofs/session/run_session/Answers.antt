@@ -10,19 +10,9 @@ use Rattle.aggregator_session.proofs.Signing.{cells-refused, port-none}
 use Rattle.aggregator_session.proofs.Tasks.{bytes-lost, onward-then, rose-later}
 use Rattle.aggregator_session.proofs.session.run_session.Goals as goal
 
-pub returns-in_err-members-clause-ran : goal.returns-in_err-members-clause-ran
-returns-in_err-members-clause-ran g c =
+pub returns-in_err-memory-clause-ran : goal.returns-in_err-memory-clause-ran
+returns-in_err-memory-clause-ran g c =
     let p = err_from_is_err_and c.from_residual.result c.from_residual.ensures.1 in
-    rw (p.1, p.2) (run-none _ _ _ _ _ (le_refl _))
-
-pub returns-in_err-room-clause-ran : goal.returns-in_err-room-clause-ran
-returns-in_err-room-clause-ran g c =
-    let p = err_from_is_err_and c.from_residual-in_err-room.result c.from_residual-in_err-room.ensures.1 in
-    rw (p.1, p.2) (run-none _ _ _ _ _ (le_refl _))
-
-pub returns-in_err-links-clause-ran : goal.returns-in_err-links-clause-ran
-returns-in_err-links-clause-ran g c =
-    let p = err_from_is_err_and c.from_residual-in_err-links.result c.from_residual-in_err-links.ensures.1 in
     rw (p.1, p.2) (run-none _ _ _ _ _ (le_refl _))
 
 pub returns-clause-ran : goal.returns-clause-ran
@@ -62,34 +52,14 @@ returns-clause-port g c =
       accepting = h.accepting ∙ only.accepting;
     }
 
-pub returns-in_err-members-clause-port : goal.returns-in_err-members-clause-port
-returns-in_err-members-clause-port g c =
+pub returns-in_err-memory-clause-port : goal.returns-in_err-memory-clause-port
+returns-in_err-memory-clause-port g c =
     let p = err_from_is_err_and c.from_residual.result c.from_residual.ensures.1 in
     rw (p.1, p.2) (port-none _ _ _ (λ why lost. lost))
 
-pub returns-in_err-members-clause-cells : goal.returns-in_err-members-clause-cells
-returns-in_err-members-clause-cells g c =
+pub returns-in_err-memory-clause-cells : goal.returns-in_err-memory-clause-cells
+returns-in_err-memory-clause-cells g c =
     let p = err_from_is_err_and c.from_residual.result c.from_residual.ensures.1 in
-    rw (p.1, p.2) (cells-refused g.R.Cells g.R.Faults _)
-
-pub returns-in_err-room-clause-port : goal.returns-in_err-room-clause-port
-returns-in_err-room-clause-port g c =
-    let p = err_from_is_err_and c.from_residual-in_err-room.result c.from_residual-in_err-room.ensures.1 in
-    rw (p.1, p.2) (port-none _ _ _ (λ why lost. lost))
-
-pub returns-in_err-room-clause-cells : goal.returns-in_err-room-clause-cells
-returns-in_err-room-clause-cells g c =
-    let p = err_from_is_err_and c.from_residual-in_err-room.result c.from_residual-in_err-room.ensures.1 in
-    rw (p.1, p.2) (cells-refused g.R.Cells g.R.Faults _)
-
-pub returns-in_err-links-clause-port : goal.returns-in_err-links-clause-port
-returns-in_err-links-clause-port g c =
-    let p = err_from_is_err_and c.from_residual-in_err-links.result c.from_residual-in_err-links.ensures.1 in
-    rw (p.1, p.2) (port-none _ _ _ (λ why lost. lost))
-
-pub returns-in_err-links-clause-cells : goal.returns-in_err-links-clause-cells
-returns-in_err-links-clause-cells g c =
-    let p = err_from_is_err_and c.from_residual-in_err-links.result c.from_residual-in_err-links.ensures.1 in
     rw (p.1, p.2) (cells-refused g.R.Cells g.R.Faults _)
 
 pub returns-clause-cells : goal.returns-clause-cells

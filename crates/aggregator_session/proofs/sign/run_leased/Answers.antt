@@ -1,12 +1,22 @@
-use Rattle.std.proofs.Common.{◌<◌, ◌^◌, Result, refl, sym, ap, subst, ◌∙◌}
+use Rattle.std.proofs.Common.{◌≡◌, ◌<◌, ◌^◌, ℕ, Result, Err, refl, sym, ap, subst, ◌∙◌}
 use Rattle.aggregator_session.specs.Causes.{PortCauses, ReferenceCauses}
 use Rattle.aggregator_session.specs.declared.fault.SignFault.{SignFault}
+use Rattle.aggregator_session.specs.declared.fault.SignFault.TheVariants.{Session, Table as TableFailed, TooLong}
 use Rattle.aggregator_session.specs.declared.sign.Signed.{Signed}
+use Rattle.leaf_table.specs.declared.faults.TableFault.{TableFault}
+use Rattle.session_core.specs.declared.faults.SessionFault.TheVariants.{Reference}
 use Rattle.aggregator_session.specs.Signing.{not_leased, signature_in, too_long}
 use Rattle.aggregator_session.specs.Tables.{table_seen}
 use Rattle.aggregator_session.proofs.Signing.{asks-as, cells-none, cells-signed, leased-to, none-accepted, not-begun, port-none, port-signed, signed-accepted, table-then}
 use Rattle.coalition_map.specs.Coalitions.{PlanNumbers}
 use Rattle.aggregator_session.proofs.sign.run_leased.Goals as goal
+
+-- neither is a reference that was not read
+never-long : (got : ℕ) → ◌≡◌ {A = Result Signed SignFault} (Err (TooLong got)) (Err (Session Reference)) → ⊥
+never-long got is = absurd (cc)
+
+never-table : (fault : TableFault) → ◌≡◌ {A = Result Signed SignFault} (Err (TableFailed fault)) (Err (Session Reference)) → ⊥
+never-table fault is = absurd (cc)
 
 pub returns-then-message-clause-signs : goal.returns-then-message-clause-signs
 returns-then-message-clause-signs g c = not-begun (ap signature_in c.not_begun.ensures.0) c.not_begun.ensures.1 (too_long c.if-message.true refl) refl
@@ -30,7 +40,7 @@ returns-then-message-clause-port g c =
 pub returns-then-message-clause-cells : goal.returns-then-message-clause-cells
 returns-then-message-clause-cells g c =
     let cells = c.args.cells.now in
-    subst (λ (r : Result Signed SignFault). ReferenceCauses g.R.Cells g.R.Faults cells cells r) (sym c.not_begun.ensures.0) (cells-none g.R.Cells g.R.Faults cells _ (λ is. cc))
+    subst (λ (r : Result Signed SignFault). ReferenceCauses g.R.Cells g.R.Faults cells cells r) (sym c.not_begun.ensures.0) (cells-none g.R.Cells g.R.Faults cells _ (never-long _))
 
 pub returns-in-Err-clause-port : goal.returns-in-Err-clause-port
 returns-in-Err-clause-port g c =
@@ -40,7 +50,7 @@ returns-in-Err-clause-port g c =
 pub returns-in-Err-clause-cells : goal.returns-in-Err-clause-cells
 returns-in-Err-clause-cells g c =
     let cells = c.args.cells.now in
-    subst (λ (r : Result Signed SignFault). ReferenceCauses g.R.Cells g.R.Faults cells cells r) (sym c.not_begun-in-Err.ensures.0) (cells-none g.R.Cells g.R.Faults cells _ (λ is. cc))
+    subst (λ (r : Result Signed SignFault). ReferenceCauses g.R.Cells g.R.Faults cells cells r) (sym c.not_begun-in-Err.ensures.0) (cells-none g.R.Cells g.R.Faults cells _ (never-table _))
 
 pub returns-in-Err-clause-table : goal.returns-in-Err-clause-table
 returns-in-Err-clause-table g c = c.in-Err.ensures.enters.stays
