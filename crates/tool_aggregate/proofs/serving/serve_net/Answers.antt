@@ -1,7 +1,8 @@
-use Rattle.std.proofs.Common.{◌≡◌, ◌≤◌, ◌++◌, ◌∙◌, ℕ, map, refl, sym, ap, subst, arith}
+use Rattle.std.proofs.Common.{◌≡◌, ◌≤◌, ◌++◌, ◌∙◌, ℕ, Err, map, refl, sym, ap, subst}
 use Rattle.std.proofs.lemmas.List.{length-map}
 use Rattle.aggregator_session.specs.Desks.{desk_state}
 use Rattle.aggregator_session.specs.Tables.{table_seen}
+use Rattle.aggregator_session.proofs.Tasks.{rose-later}
 use Rattle.tool_base.proofs.Heard.{heard_none}
 use Rattle.tool_base.proofs.Nets.{net_back}
 use Rattle.tool_base.specs.Endings.{ending}
@@ -15,10 +16,9 @@ use Rattle.tool_aggregate.proofs.serving.serve_net.Goals as goal
 
 pub returns-in-Err-Failed-clause-ends : goal.returns-in-Err-Failed-clause-ends
 returns-in-Err-Failed-clause-ends g c =
-    let found = c.in-Err-Failed.is in
-    let fault = c.in-Err-Failed.field-0-is in
+    let failed = ap Err c.in-Err-Failed.field-0-is in
     let ports = c.in-Err-Failed.ensures in
-    no_ports (refl, refl) (heard_none _ _ _ ports.refused.kept) (ports.port_cause.rose (cc)) (λ told steady. not_true _ (ports.unoffered told steady (cc)))
+    no_ports (refl, refl) (heard_none _ _ _ ports.refused.kept) (ports.port_cause.rose failed) (λ told steady. not_true _ (ports.unoffered told steady failed))
 
 pub returns-in-Err-NoMemory-clause-ends : goal.returns-in-Err-NoMemory-clause-ends
 returns-in-Err-NoMemory-clause-ends g c = no_memory (refl, refl) (heard_none _ _ _ c.in-Err-NoMemory.ensures.refused.kept)
@@ -44,10 +44,10 @@ returns-clause-ends g c =
     (c.serve_clients-table.result.0 ≡ c.args.table) (after.ports.items ≡ ports.items) (after.cells.items ≡ c.args.cells.now.items)
     (table_seen c.args.table) (table_seen c.serve_clients-table.result.0)
     (over_net (g.N.Net.state c.args.net.now) (g.N.Net.state c.gather.new.self)) ports.items after.ports.items c.args.cells.now.items after.cells.items
-    (omega (arith, many, sizes, asked, one)) (omega (arith, many, sizes, asked, one, two, three, four, counts.0, counts.1))
+    (sym one ∙ asked ∙ sym many ∙ sizes) (sym three ∙ counts.1 ∙ asked ∙ sym many ∙ sizes ∙ sym two ∙ sym counts.0 ∙ four)
     c.serve_clients-table.result.1 (ending c.end_of_service-end.result) many made.offered made.new_ports serves.served
     (λ told. gathers.kept (rw onward.told told) ∙ ap (λ kept. kept ++ map state after.ports.items) made.kept)
-    (λ deaf. let rose = gathers.port_count.rose deaf in let later = onward.port_count in omega (arith, rose, later))
+    (λ deaf. rose-later _ _ _ onward.port_count (gathers.port_count.rose deaf))
     serves.refused (λ same. ap (map state) same) (rw (← c.deref.ensures.value) c.end_of_service-end.ensures.ends)
 
 pub returns-clause-net : goal.returns-clause-net
@@ -60,7 +60,7 @@ returns-clause-net g c =
     let counts = c.serve_clients-table.ensures.count in
     let three = ports.ok.0 in
     let four = after.ports.ok.0 in
-    net_back _ _ _ _ _ _ _ c.in-Ok.ensures.made c.in-Ok.ensures.onward (omega (arith, one, two, three, four, counts.0)) c.gather.ensures.kept c.gather.ensures.onward
+    net_back _ _ _ _ _ _ _ c.in-Ok.ensures.made c.in-Ok.ensures.onward (two ∙ sym four ∙ counts.0 ∙ three ∙ sym one) c.gather.ensures.kept c.gather.ensures.onward
 
 pub returns-in-Err-Failed-clause-onward : goal.returns-in-Err-Failed-clause-onward
 returns-in-Err-Failed-clause-onward g c = table_still (table_seen c.args.table)

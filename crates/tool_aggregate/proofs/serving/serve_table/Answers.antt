@@ -1,4 +1,4 @@
-use Rattle.std.proofs.Common.{◌≡◌, ◌∷◌, [], Some, refl, ap, ◌∙◌, subst}
+use Rattle.std.proofs.Common.{◌≡◌, ◌∷◌, [], Some, Err, refl, ap, ◌∙◌, subst}
 use Rattle.std.proofs.lemmas.List.Elements.{All-nil}
 use Rattle.leaf_table.specs.Loaded.{IsLoaded}
 use Rattle.aggregator_session.specs.Desks.{desk_state}
@@ -20,13 +20,12 @@ use Rattle.tool_aggregate.proofs.serving.serve_table.Goals as goal
 pub returns-in-Err-Failed-clause-run : goal.returns-in-Err-Failed-clause-run
 returns-in-Err-Failed-clause-run g c =
     let take = c.in-Err-Failed.ensures in
-    let is = c.in-Err-Failed.is in
-    let fault = c.in-Err-Failed.field-0-is in
+    let failed = ap Err c.in-Err-Failed.field-0-is in
     let net = g.N.Net.state c.args.net.now in
     let unchanged : IsUnchanged (g.S.Store.state c.args.store.now) (g.S.Store.state c.take_disk.new.self) = record { same = take.refused; onward = take.onward } in
     record {
       touched = [];
-      ends = no_table (take.cause.rose (cc), λ told steady. take.absent told steady (cc)) (heard_none _ net net refl);
+      ends = no_table (take.cause.rose failed, λ told steady. take.absent told steady failed) (heard_none _ net net refl);
       keeps = keeps_unchanged [] _ _ unchanged;
       ports = net_none net;
     }
