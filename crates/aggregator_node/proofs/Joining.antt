@@ -82,3 +82,22 @@ all-in sum none = omega (arith, sum, none)
 
 pub one-fewer : {W : Type 0} (all workers : List W) (worker : W) → all ≡ workers ++ worker ∷ [] → length workers < length all
 one-fewer all workers worker is = let sizes = ap length is in omega (arith, sizes, length-append workers (worker ∷ []))
+
+-- the numbers of what is left and of what came back, at the first worker and at one more
+pub both-one : {ports cells had own : ℕ} → ports ≡ had + 1 → cells ≡ own + 1 → had ≡ 0 → own ≡ 0 → cells ≡ ports
+both-one port cell none empty = omega (arith, port, cell, none, empty)
+
+pub count-one : {ports had all : ℕ} (rest : ℕ) → ports ≡ had + 1 → had ≡ 0 → rest + 1 ≡ all → ports + rest ≡ all
+count-one rest port none one = omega (arith, port, none, one)
+
+pub room-one : {ports had all old new : ℕ} (rest : ℕ) → ports ≡ had + 1 → had ≡ 0 → rest + 1 ≡ all → all ≤ old → new ≡ old → ports + rest ≤ new
+room-one rest port none one fits same = omega (arith, port, none, one, fits, same)
+
+pub both-more : {ports cells had own : ℕ} → own ≡ had → ports ≡ had + 1 → cells ≡ own + 1 → cells ≡ ports
+both-more same port cell = omega (arith, same, port, cell)
+
+pub count-more : {ports left all : ℕ} (had rest : ℕ) → had + left ≡ all → ports ≡ had + 1 → rest + 1 ≡ left → ports + rest ≡ all
+count-more had rest sum port one = omega (arith, sum, port, one)
+
+pub room-more : {ports left old new : ℕ} (had rest : ℕ) → had + left ≤ old → ports ≡ had + 1 → rest + 1 ≡ left → new ≡ old → ports + rest ≤ new
+room-more had rest fits port one same = omega (arith, fits, port, one, same)

@@ -1,5 +1,5 @@
 -- A message that is signed over a table under a lock.
-use Rattle.std.proofs.Common.{◌≡◌, ◌∙◌, ◌⊎◌, inl, inr, ◌≤◌, ◌<◌, ◌^◌, ℕ, List, length, IfErr, IfOk, Option, Result, Ok, Err, ap, refl, rules, subst, sym}
+use Rattle.std.proofs.Common.{◌≡◌, ◌⊎◌, inl, inr, ◌≤◌, ◌<◌, ◌^◌, ℕ, List, length, IfErr, IfOk, Option, Result, Ok, Err, refl, subst, sym}
 use Rattle.aggregator_session.specs.declared.fault.SignFault.{SignFault}
 use Rattle.aggregator_session.specs.declared.fault.SignFault.TheVariants.{Session, Table as TableFailed, Worn}
 use Rattle.aggregator_node.specs.Signing.{Burning, LeaseTurn, SignsInTurns, asked, leased, no_turn, not_leased}
@@ -16,7 +16,7 @@ use Rattle.leaf_table.specs.declared.table.TableName.{TableName}
 use Rattle.aggregator_session.specs.Causes.{PortCauses, ReferenceCauses}
 use Rattle.aggregator_session.specs.Signing.{RunsOn, Signature, ToSign, signed_with, spent_by}
 use Rattle.aggregator_session.specs.Tables.{AsksLeaf, table_seen}
-use Rattle.aggregator_session.proofs.Signing.{entered-as}
+use Rattle.aggregator_session.proofs.Signing.{cells-none, entered-as, port-none}
 use Rattle.lms_bytes.specs.MessageId.{message_id, message_id_bytes}
 use Rattle.lms_bytes.specs.declared.message.MessageId.{MessageId}
 use Rattle.reference_value.specs.declared.cells.Cells as cells
@@ -43,12 +43,18 @@ turn-fault members message old new result (asked before after (Ok leaf) t a) = t
 turn-fault members message old new result (asked before after (Err why) t a) = inr (why, refl)
 
 none-dialled : {V : Type 0} (message : List ℕ) (state : PortState) (fault : SignFault) → (fault ≡ Worn) ⊎ ((why : TableFault) × (fault ≡ TableFailed why)) → PortCauses {V = V} message state state (Err fault)
-none-dialled {V} message state fault (inl is) = subst (λ (x : SignFault). PortCauses {V = V} message state state (Err x)) (sym is) (search rules)
-none-dialled {V} message state fault (inr is) = subst (λ (x : SignFault). PortCauses {V = V} message state state (Err x)) (sym is.1) (search rules)
+none-dialled {V} message state fault (inl is) = subst (λ (x : SignFault). PortCauses {V = V} message state state (Err x)) (sym is) (port-none message state (Err Worn) (λ why lost. lost))
+none-dialled {V} message state fault (inr is) = subst (λ (x : SignFault). PortCauses {V = V} message state state (Err x)) (sym is.1) (port-none message state (Err (TableFailed is.0)) (λ why lost. lost))
+
+never-worn : {V : Type 0} → ◌≡◌ {A = Result V SignFault} (Err Worn) (Err (Session Reference)) → ⊥
+never-worn is = absurd (cc)
+
+never-table : {V : Type 0} (why : TableFault) → ◌≡◌ {A = Result V SignFault} (Err (TableFailed why)) (Err (Session Reference)) → ⊥
+never-table why is = absurd (cc)
 
 none-read : {C V : Type 0} (c : cells.Ghosts C) (f : faults.Ghosts C) (old : C) (fault : SignFault) → (fault ≡ Worn) ⊎ ((why : TableFault) × (fault ≡ TableFailed why)) → ReferenceCauses {V = V} c f old old (Err fault)
-none-read {C} {V} c f old fault (inl is) = subst (λ (x : SignFault). ReferenceCauses {V = V} c f old old (Err x)) (sym is) (search rules)
-none-read {C} {V} c f old fault (inr is) = subst (λ (x : SignFault). ReferenceCauses {V = V} c f old old (Err x)) (sym is.1) (search rules)
+none-read {C} {V} c f old fault (inl is) = subst (λ (x : SignFault). ReferenceCauses {V = V} c f old old (Err x)) (sym is) (cells-none c f old (Err Worn) never-worn)
+none-read {C} {V} c f old fault (inr is) = subst (λ (x : SignFault). ReferenceCauses {V = V} c f old old (Err x)) (sym is.1) (cells-none c f old (Err (TableFailed is.0)) (never-table is.0))
 
 module _ {members : List ℕ} {message : MessageId} {old new : Seen Lease TableName} {fault : SignFault} where
   pub port-of : {V : Type 0} {bytes : List ℕ} (state : PortState) → LeaseTurn members message old new (Err fault) → PortCauses {V = V} bytes state state (Err fault)
@@ -68,42 +74,3 @@ module _ {sign : ToSign} {old mid new : Seen Lease TableName} {port now : PortSt
   leased-as is short named turn runs of burns = subst (λ (e : Result Signature SignFault). SignsInTurns sign old port new now e) (sym is)
       (leased leaf mid new now result short (subst (λ (m : MessageId). LeaseTurn sign.members m old mid (Ok leaf)) named turn) runs
       (subst (λ (m : MessageId). Burning mid new leaf m (spent_by result)) named (subst (λ (o : Option ℕ). Burning mid new leaf id o) of burns)))
-
--- what comes of a session's bytes is what comes of its answer
-module _ {V : Type 0} {outcome : Result V SignFault} where
-  pub given-ok : (P : V → Type 0) {bytes : V} → outcome ≡ Ok bytes → IfOk outcome P → P bytes
-  given-ok P is all = subst (λ (o : Result V SignFault). IfOk o P) is all
-
-  pub given-err : (P : V → Type 0) {fault : SignFault} → outcome ≡ Err fault → IfOk outcome P
-  given-err P is = subst (λ (o : Result V SignFault). IfOk o P) (sym is) tt
-
-module _ {V W : Type 0} (message : List ℕ) (before now : PortState) where
-  port-fault : (fault : SignFault) → PortCauses {V = V} message before now (Err fault) → PortCauses {V = W} message before now (Err fault)
-  port-fault fault p = record { dialled = p.dialled; unwritten = p.unwritten; unread = p.unread; reads = p.reads; writes = p.writes; onward = p.onward; accepting = p.accepting }
-
-  port-done : (bytes : V) (answer : W) → PortCauses {V = V} message before now (Ok bytes) → PortCauses {V = W} message before now (Ok answer)
-  port-done bytes answer p = record { dialled = p.dialled; unwritten = p.unwritten; unread = p.unread; reads = p.reads; writes = p.writes; onward = p.onward; accepting = p.accepting }
-
-  pub port-ok : (outcome : Result V SignFault) (bytes : V) (answer : W) → outcome ≡ Ok bytes → PortCauses message before now outcome → PortCauses {V = W} message before now (Ok answer)
-  port-ok outcome bytes answer is p = port-done bytes answer (subst (λ (o : Result V SignFault). PortCauses message before now o) is p)
-
-  pub port-err : (outcome : Result V SignFault) (fault other : SignFault) (answer : Result W SignFault) → outcome ≡ Err fault → answer ≡ Err other → other ≡ fault
-      → PortCauses message before now outcome → PortCauses message before now answer
-  port-err outcome fault other answer is given same p =
-      subst (λ (a : Result W SignFault). PortCauses message before now a) (sym (given ∙ ap Err same)) (port-fault fault (subst (λ (o : Result V SignFault). PortCauses message before now o) is p))
-
-module _ {C V W : Type 0} (c : cells.Ghosts C) (f : faults.Ghosts C) (old new : C) where
-  cells-fault : (fault : SignFault) → ReferenceCauses {V = V} c f old new (Err fault) → ReferenceCauses {V = W} c f old new (Err fault)
-  cells-fault fault r = record {
-    rises = λ is. let same : fault ≡ Session Reference = cc in r.rises (ap Err same);
-    succeeds = λ exact is. let same : fault ≡ Session Reference = cc in r.succeeds exact (ap Err same);
-    stays = r.stays;
-  }
-
-  pub cells-ok : (outcome : Result V SignFault) (answer : W) → ReferenceCauses c f old new outcome → ReferenceCauses {V = W} c f old new (Ok answer)
-  cells-ok outcome answer r = record { rises = λ is. absurd (cc); succeeds = λ exact is. absurd (cc); stays = r.stays }
-
-  pub cells-err : (outcome : Result V SignFault) (fault other : SignFault) (answer : Result W SignFault) → outcome ≡ Err fault → answer ≡ Err other → other ≡ fault
-      → ReferenceCauses c f old new outcome → ReferenceCauses c f old new answer
-  cells-err outcome fault other answer is given same r =
-      subst (λ (a : Result W SignFault). ReferenceCauses c f old new a) (sym (given ∙ ap Err same)) (cells-fault fault (subst (λ (o : Result V SignFault). ReferenceCauses c f old new o) is r))

@@ -11,7 +11,7 @@ ghost use Rattle.lms_bytes.specs.MessageId.{message_id};
 ghost use Rattle.lms_verify.specs.Accepts.{AcceptsAt};
 
 use crate::turns::{burn_spent, lease_in_turn};
-use aggregator_session::{Desk, Ended, SignFault, Signed, run_on, spent_by};
+use aggregator_session::{Desk, Ended, SignFault, Signed, run_on, signed_with, spent_by};
 use coalition_map::Members;
 use disk_trait::Disk;
 use leaf_table::Table;
@@ -57,8 +57,5 @@ pub fn sign_one<R: Cells, D: Disk, P: Port>(
     };
     let Ended { outcome, .. } = run_on(alloc, desk, cells, port, leaf, &id, message);
     burn_spent(rt, lock, pass, desk.plan, leaf, &id, spent_by(&outcome));
-    Ok(Signed {
-        leaf,
-        bytes: outcome?,
-    })
+    signed_with(leaf, outcome)
 }

@@ -1,8 +1,8 @@
-use Rattle.std.proofs.Common.{◌≡◌, false, [], ◌∷◌, ◌++◌, List, Some, ap, ◌∙◌, arith}
+use Rattle.std.proofs.Common.{◌≡◌, false, [], ◌∷◌, ◌++◌, List, Some, ap, sym, ◌∙◌}
 use Rattle.std.proofs.lemmas.List.Elements.{All-pop}
 use Rattle.aggregator_node.specs.Ports.{places_of}
 use Rattle.aggregator_node.specs.Workers.{worker_state}
-use Rattle.aggregator_node.proofs.Joining.{all-in, hand-all, hand-more, hand-one, one-fewer, room-first, room-next, some-never}
+use Rattle.aggregator_node.proofs.Joining.{all-in, both-more, both-one, count-more, count-one, hand-all, hand-more, hand-one, one-fewer, room-first, room-more, room-next, room-one, some-never}
 use Rattle.node_workers.proofs.Lists.{none-of}
 use Rattle.turn_lock.specs.Pass.{Seen}
 use Rattle.aggregator_node.proofs.gather.gather.Goals as goal
@@ -25,10 +25,10 @@ loop-worker-init g c =
           (λ i. places (ports i) (own i)) b.totals.0 b.totals.1;
       idle = popped.0;
       pass = (ap (λ (p : Seen _ _). p.lock) b.pass ∙ popped.1.0, ap (λ (p : Seen _ _). p.in_turn) b.pass ∙ popped.1.1);
-      many = (let m = b.ports in let n = b.cells in omega (arith, m.0, n.0, r.1, s.1));
-      count = (let n = b.ports in let w = c.in-Some.ensures.len in omega (arith, r.1, n.0, w));
-      room = (let n = b.ports in let w = c.in-Some.ensures.len in omega (arith, r.1, r.2, n.0, n.1, w));
-      space = (let n = b.cells in let w = c.in-Some.ensures.len in omega (arith, s.1, s.2, n.0, n.1, w));
+      many = both-one b.ports.0 b.cells.0 r.1 s.1;
+      count = count-one _ b.ports.0 r.1 c.in-Some.ensures.cases;
+      room = room-one _ b.ports.0 r.1 c.in-Some.ensures.cases r.2 b.ports.1;
+      space = room-one _ b.cells.0 s.1 c.in-Some.ensures.cases s.2 b.cells.1;
     }
 
 pub loop-worker-preserved : goal.loop-worker-preserved
@@ -39,7 +39,7 @@ loop-worker-preserved g c =
     let v = c.loop-worker.invariant in
     let popped = All-pop (λ worker. (worker.pass.lock ≡ lock) × (worker.pass.in_turn ≡ false)) c.loop-worker.workers.items c.pop-in-loop-worker.new.self.items (Some c.in-Some-pop.worker) c.in-Some-pop.ensures.items v.idle in
     let e = c.take_in.ensures in
-    let w = c.in-Some-pop.ensures.len in
+    let one = c.in-Some-pop.ensures.cases in
     record {
       hand = λ desk asked olds done.
           hand-more state desk asked lock olds c.loop-worker.workers.items c.pop-in-loop-worker.new.self.items c.in-Some-pop.worker c.loop-worker.pass c.take_in.new.pass
@@ -47,10 +47,10 @@ loop-worker-preserved g c =
           (v.hand desk asked olds done) c.in-Some-pop.ensures.items (λ taken place before is. e.gathered desk asked taken place before is);
       idle = popped.0;
       pass = e.pass;
-      many = (let m = v.many in omega (arith, m, e.ports.0, e.cells.0));
-      count = (let r = v.count in let n = e.ports in omega (arith, r, n.0, w));
-      room = (let r = v.room in let n = e.ports in omega (arith, r, n.0, n.1, w));
-      space = (let r = v.space in let n = e.cells in omega (arith, r, n.0, n.1, w));
+      many = both-more v.many e.ports.0 e.cells.0;
+      count = count-more _ _ v.count e.ports.0 one;
+      room = room-more _ _ v.room e.ports.0 one e.ports.1;
+      space = room-more _ _ v.space e.cells.0 one e.cells.1;
     }
 
 pub returns-clause-gathered : goal.returns-clause-gathered
@@ -59,7 +59,7 @@ returns-clause-gathered g c =
     λ desk asked olds done.
     hand-all state desk asked c.args.lock.now olds c.loop-worker.workers.items c.loop-worker.pass
     (places_of g.X.Cells g.X.Faults g.P.Port.state c.loop-worker.ports.items c.loop-worker.cells.items) c.loop-worker.totals
-    (c.loop-worker.invariant.hand desk asked olds done) (none-of c.loop-worker.workers.items (let n = c.loop-worker.workers.ok.0 in let e = c.in_default-pop.ensures.cases.0 in omega (arith, n, e)))
+    (c.loop-worker.invariant.hand desk asked olds done) (none-of c.loop-worker.workers.items (sym c.loop-worker.workers.ok.0 ∙ c.in_default-pop.ensures.cases.0))
 
 pub unreachable-requires : goal.unreachable-requires
 unreachable-requires g c = some-never c.requires.some c.in_default.ensures.cases.0

@@ -18,7 +18,7 @@ returns-clause-gathered g c =
     let ports = c.args.ports.now.items in
     let own = c.args.cells.now.items in
     let here = place_of g.X.Cells g.X.Faults port worker.port worker.own in
-    let same : length ports ≡ length own = (let m = c.requires.many in let p = c.args.ports.now.ok.0 in let q = c.args.cells.now.ok.0 in omega (arith, m, p, q)) in
+    let same : length ports ≡ length own = sym c.args.ports.now.ok.0 ∙ sym c.requires.many ∙ c.args.cells.now.ok.0 in
     let news : places c.begin-other.new.ports.items c.begin-other.new.cells.items ≡ places ports own ++ here ∷ [] =
     (λ i. places (b.port i) (b.own i)) ∙ places-push g.X.Cells g.X.Faults port ports own worker.port worker.own same in
     λ desk asked olds old before done.

@@ -1,5 +1,8 @@
-use Rattle.std.proofs.Common.{arith}
+use Rattle.std.proofs.Common.{◌≡◌, ◌≤◌, ℕ, arith}
 use Rattle.aggregator_node.proofs.worker.serve_link.Goals as goal
+
+as-wide : {size told room : ℕ} → size ≤ told → told ≡ room → size ≤ room
+as-wide fits same = omega (arith, fits, same)
 
 pub returns-clause-served : goal.returns-clause-served
 returns-clause-served g c =
@@ -15,7 +18,7 @@ returns-clause-served g c =
         most = s.ends.most;
         full = s.ends.full;
         answers = s.ends.answers;
-        writes = λ steady fits. s.ends.writes steady (omega (arith, fits, room));
+        writes = λ steady fits. s.ends.writes steady (as-wide fits room);
       };
       hung_up = h.kept;
       onward = h.onward;
