@@ -1,5 +1,7 @@
 -- internal: What is built of a run of leaves.
-use Rattle.std.specs.Prelude.{◌≡◌, ℕ, ◌+◌, Bool, if◌then◌else◌, List, [], length, take}
+use Rattle.std.specs.Prelude.{◌≡◌, ℕ, ◌+◌, ◌<◌, Bool, if◌then◌else◌, List, [], length, take}
+use Rattle.std.specs.declared.alloc.Global.{Global}
+use Rattle.std.specs.declared.vec.Vec.{Vec}
 use Rattle.coalition_map.specs.Coalitions.{PlanNumbers}
 use Rattle.lms_bytes.specs.Bytes.{joined}
 use Rattle.lms_bytes.specs.declared.params.Params.{Params}
@@ -8,6 +10,8 @@ use Rattle.reference_value.specs.Commitments.{leaf_commitments}
 use Rattle.reference_value.specs.Dealing.{Dealing, leaf_part}
 use Rattle.share_files.specs.Commits.{commits_head_of, commits_length}
 use Rattle.dealer.specs.Committed.{commits_file}
+use Rattle.dealer.specs.Dealt.{IsDealt}
+use Rattle.dealer.specs.declared.dealing.Dealt.{Dealt}
 use Rattle.dealer.specs.declared.runs.Run.{Run}
 
 -- the leaves of a run of the masked reference value, one behind the other
@@ -34,3 +38,9 @@ file_asked commit d = if commit then commits_file d else []
 pub record HasRoom (commit : Bool) (params : Params) (plan : PlanNumbers) (id file : List ℕ) : Type 0 where
   pub head : take 32 file ≡ (if commit then commits_head_of params plan id else [])
   pub size : length file ≡ (if commit then commits_length params plan else 0)
+
+-- what is built of a dealing: what it gives, with a share at least, and its commitment file where it is asked for
+pub record IsBuilt (commit : Bool) (d : Dealing) (built : Dealt × Vec ℕ Global) : Type 0 where
+  pub dealt : IsDealt d built.0
+  pub file : built.1.items ≡ file_asked commit d
+  pub shares : 0 < length built.0.shares.items

@@ -5,10 +5,10 @@ ghost use Rattle.std.specs.Thread.{IsSync};
 ghost use Rattle.ots_chain.specs.LeafKey.{seed_leaf_key};
 ghost use Rattle.reference_value.specs.Dealing.{reference};
 ghost use Rattle.mask_prf.specs.Lengths.{leaf_length, leaves_length};
-ghost use Rattle.dealer.specs.Dealt.{IsDealt, leaf_keys_of};
+ghost use Rattle.dealer.specs.Dealt.{leaf_keys_of};
 ghost use Rattle.dealer.specs.Entropy.{dealing_of};
 ghost use Rattle.dealer.specs.Faults.{IsDealable};
-ghost use Rattle.dealer.specs.Runs.{HasRoom, asked_length, file_asked, run_asked, run_leaves};
+ghost use Rattle.dealer.specs.Runs.{HasRoom, IsBuilt, asked_length, file_asked, run_asked, run_leaves};
 ghost use Rattle.dealer.specs.Secrets.{Suit, dealing_with};
 
 use crate::building::finish;
@@ -40,10 +40,7 @@ pub(crate) fn build_beside<R: Threads + Progress + Sync>(
 ) -> Result<(Dealt, Vec<u8>), NoMemory>
     requires height { plan.now.h ≡ params.now.h }
     requires dealable { IsDealable params.now plan.now entropy.now }
-    ensures dealt { IfOk result (λ both. IsDealt (dealing_of params.now plan.now entropy.now) both.0) }
-    ensures file { IfOk result (λ both.
-        both.1.items ≡ file_asked commit (dealing_of params.now plan.now entropy.now)) }
-    ensures shares { IfOk result (λ both. 0 < length both.0.shares.items) }
+    ensures { IfOk result (IsBuilt commit (dealing_of params.now plan.now entropy.now)) }
 {
     let secrets = read_entropy(alloc, params, plan, entropy, commit)?;
     let (leaves, file) = leaves_beside(rt, alloc, params, plan, &secrets)?;

@@ -5,7 +5,7 @@ ghost use Rattle.reference_value.specs.Dealing as spec;
 ghost use Rattle.dealer.specs.Dealt.{IsDealt, leaf_keys_of};
 ghost use Rattle.dealer.specs.Entropy.{dealing_of};
 ghost use Rattle.dealer.specs.Faults.{IsDealable};
-ghost use Rattle.dealer.specs.Runs.{file_asked};
+ghost use Rattle.dealer.specs.Runs.{IsBuilt, file_asked};
 ghost use Rattle.dealer.specs.Secrets.{Suit, dealing_with};
 
 use crate::dealing::Dealt;
@@ -28,10 +28,7 @@ pub(crate) fn build(
 ) -> Result<(Dealt, Vec<u8>), NoMemory>
     requires height { plan.now.h ≡ params.now.h }
     requires dealable { IsDealable params.now plan.now entropy.now }
-    ensures dealt { IfOk result (λ both. IsDealt (dealing_of params.now plan.now entropy.now) both.0) }
-    ensures file { IfOk result (λ both.
-        both.1.items ≡ file_asked commit (dealing_of params.now plan.now entropy.now)) }
-    ensures shares { IfOk result (λ both. 0 < length both.0.shares.items) }
+    ensures { IfOk result (IsBuilt commit (dealing_of params.now plan.now entropy.now)) }
 {
     let secrets = read_entropy(alloc, params, plan, entropy, commit)?;
     let (leaves, file) = build_leaves(alloc, params, plan, &secrets)?;

@@ -1,6 +1,5 @@
-use Rattle.std.proofs.Common.{◌∙◌, Bool, ap}
-use Rattle.dealer.specs.Runs.{file_asked}
-use Rattle.dealer.specs.Secrets.{dealing_with}
+use Rattle.std.proofs.Common.{◌∙◌}
+use Rattle.dealer.proofs.Built.{built-as}
 use Rattle.dealer.proofs.building.build.Goals as goal
 
 pub finish-requires-clause-suit : goal.finish-requires-clause-suit
@@ -21,13 +20,9 @@ finish-requires-clause-whole c = rw c.deref.ensures.value c.in_ok-keys.ensures.l
 pub finish-requires-clause-leaves : goal.finish-requires-clause-leaves
 finish-requires-clause-leaves c = c.in_ok-leaves.ensures.leaves
 
-pub returns-clause-dealt : goal.returns-clause-dealt
-returns-clause-dealt c = rw c.in_ok-secrets.ensures.dealing at c.in_ok-dealt.ensures.dealt
-
-pub returns-clause-file : goal.returns-clause-file
-returns-clause-file c =
-    c.in_ok-leaves.ensures.file ∙ (ap (λ (commit : Bool). file_asked commit (dealing_with c.args.params.now c.args.plan.now c.in_ok-secrets.secrets)) c.in_ok-secrets.ensures.asked
-    ∙ ap (file_asked c.args.commit) c.in_ok-secrets.ensures.dealing)
-
-pub returns-clause-shares : goal.returns-clause-shares
-returns-clause-shares c = c.in_ok-dealt.ensures.shares
+pub returns : goal.returns
+returns c =
+    let e = c.in_ok-secrets.ensures in
+    let leaves = c.in_ok-leaves.ensures in
+    let dealt = c.in_ok-dealt.ensures in
+    built-as e.dealing e.asked dealt.dealt leaves.file dealt.shares
