@@ -2,9 +2,10 @@
 use Rattle.std.proofs.Common.{◌≡◌, ℕ, List, Result, Ok, Err, None, take, drop, sym, subst}
 use Rattle.lms_bytes.specs.MessageId.{message_id_bytes}
 use Rattle.lms_bytes.specs.declared.message.MessageId.{MessageId}
-use Rattle.opening_journal.specs.Answers.{BindsAs, IsOldOrSpent, IsSamePair, Makes, OpensAs, Settles}
-use Rattle.opening_journal.specs.Entries.{IsOpened, JournalState, LeafState, map_of}
+use Rattle.opening_journal.specs.Answers.{AnswersAs, AsksFor, BindsAs, IsOldOrSpent, IsSamePair, Makes, OpensAs, Settles}
+use Rattle.opening_journal.specs.Entries.{IsOpened, JournalState, LeafState, leaf_of, map_of}
 use Rattle.opening_journal.specs.Opening.{AnswersFor, Binds, Opens, damaged, kept, made, not_bound, other_digest, settled_with, spent, unsettled, unwritten}
+use Rattle.opening_journal.specs.declared.entry.Entry.{Entry}
 use Rattle.opening_journal.specs.declared.entry.Entry.TheVariants.{Bound, Opened}
 use Rattle.opening_journal.specs.declared.faults.Entered.{Entered}
 use Rattle.opening_journal.specs.declared.faults.Entered.TheVariants.{New, Old}
@@ -50,7 +51,7 @@ settled-same : (after : JournalState) → after.doubt ≡ None → settled_with 
 settled-same after sure = λ i. record { entries = after.entries; doubt = sym sure i }
 
 module _ (before after : JournalState) (leaf : ℕ) (message : MessageId) where
-  pub binds-unsettled : (fault : JournalFault) → Settles before (Err fault) after → Binds before leaf message (Err fault) after
+  binds-unsettled : (fault : JournalFault) → Settles before (Err fault) after → Binds before leaf message (Err fault) after
   binds-unsettled Device settles = subst (Binds before leaf message (Err Device)) (sym settles.1) (unsettled settles.0)
   binds-unsettled (Damaged torn a b) settles =
       subst (Binds before leaf message (Err (Damaged torn a b))) (sym settles.3)
@@ -59,17 +60,17 @@ module _ (before after : JournalState) (leaf : ℕ) (message : MessageId) where
   binds-unsettled (Spent other) settles = absurd settles
   binds-unsettled (OtherDigest c digest) settles = absurd settles
 
-  pub binds-old : Settles before (Ok tt) after → BindsAs message (map_of after.entries leaf) (Ok Old) → Binds before leaf message (Ok Old) after
+  binds-old : Settles before (Ok tt) after → BindsAs message (map_of after.entries leaf) (Ok Old) → Binds before leaf message (Ok Old) after
   binds-old settles answer = subst (Binds before leaf message (Ok Old)) (settled-same after settles.0) (kept after.entries settles.1 answer)
 
-  pub binds-refused : (fault : JournalFault) → Settles before (Ok tt) after → BindsAs message (map_of after.entries leaf) (Err fault) → Binds before leaf message (Err fault) after
+  binds-refused : (fault : JournalFault) → Settles before (Ok tt) after → BindsAs message (map_of after.entries leaf) (Err fault) → Binds before leaf message (Err fault) after
   binds-refused (Spent other) settles answer = subst (Binds before leaf message (Err (Spent other))) (settled-same after settles.0) (spent after.entries other settles.1 answer.0 answer.1)
   binds-refused Device settles answer = absurd answer
   binds-refused (Damaged torn a b) settles answer = absurd answer
   binds-refused NotBound settles answer = absurd answer
   binds-refused (OtherDigest c digest) settles answer = absurd answer
 
-  pub binds-put : (new : JournalState) (result : Result Entered JournalFault) → Settles before (Ok tt) after → BindsAs message (map_of after.entries leaf) (Ok New) → Makes after.entries (Bound leaf message) result new → Binds before leaf message result new
+  binds-put : (new : JournalState) (result : Result Entered JournalFault) → Settles before (Ok tt) after → BindsAs message (map_of after.entries leaf) (Ok New) → Makes after.entries (Bound leaf message) result new → Binds before leaf message result new
   binds-put new (Ok New) settles free makes = subst (Binds before leaf message (Ok New)) (sym makes) (made after.entries settles.1 free)
   binds-put new (Ok Old) settles free makes = absurd makes
   binds-put new (Err Device) settles free makes = subst (Binds before leaf message (Err Device)) (sym makes) (unwritten after.entries settles.1 free)
@@ -79,7 +80,7 @@ module _ (before after : JournalState) (leaf : ℕ) (message : MessageId) where
   binds-put new (Err (OtherDigest c digest)) settles free makes = absurd makes
 
 module _ (before after : JournalState) (leaf : ℕ) (message : MessageId) (c digest : List ℕ) (moment : ℕ) where
-  pub opens-unsettled : (fault : JournalFault) → Settles before (Err fault) after → Opens before leaf message c digest moment (Err fault) after
+  opens-unsettled : (fault : JournalFault) → Settles before (Err fault) after → Opens before leaf message c digest moment (Err fault) after
   opens-unsettled Device settles = subst (Opens before leaf message c digest moment (Err Device)) (sym settles.1) (unsettled settles.0)
   opens-unsettled (Damaged torn a b) settles =
       subst (Opens before leaf message c digest moment (Err (Damaged torn a b))) (sym settles.3)
@@ -88,17 +89,17 @@ module _ (before after : JournalState) (leaf : ℕ) (message : MessageId) (c dig
   opens-unsettled (Spent other) settles = absurd settles
   opens-unsettled (OtherDigest x y) settles = absurd settles
 
-  pub opens-old : Settles before (Ok tt) after → OpensAs message c digest (map_of after.entries leaf) (Ok Old) → Opens before leaf message c digest moment (Ok Old) after
+  opens-old : Settles before (Ok tt) after → OpensAs message c digest (map_of after.entries leaf) (Ok Old) → Opens before leaf message c digest moment (Ok Old) after
   opens-old settles answer = subst (Opens before leaf message c digest moment (Ok Old)) (settled-same after settles.0) (kept after.entries answer.0 settles.1 answer.1)
 
-  pub opens-refused : (fault : JournalFault) → Settles before (Ok tt) after → OpensAs message c digest (map_of after.entries leaf) (Err fault) → Opens before leaf message c digest moment (Err fault) after
+  opens-refused : (fault : JournalFault) → Settles before (Ok tt) after → OpensAs message c digest (map_of after.entries leaf) (Err fault) → Opens before leaf message c digest moment (Err fault) after
   opens-refused NotBound settles answer = subst (Opens before leaf message c digest moment (Err NotBound)) (settled-same after settles.0) (not_bound after.entries settles.1 answer)
   opens-refused (Spent other) settles answer = subst (Opens before leaf message c digest moment (Err (Spent other))) (settled-same after settles.0) (spent after.entries other settles.1 answer.0 answer.1)
   opens-refused (OtherDigest x y) settles answer = subst (Opens before leaf message c digest moment (Err (OtherDigest x y))) (settled-same after settles.0) (other_digest after.entries x y answer.0 settles.1 answer.1 answer.2)
   opens-refused Device settles answer = absurd answer
   opens-refused (Damaged torn a b) settles answer = absurd answer
 
-  pub opens-put : (new : JournalState) (result : Result Entered JournalFault) → Settles before (Ok tt) after → OpensAs message c digest (map_of after.entries leaf) (Ok New) → Makes after.entries (Opened leaf message c digest moment) result new → Opens before leaf message c digest moment result new
+  opens-put : (new : JournalState) (result : Result Entered JournalFault) → Settles before (Ok tt) after → OpensAs message c digest (map_of after.entries leaf) (Ok New) → Makes after.entries (Opened leaf message c digest moment) result new → Opens before leaf message c digest moment result new
   opens-put new (Ok New) settles bound_is makes = subst (Opens before leaf message c digest moment (Ok New)) (sym makes) (made after.entries settles.1 bound_is)
   opens-put new (Ok Old) settles bound_is makes = absurd makes
   opens-put new (Err Device) settles bound_is makes = subst (Opens before leaf message c digest moment (Err Device)) (sym makes) (unwritten after.entries settles.1 bound_is)
@@ -106,3 +107,22 @@ module _ (before after : JournalState) (leaf : ℕ) (message : MessageId) (c dig
   opens-put new (Err NotBound) settles bound_is makes = absurd makes
   opens-put new (Err (Spent other)) settles bound_is makes = absurd makes
   opens-put new (Err (OtherDigest x y)) settles bound_is makes = absurd makes
+
+-- either of them
+module _ (before after : JournalState) where
+  pub asks-unsettled : (entry : Entry) (fault : JournalFault) → Settles before (Err fault) after → AsksFor before entry (Err fault) after
+  asks-unsettled (Bound leaf message) = binds-unsettled before after leaf message
+  asks-unsettled (Opened leaf message c digest moment) = opens-unsettled before after leaf message c digest moment
+
+  pub asks-old : (entry : Entry) → Settles before (Ok tt) after → AnswersAs entry (map_of after.entries (leaf_of entry)) (Ok Old) → AsksFor before entry (Ok Old) after
+  asks-old (Bound leaf message) = binds-old before after leaf message
+  asks-old (Opened leaf message c digest moment) = opens-old before after leaf message c digest moment
+
+  pub asks-refused : (entry : Entry) (fault : JournalFault) → Settles before (Ok tt) after → AnswersAs entry (map_of after.entries (leaf_of entry)) (Err fault) → AsksFor before entry (Err fault) after
+  asks-refused (Bound leaf message) = binds-refused before after leaf message
+  asks-refused (Opened leaf message c digest moment) = opens-refused before after leaf message c digest moment
+
+  pub asks-put : (entry : Entry) (new : JournalState) (result : Result Entered JournalFault) → Settles before (Ok tt) after
+      → AnswersAs entry (map_of after.entries (leaf_of entry)) (Ok New) → Makes after.entries entry result new → AsksFor before entry result new
+  asks-put (Bound leaf message) = binds-put before after leaf message
+  asks-put (Opened leaf message c digest moment) = opens-put before after leaf message c digest moment

@@ -1,15 +1,14 @@
 -- What binding and opening make of a journal: it is settled, and then answers or puts an entry.
-use Rattle.std.proofs.Common.{◌≡◌, ◌≢◌, ◌<◌, ◌^◌, ℕ, List, length, Result, Ok, Err, IsTrue, false, refl, sym, ap, ◌∙◌}
+use Rattle.std.proofs.Common.{◌≡◌, ◌≢◌, ◌<◌, ◌^◌, ℕ, List, Result, Ok, Err, IsTrue, false, refl, sym, ap, ◌∙◌}
 use Rattle.std.proofs.Common.{subst}
 use Rattle.disk_trait.specs.declared.disk.Pages as pages
 use Rattle.disk_trait.specs.declared.faults.Faults as faults
-use Rattle.lms_bytes.specs.MessageId.{message_id_bytes}
-use Rattle.lms_bytes.specs.declared.message.MessageId.{MessageId}
 use Rattle.lms_bytes.specs.declared.params.Params.{Params}
-use Rattle.opening_journal.specs.Answers.{BindsAs, Makes, OpensAs}
-use Rattle.opening_journal.specs.Entries.{IsBound, IsFree, JournalState, LeafState, map_of, state_of_slot}
+use Rattle.opening_journal.specs.Answers.{AnswersAs, BindsAs, HasSizes, Makes, OpensAs}
+use Rattle.opening_journal.specs.Entries.{Adds, JournalState, LeafState, map_of, state_of_slot}
 use Rattle.opening_journal.specs.Journal.{Enters, IsSteady, IsTold, Stays, faults_of, params_of, state_of}
 use Rattle.opening_journal.specs.declared.entry.Entry.{Entry}
+use Rattle.opening_journal.specs.declared.entry.Entry.TheVariants.{Bound, Opened}
 use Rattle.opening_journal.specs.declared.faults.Entered.{Entered}
 use Rattle.opening_journal.specs.declared.faults.Entered.TheVariants.{New, Old}
 use Rattle.opening_journal.specs.declared.faults.JournalFault.{JournalFault}
@@ -31,21 +30,21 @@ pub ok-never : {V E : Type 0} (value : V) (x : E) → ◌≡◌ {A = Result V E}
 ok-never value x is = absurd (cc)
 
 -- a leaf's fault is none of the disk's
-pub binds-sound : (message : MessageId) (state : LeafState) (fault : JournalFault)
-    → BindsAs message state (Err fault) → ◌≢◌ {A = Result Entered JournalFault} (Err fault) (Err Device)
-binds-sound message state fault answers is = subst (BindsAs message state) is answers
+pub fault-sound : (entry : Entry) (state : LeafState) (fault : JournalFault) → AnswersAs entry state (Err fault)
+    → ◌≢◌ {A = Result Entered JournalFault} (Err fault) (Err Device)
+fault-sound (Bound leaf message) state fault answers is = subst (BindsAs message state) is answers
+fault-sound (Opened leaf message c digest moment) state fault answers is = subst (OpensAs message c digest state) is answers
 
-pub binds-whole : (message : MessageId) (state : LeafState) (fault : JournalFault) → BindsAs message state (Err fault)
+pub fault-whole : (entry : Entry) (state : LeafState) (fault : JournalFault) → AnswersAs entry state (Err fault)
     → (leaf a b : ℕ) → ◌≢◌ {A = Result Entered JournalFault} (Err fault) (Err (Damaged leaf a b))
-binds-whole message state fault answers leaf a b is = subst (BindsAs message state) is answers
+fault-whole (Bound leaf message) state fault answers torn a b is = subst (BindsAs message state) is answers
+fault-whole (Opened leaf message c digest moment) state fault answers torn a b is =
+    subst (OpensAs message c digest state) is answers
 
-module _ (message : MessageId) (c digest : List ℕ) (state : LeafState) (fault : JournalFault)
-    (answers : OpensAs message c digest state (Err fault)) where
-  pub opens-sound : ◌≢◌ {A = Result Entered JournalFault} (Err fault) (Err Device)
-  opens-sound is = subst (OpensAs message c digest state) is answers
-
-  pub opens-whole : (leaf a b : ℕ) → ◌≢◌ {A = Result Entered JournalFault} (Err fault) (Err (Damaged leaf a b))
-  opens-whole leaf a b is = subst (OpensAs message c digest state) is answers
+-- a leaf that answers New may follow
+pub adds-new : (entry : Entry) (state : LeafState) → AnswersAs entry state (Ok New) → Adds entry state
+adds-new (Bound leaf message) state is = is
+adds-new (Opened leaf message c digest moment) state is = is
 
 pub old-sound : ◌≢◌ {A = Result Entered JournalFault} (Ok Old) (Err Device)
 old-sound is = ok-never Old Device is
@@ -81,23 +80,8 @@ module _ {D : Type 0} {p : pages.Ghosts D} {f : faults.Ghosts D} {old mid : Jour
       pub leaf-is : state_of_slot (params_of mid).n slot ≡ map_of (state_of mid).entries leaf
       leaf-is = ap (state_of_slot (params_of mid).n) is ∙ mid.held.slots leaf leaf-counted
 
-      -- one that answers New may be entered
-      pub leaf-binds : (message : MessageId) (entered : Entered) → entered ≡ New
-          → BindsAs message (state_of_slot (params_of mid).n slot) (Ok entered)
-          → map_of (state_of mid).entries leaf ≡ IsFree
-      leaf-binds message entered new answers =
-          sym leaf-is ∙ subst (λ (e : Entered). BindsAs message (state_of_slot (params_of mid).n slot) (Ok e))
-          new answers
-
-      pub leaf-opens : (message : MessageId) (c digest : List ℕ) (entered : Entered) → entered ≡ New
-          → OpensAs message c digest (state_of_slot (params_of mid).n slot) (Ok entered)
-          → map_of (state_of mid).entries leaf ≡ IsBound (message_id_bytes message)
-      leaf-opens message c digest entered new answers =
-          sym leaf-is ∙ subst (λ (e : Entered). OpensAs message c digest (state_of_slot (params_of mid).n slot) (Ok e))
-          new answers
-
-  pub sized : (bytes : List ℕ) → length bytes ≡ (params_of old).n → length bytes ≡ (params_of mid).n
-  sized bytes size = size ∙ ap (λ (q : Params). q.n) (sym stays.params)
+  pub sized-entry : (entry : Entry) → HasSizes (params_of old).n entry → HasSizes (params_of mid).n entry
+  sized-entry entry sizes = subst (λ (q : Params). HasSizes q.n entry) (sym stays.params) sizes
 
   -- what the calls say of the disk
   module _ {V : Type 0} {result : Result V JournalFault}

@@ -5,7 +5,7 @@ use Rattle.lms_bytes.specs.MessageId.{message_id_bytes}
 use Rattle.lms_bytes.specs.declared.message.MessageId.{MessageId}
 use Rattle.opening_journal.specs.Entries.{IsBound, IsFree, IsOpened, JournalState, LeafState, leaf_of}
 use Rattle.opening_journal.specs.EntrySlots.{slot_before, slot_with}
-use Rattle.opening_journal.specs.Opening.{AnswersFor, SettlesTo, settled_with}
+use Rattle.opening_journal.specs.Opening.{AnswersFor, Binds, Opens, SettlesTo, settled_with}
 use Rattle.opening_journal.specs.declared.entry.Entry.{Entry}
 use Rattle.opening_journal.specs.declared.entry.Entry.TheVariants.{Bound, Opened}
 use Rattle.opening_journal.specs.declared.faults.Entered.{Entered}
@@ -71,3 +71,13 @@ OpensAs message c digest state (Err (OtherDigest x y)) =
     (then : ℕ) × (state ≡ IsOpened (message_id_bytes message) x y then) × ((x ≢ c) ⊎ (y ≢ digest))
 OpensAs message c digest state (Err Device) = ⊥
 OpensAs message c digest state (Err (Damaged leaf a b)) = ⊥
+
+-- what a leaf answers that is asked for an entry
+abbrev pub AnswersAs : Entry → LeafState → Result Entered JournalFault → Type 0
+AnswersAs (Bound leaf message) state result = BindsAs message state result
+AnswersAs (Opened leaf message c digest moment) state result = OpensAs message c digest state result
+
+-- what asking for an entry does
+abbrev pub AsksFor : JournalState → Entry → Result Entered JournalFault → JournalState → Type 0
+AsksFor before (Bound leaf message) result after = Binds before leaf message result after
+AsksFor before (Opened leaf message c digest moment) result after = Opens before leaf message c digest moment result after

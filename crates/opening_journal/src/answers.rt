@@ -2,17 +2,35 @@
 
 ghost use Rattle.std.specs.Prelude.{◌≡◌, false};
 ghost use Rattle.lms_bytes.specs.HashLength.{IsHashLength};
-ghost use Rattle.opening_journal.specs.Answers.{BindsAs, IsOldOrSpent, IsSamePair, OpensAs};
+ghost use Rattle.opening_journal.specs.Answers.{AnswersAs, BindsAs, IsOldOrSpent, IsSamePair, OpensAs};
 ghost use Rattle.opening_journal.specs.Entries.{state_of_slot};
 ghost use Rattle.slot_file.specs.Copies.{is_damaged};
 
 use crate::bodies::value_at;
+use crate::entry::Entry;
 use crate::faults::{Entered, JournalFault};
 use lms_bytes::{MessageId, Val};
 use slot_file::Slot;
 
+/// Whether an entry can be made, as `Entered::New`, or was. The slot of its leaf is not damaged.
+pub(crate) fn answer(slot: &Slot, n: u8, entry: &Entry) -> Result<Entered, JournalFault>
+    requires whole { is_damaged slot.now ≡ false }
+    requires n { IsHashLength n }
+    ensures { AnswersAs entry.now (state_of_slot n slot.now) result }
+{
+    match entry {
+        Entry::Bound { message, .. } => binding(slot, n, message),
+        Entry::Opened {
+            message,
+            c,
+            digest,
+            ..
+        } => opening(slot, n, message, c, digest),
+    }
+}
+
 /// Whether a leaf can be bound to a message, as `Entered::New`, or is. Its slot is not damaged.
-pub(crate) fn binding(slot: &Slot, n: u8, message: &MessageId) -> Result<Entered, JournalFault>
+fn binding(slot: &Slot, n: u8, message: &MessageId) -> Result<Entered, JournalFault>
     requires { is_damaged slot.now ≡ false }
     ensures { BindsAs message.now (state_of_slot n slot.now) result }
 {
@@ -23,7 +41,7 @@ pub(crate) fn binding(slot: &Slot, n: u8, message: &MessageId) -> Result<Entered
     }
 }
 
-// The answer of a leaf that is bound to the message of a body A.
+/// The answer of a leaf that is bound to the message of a body A.
 fn old_if_same(kept: &[u8; 36], message: &MessageId) -> Result<Entered, JournalFault>
     ensures { IsOldOrSpent kept.now message.now result }
 {
@@ -37,7 +55,7 @@ fn old_if_same(kept: &[u8; 36], message: &MessageId) -> Result<Entered, JournalF
 }
 
 /// Whether a leaf can be opened for a message with C and Q, as `Entered::New`, or is. Its slot is not damaged.
-pub(crate) fn opening(
+fn opening(
     slot: &Slot,
     n: u8,
     message: &MessageId,
@@ -61,7 +79,7 @@ pub(crate) fn opening(
     }
 }
 
-// The answer of a leaf that was opened with the pair of a body B.
+/// The answer of a leaf that was opened with the pair of a body B.
 fn old_if_equal(body: &[u8; 64], n: u8, c: &Val, digest: &Val) -> Result<Entered, JournalFault>
     requires { IsHashLength n }
     ensures { IsSamePair n body.now c.now digest.now result }

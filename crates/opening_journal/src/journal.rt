@@ -2,7 +2,7 @@
 
 ghost use Rattle.std.specs.Prelude.{◌≡◌, ◌≢◌, ◌^◌, ◌+◌, ◌<◌, ◌≤◌, ℕ, length, vec_capacity, IsTrue, IfOk, IfErr, None};
 ghost use Rattle.std.specs.Prelude.{Some, Ok, Err};
-ghost use Rattle.opening_journal.specs.Answers.{HasSizes, Makes, Settles};
+ghost use Rattle.opening_journal.specs.Answers.{AsksFor, HasSizes, Makes, Settles};
 ghost use Rattle.opening_journal.specs.Entries.{Adds, leaf_of, map_of};
 ghost use Rattle.slot_file.specs.Logs.{room_in};
 ghost use Rattle.opening_journal.specs.Inside.{IsHeld};
@@ -10,8 +10,8 @@ ghost use Rattle.opening_journal.specs.Opening.{Binds, Opens};
 ghost use Rattle.slot_file.specs.Cache.{count_of, header_of as cache_header, state_of as cache_state};
 ghost use Rattle.slot_file.specs.Disks.{RisesAt, Unwritten};
 
-use crate::answers::{binding, opening};
-use crate::entry::Entry;
+use crate::answers::answer;
+use crate::entry::{Entry, leaf_of};
 use crate::faults::{Entered, JournalFault, JournalLoad, journal_fault, journal_load};
 use crate::listing::entries_of;
 use crate::steps::put_entry;
@@ -84,15 +84,10 @@ impl<D: Disk> Journal<D> {
             → result ≢ Ok Entered.New → result ≢ Err JournalFault.Device → self.new ≡ self.old }
         ensures enters { Enters self.old self.new result }
     {
-        if let Err(fault) = self.settle() {
-            return Err(fault);
-        }
-        let message = *message;
-        match binding(self.slots.slot(leaf), self.params.n, &message) {
-            Ok(Entered::New) => self.put(&Entry::Bound { leaf, message }),
-            Ok(Entered::Old) => Ok(Entered::Old),
-            Err(fault) => Err(fault),
-        }
+        self.enter(&Entry::Bound {
+            leaf,
+            message: *message,
+        })
     }
 
     /// Opens leaf `leaf`, which is bound to this message, with C and Q of `n` bytes. An entry in doubt is settled
@@ -114,23 +109,35 @@ impl<D: Disk> Journal<D> {
             → result ≢ Ok Entered.New → result ≢ Err JournalFault.Device → self.new ≡ self.old }
         ensures enters { Enters self.old self.new result }
     {
+        self.enter(&Entry::Opened {
+            leaf,
+            message: *message,
+            c: *c,
+            digest: *digest,
+            moment,
+        })
+    }
+
+    /// Makes an entry where its leaf answers that it can be made. An entry in doubt is settled first.
+    fn enter(&mut self, entry: &Entry) -> Result<Entered, JournalFault>
+        requires within { leaf_of entry.now < 2 ^ (params_of self.old).h }
+        requires sizes { HasSizes (params_of self.old).n entry.now }
+        ensures event { AsksFor (state_of self.old) entry.now result (state_of self.new) }
+        ensures idle { (state_of self.old).doubt ≡ None
+            → result ≢ Ok Entered.New → result ≢ Err JournalFault.Device → self.new ≡ self.old }
+        ensures enters { Enters self.old self.new result }
+    {
         if let Err(fault) = self.settle() {
             return Err(fault);
         }
-        match opening(self.slots.slot(leaf), self.params.n, message, c, digest) {
-            Ok(Entered::New) => self.put(&Entry::Opened {
-                leaf,
-                message: *message,
-                c: *c,
-                digest: *digest,
-                moment,
-            }),
+        match answer(self.slots.slot(leaf_of(entry)), self.params.n, entry) {
+            Ok(Entered::New) => self.put(entry),
             Ok(Entered::Old) => Ok(Entered::Old),
             Err(fault) => Err(fault),
         }
     }
 
-    // Finds out whether the entry in doubt was made.
+    /// Finds out whether the entry in doubt was made.
     fn settle(&mut self) -> Result<(), JournalFault>
         ensures idle { (state_of self.old).doubt ≡ None → self.new ≡ self.old }
         ensures event { Settles (state_of self.old) result (state_of self.new) }
@@ -145,7 +152,7 @@ impl<D: Disk> Journal<D> {
         }
     }
 
-    // Finds out whether this entry, which is in doubt, was made.
+    /// Finds out whether this entry, which is in doubt, was made.
     fn settle_entry(&mut self, entry: &Entry) -> Result<(), JournalFault>
         requires { (state_of self.old).doubt ≡ Some entry.now }
         ensures event { Settles (state_of self.old) result (state_of self.new) }
@@ -168,7 +175,7 @@ impl<D: Disk> Journal<D> {
         }
     }
 
-    // Makes an entry, where none is in doubt and its leaf is as before it.
+    /// Makes an entry, where none is in doubt and its leaf is as before it.
     fn put(&mut self, entry: &Entry) -> Result<Entered, JournalFault>
         requires settled { (state_of self.old).doubt ≡ None }
         requires within { leaf_of entry.now < 2 ^ (params_of self.old).h }
