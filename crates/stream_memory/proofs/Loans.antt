@@ -1,5 +1,5 @@
 -- What a store in memory says of its names after a change of one of them.
-use Rattle.std.proofs.Common.{◌≡◌, ◌↔◌, ◌≤◌, ◌+◌, ◌-◌, ◌^◌, min, arith, is_none, is_some, ◌&&◌, ◌∷◌, [], ℕ, Bool, true, false, List, Option, Some, None, cond, length, map, option_map, option_and_then, unwrap_or, find, ap, refl, subst, sym, ◌∙◌}
+use Rattle.std.proofs.Common.{◌≡◌, ◌↔◌, ◌≤◌, ◌+◌, ◌-◌, ◌^◌, min, arith, is_none, is_some, ◌&&◌, ◌||◌, ◌∷◌, [], ℕ, Bool, true, false, List, Option, Some, None, cond, length, map, option_map, option_and_then, unwrap_or, find, ap, refl, subst, sym, ◌∙◌}
 use Rattle.std.proofs.lemmas.Slice.Eq.{bytes_eq-Decides}
 use Rattle.std.specs.Str.{bytes_eq}
 use Rattle.std.specs.List.{list_all}
@@ -7,10 +7,10 @@ use Rattle.std.specs.declared.alloc.Global.{Global}
 use Rattle.std.specs.declared.string.String.{String}
 use Rattle.std.specs.declared.vec.Vec.{Vec}
 use Rattle.disk_trait.specs.MemDisk.{MemState, MayLeave, is_steady}
-use Rattle.stream_io.specs.Store.{Made, PagesState, Returned, Taken, Written, added, has_name}
+use Rattle.stream_io.specs.Store.{Handed, Made, PagesState, Returned, StoreOnward, StoreState, Taken, Written, added, handed, has_name, without}
 use Rattle.stream_io.specs.declared.store.Readers.{Readers}
 use Rattle.stream_io.specs.declared.store.Readers.TheVariants.{OwnerAlone}
-use Rattle.stream_memory.specs.MemStore.{Begun, are_steady, disk_in, disk_of, entry_of, file_disk, first_of, has_that_name, kind, kind_of, leaves_in, new_disk, out_in, readers_of, slot_of, state_of, steady_in}
+use Rattle.stream_memory.specs.MemStore.{Begun, are_steady, disk_in, disk_of, entry_of, file_disk, first_of, has_that_name, is_steady_store, kind, kind_of, leaves_in, new_disk, out_in, readers_of, slot_of, state_of, steady_in}
 use Rattle.stream_memory.specs.declared.entries.Entry.{Entry}
 use Rattle.stream_memory.specs.declared.entries.Slot.{Slot}
 use Rattle.stream_memory.specs.declared.entries.Slot.TheVariants.{Here, Out}
@@ -140,11 +140,11 @@ module _ (old new : List Entry) (name : List ℕ) (stops : Option ℕ) (steady s
   read_by : (who : Readers) → ((other : List ℕ) → readers_of new other ≡ added (readers_of old) name who other) → readers_of new name ≡ Some who
   read_by who readers = readers name ∙ ap (λ test. cond test (Some who) (readers_of old name)) ((bytes_eq-Decides name name).1 refl)
 
-  pub written : (bytes : List ℕ) (who : Readers) → ((other : List ℕ) → slot_of new other ≡ added (slot_of old) name (Here (new_disk bytes (length bytes) stops)) other)
+  pub written : (bytes : List ℕ) (room : ℕ) (who : Readers) → ((other : List ℕ) → slot_of new other ≡ added (slot_of old) name (Here (new_disk bytes room stops)) other)
       → ((other : List ℕ) → readers_of new other ≡ added (readers_of old) name who other)
       → Written (state_of old stops steady count disk_count views) name bytes who (state_of new stops steady' count' disk_count views)
-  written bytes who slots readers =
-      let slot = Here (new_disk bytes (length bytes) stops) in
+  written bytes room who slots readers =
+      let slot = Here (new_disk bytes room stops) in
       let here : slot_of new name ≡ Some slot = own old new name slot slots in
       record {
         absent = λ told. was_absent;
@@ -156,23 +156,47 @@ module _ (old new : List Entry) (name : List ℕ) (stops : Option ℕ) (steady s
         loans = record { disk_count = refl; views = refl };
       }
 
-  pub made : (size : ℕ) → ((other : List ℕ) → slot_of new other ≡ added (slot_of old) name (Out (is_steady (new_disk [] size stops))) other)
-      → ((other : List ℕ) → readers_of new other ≡ added (readers_of old) name OwnerAlone other)
-      → (steady ≡ true → is_none stops ≡ true)
-      → Made (state_of old stops steady count disk_count views) name size (stored (new_disk [] size stops) 0) (state_of new stops steady' count' disk_count views)
-  made size slots readers all = record {
-    absent = λ told. was_absent;
-    given = record { fresh = refl; told = λ told. refl; steady = λ is. new_steady [] size stops ∙ all is };
-    kind = λ told. ap (kind_of stops) gone ∙ ap kind (sym (new_steady [] size stops));
-    reads = λ told. refl;
-    room = λ told. omega arith;
-    stable = λ told honest. only_stable [];
-    readers = λ told. read_by OwnerAlone readers;
-    file = λ told. same_for_all old new name (Out (is_steady (new_disk [] size stops))) slots (λ it. option_map (λ d. d.bytes) (option_and_then disk_in it)) (sym (ap (λ it. option_map (λ d. d.bytes) (option_and_then disk_in it)) gone));
-    out = λ told. through old new name (Out (is_steady (new_disk [] size stops))) slots (option_and_then out_in);
-    others = λ told other image. others old new name (Out (is_steady (new_disk [] size stops))) slots other image;
-    loans = record { disk_count = refl; views = refl };
-  }
+-- what stands under a name that is taken away, where it was just put there
+gone_again : {A : Type 0} (names : List ℕ → Option A) (name : List ℕ) (it : A) (other : List ℕ) → names name ≡ None
+    → without (added names name it) name other ≡ names other
+gone_again names name it other none = here (bytes_eq other name) refl
+  where
+    here : (test : Bool) → bytes_eq other name ≡ test → cond test None (cond test (Some it) (names other)) ≡ names other
+    here true e = sym (rw ((bytes_eq-Decides other name).0 e) none)
+    here false e = refl
+
+no_file : (file : Option (List ℕ)) (out : Option Handed) → (is_some file || is_some out) ≡ false → file ≡ None
+no_file None out not = refl
+no_file (Some bytes) out not = let no : true ≡ false = not in cc
+
+-- an empty disk that was put under a new name, and then handed out
+pub made : {old mid new : StoreState} {name : List ℕ} {size : ℕ} {disk : PagesState} → Written old name [] OwnerAlone mid → StoreOnward old mid
+    → Taken mid name disk new → disk.reads ≡ [] → size ≤ disk.room → new.readers name ≡ mid.readers name → Made old name size disk new
+made {old = old} {mid = mid} {name = name} {disk = disk} put onward taken empty room readers = record {
+  absent = put.absent;
+  given = record {
+    fresh = taken.given.fresh;
+    told = λ told. taken.given.told (onward.told ∙ told);
+    steady = λ steady. taken.given.steady (onward.steady ∙ steady);
+  };
+  kind = λ told. sym (onward.disks name) ∙ taken.kind (onward.told ∙ told);
+  reads = λ told. empty;
+  room = λ told. room;
+  stable = λ told honest image leaves. put.stable told image ((taken.images (onward.told ∙ told) image).0 leaves);
+  readers = λ told. readers ∙ put.readers told;
+  file = λ told other. taken.file (onward.told ∙ told) other
+      ∙ (ap (λ it. cond (bytes_eq other name) None it) (put.file told other)
+      ∙ gone_again old.file name [] other (no_file (old.file name) (old.out name) (put.absent told)));
+  out = λ told other. taken.out (onward.told ∙ told) other ∙ ap (λ it. cond (bytes_eq other name) (Some (handed disk)) it) (put.out other);
+  others = λ told other image not.
+      let second = taken.others (onward.told ∙ told) other image not in
+      let first = put.others told other image not in
+      (λ is. first.0 (second.0 is), λ is. second.1 (first.1 is));
+  loans = record {
+    disk_count = taken.loans.disk_count ∙ put.loans.disk_count;
+    views = taken.loans.views ∙ put.loans.views;
+  };
+}
 
 here_again : (disk : Option MemState) → option_and_then disk_in (option_map Here disk) ≡ disk
 here_again None = refl
@@ -237,11 +261,36 @@ read_still old new name who gone readers other was is = readers other ∙ here (
         cc
     here false e = is
 
--- a store that is steady makes steady disks
-pub makes_steady : (calls made all : Bool) → (calls && made && all) ≡ true → made ≡ true
-makes_steady calls made all is = last_true calls made (first_true (calls && made) all is)
-
 -- all files of a store are steady disks
 pub files_steady : (b : Bool) (disks : List (String Global × MemState)) (files : List (String Global × Vec ℕ Global)) → disks ≡ map file_disk files
     → (b && list_all (λ disk. is_steady disk.1) disks) ≡ b
 files_steady b disks files are = rw (are, all_steady files) (with_true b)
+
+-- the disk of a name was handed out, and calls were made before that
+pub lent-onward : (old new : List Entry) (name : List ℕ) (disk : MemState) (stops fails : Option ℕ) (failing failing' : Vec ℕ Global)
+    (count count' disk_count views : ℕ) → disk_of old name ≡ Some disk
+    → ((other : List ℕ) → slot_of new other ≡ added (slot_of old) name (Out (is_steady disk)) other)
+    → ((other : List ℕ) → readers_of new other ≡ readers_of old other) → are_steady new ≡ are_steady old
+    → failing' ≡ failing → count ≤ count'
+    → StoreOnward (state_of old stops (is_steady_store failing.items fails stops old) count disk_count views)
+    (state_of new stops (is_steady_store failing'.items fails stops new) count' disk_count views)
+lent-onward old new name disk stops fails failing failing' count count' disk_count views there slots readers steady listed later =
+    let here : slot_of old name ≡ Some (Here disk) = here_of (slot_of old name) disk there in
+    record {
+      told = refl;
+      steady = rw (listed, steady) refl;
+      disks = same_for_all old new name (Out (is_steady disk)) slots (kind_of stops) (sym (ap (kind_of stops) here));
+      readers = λ told other who is. readers other ∙ is;
+      count = later;
+      disk_count = omega arith;
+    }
+
+pub onward-then : {a b c : StoreState} → StoreOnward a b → StoreOnward b c → StoreOnward a c
+onward-then first second = record {
+  told = second.told ∙ first.told;
+  steady = second.steady ∙ first.steady;
+  disks = λ name. second.disks name ∙ first.disks name;
+  readers = λ told name who is. second.readers (first.told ∙ told) name who (first.readers told name who is);
+  count = (let x = first.count in let y = second.count in omega arith);
+  disk_count = (let x = first.disk_count in let y = second.disk_count in omega arith);
+}

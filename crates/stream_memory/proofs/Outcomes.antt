@@ -60,6 +60,19 @@ refusal result fault is =
     let p = err_from_is_err_and result is in
     p.1 ∙ ap Err p.2
 
+-- a refusal, seen from the call that led to it
+pub same_fault : {T U E : Type 0} (result : Result T E) (fault other : E) → result ≡ Err fault → result ≡ Err other
+    → ◌≡◌ {A = Result U E} (Err fault) (Err other)
+same_fault result fault other is was = let same : fault ≡ other = cc in ap Err same
+
+pub rises-as : {T U E : Type 0} (result : Result T E) (fault other : E) (before now : ℕ) → result ≡ Err fault
+    → RisesWhere (◌≡◌ {A = Result U E} (Err fault) (Err other)) before now → RisesWhere (result ≡ Err other) before now
+rises-as result fault other before now is rises = record {
+  later = rises.later;
+  rose = λ was. rises.rose (same_fault result fault other is was);
+  same = λ not. rises.same (λ was. not (is ∙ same_fault (Err fault) fault other refl was));
+}
+
 -- what is said of a value says nothing of a refusal, and the other way round
 pub if_refused : {T E : Type 0} (P : T → Type 0) (result : Result T E) (fault : E) → result ≡ Err fault → IfOk result P
 if_refused P (Ok value) fault is = absurd (ok_no (Ok value) value fault refl is)

@@ -14,6 +14,7 @@ use Rattle.stream_memory.specs.Calls.{is_empty}
 use Rattle.stream_memory.specs.declared.entries.Entry.{Entry}
 use Rattle.stream_memory.specs.declared.entries.Slot.{Slot}
 use Rattle.stream_memory.specs.declared.entries.Slot.TheVariants.{Here, Out}
+use Rattle.stream_memory.specs.declared.mem_store.MemStore.{MemStore}
 
 -- the disk, where it is in the store
 abbrev pub disk_in : Slot → Option MemState
@@ -88,6 +89,12 @@ state_of entries new_stops steady count disk_count views = record {
   out = λ name. option_and_then out_in (slot_of entries name);
   readers = readers_of entries;
 }
+
+-- the store that this is
+abbrev pub store_of : MemStore → StoreState
+store_of s =
+    let steady = is_steady_store s.calls.failing.items s.view_fails s.new_stops s.entries.list.items in
+    state_of s.entries.list.items s.new_stops steady s.calls.faults s.disk_faults s.views
 
 -- a disk of these bytes: all are stable, there is no room for more, and no call is to fail
 abbrev pub full_disk : List ℕ → MemState

@@ -1,13 +1,12 @@
 //! A store in memory.
 
-ghost use Rattle.std.specs.Prelude.{◌≡◌, ◌≤◌, ◌&&◌, ℕ, List, IfOk, IsTrue, None, Some, false, map, refl, option_copied};
-ghost use Rattle.std.specs.Prelude.{[], IfErr, OnErr, OnOk, if◌then◌else◌, length};
+ghost use Rattle.std.specs.Prelude.{◌≡◌, ◌≢◌, ◌≤◌, ◌&&◌, ℕ, List, IfOk, IsTrue, Err, Some, false, map, refl, option_copied};
+ghost use Rattle.std.specs.Prelude.{OnErr, OnOk, if◌then◌else◌, length};
 ghost use Rattle.std.specs.List.{list_all};
 ghost use Rattle.disk_trait.specs.MemDisk.{is_steady};
-ghost use Rattle.stream_io.specs.Store.{SameStore, added, has_name};
+ghost use Rattle.stream_io.specs.Store.{RisesWhere, SameStore, StoreOnward, Written, has_name};
 ghost use Rattle.stream_memory.specs.Calls.{is_empty};
-ghost use Rattle.stream_memory.specs.MemStore.{Begun, file_disk, full_disk, is_steady_store, kind, new_disk, state_of};
-ghost use Rattle.stream_memory.specs.MemStore.{are_steady, readers_of, slot_of};
+ghost use Rattle.stream_memory.specs.MemStore.{Begun, disk_of, file_disk, full_disk, is_steady_store, kind, new_disk, store_of};
 
 use crate::Calls;
 use crate::entries::{Entries, Slot};
@@ -111,6 +110,36 @@ impl MemStore {
     {
         self.entries.readers(name)
     }
+
+    /// Makes a disk of these bytes, with this room, under a name that is not in the store, for these readers.
+    fn enter(
+        &mut self,
+        alloc: Global,
+        name: &str,
+        bytes: &[u8],
+        room: usize,
+        readers: Readers,
+    ) -> Result<(), NewFault>
+        requires { length bytes.now ≤ room }
+        ensures written { OnOk result (Written (store_of self.old) name.now bytes.now readers (store_of self.new)) }
+        ensures disk { OnOk result (disk_of self.new.entries.list.items name.now
+            ≡ Some (new_disk bytes.now room self.old.new_stops)) }
+        ensures exists { result ≡ Err NewFault.Exists → IsTrue (has_name (store_of self.old) name.now) }
+        ensures answers { IsTrue (store_of self.old).steady → result ≢ Err NewFault.Failed }
+        ensures refused { OnErr result (SameStore (store_of self.old) (store_of self.new)) }
+        ensures cause { RisesWhere (result ≡ Err NewFault.Failed) (store_of self.old).count (store_of self.new).count }
+        ensures onward { StoreOnward (store_of self.old) (store_of self.new) }
+    {
+        self.calls.make()?;
+        if self.entries.has(name) {
+            return Err(NewFault::Exists);
+        }
+        let Ok(disk) = new_disk(alloc, bytes, room, self.new_stops) else {
+            return Err(NewFault::NoMemory);
+        };
+        self.entries.add(alloc, name, Slot::Here(disk), readers)?;
+        Ok(())
+    }
 }
 
 /// A disk of these bytes, all of them stable, with no room for more.
@@ -134,34 +163,6 @@ fn new_disk(
     if let Some(call) = stops {
         disk.stop_at(call);
     }
-    Ok(disk)
-}
-
-/// Makes an empty disk with this room under a name that is not there, and hands it out. It stops at the call of that
-/// number, if there is one.
-fn lend_new(
-    entries: &mut Entries,
-    alloc: Global,
-    name: &str,
-    room: usize,
-    stops: Option<u64>,
-) -> Result<MemDisk, NewFault>
-    requires { slot_of entries.old.list.items name.now ≡ None }
-    ensures disk { IfOk result (λ disk. disk ≡ new_disk [] room stops) }
-    ensures slots { OnOk result ((other : List ℕ) → slot_of entries.new.list.items other
-        ≡ added (slot_of entries.old.list.items) name.now (Slot.Out (is_steady (new_disk [] room stops))) other) }
-    ensures readers { OnOk result ((other : List ℕ) → readers_of entries.new.list.items other
-        ≡ added (readers_of entries.old.list.items) name.now Readers.OwnerAlone other) }
-    ensures steady { OnOk result (are_steady entries.new.list.items
-        ≡ (are_steady entries.old.list.items && is_steady (new_disk [] room stops))) }
-    ensures refused { OnErr result (entries.new.list.items ≡ entries.old.list.items) }
-    ensures memory { IfErr result (λ fault. fault ≡ NewFault.NoMemory) }
-{
-    let Ok(disk) = new_disk(alloc, &[], room, stops) else {
-        return Err(NewFault::NoMemory);
-    };
-    let steady = disk.is_steady();
-    entries.add(alloc, name, Slot::Out { steady }, Readers::OwnerAlone)?;
     Ok(disk)
 }
 
@@ -214,9 +215,7 @@ impl Store for MemStore {
 
     type View = StoredDisk;
 
-    ghost state = { λ s. state_of s.entries.list.items s.new_stops
-        (is_steady_store s.calls.failing.items s.view_fails s.new_stops s.entries.list.items)
-        s.calls.faults s.disk_faults s.views };
+    ghost state = { store_of };
 
     fn disk_faults(&self) -> u64 {
         self.disk_faults
@@ -246,24 +245,12 @@ impl Store for MemStore {
         bytes: &[u8],
         readers: Readers,
     ) -> Result<(), NewFault> {
-        self.calls.make()?;
-        if self.entries.has(name) {
-            return Err(NewFault::Exists);
-        }
-        let Ok(disk) = new_disk(alloc, bytes, bytes.len(), self.new_stops) else {
-            return Err(NewFault::NoMemory);
-        };
-        self.entries.add(alloc, name, Slot::Here(disk), readers)?;
-        Ok(())
+        self.enter(alloc, name, bytes, bytes.len(), readers)
     }
 
     fn new_disk(&mut self, alloc: Global, name: &str, size: usize) -> Result<StoredDisk, NewFault> {
-        self.calls.make()?;
-        if self.entries.has(name) {
-            return Err(NewFault::Exists);
-        }
-        let disk = lend_new(&mut self.entries, alloc, name, size, self.new_stops)?;
-        Ok(StoredDisk::new(disk))
+        self.enter(alloc, name, &[], size, Readers::OwnerAlone)?;
+        Ok(StoredDisk::new(self.entries.lend(name).unwrap()))
     }
 
     fn take_disk(&mut self, name: &str) -> Result<StoredDisk, CallFault> {

@@ -1,39 +1,40 @@
-use Rattle.std.proofs.Common.{arith, refl, sym, [], ◌∙◌, ap, Err}
+use Rattle.std.proofs.Common.{◌≡◌, ◌≤◌, ◌∙◌, Some, [], ap, arith, is_some, refl, sym}
+use Rattle.disk_trait.specs.MemDisk.{MemState}
 use Rattle.stream_memory.specs.MemStore.{new_disk}
-use Rattle.stream_memory.specs.declared.entries.Slot.TheVariants.{Out}
-use Rattle.stream_io.specs.declared.store.Readers.TheVariants.{OwnerAlone}
-use Rattle.disk_trait.specs.MemDisk.{is_steady}
-use Rattle.stream_memory.proofs.Loans.{absent, as_said, as_steady, made, makes_steady, new_steady, read_still}
-use Rattle.stream_memory.proofs.Unchanged.{kept_store, onward}
-use Rattle.stream_memory.proofs.Outcomes.{failed_exists, has_failed, has_not, if_refused, memory_exists, named, new_exists, new_memory, not_steady, ok_no, on_err, other_no, refusal}
+use Rattle.stream_memory.proofs.Links.{last_true}
+use Rattle.stream_memory.proofs.Loans.{lent-onward, made, onward-then, taken}
+use Rattle.stream_memory.proofs.Outcomes.{has_not, if_refused, ok_no, on_err, refusal, rises-as, same_fault}
 use Rattle.stream_memory.proofs.mem_store.MemStoreStore.new_disk.Goals as goal
 
-pub returns-in_err-make : goal.returns-in_err-make
-returns-in_err-make c =
+pub returns-in_err-enter : goal.returns-in_err-enter
+returns-in_err-enter c =
     let is = refusal c.from_residual.result _ c.from_residual.ensures.1 in
-    let entries = c.args.self.now.entries.list.items in
-    let made = c.in_err-make.ensures in
+    let entered = c.in_err-enter.ensures in
     record {
       made = if_refused _ _ _ is;
-      exists = λ told was. absurd (other_no _ _ _ failed_exists is was);
-      answers = λ steady _. not_steady _ _ _ _ made.steady steady;
-      refused = on_err _ _ (kept_store entries entries _ _ _ _ _ _ _ refl);
-      cause = has_failed _ _ _ _ is refl made.later made.fault;
-      onward = onward entries entries _ _ _ _ _ _ _ _ _ refl made.failing made.later;
+      exists = λ told was. entered.exists (same_fault _ _ _ is was);
+      answers = λ steady was. entered.answers steady (same_fault _ _ _ is was);
+      refused = on_err _ _ entered.refused;
+      cause = rises-as _ _ _ _ _ is entered.cause;
+      onward = entered.onward;
     }
 
-pub returns-then-has : goal.returns-then-has
-returns-then-has c =
-    let entries = c.args.self.now.entries.list.items in
-    let made = c.in_ok-make.ensures in
-    record {
-      made = tt;
-      exists = λ told is. sym (named _) ∙ sym c.has.ensures ∙ c.if-has.true;
-      answers = λ steady. other_no _ _ _ new_exists refl;
-      refused = kept_store entries entries _ _ _ _ _ _ _ refl;
-      cause = has_not _ _ _ (other_no _ _ _ new_exists refl) made.ok;
-      onward = onward entries entries _ _ _ _ _ _ _ _ _ refl made.failing made.later;
-    }
+pub unwrap-requires : goal.unwrap-requires
+unwrap-requires c = ap is_some (c.lend.ensures.lent ∙ c.in_ok-enter.ensures.disk)
+
+pub returns-clause-made : goal.returns-clause-made
+returns-clause-made c =
+    let entered = c.in_ok-enter.ensures in
+    let lent = c.lend.ensures in
+    let there = sym lent.lent ∙ c.unwrap.ensures in
+    let same : Some c.unwrap.result ≡ Some (new_disk [] c.args.size c.args.self.now.new_stops) = sym there ∙ entered.disk in
+    let is : c.unwrap.result ≡ new_disk [] c.args.size c.args.self.now.new_stops = cc in
+    let room : c.args.size ≤ c.unwrap.result.capacity = rw is (omega arith) in
+    rw c.new.ensures.made
+    (made entered.written entered.onward
+    (taken c.enter.new.self.entries.list.items c.lend.new.self.list.items c.args.name.now _ _ _ _ _ _ c.unwrap.result _
+    there (rw c.unwrap.ensures at lent.slots) (last_true _ _) c.new.ensures.has_room)
+    (ap (λ (disk : MemState). disk.bytes) is) room (lent.readers c.args.name.now))
 
 pub returns-clause-exists : goal.returns-clause-exists
 returns-clause-exists c = λ told is. absurd (ok_no _ _ _ refl is)
@@ -45,43 +46,13 @@ pub returns-clause-refused : goal.returns-clause-refused
 returns-clause-refused c = tt
 
 pub returns-clause-cause : goal.returns-clause-cause
-returns-clause-cause c = has_not _ _ _ (ok_no _ _ _ refl) c.in_ok-make.ensures.ok
-
-pub returns-in_err-disk : goal.returns-in_err-disk
-returns-in_err-disk c =
-    let is = refusal c.from_residual-in_err-disk.result _ c.from_residual-in_err-disk.ensures.1 in
-    let old = c.args.self.now.entries.list.items in
-    let new = c.lend_new.new.entries.list.items in
-    let made = c.in_ok-make.ensures in
-    let was = is ∙ ap Err c.in_err-disk.ensures.memory in
-    record {
-      made = if_refused _ _ _ was;
-      exists = λ told is. absurd (other_no _ _ _ memory_exists was is);
-      answers = λ steady. other_no _ _ _ new_memory was;
-      refused = on_err _ _ (kept_store old new _ _ _ _ _ _ _ c.in_err-disk.ensures.refused);
-      cause = has_not _ _ _ (other_no _ _ _ new_memory was) made.ok;
-      onward = onward old new _ _ _ _ _ _ _ _ _ c.in_err-disk.ensures.refused made.failing made.later;
-    }
-
-pub returns-clause-made : goal.returns-clause-made
-returns-clause-made c =
-    rw (c.new.ensures.made, c.in_ok-disk.ensures.disk)
-    (made c.args.self.now.entries.list.items c.lend_new.new.entries.list.items c.args.name.now _ _ _ _ _ _ _ (absent _ (sym c.has.ensures ∙ c.if-has.false)) c.args.size
-    c.in_ok-disk.ensures.slots c.in_ok-disk.ensures.readers (makes_steady _ _ _))
+returns-clause-cause c = has_not _ _ _ (ok_no _ _ _ refl) (c.in_ok-enter.ensures.cause.same (ok_no _ _ _ refl))
 
 pub returns-clause-onward : goal.returns-clause-onward
 returns-clause-onward c =
-    let stops = c.args.self.now.new_stops in
-    let slot = Out (is_steady (new_disk [] c.args.size stops)) in
-    let gone = absent _ (sym c.has.ensures ∙ c.if-has.false) in
-    let old = c.args.self.now.entries.list.items in
-    let new = c.lend_new.new.entries.list.items in
-    record {
-      told = refl;
-      steady = rw c.in_ok-make.ensures.failing (as_steady old new c.args.name.now stops slot (new_steady [] c.args.size stops) gone _
-          c.in_ok-disk.ensures.steady);
-      disks = as_said old new c.args.name.now stops slot (new_steady [] c.args.size stops) gone c.in_ok-disk.ensures.slots;
-      readers = λ told. read_still old new c.args.name.now OwnerAlone gone c.in_ok-disk.ensures.readers;
-      count = c.in_ok-make.ensures.later;
-      disk_count = omega arith;
-    }
+    let lent = c.lend.ensures in
+    let calls = c.enter.new.self.calls in
+    let later : calls.faults ≤ calls.faults = omega arith in
+    onward-then c.in_ok-enter.ensures.onward
+    (lent-onward c.enter.new.self.entries.list.items c.lend.new.self.list.items c.args.name.now c.unwrap.result _ _ calls.failing calls.failing _ _ _ _
+    (sym lent.lent ∙ c.unwrap.ensures) (rw c.unwrap.ensures at lent.slots) lent.readers lent.steady refl later)

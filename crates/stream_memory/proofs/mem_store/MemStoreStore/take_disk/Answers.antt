@@ -1,9 +1,7 @@
 use Rattle.std.proofs.Common.{ap, arith, option_map, refl, sym, ◌∙◌, Err}
-use Rattle.disk_trait.specs.MemDisk.{MemState, is_steady}
-use Rattle.stream_memory.specs.MemStore.{kind_of}
-use Rattle.stream_memory.specs.declared.entries.Slot.TheVariants.{Out}
+use Rattle.disk_trait.specs.MemDisk.{MemState}
 use Rattle.stream_memory.proofs.Links.{last_true}
-use Rattle.stream_memory.proofs.Loans.{here_of, same_for_all, taken}
+use Rattle.stream_memory.proofs.Loans.{lent-onward, taken}
 use Rattle.stream_memory.proofs.Unchanged.{kept_store, onward}
 use Rattle.stream_memory.proofs.Outcomes.{has_failed, has_not, if_refused, not_steady, ok_no, on_err, refusal}
 use Rattle.stream_memory.proofs.mem_store.MemStoreStore.take_disk.Goals as goal
@@ -38,16 +36,10 @@ returns-in-Some-clause-taken c =
 
 pub returns-in-Some-clause-onward : goal.returns-in-Some-clause-onward
 returns-in-Some-clause-onward c =
-    let here = here_of _ c.in-Some.disk (sym c.in-Some.ensures.lent) in
-    record {
-      told = refl;
-      steady = rw (c.in_ok-make.ensures.failing, c.in-Some.ensures.steady) refl;
-      disks = same_for_all c.args.self.now.entries.list.items c.lend.new.self.list.items c.args.name.now (Out (is_steady c.in-Some.disk))
-          c.in-Some.ensures.slots (kind_of c.args.self.now.new_stops) (sym (ap (kind_of c.args.self.now.new_stops) here));
-      readers = λ told name who is. c.in-Some.ensures.readers name ∙ is;
-      count = c.in_ok-make.ensures.later;
-      disk_count = omega arith;
-    }
+    let made = c.in_ok-make.ensures in
+    let lent = c.in-Some.ensures in
+    lent-onward c.args.self.now.entries.list.items c.lend.new.self.list.items c.args.name.now c.in-Some.disk _ _ _ _ _ _ _ _
+    (sym lent.lent) lent.slots lent.readers lent.steady made.failing made.later
 
 pub returns-in-None : goal.returns-in-None
 returns-in-None c =
