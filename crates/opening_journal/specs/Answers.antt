@@ -80,4 +80,5 @@ AnswersAs (Opened leaf message c digest moment) state result = OpensAs message c
 -- what asking for an entry does
 abbrev pub AsksFor : JournalState → Entry → Result Entered JournalFault → JournalState → Type 0
 AsksFor before (Bound leaf message) result after = Binds before leaf message result after
-AsksFor before (Opened leaf message c digest moment) result after = Opens before leaf message c digest moment result after
+AsksFor before (Opened leaf message c digest moment) result after =
+    Opens before leaf message c digest moment result after
