@@ -1,12 +1,13 @@
 //! A store in memory.
 
-ghost use Rattle.std.specs.Prelude.{◌≡◌, ◌≢◌, ◌≤◌, ◌&&◌, ℕ, List, IfOk, IsTrue, Err, Some, false, map, refl, option_copied};
-ghost use Rattle.std.specs.Prelude.{OnErr, OnOk, if◌then◌else◌, length};
+ghost use Rattle.std.specs.Prelude.{◌≡◌, ◌≢◌, ◌≤◌, ◌&&◌, ℕ, List, IfOk, IsTrue, Err, Some, false, map, refl, length};
+ghost use Rattle.std.specs.Prelude.{OnErr, OnOk, if◌then◌else◌, option_copied};
 ghost use Rattle.std.specs.List.{list_all};
 ghost use Rattle.disk_trait.specs.MemDisk.{is_steady};
 ghost use Rattle.stream_io.specs.Store.{RisesWhere, SameStore, StoreOnward, Written, has_name};
 ghost use Rattle.stream_memory.specs.Calls.{is_empty};
-ghost use Rattle.stream_memory.specs.MemStore.{Begun, disk_of, file_disk, full_disk, is_steady_store, kind, new_disk, store_of};
+ghost use Rattle.stream_memory.specs.MemStore.{Begun, disk_of, file_disk, full_disk, is_steady_store, kind, new_disk};
+ghost use Rattle.stream_memory.specs.MemStore.{store_of};
 
 use crate::Calls;
 use crate::entries::{Entries, Slot};
