@@ -4,7 +4,6 @@ ghost use Rattle.std.specs.Prelude.{◌≡◌, ◌<◌, ◌≤◌, [], ◌∷◌
 ghost use Rattle.std.specs.Prelude.{IfOk, IfErr, OnOk};
 ghost use Rattle.coalition_map.specs.Coalitions.{IsPlan};
 ghost use Rattle.dealer.specs.Dealt.{IsDealt};
-ghost use Rattle.dealer.specs.Files.{AreFiles};
 ghost use Rattle.dealer.specs.Entropy.{dealing_of};
 ghost use Rattle.stream_io.specs.declared.store.Readers.TheVariants.{Anyone};
 ghost use Rattle.tool_base.specs.Ending as spec;
@@ -21,7 +20,6 @@ use crate::undealt::end_of_fault;
 use coalition_map::{Plan, PlanFault};
 use dealer::{CommittedFault, DealingFiles, Dealt, deal_beside, deal_committed_beside};
 use lms_bytes::Params;
-use memory::NoMemory;
 use std::alloc::{AllocError, Global};
 use std::thread::Threads;
 use stream_io::{Progress, Readers, Store};
@@ -81,7 +79,10 @@ fn dealt_outputs<R: Threads + Progress + Sync>(
 {
     let params = set_of(words)?;
     let plan = plan_of(words, &params)?;
-    let (files, commits) = dealt_files(rt, alloc, words, &params, &plan, entropy)?;
+    let (dealt, commits) = deal_as_asked(rt, alloc, words, &params, &plan, entropy)?;
+    let Ok(files) = dealt.into_files(alloc) else {
+        return Err(Ending::NoMemory);
+    };
     let Ok(outputs) = named_outputs(alloc, words.prefix, files, commits) else {
         return Err(Ending::NoMemory);
     };
@@ -90,29 +91,6 @@ fn dealt_outputs<R: Threads + Progress + Sync>(
         coalitions: plan.count(),
     };
     Ok((outputs, done))
-}
-
-/// The files of the dealing of this set, plan and entropy, and its commitment file where the words ask for it.
-fn dealt_files<R: Threads + Progress + Sync>(
-    rt: &R,
-    alloc: Global,
-    words: &DealWords,
-    params: &Params,
-    plan: &Plan,
-    entropy: &[u8],
-) -> Result<(DealingFiles, Option<Vec<u8>>), Ending>
-    requires { AreAsked (deal_words words.now) params.now plan.now }
-    ensures files { IfOk result (λ both. AreFiles (dealing_of params.now plan.now entropy.now) both.0) }
-    ensures commits { IfOk result (λ both. option_map (λ file. file.items) both.1
-        ≡ asked_commits words.now.commit (dealing_of params.now plan.now entropy.now)) }
-    ensures dealt { OnOk result (IsDealableBy (deal_words words.now) params.now plan.now entropy.now) }
-    ensures refused { IfErr result (λ end. IsNotDealt (deal_words words.now) entropy.now (ending end)) }
-{
-    let (dealt, commits) = deal_as_asked(rt, alloc, words, params, plan, entropy)?;
-    match dealt.into_files(alloc) {
-        Ok(files) => Ok((files, commits)),
-        Err(NoMemory) => Err(Ending::NoMemory),
-    }
 }
 
 /// The dealing of this set, plan and entropy, and its commitment file where the words ask for it.
