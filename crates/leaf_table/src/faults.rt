@@ -3,10 +3,11 @@
 ghost use Rattle.std.specs.Prelude.{◌≡◌};
 
 use slot_file::SettleFault;
+use std::fmt::{self, Formatter, Write};
 use thiserror::Error;
 
 /// Why no leaf is leased or burnt, in the order of the tests.
-#[derive(Clone, Copy, Debug, PartialEq, Eq, Error)]
+#[derive(Clone, Copy, PartialEq, Eq, Error)]
 pub enum TableFault {
     /// The members are no coalition of the plan.
     #[error("the members are no coalition of the plan")]
@@ -30,6 +31,13 @@ pub enum TableFault {
         /// The coalition's number.
         coalition: u32,
     },
+}
+
+impl fmt::Debug for TableFault {
+    /// Writes the line that is displayed.
+    fn fmt<W: Write>(&self, f: &mut Formatter<W>) -> fmt::Result {
+        fmt::Display::fmt(self, f)
+    }
 }
 
 impl TableFault {

@@ -7,7 +7,7 @@ use lms_bytes::MessageId;
 use slot_file::Slot;
 
 /// An entry of a leaf table.
-#[derive(Clone, Copy, Debug, PartialEq, Eq)]
+#[derive(Clone, Copy, PartialEq, Eq)]
 pub enum Lease {
     /// The leaf is for this message alone.
     Leased {

@@ -13,10 +13,11 @@ use crate::fresh::{append, open_gate, write_shut};
 use crate::slot::slot_start;
 use crate::{Doubt, Header, Slot, Slots};
 use disk_trait::{Disk, DiskFault};
+use std::fmt::{self, Formatter, Write};
 use thiserror::Error;
 
 /// Why slots could not be copied.
-#[derive(Clone, Copy, Debug, PartialEq, Eq, Error)]
+#[derive(Clone, Copy, PartialEq, Eq, Error)]
 pub enum CopyFault {
     /// The new disk holds bytes.
     #[error("the new disk holds {length} bytes, and must be empty")]
@@ -37,6 +38,13 @@ pub enum CopyFault {
     /// One of the two disks failed.
     #[error("a call of one of the two disks failed")]
     Device,
+}
+
+impl fmt::Debug for CopyFault {
+    /// Writes the line that is displayed.
+    fn fmt<W: Write>(&self, f: &mut Formatter<W>) -> fmt::Result {
+        fmt::Display::fmt(self, f)
+    }
 }
 
 impl From<DiskFault> for CopyFault {

@@ -3,7 +3,7 @@
 use crate::Slot;
 
 /// A put that was refused: it was made or was not.
-#[derive(Clone, Copy, Debug, PartialEq, Eq)]
+#[derive(Clone, Copy, PartialEq, Eq)]
 pub struct Doubted {
     /// The slot.
     pub slot: u32,

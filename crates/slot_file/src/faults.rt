@@ -18,7 +18,7 @@ pub(crate) fn show_damaged<W: Write>(
 }
 
 /// What settling has found.
-#[derive(Clone, Copy, Debug, PartialEq, Eq)]
+#[derive(Clone, Copy, PartialEq, Eq)]
 pub enum Settled {
     /// No put was in doubt.
     Nothing,
@@ -29,7 +29,7 @@ pub enum Settled {
 }
 
 /// Why a put is still in doubt.
-#[derive(Clone, Copy, Debug, PartialEq, Eq, Error)]
+#[derive(Clone, Copy, PartialEq, Eq, Error)]
 pub enum SettleFault {
     /// The disk failed.
     #[error("a call of the disk failed while a put was settled")]
@@ -46,8 +46,15 @@ pub enum SettleFault {
     },
 }
 
+impl fmt::Debug for SettleFault {
+    /// Writes the line that is displayed.
+    fn fmt<W: Write>(&self, f: &mut Formatter<W>) -> fmt::Result {
+        fmt::Display::fmt(self, f)
+    }
+}
+
 /// Why a file of slots was not loaded, in the order of the tests.
-#[derive(Clone, Copy, Debug, PartialEq, Eq, Error)]
+#[derive(Clone, Copy, PartialEq, Eq, Error)]
 pub enum CacheLoad {
     /// The file is no file of this header and these slots. The fault is not `LoadFault::Device`.
     #[error("the file of slots does not open: {0}")]
@@ -68,4 +75,11 @@ pub enum CacheLoad {
     /// The disk failed.
     #[error("a call of the disk failed while its slots were loaded")]
     Device,
+}
+
+impl fmt::Debug for CacheLoad {
+    /// Writes the line that is displayed.
+    fn fmt<W: Write>(&self, f: &mut Formatter<W>) -> fmt::Result {
+        fmt::Display::fmt(self, f)
+    }
 }

@@ -4,6 +4,7 @@ ghost use Rattle.std.specs.Prelude.{◌≡◌, ◌≢◌, MatchResult, IfErr, No
 
 use byteorder::{BigEndian, ByteOrder};
 use disk_trait::DiskFault;
+use std::fmt::{self, Formatter, Write};
 use thiserror::Error;
 
 /// The byte of an open gate.
@@ -13,7 +14,7 @@ pub(crate) const OPEN: u8 = 0xA7;
 pub(crate) const BLOCK: usize = 128;
 
 /// What a file's header block names.
-#[derive(Clone, Copy, Debug, PartialEq, Eq)]
+#[derive(Clone, Copy, PartialEq, Eq)]
 pub struct Header {
     /// 2 for a journal, whose slots have 160 bytes; else slots have 128 bytes.
     pub version: u8,
@@ -28,7 +29,7 @@ pub struct Header {
 }
 
 /// Why a file could not be opened, in the order of the tests.
-#[derive(Clone, Copy, Debug, PartialEq, Eq, Error)]
+#[derive(Clone, Copy, PartialEq, Eq, Error)]
 pub enum LoadFault {
     /// There are fewer bytes than the header has, or not those of the header and the slots.
     #[error("the file has {got} bytes, and the header and the slots have {want}")]
@@ -59,6 +60,13 @@ pub enum LoadFault {
     /// The disk failed.
     #[error("a call of the disk failed")]
     Device,
+}
+
+impl fmt::Debug for LoadFault {
+    /// Writes the line that is displayed.
+    fn fmt<W: Write>(&self, f: &mut Formatter<W>) -> fmt::Result {
+        fmt::Display::fmt(self, f)
+    }
 }
 
 impl From<DiskFault> for LoadFault {

@@ -34,7 +34,7 @@ fn put_part(block: &mut [u8], at: usize, gate: u8, body: &[u8])
 }
 
 /// A slot, by its gates.
-#[derive(Clone, Copy, Debug, PartialEq, Eq)]
+#[derive(Clone, Copy, PartialEq, Eq)]
 pub enum Slot {
     /// Both gates are closed.
     Free,

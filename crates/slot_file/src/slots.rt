@@ -20,7 +20,7 @@ use disk_trait::{Disk, DiskFault};
 pub const MOST_IN_RUN: usize = 32;
 
 /// A slot whose put was refused: it may be as before or have what was put.
-#[derive(Clone, Copy, Debug, PartialEq, Eq)]
+#[derive(Clone, Copy, PartialEq, Eq)]
 pub enum Doubt {
     /// No slot is in doubt.
     Nowhere,

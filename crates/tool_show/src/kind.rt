@@ -29,7 +29,7 @@ pub enum SlotKind {
 }
 
 /// What a file of slots is.
-#[derive(Clone, Copy, Debug)]
+#[derive(Clone, Copy)]
 pub struct Head {
     /// Its kind.
     pub kind: SlotKind,
