@@ -1,5 +1,6 @@
 mod Calls
 mod Filled
+mod Fronts
 mod Images
 mod Marks
 mod States

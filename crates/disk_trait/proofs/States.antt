@@ -24,3 +24,6 @@ with-pending disk p q is = cc
 
 pub with-bytes : (disk : MemState) (b d : List ℕ) (p q : List Bool) → b ≡ d → p ≡ q → record disk { bytes = b; pending = p } ≡ record disk { bytes = d; pending = q }
 with-bytes disk b d p q is is_p = cc
+
+pub with-stable : (disk : MemState) (s : List ℕ) (p : List Bool) → s ≡ disk.bytes → p ≡ replicate (length disk.bytes) false → record disk { stable = s; pending = p } ≡ record disk { stable = disk.bytes; pending = replicate (length disk.bytes) false }
+with-stable disk s p is is_p = cc

@@ -1,17 +1,29 @@
 -- Lists after a write to a part of them.
-use Rattle.std.proofs.Common.{◌≡◌, ℕ, ◌+◌, ◌-◌, ◌<◌, ◌≤◌, min, max, List, ◌++◌, length, get_or, take, drop, replicate, arith}
-use Rattle.std.proofs.lemmas.List.{places, same_lists}
+use Rattle.std.proofs.Common.{◌≡◌, ℕ, ◌+◌, ◌-◌, ◌<◌, ◌≤◌, min, max, List, ◌++◌, length, get_or, take, drop, replicate, ap, ◌∙◌, arith}
+use Rattle.std.proofs.lemmas.List.{get_or_append_left, get_or-append_right, get_or-drop, get_or-take, length-append, length-take-le, places, same_lists}
 use Rattle.disk_trait.specs.Images.{written}
 
 module _ {A : Type 0} (xs ys : List A) (at : ℕ) (within : at ≤ length xs) where
+  size : length (take at xs ++ ys) ≡ at + length ys
+  size = length-append (take at xs) ys ∙ ap (λ (n : ℕ). n + length ys) (length-take-le at xs within)
+
   pub written_before : (k : ℕ) (d : A) → k < at → get_or (written xs at ys) k d ≡ get_or xs k d
-  written_before k d before = grind (arith, places)
+  written_before k d before =
+      get_or_append_left (take at xs ++ ys) (drop (at + length ys) xs) d k (omega (arith, size))
+      ∙ get_or_append_left (take at xs) ys d k (omega (arith, length-take-le at xs within))
+      ∙ get_or-take at xs k d before
 
   pub written_inside : (k : ℕ) (d : A) → at ≤ k → k < at + length ys → get_or (written xs at ys) k d ≡ get_or ys (k - at) d
-  written_inside k d from below = grind (arith, places)
+  written_inside k d from below =
+      get_or_append_left (take at xs ++ ys) (drop (at + length ys) xs) d k (omega (arith, size))
+      ∙ get_or-append_right (take at xs) ys at k d (length-take-le at xs within) from
 
   pub written_after : (k : ℕ) (d : A) → at + length ys ≤ k → get_or (written xs at ys) k d ≡ get_or xs k d
-  written_after k d after = grind (arith, places)
+  written_after k d after =
+      let rest : at + length ys + (k - (at + length ys)) ≡ k = omega arith in
+      get_or-append_right (take at xs ++ ys) (drop (at + length ys) xs) (at + length ys) k d size after
+      ∙ get_or-drop (at + length ys) xs (k - (at + length ys)) d
+      ∙ ap (λ (j : ℕ). get_or xs j d) rest
 
 -- the front of a list that a write made longer
 pub take-written : {A : Type 0} (xs ys : List A) (len at n : ℕ) → length ys ≡ n → at ≤ len → len ≤ length xs → at + n ≤ length xs → take (max len (at + n)) (written xs at ys) ≡ written (take len xs) at ys

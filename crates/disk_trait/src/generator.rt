@@ -4,7 +4,7 @@ ghost use Rattle.std.specs.Prelude.{◌≡◌};
 ghost use Rattle.disk_trait.specs.Generator.{state_after, draw_of};
 
 /// A linear congruential generator. Equal states draw equal numbers.
-#[derive(Clone, Copy, Debug, PartialEq, Eq)]
+#[derive(Clone, Copy)]
 pub struct Generator {
     /// The state, which a draw replaces.
     pub state: u64,
