@@ -12,10 +12,11 @@ use crate::Header;
 use crate::fresh::{append, open_gate, write_shut};
 use crate::slot::{slot_len, slot_start};
 use disk_trait::{Disk, DiskFault};
+use std::fmt::{self, Formatter, Write};
 use thiserror::Error;
 
 /// Why a file could not be made.
-#[derive(Clone, Copy, Debug, PartialEq, Eq, Error)]
+#[derive(Clone, Copy, PartialEq, Eq, Error)]
 pub enum PrepareFault {
     /// The disk holds bytes.
     #[error("the disk holds {length} bytes, and must be empty")]
@@ -26,6 +27,13 @@ pub enum PrepareFault {
     /// The disk failed.
     #[error("a call of the disk failed")]
     Device,
+}
+
+impl fmt::Debug for PrepareFault {
+    /// Writes the line that is displayed.
+    fn fmt<W: Write>(&self, f: &mut Formatter<W>) -> fmt::Result {
+        fmt::Display::fmt(self, f)
+    }
 }
 
 impl From<DiskFault> for PrepareFault {

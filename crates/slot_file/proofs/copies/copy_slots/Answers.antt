@@ -2,6 +2,11 @@ use Rattle.std.proofs.Common.{◌≡◌, ◌≢◌, ℕ, length, Result, Err, in
 use Rattle.slot_file.specs.declared.copies.CopyFault.{CopyFault}
 use Rattle.slot_file.specs.declared.copies.CopyFault.TheVariants.{Device, NotEmpty}
 use Rattle.slot_file.proofs.CopyLaws.{calls-failed, calls-fine, calls-then, device-answer, full-told, full-untold, half-after, half-empty, looked-none, none-held, not-full, same-kind, stable-after, unready-after}
+use Rattle.std.proofs.lemmas.Bool.{false≢true}
+use Rattle.slot_file.specs.Copying.{FindsDamaged, IsDamaged}
+use Rattle.slot_file.specs.Fresh.{AreUnready}
+use Rattle.slot_file.proofs.CopyLaws.{device-says}
+use Rattle.slot_file.proofs.SlotsLooks.{no-value}
 use Rattle.slot_file.proofs.copies.copy_slots.Goals as goal
 
 abbrev held-back : ℕ → Result ℕ CopyFault
@@ -82,3 +87,27 @@ returns-clause-succeeds g c = λ steady told steady_from told_from room.
 
 pub returns-clause-damaged : goal.returns-clause-damaged
 returns-clause-damaged g c = c.make_copy.ensures.damaged
+
+pub returns-in_err-length-clause-copied : goal.returns-in_err-length-clause-copied
+returns-in_err-length-clause-copied g c = no-value _ _ c.from_residual.ensures.0
+
+pub returns-in_err-length-clause-damaged : goal.returns-in_err-length-clause-damaged
+returns-in_err-length-clause-damaged g c = device-says (FindsDamaged c.args.from.now c.args.count) _ c.from_residual.ensures.1 tt
+
+pub returns-in_err-length-clause-shut : goal.returns-in_err-length-clause-shut
+returns-in_err-length-clause-shut g c = device-says (λ fault. IsDamaged fault → AreUnready g.D.Pages c.args.disk.now c.len.new.self) _ c.from_residual.ensures.1 (λ no. absurd no)
+
+pub returns-in_err-length-clause-succeeds : goal.returns-in_err-length-clause-succeeds
+returns-in_err-length-clause-succeeds g c = λ steady told steady_from told_from room. absurd (false≢true (c.in_err-length.ensures.succeeds steady))
+
+pub returns-then-length-gt0-clause-shut : goal.returns-then-length-gt0-clause-shut
+returns-then-length-gt0-clause-shut g c = λ no. absurd no
+
+pub returns-then-length-gt0-clause-succeeds : goal.returns-then-length-gt0-clause-succeeds
+returns-then-length-gt0-clause-succeeds g c = λ steady told steady_from told_from room. done _
+
+pub make_copy-requires-clause-version : goal.make_copy-requires-clause-version
+make_copy-requires-clause-version g c = c.requires.version
+
+pub make_copy-requires-clause-count : goal.make_copy-requires-clause-count
+make_copy-requires-clause-count g c = c.requires.count

@@ -121,3 +121,6 @@ returns-in-Err-clause-succeeds g c = λ steady told steady_from told_from room i
     let so_far = c.loop-slot.invariant in
     let kept = so_far.from.stays.disk in
     c.in-Err.ensures.succeeds (so_far.stays.steady ∙ steady) (so_far.stays.told ∙ told) (kept.steady ∙ steady_from) (kept.told ∙ told_from) (omega (arith, room, so_far.stays.room, c.loop-slot-test.true)) (same-as c.in-Err.fault Device is)
+
+pub copy_slot-requires-clause-within : goal.copy_slot-requires-clause-within
+copy_slot-requires-clause-within g c = omega (arith, c.loop-slot-test.true, c.requires.count, c.loop-slot.invariant.from.stays.count)

@@ -4,6 +4,13 @@ use Rattle.slot_file.proofs.FaultLaws.{cause-failed, cause-then, on-err}
 use Rattle.slot_file.proofs.Unwritten.{same-then, unwritten-then}
 use Rattle.slot_file.proofs.SlotsLooks.{no-value}
 use Rattle.slot_file.specs.Slots.{faults_of}
+use Rattle.std.proofs.Common.{◌≡◌, IfOk, ap, arith, subst}
+use Rattle.slot_file.specs.Doubts.{looked, settled}
+use Rattle.slot_file.specs.Layout.{IsShown, slot_at}
+use Rattle.slot_file.specs.Slots.{file_of, slot_now}
+use Rattle.slot_file.specs.declared.header.Header.{Header}
+use Rattle.slot_file.specs.declared.slot.Slot.{Slot}
+use Rattle.slot_file.specs.declared.slots.Doubt.{Doubt}
 use Rattle.slot_file.proofs.reading.look_settled.Goals as goal
 
 pub returns-clause-unwritten : goal.returns-clause-unwritten
@@ -49,3 +56,21 @@ returns-in_err-settle-clause-shown g c = no-value _ _ c.from_residual.ensures.0
 
 pub returns-in_err-settle-clause-doubt : goal.returns-in_err-settle-clause-doubt
 returns-in_err-settle-clause-doubt g c = on-err _ _ c.from_residual.ensures.0
+
+pub returns-in_err-settle-clause-doubt_refused : goal.returns-in_err-settle-clause-doubt_refused
+returns-in_err-settle-clause-doubt_refused g c = λ nowhere. ap (λ (d : Doubt). looked c.args.slot (settled d)) c.in_err-settle.ensures.doubt ∙ nowhere
+
+pub look-requires : goal.look-requires
+look-requires g c = omega (arith, c.requires, c.settle.ensures.stays.count)
+
+pub returns-clause-slot : goal.returns-clause-slot
+returns-clause-slot g c = λ told.
+    let old = c.args.slots.now in
+    let new = c.settle.new.self in
+    let first = c.settle.ensures in
+    let same : slot_now new c.args.slot ≡ slot_now old c.args.slot =
+    ap (λ (h : Header). slot_at h.version c.args.slot (file_of new)) first.stays.header ∙ ap (slot_at old.header.version c.args.slot) (first.unwritten.same told) in
+    subst (λ (s : Slot). IfOk c.look.result (λ (found : Slot). found ≡ s)) same (c.look.ensures.slot (first.stays.disk.told ∙ told))
+
+pub returns-clause-shown : goal.returns-clause-shown
+returns-clause-shown g c = subst (λ (h : Header). IfOk c.look.result (IsShown h.version)) c.settle.ensures.stays.header c.look.ensures.shown

@@ -196,3 +196,6 @@ returns-clause-event g c =
         gates = sym c.gates-a.ensures;
       },
     )
+
+pub look_settled-requires : goal.look_settled-requires
+look_settled-requires g c = omega (arith, c.args.self.now.in_doubt.within c.args.doubted.now c.requires, c.args.self.now.count)

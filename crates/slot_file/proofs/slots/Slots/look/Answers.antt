@@ -3,6 +3,8 @@ use Rattle.slot_file.specs.Layout.{slot_of, slot_size, slot_start}
 use Rattle.slot_file.specs.Slots.{file_of, header_of}
 use Rattle.slot_file.proofs.FaultLaws.{cause-failed}
 use Rattle.slot_file.proofs.SlotsLooks.{if-err, looked-once, no-value}
+use Rattle.std.proofs.Common.{arith}
+use Rattle.std.proofs.lemmas.Bool.{false≢true}
 use Rattle.slot_file.proofs.slots.Slots.look.Goals as goal
 
 pub returns-clause-slot : goal.returns-clause-slot
@@ -53,3 +55,9 @@ returns-in_err-read-clause-cause g c = cause-failed _ _ _ _ c.from_residual.ensu
 
 pub returns-in_err-read-clause-stays : goal.returns-in_err-read-clause-stays
 returns-in_err-read-clause-stays g c = c.read.ensures.looked.stays
+
+pub returns-in_err-read-clause-succeeds : goal.returns-in_err-read-clause-succeeds
+returns-in_err-read-clause-succeeds g c = λ steady told. absurd (false≢true (c.in_err-read.ensures.succeeds steady told))
+
+pub read-requires-clause-within : goal.read-requires-clause-within
+read-requires-clause-within g c = omega (arith, c.requires)
