@@ -14,7 +14,7 @@ use Rattle.slot_file.specs.Slots.{OnlyLooked}
 use Rattle.slot_file.specs.declared.slots.Doubt.{Doubt}
 use Rattle.slot_file.specs.declared.slots.Doubt.TheVariants.{Nowhere, Refused, Settled}
 use Rattle.slot_file.specs.declared.slots.Slots.{Slots}
-use Rattle.slot_file.proofs.Unwritten.{same-then, unwritten-then}
+use Rattle.slot_file.proofs.Unwritten.{same-none, same-then, unwritten-then}
 
 module _ {D : Type 0} {p : pages.Ghosts D} {f : faults.Ghosts D} (slots : Slots D p f) (disk : D) (unwritten : Unwritten p f slots.disk disk) where
   pub kept-whole : IsTrue (p.told disk) → IsFile slots.header slots.count (p.reads disk)
@@ -49,7 +49,15 @@ looks-only old new looked = record {
   stays = looked.stays;
 }
 
--- and then looked at again
+-- no look at all
+pub looks-none : {E : Type 0} {q : pages.Ghosts E} {h : faults.Ghosts E} (slots : Slots E q h) → LooksOnly slots slots
+looks-none {q} {h} slots = record {
+  unwritten = record { same = λ told. refl; images = λ honest image leaves. leaves; stays = same-none q h slots.disk };
+  doubt = λ nowhere. nowhere;
+  stays = record { header = refl; count = refl; disk = same-none q h slots.disk };
+}
+
+-- one look after another
 pub looks-then : {E : Type 0} {q : pages.Ghosts E} {h : faults.Ghosts E} (old mid new : Slots E q h) → LooksOnly old mid → LooksOnly mid new → LooksOnly old new
 looks-then {q} {h} old mid new first next = record {
   unwritten = unwritten-then q h old.disk mid.disk new.disk first.unwritten next.unwritten;

@@ -10,7 +10,9 @@ use Rattle.std.proofs.Common.{◌≢◌, Result, Ok, Err}
 use Rattle.slot_file.specs.declared.faults.CacheLoad.{CacheLoad}
 use Rattle.slot_file.specs.declared.faults.CacheLoad.TheVariants.{Device}
 use Rattle.slot_file.proofs.FaultLaws.{rises-fine}
-use Rattle.slot_file.proofs.SlotsLooks.{looks-then}
+use Rattle.slot_file.proofs.FaultLaws.{on-err}
+use Rattle.slot_file.proofs.SlotsLooks.{looks-none, looks-then}
+use Rattle.std.proofs.Common.{refl}
 use Rattle.disk_trait.specs.declared.disk.Pages as pages
 use Rattle.disk_trait.specs.declared.faults.Faults as faults
 use Rattle.slot_file.specs.Reading.{LooksOnly}
@@ -60,3 +62,52 @@ returns-clause-cause g c = rises-fine _ _ _ _ (read-not _) c.runs.invariant.coun
 
 pub returns-clause-succeeds : goal.returns-clause-succeeds
 returns-clause-succeeds g c = λ steady told. read-not _
+
+pub runs-init : goal.runs-init
+runs-init g c = record {
+  within = omega arith;
+  shows = λ told slot below. absurd (omega (arith, below));
+  whole = λ slot below. absurd (omega (arith, below));
+  size = refl;
+  looks = looks-none c.args.slots.now;
+  count = refl;
+}
+
+pub overflow_add-first : goal.overflow_add-first
+overflow_add-first g c = omega (arith, c.requires.small, c.runs.invariant.within)
+
+pub overflow_cast-first : goal.overflow_cast-first
+overflow_cast-first g c = omega (arith, c.requires.small, c.runs.invariant.within)
+
+pub read_run-requires-clause-within : goal.read_run-requires-clause-within
+read_run-requires-clause-within g c =
+    let loop = c.runs in
+    let long = length-take (c.min-end.result - loop.first) (drop loop.first loop.out) in
+    omega (arith, long, length-drop loop.first loop.out, loop.invariant.size, c.requires.count, loop.invariant.looks.stays.count)
+
+pub read_run-requires-clause-few : goal.read_run-requires-clause-few
+read_run-requires-clause-few g c = omega (arith, c.min-end.ensures, length-take (c.min-end.result - c.runs.first) (drop c.runs.first c.runs.out))
+
+pub read_run-requires-clause-small : goal.read_run-requires-clause-small
+read_run-requires-clause-small g c =
+    let loop = c.runs in
+    let long = length-take (c.min-end.result - loop.first) (drop loop.first loop.out) in
+    omega (arith, long, length-drop loop.first loop.out, loop.invariant.size, loop.invariant.within, c.requires.small)
+
+pub returns-in_err-read_run-clause-shows : goal.returns-in_err-read_run-clause-shows
+returns-in_err-read_run-clause-shows g c = λ told. on-err _ _ c.from_residual.ensures.0
+
+pub returns-in_err-read_run-clause-whole : goal.returns-in_err-read_run-clause-whole
+returns-in_err-read_run-clause-whole g c = on-err _ _ c.from_residual.ensures.0
+
+pub returns-clause-shows : goal.returns-clause-shows
+returns-clause-shows g c = λ told slot below. c.runs.invariant.shows told slot (omega (arith, below, c.runs-test.false, c.runs.invariant.size))
+
+pub returns-clause-whole : goal.returns-clause-whole
+returns-clause-whole g c = λ slot below. c.runs.invariant.whole slot (omega (arith, below, c.runs-test.false, c.runs.invariant.size))
+
+pub returns-clause-size : goal.returns-clause-size
+returns-clause-size g c = c.runs.invariant.size
+
+pub runs-smaller : goal.runs-smaller
+runs-smaller g c = omega (arith, c.min-end.ensures, c.runs-test.true, c.runs.invariant.size)
