@@ -131,3 +131,6 @@ returns-in_err-append-clause-succeeds g c = λ steady told steady_from told_from
 
 pub append-requires-clause-end : goal.append-requires-clause-end
 append-requires-clause-end g c = λ told. c.requires.end told ∙ sym c.slot_start.ensures.value
+
+pub look-requires : goal.look-requires
+look-requires g c = c.requires.within

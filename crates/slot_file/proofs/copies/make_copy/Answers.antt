@@ -118,3 +118,12 @@ returns-clause-shut g c = tt
 
 pub returns-clause-succeeds : goal.returns-clause-succeeds
 returns-clause-succeeds g c = λ steady told steady_from told_from room. done _
+
+pub write_closed-requires-clause-version : goal.write_closed-requires-clause-version
+write_closed-requires-clause-version g c = c.requires.version
+
+pub write_closed-requires-clause-count : goal.write_closed-requires-clause-count
+write_closed-requires-clause-count g c = c.requires.count
+
+pub write_closed-requires-clause-empty : goal.write_closed-requires-clause-empty
+write_closed-requires-clause-empty g c = c.requires.empty

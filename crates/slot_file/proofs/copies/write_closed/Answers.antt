@@ -85,3 +85,9 @@ pub returns-clause-succeeds : goal.returns-clause-succeeds
 returns-clause-succeeds g c = λ steady told steady_from told_from room.
     let stays = c.write_shut.ensures.stays in
     c.write_copies.ensures.succeeds (stays.steady ∙ steady) (stays.told ∙ told) steady_from told_from (omega (arith, room, stays.room))
+
+pub write_shut-requires-clause-empty : goal.write_shut-requires-clause-empty
+write_shut-requires-clause-empty g c = c.requires.empty
+
+pub write_copies-requires-clause-count : goal.write_copies-requires-clause-count
+write_copies-requires-clause-count g c = c.requires.count

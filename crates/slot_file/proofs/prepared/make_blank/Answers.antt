@@ -113,3 +113,6 @@ returns-clause-succeeds g c = λ steady told room.
     let first = c.write_shut.ensures.stays in
     let second = c.write_free.ensures.stays in
     c.open_gate.ensures.succeeds (second.steady ∙ first.steady ∙ steady) (second.told ∙ first.told ∙ told) (omega (arith, room, first.room, second.room))
+
+pub write_shut-requires-clause-empty : goal.write_shut-requires-clause-empty
+write_shut-requires-clause-empty g c = c.requires

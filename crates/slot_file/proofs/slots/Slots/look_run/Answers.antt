@@ -4,6 +4,7 @@ use Rattle.slot_file.specs.Slots.{file_of, header_of}
 use Rattle.slot_file.proofs.FaultLaws.{cause-failed, on-err}
 use Rattle.slot_file.proofs.Runs.{run-read}
 use Rattle.slot_file.proofs.SlotsLooks.{if-err}
+use Rattle.std.proofs.lemmas.Bool.{false≢true}
 use Rattle.slot_file.proofs.slots.Slots.look_run.Goals as goal
 
 pub returns-in_err-read-clause-slots : goal.returns-in_err-read-clause-slots
@@ -46,3 +47,9 @@ returns-clause-succeeds g c = λ steady told. refl
 
 pub returns-clause-cause : goal.returns-clause-cause
 returns-clause-cause g c = record { later = c.read.ensures.cause.later; succeeded = c.in_ok-read.ensures.cause.succeeded; failed = tt }
+
+pub returns-in_err-read-clause-succeeds : goal.returns-in_err-read-clause-succeeds
+returns-in_err-read-clause-succeeds g c = λ steady told. absurd (false≢true (c.in_err-read.ensures.succeeds steady told))
+
+pub read-requires-clause-within : goal.read-requires-clause-within
+read-requires-clause-within g c = c.requires.within

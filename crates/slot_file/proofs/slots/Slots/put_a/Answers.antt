@@ -31,3 +31,15 @@ returns-clause-made g c = record {
   stable = c.put.ensures.gated.stable;
   doubt = c.put.ensures.doubt;
 }
+
+pub put-requires-clause-within : goal.put-requires-clause-within
+put-requires-clause-within g c = c.requires.within
+
+pub returns-clause-succeeds : goal.returns-clause-succeeds
+returns-clause-succeeds g c = c.put.ensures.succeeds
+
+pub returns-clause-cause : goal.returns-clause-cause
+returns-clause-cause g c = c.put.ensures.cause
+
+pub returns-clause-stays : goal.returns-clause-stays
+returns-clause-stays g c = c.put.ensures.stays
