@@ -17,12 +17,6 @@ returns-clause-told g c told =
     header-then (asks c.args.params.now) c.in_ok-header.header (talk c.args.source.now) (talk c.next_header.new.source) (talk c.next_payload.new.source) c.next_payload.result
     (h.told told) (h.whole told) (c.next_payload.ensures.told (h.only.told ∙ told))
 
-pub returns-in_err-header-clause-only : goal.returns-in_err-header-clause-only
-returns-in_err-header-clause-only g c = c.in_err-header.ensures.only
-
-pub returns-in_err-header-clause-steady : goal.returns-in_err-header-clause-steady
-returns-in_err-header-clause-steady g c = c.in_err-header.ensures.steady
-
 pub returns-clause-only : goal.returns-clause-only
 returns-clause-only g c = only-then _ _ _ c.in_ok-header.ensures.only c.next_payload.ensures.only
 

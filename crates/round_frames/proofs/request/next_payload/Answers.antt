@@ -58,12 +58,6 @@ returns-clause-told g c told =
 pub returns-in-Some-clause-only : goal.returns-in-Some-clause-only
 returns-in-Some-clause-only g c = only-same (g.S.Stream.talk c.args.source.now)
 
-pub returns-in_err-fill-clause-only : goal.returns-in_err-fill-clause-only
-returns-in_err-fill-clause-only g c = c.in_err-fill.ensures.only
-
-pub returns-in_err-fill-clause-steady : goal.returns-in_err-fill-clause-steady
-returns-in_err-fill-clause-steady g c = c.in_err-fill.ensures.steady
-
 pub returns-in_err-message-clause-only : goal.returns-in_err-message-clause-only
 returns-in_err-message-clause-only g c = only-then _ _ _ c.in_ok-fill.ensures.only c.in_err-message.ensures.only
 

@@ -2,7 +2,6 @@ use Rattle.std.proofs.Common.{refl, ◌∙◌, ap, arith}
 use Rattle.slot_file.specs.Files.{with_b}
 use Rattle.slot_file.specs.declared.slot.Slot.{Slot}
 use Rattle.slot_file.proofs.CachedPuts.{doubted-held, made-held, puts-half}
-use Rattle.std.proofs.lemmas.Bool.{false≢true}
 use Rattle.std.proofs.lemmas.List.{length-set}
 use Rattle.slot_file.proofs.cache.CachedSlots.put_b.Goals as goal
 
@@ -39,17 +38,11 @@ invariant_of-self-in-Err g c =
 pub put_b-requires-clause-within : goal.put_b-requires-clause-within
 put_b-requires-clause-within g c = omega (arith, c.requires.within, c.args.self.now.count)
 
-pub returns-in-Ok-clause-succeeds : goal.returns-in-Ok-clause-succeeds
-returns-in-Ok-clause-succeeds g c = λ steady told. refl
-
 pub returns-in-Ok-clause-cause : goal.returns-in-Ok-clause-cause
 returns-in-Ok-clause-cause g c = record { later = c.put_b.ensures.cause.later; succeeded = c.in-Ok.ensures.cause.succeeded; failed = tt }
 
 pub returns-in-Ok-clause-stays : goal.returns-in-Ok-clause-stays
 returns-in-Ok-clause-stays g c = (let stays = c.put_b.ensures.stays in record { header = stays.header; count = length-set c.args.self.now.cached.items c.args.slot c.with_b-after.result; disk = stays.disk })
-
-pub returns-in-Err-clause-succeeds : goal.returns-in-Err-clause-succeeds
-returns-in-Err-clause-succeeds g c = λ steady told. absurd (false≢true (c.in-Err.ensures.succeeds steady told))
 
 pub returns-in-Err-clause-cause : goal.returns-in-Err-clause-cause
 returns-in-Err-clause-cause g c = record { later = c.put_b.ensures.cause.later; succeeded = tt; failed = c.in-Err.ensures.cause.failed }
