@@ -61,8 +61,8 @@ copy_disk-disk-requires-clause-new g c κs within =
     new_beside between (state c.take_disk.new.self) c.args.journal.now c.args.new.now disk (taken_out between (state c.take_disk.new.self) c.args.journal.now disk three.taken three.onward)
     three.taken.reads (λ told. rw (two.unchanged.same.names.file, two.unchanged.same.names.out) (new (rw (← two.unchanged.onward.told) told)))
 
-pub returns : goal.returns
-returns g c =
+pub returns-in-Ok-take_disk : goal.returns-in-Ok-take_disk
+returns-in-Ok-take_disk g c =
     let state = g.S.Store.state in
     let disks = g.S.Disk in
     let dk = λ (d : g.row.S-Disk.Denot). pages_state disks.Pages.told disks.Pages.honest disks.Faults.steady disks.Faults.count disks.Pages.room disks.Pages.reads disks.Pages.may_leave d in
