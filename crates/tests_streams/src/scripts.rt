@@ -1,6 +1,11 @@
 //! Scripts: the steps of a test as text, each with the word that it has to come to, the name of a call, whose first
 //! letter counts, and what that is given.
 
+pub(crate) mod disk_calls;
+pub(crate) mod link_calls;
+pub(crate) mod port_calls;
+pub(crate) mod store_calls;
+
 use std::process::Abort;
 
 /// Stops the test, and says what went wrong in which row, unless nothing did.

@@ -1,9 +1,9 @@
 //! Tests of what no contract says of links, ports and nets in memory: that calls succeed, which of them fail, which
 //! link comes when, and what is read in which piece.
 
-use crate::peers::{Peer, Script, Talk, is_same, is_talk, port_script};
-use crate::port_calls::{Met, meet_all};
+use crate::network::peers::{Peer, Script, Talk, is_same, is_talk, port_script};
 use crate::scripts::none_wrong;
+use crate::scripts::port_calls::{Met, meet_all};
 use memory::NoMemory;
 use std::alloc::{AllocError, Global};
 use stream_memory::{Gate, KeptPort, MemNet, PortScript};

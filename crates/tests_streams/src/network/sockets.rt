@@ -1,7 +1,7 @@
 //! Tests of links, ports and nets over the machine's own sockets.
 
-use crate::port_calls::{Met, meet_all};
 use crate::scripts::none_wrong;
+use crate::scripts::port_calls::{Met, meet_all};
 use std::net::TcpListener;
 use std::test::Fail;
 use stream_host::TcpNet;

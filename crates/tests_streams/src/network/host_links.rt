@@ -1,9 +1,9 @@
 //! Tests of links and ports over sockets that are made up: what the system is asked, in which order, and what a call
 //! of it that fails comes to.
 
-use crate::fake_sockets::{ACCEPT, FakeNet, READ, Step, WRITE, Wire};
-use crate::port_calls::meet;
+use crate::network::fake_sockets::{ACCEPT, FakeNet, READ, Step, WRITE, Wire};
 use crate::scripts::none_wrong;
+use crate::scripts::port_calls::meet;
 use std::alloc::{AllocError, Global};
 use std::io::ErrorKind::{
     ConnectionAborted, ConnectionReset, HostUnreachable, Interrupted, NetworkDown,

@@ -1,6 +1,6 @@
 //! Tests of standard output as a sink.
 
-use crate::link_calls::says;
+use crate::scripts::link_calls::says;
 use crate::scripts::none_wrong;
 use std::cell::Cell;
 use std::fmt::Display;

@@ -2,7 +2,7 @@
 
 ghost use Rattle.std.specs.Prelude.{◌≡◌};
 
-use crate::disk_calls::{length, read, word};
+use crate::scripts::disk_calls::{length, read, word};
 use crate::scripts::{first_number, first_word, initial, is_text, word_if};
 use disk_trait::{Disk, DiskFault, Pages};
 use std::alloc::Global;

@@ -1,8 +1,8 @@
 //! Calls of ports and of their links as steps of a script.
 
-use crate::link_calls::done;
+use crate::scripts::link_calls::done;
+use crate::scripts::store_calls::call_word;
 use crate::scripts::{first_number, first_word, initial, word_if};
-use crate::store_calls::call_word;
 use std::alloc::Global;
 use stream_io::{Accepted, Failed, Net, Port, Sink, Source};
 

@@ -1,7 +1,7 @@
 //! Tests of the store of files over the files of the machine.
 
 use crate::scripts::none_wrong;
-use crate::store_calls::stores;
+use crate::scripts::store_calls::stores;
 use std::alloc::Global;
 use std::os::unix::fs::{FileExt, MetadataExt, symlink};
 use std::rt::Files;
@@ -14,42 +14,50 @@ fn mode(rt: &HostRuntime, name: &str) -> io::Result<u32> {
     Ok(fs::metadata(rt, name)?.mode() & 0o777)
 }
 
-/// What is out meanwhile, a disk (`d`), a view (`v`) or nothing, and what is done with a store.
-pub(crate) type Step = (u8, &'static str);
+/// What is out while a script is done.
+#[derive(Clone, Copy)]
+pub(crate) enum Out {
+    Nothing,
+    Disk,
+    View,
+}
+
+/// What is out meanwhile, and what is done with a store.
+pub(crate) type Step = (Out, &'static str);
 
 /// What is done with the store, where `any`, `test` and `left.new` are files, and `link` leads nowhere.
 static STEPS: [Step; 6] = [
     // It takes a new file once.
     (
-        b' ',
+        Out::Nothing,
         "no has own; ok secret own first; yes has own; exists secret own second; ok read own 9 first; \
      no has own.new; ok faults 0",
     ),
     (
-        b' ',
+        Out::Nothing,
         "no has ./all; ok new ./all first; yes has ./all; exists new ./all second; ok read ./all 9 first; \
      ok faults 0",
     ),
     // What stands at a name takes it, and a file that was left is let alone.
     (
-        b' ',
+        Out::Nothing,
         "yes has link; exists new link first; yes has .; exists new . first; ok faults 0; \
      no has left; failed new left first; ok faults 1; ok read left.new 9 left; \
      no has none/new; failed new none/new first; ok faults 2",
     ),
     // It reads files.
     (
-        b' ',
+        Out::Nothing,
         "ok read test 5 first; ok read test 18446744073709551615 first; long read test 4 5; ok faults 2; \
      failed read none 4; ok faults 3; failed read . 4096; ok faults 4",
     ),
     // A disk of a name is had by nobody else, and views of it are had at once.
     (
-        b'd',
+        Out::Disk,
         "failed write disk 0 abc; exists make disk abc; ok faults 5",
     ),
     (
-        b'v',
+        Out::View,
         "ok look disk 0; ok write disk 0 abc; ok look disk 3 abc; ok faults 5; ok disks 0",
     ),
 ];
@@ -84,9 +92,9 @@ where
 {
     for (out, script) in steps {
         let wrong = match *out {
-            b'd' => beside_disk(store, alloc, script),
-            b'v' => beside_view(store, alloc, script),
-            _ => stores(store, alloc, script),
+            Out::Nothing => stores(store, alloc, script),
+            Out::Disk => beside_disk(store, alloc, script),
+            Out::View => beside_view(store, alloc, script),
         };
         if !wrong.is_empty() {
             return wrong;

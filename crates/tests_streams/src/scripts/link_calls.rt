@@ -1,6 +1,6 @@
 //! Calls of a source, a sink or a link as steps of a script.
 
-use crate::fake_sockets::{are_counted, count_up};
+use crate::network::fake_sockets::{are_counted, count_up};
 use crate::scripts::{begins, first_number, first_word, initial, word_if};
 use stream_io::{Failed, Sink, Source, read_whole, write_whole};
 

@@ -1,9 +1,9 @@
 //! Tests of what no contract says of links that wait: when one waits, when it rings, and that two threads wait for
 //! each other.
 
-use crate::peers::{PEER, Peer, Script, Talk, is_talk, port_script};
-use crate::port_calls::meets;
+use crate::network::peers::{PEER, Peer, Script, Talk, is_talk, port_script};
 use crate::scripts::none_wrong;
+use crate::scripts::port_calls::meets;
 use memory::NoMemory;
 use std::alloc::Global;
 use std::thread;

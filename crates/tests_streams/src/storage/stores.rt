@@ -2,7 +2,7 @@
 //! counted.
 
 use crate::scripts::none_wrong;
-use crate::store_calls::stores;
+use crate::scripts::store_calls::stores;
 use memory::NoMemory;
 use std::alloc::{AllocError, Global};
 use stream_memory::MemStore;

@@ -1,6 +1,6 @@
 //! Tests of disks over files of the machine, and over files in memory that do as little as a system may.
 
-use crate::disk_calls::plays;
+use crate::scripts::disk_calls::plays;
 use crate::scripts::{is_text, none_wrong};
 use disk_trait::MemDisk;
 use memory::NoMemory;

@@ -1,10 +1,10 @@
 //! Tests of the store of files and of disks over files that are no files: which calls succeed, and what the system is
 //! asked.
 
-use crate::disk_calls::plays;
-use crate::fake_files::{FakeFile, FakeFiles, Record};
-use crate::kept_files::wrong_in;
+use crate::scripts::disk_calls::plays;
 use crate::scripts::none_wrong;
+use crate::storage::fake_files::{FakeFile, FakeFiles, Record};
+use crate::storage::kept_files::{Out, wrong_in};
 use std::alloc::{AllocError, Global};
 use std::io;
 use std::sync::Arc;
@@ -144,7 +144,7 @@ static ROWS: [Row; 40] = [
 /// Does what a row says with a store: what went wrong, or nothing.
 fn wrong_of(alloc: Global, row: &Row) -> Result<&'static str, AllocError> {
     let record = Record::new(alloc, row.0, 0, row.2)?;
-    let wrong = wrong_in(FakeFiles(&record), alloc, &[(b' ', row.1)]);
+    let wrong = wrong_in(FakeFiles(&record), alloc, &[(Out::Nothing, row.1)]);
     Ok(record.wrong(wrong, row.2))
 }
 
