@@ -1,6 +1,6 @@
 //! Tests of what no clause says: that whole sessions give the signatures of another implementation, and each refusal.
 
-use crate::meeting::{LEAVES, MESSAGE, Meeting};
+use crate::sessions::meeting::{LEAVES, MESSAGE, Meeting};
 use crate::values::{ID, holds};
 use disk_trait::MemDisk;
 use lms_bytes::bytes::put;

@@ -1,0 +1,4 @@
+//! Whole sessions.
+
+mod meeting;
+mod session_core_tests;
