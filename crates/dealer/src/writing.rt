@@ -30,7 +30,15 @@ pub(crate) fn write_leaves(
     ensures file { file.new ≡ file_asked (is_some secrets.now.macs) (dealing_with params.now plan.now secrets.now) }
 {
     let (_, commits) = file.split_at_mut(file.len().min(HEAD));
-    write_run(&Silent, params, plan, secrets, Run::whole(params), out, commits);
+    write_run(
+        &Silent,
+        params,
+        plan,
+        secrets,
+        Run::whole(params),
+        out,
+        commits,
+    );
 }
 
 /// Writes the leaves of a run, one behind the other, and the commitments to their masks if they are asked for. It tells

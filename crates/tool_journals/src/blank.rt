@@ -91,7 +91,11 @@ pub(crate) fn new_blank<S: Store>(
 }
 
 /// Reads the file that the blank file is to go with.
-pub(crate) fn read_blank<S: Store>(alloc: Global, store: &mut S, file: &str) -> Result<Blank, Ending>
+pub(crate) fn read_blank<S: Store>(
+    alloc: Global,
+    store: &mut S,
+    file: &str,
+) -> Result<Blank, Ending>
     ensures blank { InAnyRun S.state store.old store.new (λ run.
         IfOk result (λ blank. IsEnrolled run file.now blank.header blank.count)) }
     ensures refused { InAnyRun S.state store.old store.new (λ run.

@@ -22,7 +22,11 @@ use stream_io::{CallFault, Store};
 use tool_base::{Ending, FILE_LIMIT, end_of_slots, read_file};
 
 /// Reads a message for its id.
-pub(crate) fn read_message<S: Store>(alloc: Global, store: &mut S, name: &str) -> Result<MessageId, Ending>
+pub(crate) fn read_message<S: Store>(
+    alloc: Global,
+    store: &mut S,
+    name: &str,
+) -> Result<MessageId, Ending>
     ensures id { InAnyRun S.state store.old store.new (λ run.
         IfOk result (λ id. IsMessageRead run name.now (message_id_bytes id))) }
     ensures refused { InAnyRun S.state store.old store.new (λ run.
@@ -61,7 +65,12 @@ pub(crate) fn open_book<S: Store>(
 }
 
 /// Loads the book of a disk and adds a message.
-pub(crate) fn add_message<D: Disk>(alloc: Global, disk: D, header: &Header, id: &MessageId) -> (D, Ending)
+pub(crate) fn add_message<D: Disk>(
+    alloc: Global,
+    disk: D,
+    header: &Header,
+    id: &MessageId,
+) -> (D, Ending)
     requires { header.now.version ≡ 3 }
     ensures ended { AddEnds (DiskFails D.Pages.own D.Faults disk result.0) (disk_run D.Pages.own disk result.0)
         header.now (message_id_bytes id.now) (ending result.1) }
