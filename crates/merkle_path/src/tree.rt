@@ -1,6 +1,6 @@
 //! Trees with all their nodes.
 
-ghost use Rattle.std.specs.Prelude.{◌≡◌, ◌+◌, ◌-◌, ◌*◌, ◌^◌, ◌<◌, ◌≤◌, [], All, IfOk, length, slice_index_or};
+ghost use Rattle.std.specs.Prelude.{◌≡◌, ◌+◌, ◌-◌, ◌*◌, ◌^◌, ◌<◌, ◌≤◌, [], All, IfOk, drop, length, slice_index_or};
 ghost use Rattle.lms_bytes.specs.Bytes.{bytes_at};
 ghost use Rattle.lms_bytes.specs.HashLength.{IsHashLength};
 ghost use Rattle.merkle_path.specs.Nodes.{leaf_node, inner_node, root};
@@ -18,17 +18,21 @@ use std::marker::Model;
 pub struct Tree {
     n: u8,
     h: u8,
-    nodes: Vec<u8>,
+    /// Where the nodes begin among the bytes.
+    front: usize,
+    bytes: Vec<u8>,
 }
 
 impl Model for Tree {
+    ghost use Rattle.std.specs.Prelude.{◌≤◌, drop, length};
     ghost use Rattle.merkle_path.specs.Tree.{IsWhole, TreeNodes};
 
     ghost Value = { TreeNodes };
 
-    ghost view = { λ t. record { n = t.n; h = t.h; nodes = t.nodes.items } };
+    ghost view = { λ t. record { n = t.n; h = t.h; nodes = drop t.front t.bytes.items } };
 
-    ghost invariant = { λ t. IsWhole (record { n = t.n; h = t.h; nodes = t.nodes.items }) };
+    ghost invariant = { λ t. (t.front ≤ length t.bytes.items)
+        × IsWhole (record { n = t.n; h = t.h; nodes = drop t.front t.bytes.items }) };
 }
 
 impl Tree {
@@ -42,11 +46,7 @@ impl Tree {
         let n = params.n as usize;
         let mut nodes = vec![in alloc; 0; n * (2 * params.leaves() as usize - 1)]?;
         fill_nodes(params, id, keys, &mut nodes);
-        Ok(Tree {
-            n: params.n,
-            h: params.h,
-            nodes,
-        })
+        Ok(Tree::behind(params, nodes, 0))
     }
 
     /// The tree with these nodes: T[1], T[2] and so on, of `n` bytes each, as they stand.
@@ -55,11 +55,22 @@ impl Tree {
         requires nodes { length nodes.now ≡ params.now.n * (2 ^ (params.now.h + 1) - 1) }
         ensures { IfOk result (λ tree. tree ≡ record { n = params.now.n; h = params.now.h; nodes = nodes.now }) }
     {
-        Ok(Tree {
+        Ok(Tree::behind(params, Vec::from_slice(alloc, nodes)?, 0))
+    }
+
+    /// The tree whose nodes T[1], T[2] and so on, of `n` bytes each, are all that stands behind the first `front`
+    /// bytes. It takes no memory.
+    pub fn behind(params: &Params, bytes: Vec<u8>, front: usize) -> Tree
+        requires height { params.now.h ≤ 10 }
+        requires length { length bytes.items ≡ front + params.now.n * (2 ^ (params.now.h + 1) - 1) }
+        ensures { result ≡ record { n = params.now.n; h = params.now.h; nodes = drop front bytes.items } }
+    {
+        Tree {
             n: params.n,
             h: params.h,
-            nodes: Vec::from_slice(alloc, nodes)?,
-        })
+            front,
+            bytes,
+        }
     }
 
     /// Its nodes T[1], T[2] and so on, as they stand.
@@ -67,7 +78,7 @@ impl Tree {
         ensures nodes { result.now ≡ self.now.nodes }
         ensures whole { IsWhole self.now }
     {
-        &self.nodes
+        &self.bytes[self.front..]
     }
 
     /// Node `r`.
@@ -77,7 +88,7 @@ impl Tree {
         ensures node { result ≡ node_at self.now r }
         ensures length { length result ≡ self.now.n }
     {
-        node_in(&self.nodes, self.n, r)
+        node_in(self.nodes(), self.n, r)
     }
 
     /// The root, node 1.

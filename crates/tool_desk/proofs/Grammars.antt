@@ -1,5 +1,7 @@
 -- Files that are in a grammar, and files that are in none.
-use Rattle.std.proofs.Common.{◌≡◌, ◌⊎◌, ◌++◌, ◌∙◌, ℕ, List, Option, Some, inl, inr, sym, ap, subst, option_map}
+use Rattle.std.proofs.Common.{◌≡◌, ◌⊎◌, ◌++◌, ◌∙◌, ℕ, List, Option, Some, inl, inr, sym, ap, drop, subst, option_map}
+use Rattle.std.proofs.Math.Seq.{drop-append_seam}
+use Rattle.lms_bytes.specs.declared.params.Params.{Params}
 use Rattle.share_files.specs.TreeFile.{HasTreeLayout, tree_head}
 use Rattle.tool_base.specs.Ending as ending
 use Rattle.tool_base.specs.Ending.{Ending}
@@ -21,6 +23,11 @@ fault_told fault_of number_of store name bytes fault number end read is counted 
 -- such a file is read as what it is
 pub read_as : (store : StoreRun) (name bytes other : List ℕ) → IsRead store name (Bytes bytes) → bytes ≡ other → IsRead store name (Bytes other)
 read_as store name bytes other read is = subst (λ (l : List ℕ). IsRead store name (Bytes l)) is read
+
+-- what stands behind the head of a tree file are the nodes
+pub nodes_behind_head : (params : Params) (bytes id nodes : List ℕ) → HasTreeLayout params bytes id nodes → drop 32 bytes ≡ nodes
+nodes_behind_head params bytes id nodes layout =
+    ap (drop 32) layout.parts ∙ subst (λ (n : ℕ). drop n (id ++ nodes) ≡ nodes) layout.id_length (drop-append_seam id nodes)
 
 pub tree_read : (store : StoreRun) (name bytes nodes : List ℕ) (tree : DealtTree) → IsRead store name (Bytes bytes) → HasTreeLayout tree.params bytes tree.id nodes
     → tree.nodes.nodes ≡ nodes → IsTreeRead store name tree

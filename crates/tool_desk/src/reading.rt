@@ -8,9 +8,8 @@ ghost use Rattle.tool_desk.specs.Tree.{FailsTree, IsTreeRead};
 
 use crate::tree::DealtTree;
 use lms_bytes::{PublicKey, read_public};
-use memory::NoMemory;
 use merkle_path::Tree;
-use share_files::read_tree;
+use share_files::{HEAD, TreeView, read_tree};
 use std::alloc::Global;
 use stream_io::Store;
 use tool_base::{Ending, FILE_LIMIT, read_file, unreadable};
@@ -45,16 +44,10 @@ pub fn read_tree_file<S: Store>(
     ensures unchanged { IsUnchanged (S.state store.old) (S.state store.new) }
 {
     let bytes = read_file(alloc, store, name, FILE_LIMIT)?;
-    let view = match read_tree(&bytes) {
+    let TreeView { params, id, .. } = match read_tree(&bytes) {
         Ok(view) => view,
         Err(fault) => return Err(unreadable(alloc, name, fault.number())),
     };
-    match Tree::of_nodes(alloc, &view.params, view.nodes) {
-        Ok(nodes) => Ok(DealtTree {
-            params: view.params,
-            id: view.id,
-            nodes,
-        }),
-        Err(NoMemory) => Err(Ending::NoMemory),
-    }
+    let nodes = Tree::behind(&params, bytes, HEAD);
+    Ok(DealtTree { params, id, nodes })
 }

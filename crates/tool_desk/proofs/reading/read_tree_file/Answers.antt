@@ -1,11 +1,10 @@
-use Rattle.std.proofs.Common.{ap}
+use Rattle.std.proofs.Common.{◌∙◌, ap, drop, sym}
 use Rattle.std.proofs.lemmas.Result.{err_from_is_err_and}
-use Rattle.merkle_path.specs.declared.tree.Tree.{Tree}
+use Rattle.merkle_path.specs.Tree.{TreeNodes}
 use Rattle.share_files.specs.FaultNumbers.{file_fault_number}
 use Rattle.share_files.specs.TreeFile.{tree_fault}
 use Rattle.tool_base.specs.Grammars.{not_read}
-use Rattle.tool_base.specs.Reads.{no_memory}
-use Rattle.tool_desk.proofs.Grammars.{fault_told, tree_read}
+use Rattle.tool_desk.proofs.Grammars.{fault_told, nodes_behind_head, tree_read}
 use Rattle.tool_desk.proofs.reading.read_tree_file.Goals as goal
 
 pub returns-in_err-bytes-clause-refused : goal.returns-in_err-bytes-clause-refused
@@ -18,9 +17,6 @@ returns-in-Err-clause-refused g c =
     λ first last part. fault_told tree_fault file_fault_number _ _ c.deref.result.now c.in-Err.fault c.number.result _
     (rw c.deref.ensures.value (c.in_ok-bytes.ensures.bytes first last part)) c.in-Err.ensures.refused c.number.ensures c.unreadable.ensures
 
-pub returns-clause-refused : goal.returns-clause-refused
-returns-clause-refused g c = λ first last part. not_read _ no_memory
-
 pub returns-in_err-bytes-clause-tree : goal.returns-in_err-bytes-clause-tree
 returns-in_err-bytes-clause-tree g c =
     let p = err_from_is_err_and c.from_residual.result c.from_residual.ensures.1 in
@@ -32,13 +28,12 @@ returns-in_err-bytes-clause-unchanged g c = c.in_err-bytes.ensures.unchanged
 pub returns-in-Err-clause-unchanged : goal.returns-in-Err-clause-unchanged
 returns-in-Err-clause-unchanged g c = c.in_ok-bytes.ensures.unchanged
 
-pub returns-in-Ok-of_nodes-clause-tree : goal.returns-in-Ok-of_nodes-clause-tree
-returns-in-Ok-of_nodes-clause-tree g c =
-    λ first last part. tree_read _ _ c.deref.result.now c.in-Ok.view.nodes.now _
-    (rw c.deref.ensures.value (c.in_ok-bytes.ensures.bytes first last part)) c.in-Ok.ensures.layout (ap (λ (t : Tree). t.nodes) c.in-Ok-of_nodes.ensures)
-
-pub returns-in-Ok-of_nodes-clause-unchanged : goal.returns-in-Ok-of_nodes-clause-unchanged
-returns-in-Ok-of_nodes-clause-unchanged g c = c.in_ok-bytes.ensures.unchanged
-
 pub returns-clause-unchanged : goal.returns-clause-unchanged
 returns-clause-unchanged g c = c.in_ok-bytes.ensures.unchanged
+
+pub returns-clause-tree : goal.returns-clause-tree
+returns-clause-tree g c =
+    λ first last part. tree_read _ _ c.deref.result.now c.in-Ok.view.nodes.now _
+    (rw c.deref.ensures.value (c.in_ok-bytes.ensures.bytes first last part)) c.in-Ok.ensures.layout
+    (ap (λ (t : TreeNodes). t.nodes) c.behind-nodes.ensures ∙ ap (drop 32) (sym c.deref.ensures.value)
+    ∙ nodes_behind_head _ _ _ _ c.in-Ok.ensures.layout)
