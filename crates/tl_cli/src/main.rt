@@ -28,16 +28,13 @@ fn main(rt: HostRuntime) -> ExitCode {
         let _ = write_whole(&mut out, b"error 14 memory\n");
         return ExitCode::from(14);
     };
-    let mut store = FileStore::new(rt);
-    let mut net = TcpNet::new(rt);
-    let mut time = SystemClocks::new(rt);
     ExitCode::from(run_tool(
         &(rt, ProgressLine::new(rt)),
         rt.alloc(),
         words.as_slice(),
-        &mut store,
-        &mut net,
-        &mut time,
+        &mut FileStore::new(rt),
+        &mut TcpNet::new(rt),
+        &mut SystemClocks::new(rt),
         &mut out,
     ))
 }
