@@ -1,4 +1,5 @@
 pub mod Net
+pub mod Progress
 pub mod RawFiles
 pub mod Store
 pub mod Talk

@@ -1,13 +1,17 @@
 //! Who is told how far a dealing is.
 
+ghost use Rattle.stream_io.specs.Progress.{IsLeafCount};
+
 /// Is told how far a dealing is, by the threads that work at it. Neither call promises anything, so what is dealt is
-/// the same whoever is told.
+/// the same whoever is told. Neither takes anything but how many leaves a tree has: so nothing of a key can be told.
 pub trait Progress {
     /// One more leaf is built, of so many in all.
-    fn leaf_built(&self, all: u32);
+    fn leaf_built(&self, all: u32)
+        requires { IsLeafCount all };
 
     /// All leaves are built, so many. No thread tells of a leaf any more.
-    fn all_built(&self, all: u32);
+    fn all_built(&self, all: u32)
+        requires { IsLeafCount all };
 }
 
 /// Is told, and does nothing.

@@ -97,3 +97,6 @@ returns-clause-commits g c =
     let last : c.leaves.i ≡ c.args.run.count = omega (arith, c.leaves-test.false, c.leaves.auto.i-end) in
     let room : length c.leaves.commits ≡ c.asked_bytes-row.result * c.args.run.count = rw c.asked_bytes-row.ensures (c.leaves.auto.commits ∙ c.requires.commits) in
     run-written (λ k. leaf_asked (is_some c.args.secrets.now.macs) d (c.args.run.first + k)) _ c.leaves.i c.args.run.count c.leaves.commits room last c.leaves.invariant.commits
+
+pub leaf_built-requires : goal.leaf_built-requires
+leaf_built-requires g c = (c.args.params.now.h, c.leaves-in-leaves.ensures)
