@@ -61,14 +61,47 @@ fn read_file<R: Files>(
     ensures within { IfOk result (λ v. length v.items ≤ limit) }
     ensures above { (got : ℕ) → result ≡ Err (ReadAllFault.TooLong got) → limit < got }
 {
-    let file = File::open(rt, name).map_err(read_fault)?;
+    match File::open(rt, name) {
+        Ok(file) => read_open(file, alloc, limit),
+        Err(error) => Err(read_fault(error)),
+    }
+}
+
+/// Reads an open file as `read_file` says it.
+fn read_open<F: OpenFile + Read + Drop>(
+    file: F,
+    alloc: Global,
+    limit: u64,
+) -> Result<Vec<u8>, ReadAllFault>
+    ensures within { IfOk result (λ v. length v.items ≤ limit) }
+    ensures above { (got : ℕ) → result ≡ Err (ReadAllFault.TooLong got) → limit < got }
+{
+    let room = room_for(&file, limit)?;
+    let bytes = Vec::with_capacity(alloc, room)?;
+    read_into(file, bytes, limit)
+}
+
+/// For how many bytes memory is taken before a file is read. It fails where the file is known to be too long.
+fn room_for<F: OpenFile>(file: &F, limit: u64) -> Result<usize, ReadAllFault>
+    ensures { (got : ℕ) → result ≡ Err (ReadAllFault.TooLong got) → limit < got }
+{
     let found = file.metadata().map_err(read_fault)?;
     let got = found.len();
     if found.is_file() && got > limit {
         return Err(ReadAllFault::TooLong { got });
     }
-    let room = got.min(limit).saturating_add(1);
-    let mut bytes = Vec::with_capacity(alloc, room as usize)?;
+    Ok(got.min(limit).saturating_add(1) as usize)
+}
+
+/// Reads a file to its end, into memory that was taken for it.
+fn read_into<F: Read + Drop>(
+    file: F,
+    mut bytes: Vec<u8>,
+    limit: u64,
+) -> Result<Vec<u8>, ReadAllFault>
+    ensures within { IfOk result (λ v. length v.items ≤ limit) }
+    ensures above { (got : ℕ) → result ≡ Err (ReadAllFault.TooLong got) → limit < got }
+{
     let read = file.take(limit.saturating_add(1)).read_to_end(&mut bytes);
     read.map_err(read_fault)?;
     let got = bytes.len() as u64;
@@ -76,6 +109,13 @@ fn read_file<R: Files>(
         return Err(ReadAllFault::TooLong { got });
     }
     Ok(bytes)
+}
+
+/// Closes a file that was handed out, and says how many faults it has counted.
+fn close<F: FileExt + OpenFile + Drop>(disk: FileDisk<HostFile<F>>) -> u64
+    ensures { result ≡ ⟦<FileDisk<HostFile<F>> as Faults>⟧.count disk }
+{
+    disk.faults()
 }
 
 impl<R: Files + Drop> Faults for FileStore<R> {
@@ -154,7 +194,7 @@ where
 
     /// Closes the file, which gives up its lock.
     fn return_disk(&mut self, _name: &str, disk: Self::Disk) {
-        self.disk_faults.add(disk.faults());
+        self.disk_faults.add(close(disk));
     }
 
     /// Opens a file for reading, and fails at what is no regular file. It takes no lock: many view a file at once, and
@@ -166,7 +206,7 @@ where
 
     /// Closes the file.
     fn end_view(&mut self, view: Self::View) {
-        self.disk_faults.add(view.faults());
+        self.disk_faults.add(close(view));
     }
 
     ghost counts = { λ _. refl };
