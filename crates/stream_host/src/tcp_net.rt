@@ -109,11 +109,11 @@ fn make_ports<R: Sockets + Copy>(
 }
 
 /// Whether one of these ports has counted a fault.
-fn some_failed<R: Sockets + Copy>(ports: &[BufferedPort<TcpPort<R>>]) -> bool
-    ensures some { IsTrue result → All (λ port. (buffered_port_state port).count ≡ 0) ports.now → ⊥ }
-    ensures none { IsFalse result → All (λ port. (buffered_port_state port).count ≡ 0) ports.now }
+fn some_failed<P: Faults>(ports: &[P]) -> bool
+    ensures some { IsTrue result → All (λ port. P.count port ≡ 0) ports.now → ⊥ }
+    ensures none { IsFalse result → All (λ port. P.count port ≡ 0) ports.now }
 {
-    ports.iter().any(|port| port.below().has_failed())
+    ports.iter().any(|port| port.faults() != 0)
 }
 
 /// Whether one of these ports failed to accept.

@@ -63,13 +63,6 @@ impl<R: Sockets + Copy> TcpPort<R> {
         }
     }
 
-    /// Whether it has counted a fault.
-    pub(crate) fn has_failed(&self) -> bool
-        ensures { IsTrue result ↔ (port_state self.now).count ≢ 0 }
-    {
-        self.faults.get() != 0
-    }
-
     /// Whether it failed to accept.
     pub(crate) fn has_not_accepted(&self) -> bool
         ensures { IsTrue result ↔ (port_state self.now).accept_count ≢ 0 }
