@@ -17,8 +17,11 @@ use Rattle.tool_base.specs.Touched.{Keeps}
 use Rattle.tool_base.specs.World.{Bytes, Failed, InAnyRun, IsBack, IsUnchanged, IsNetBack, file_limit, from_to}
 use Rattle.tool_base.specs.declared.ending.Ending as declared
 use Rattle.tool_desk.specs.Files.{reference_name}
+use Rattle.tool_desk.specs.Reference.{IsReferenceOf}
 use Rattle.tool_desk.specs.declared.files.KeyFiles.{KeyFiles}
 use Rattle.tool_base.proofs.Outs.{keeps_unchanged}
+use Rattle.tool_blame.specs.Beside.{EndsBeside, SessionBeside, ViewsBeside, leaves_through, signing_through}
+use Rattle.tool_blame.specs.Beside as sides
 use Rattle.tool_blame.specs.Blame.{EndsNaming, BlameRun, FailsToBegin, NamingRun}
 use Rattle.tool_blame.specs.Blame as blame
 use Rattle.tool_blame.specs.Commits.{AreCommitsViewed, AreNoCommits, FailsCommits, GoesWithReference, ReadsCommits, commits_name}
@@ -26,7 +29,7 @@ use Rattle.tool_blame.specs.Commits as commits
 use Rattle.tool_blame.specs.Names.{TellsEnd}
 use Rattle.tool_blame.specs.Names as names
 use Rattle.tool_sign.proofs.Views.{EndsWider, SameButViews, back_view, device_in, fails_in, out_view, read_in, reads_as_in}
-use Rattle.tool_sign.proofs.Whole.{Signed, still_new, table_unwritten, table_written, task_later, whole_ends, whole_keeps}
+use Rattle.tool_sign.proofs.Whole.{Signed, is_task, still_new, table_unwritten, table_written, task_later, whole_ends, whole_keeps}
 use Rattle.tool_sign.proofs.Writes.{as-signed, is_written, keeps_unwritten, keeps_written, not_written}
 use Rattle.tool_sign.specs.Ended.{last_in}
 use Rattle.tool_sign.specs.Ports.{NetRun, Signing, over_net}
@@ -50,6 +53,13 @@ run_taken state words first last net end unchanged fails = record {
   keeps = keeps_unchanged [] _ _ unchanged;
   ports = net_none net;
 }
+
+-- the session by what is told of it
+pub record NamingTold (words : SignWords) (a d : StoreState) (net : NetRun) (told : Result Signature Ending) : Type 0 where
+  pub touched : List (List ℕ)
+  pub ends : EndsNaming words (from_to a d) net told touched
+  pub keeps : Keeps touched a d
+  pub ports : IsNetBack net.before net.after
 
 -- nothing was begun
 pub unbegun : (words : SignWords) (a e : StoreState) (net : NetState) (end : declared.Ending) → Keeps [] a e
@@ -132,24 +142,24 @@ module _ (words : SignWords) (files : KeyFiles) (header : RefHeader) (a x b : St
       both_back : SameButViews c d
       both_back = both_views c e d (back_view c e beside_now first back) (back_view e d now ended comes)
 
-      pub all_keep : (touched : List (List ℕ)) → Keeps touched p c → Keeps touched a d
+      all_keep : (touched : List (List ℕ)) → Keeps touched p c → Keeps touched a d
       all_keep touched keeps =
           whole_keeps files header a x b b (reference_name words.prefix) view unchanged viewed out (unchanged_none b) e d now ended comes touched
           (whole_keeps files header b b v p (commits_name words.prefix) beside (unchanged_none b) besides on task c e beside_now first back touched keeps)
 
-      pub all_end : (s : Signing) (table : List ℕ) (net : NetRun) (answer : Result Signature Ending) (touched : List (List ℕ)) (ends : TableEnds s table (from_to p c) net answer touched)
+      all_end : (s : Signing) (table : List ℕ) (net : NetRun) (answer : Result Signature Ending) (touched : List (List ℕ)) (ends : TableEnds s table (from_to p c) net answer touched)
           → EndsWider s table (from_to a d) net answer touched (last_in ends)
       all_end s table net answer touched ends =
           let inner = whole_ends files header b b v p (commits_name words.prefix) beside (unchanged_none b) besides on task c e beside_now first back s table net answer touched ends in
           let outer = whole_ends files header a x b b (reference_name words.prefix) view unchanged viewed out (unchanged_none b) e d now ended comes s table net answer touched inner.ends in
           record { ends = outer.ends; last_is = outer.last_is ∙ inner.last_is }
 
-      pub all_goes : (message members : List ℕ) (addresses : List Address) → GoesWith (session_words words) (message_in (from_to v p) words.message) files header message members addresses
+      all_goes : (message members : List ℕ) (addresses : List Address) → GoesWith (session_words words) (message_in (from_to v p) words.message) files header message members addresses
           → GoesWith (session_words words) (message_in (from_to a d) words.message) files header message members addresses
       all_goes message members addresses goes = goes_in a v p d goes_v (session_words words) words.message files header message members addresses goes
 
       -- the commitments are those of the words
-      pub reads_commits : (IsTrue beside.told → commits_fault header beside.reads ≡ None) → StoreOnward p c
+      reads_commits : (IsTrue beside.told → commits_fault header beside.reads ≡ None) → StoreOnward p c
           → ReadsCommits (session_words words) (from_to a d) header (record { told = beside.told; leaves = drop 32 beside.reads; before = beside.count; now = beside_now.count }) beside.steady
       reads_commits faultless works = record {
         told = λ told. besides.given.told (rw goes_b.onward.told told);
@@ -169,15 +179,59 @@ module _ (words : SignWords) (files : KeyFiles) (header : RefHeader) (a x b : St
             omega (arith, one, two, three, four, five);
       }
 
-    -- the message was not had, or not all goes together
-    pub run_lacking : (e d : StoreState) (first : ViewEnded p beside e) (back : StoreOnward p e) (ended : ViewEnded e view d) (comes : StoreOnward e d) (net : NetState) (end : declared.Ending)
-        → HasFiles (session_words words) (from_to a d) files header → AreCommitsViewed (from_to b v) (commits_name words.prefix) header
-        → LacksTask (session_words words) (message_in (from_to v p) words.message) files header (endings.ending end) → NamingRun words a d (over_net net net) (Err end)
-    run_lacking e d first back ended comes net end has are lacks =
-        unbegun words a d net end (all_keep p e d beside view first back ended comes [] (keeps_unchanged [] p p (unchanged_none p)))
-        (blame.no_task files header (endings.ending end) has
-        (commits_in a b v d goes_b count_b (both_views v p d (unchanged_views v p task) (both_back p e d beside view first back ended comes)) (commits_name words.prefix) header are)
-        (lacks_in a v p d goes_v count_v (both_back p e d beside view first back ended comes) (session_words words) words.message files header (endings.ending end) lacks))
+  -- and back once the message was not had, or once a session ended
+  module _ {S : Type 0} (state : S → StoreState) (old new : S) (e d : StoreState) (beside beside_now now : PagesState) (besides : Viewed b (commits_name words.prefix) beside (state old)) (on : StoreOnward b (state old))
+      (first : ViewEnded (state new) beside_now e) (back : StoreOnward (state new) e) (ended : ViewEnded e now d) (comes : StoreOnward e d) (net : NetRun)
+      (has : StoreOnward (state old) (state new) → HasFiles (session_words words) (from_to a d) files header) where
+    abbrev v : StoreState
+    v = state old
+
+    abbrev c : StoreState
+    c = state new
+
+    abbrev views : ViewsBeside
+    views = record { reference = view; reference_now = now; commits = beside; commits_now = beside_now }
+
+    both_ends : SameButViews c d
+    both_ends = both_views c e d (back_view c e beside_now first back) (back_view e d now ended comes)
+
+    lacking : AreCommitsViewed (from_to b v) (commits_name words.prefix) header → (end : Ending)
+        → LacksTask (session_words words) (message_in (from_to v c) words.message) files header end → IsUnchanged v c → net.after ≡ net.before → NamingTold words a d net (Err end)
+    lacking are end lacks task idle = record {
+      touched = [];
+      ends = blame.not_begun end
+          (blame.no_task files header end (has task.onward)
+          (commits_in a b v d goes_b count_b (both_views v c d (unchanged_views v c task) both_ends) (commits_name words.prefix) header are)
+          (lacks_in a v c d (goes_v v c beside besides on task) (count_v v c beside besides on task) both_ends (session_words words) words.message files header end lacks))
+          idle;
+      keeps = all_keep v c beside besides on task c e d beside_now now first back ended comes [] (keeps_unchanged [] c c (unchanged_none c));
+      ports = rw idle (net_none net.before);
+    }
+
+    module _ (reads : IsTrue view.told → IsReferenceOf header view.reads) (faultless : IsTrue beside.told → commits_fault header beside.reads ≡ None) where
+      told_by : (told : Result Signature Ending) → SessionBeside state words files header views old new net told → NamingTold words a d net told
+      told_by told s =
+          let task = s.unchanged in
+          let works = s.run.keeps.back.onward in
+          let signing : Signing = signing_through files header view now s.message s.members s.addresses in
+          let ends = all_end v (state s.read) beside besides on task c e d beside_now now first back ended comes signing words.table net s.answer s.run.touched s.run.ends in
+          let goes = all_goes v (state s.read) beside besides on task c e d beside_now now first back ended comes s.message s.members s.addresses s.goes in
+          let within = onward_on _ _ _ on (onward_on _ _ _ task.onward (onward_on _ _ _ works back)) in
+          let commits = reads_commits v (state s.read) beside besides on task c e d beside_now now first back ended comes faultless works in
+          let task_is = is_task (session_words words) files header s.sizes a x b view unchanged viewed reads (message_in (from_to a d) words.message) b e d now s.message s.members s.addresses
+          out (unchanged_none b) within ended (has (onward_on _ _ _ task.onward works)) goes in
+          record {
+            touched = s.run.touched;
+            ends = blame.ended signing (leaves_through beside beside_now) beside.steady s.answer told s.run.touched task_is ends.ends commits
+                (subst (λ (session : Option State). TellsEnd (leaves_through beside beside_now) beside.steady s.message session s.answer told) (sym ends.last_is) s.tells);
+            keeps = all_keep v (state s.read) beside besides on task c e d beside_now now first back ended comes s.run.touched s.run.keeps;
+            ports = s.run.ports;
+          }
+
+      pub run_beside : AreCommitsViewed (from_to b v) (commits_name words.prefix) header → (told : Result Signature Ending) → EndsBeside state words files header views old new net told
+          → NamingTold words a d net told
+      run_beside are _ (sides.not_begun end lacks task idle) = lacking are end lacks task idle
+      run_beside are _ (sides.begun told s) = told_by told s
 
 -- the answer that is told is a signature: so it was
 pub tells_ok : (reads : CellsRead) (steady : Bool) (message : List ℕ) (session : Option State) (answer told : Result Signature Ending) (signature : Signature) → TellsEnd reads steady message session answer told

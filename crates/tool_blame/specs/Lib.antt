@@ -1,4 +1,5 @@
 pub mod Commits
 pub mod Names
+pub mod Beside
 pub mod Blame
 pub mod AsSign
