@@ -1,6 +1,7 @@
 mod BodyBytes
 pub mod Maps
 mod Sound
+mod Settling
 pub mod Held
 mod Found
 mod Events

@@ -1,7 +1,8 @@
-use Rattle.std.proofs.Common.{◌≡◌, ◌∷◌, ◌++◌, [], Option, Some, Ok, sym, ◌∙◌, ap, subst, arith, length, rules, vec_len}
+use Rattle.std.proofs.Common.{◌≡◌, ◌∷◌, ◌++◌, [], Option, Some, Ok, inr, refl, sym, ◌∙◌, ap, subst, arith, length, rules, vec_len}
 use Rattle.leaf_table.specs.Slots.{may_become}
 use Rattle.slot_file.specs.declared.slot.Slot.{Slot}
-use Rattle.leaf_table.specs.State.{lease_of}
+use Rattle.leaf_table.specs.State.{lease_of, state_with}
+use Rattle.leaf_table.proofs.Settling.{enters_failed, enters_settled, settle_failed}
 use Rattle.leaf_table.specs.declared.lease.Lease.{Lease}
 use Rattle.leaf_table.proofs.Putting.{may-settle, put-made, room-taken}
 use Rattle.leaf_table.proofs.Sound.{leaf_of-lease}
@@ -79,3 +80,40 @@ enter-requires-clause-next g c =
     let d = c.args.doubted.now in
     let is : (state_of self.slots).doubt ≡ Some d = c.requires in
     ap (λ (s : Slot). may_become s d.after) c.slot.ensures ∙ self.sound.next d is
+
+pub returns-in-Ok-Made-clause-event : goal.returns-in-Ok-Made-clause-event
+returns-in-Ok-Made-clause-event g c =
+    let self = c.args.self.now in
+    let cache = state_of self.slots in
+    let items = self.entries.items in
+    let new = state_of c.settle.new.self in
+    let d = c.args.doubted.now in
+    let is : cache.doubt ≡ Some d = c.requires in
+    let version = (header_of self.slots).version in
+    let event = subst (λ (s : Settled). Settles version cache (Ok s) new) c.in-Ok-Made.field-0-is c.in-Ok-Made.ensures.event in
+    let same : event.0 ≡ d = only-some (sym event.1 ∙ is) in
+    let made : new ≡ settled_with (with_made cache.slots d) = event.2 ∙ ap (λ (x : Doubted). settled_with (with_made cache.slots x)) same in
+    let listed = c.push_reserved.ensures.items ∙ ap (λ (l : Lease). items ++ l ∷ []) c.lease_of_slot.ensures in
+    (ap (λ (s : CacheState). s.doubt) made, inr (d, is, λ i. state_with (made i) (listed i)))
+
+pub returns-in-Ok-Made-clause-enters : goal.returns-in-Ok-Made-clause-enters
+returns-in-Ok-Made-clause-enters g c =
+    let stays = c.settle.ensures.stays in
+    enters_settled _ _ (record { plan = refl; header = stays.header; disk = stays.disk }) _ c.in-Ok-Made.ensures.cause
+
+pub returns-in-Err-clause-event : goal.returns-in-Err-clause-event
+returns-in-Err-clause-event g c =
+    let self = c.args.self.now in
+    settle_failed (header_of self.slots).version self.version (state_of self.slots) (state_of c.settle.new.self) self.entries.items c.in-Err.fault c.of_settling.result c.of_settling.ensures
+    c.in-Err.ensures.event
+
+pub returns-in-Err-clause-enters : goal.returns-in-Err-clause-enters
+returns-in-Err-clause-enters g c =
+    let stays = c.settle.ensures.stays in
+    let failed = c.in-Err.ensures in
+    enters_failed _ _ (record { plan = refl; header = stays.header; disk = stays.disk }) c.in-Err.fault c.of_settling.result c.of_settling.ensures failed.told failed.succeeds failed.cause
+
+pub returns-in-Ok-NotMade-clause-enters : goal.returns-in-Ok-NotMade-clause-enters
+returns-in-Ok-NotMade-clause-enters g c =
+    let stays = c.settle.ensures.stays in
+    enters_settled _ _ (record { plan = refl; header = stays.header; disk = stays.disk }) _ c.in-Ok-NotMade.ensures.cause
