@@ -1,5 +1,6 @@
 -- What a command does of the outside.
-use Rattle.std.proofs.Common.{◌≡◌, List, [], None, refl}
+use denote.Bor.{Bor}
+use Rattle.std.proofs.Common.{◌≡◌, ℕ, Bool, List, [], None, refl}
 use Rattle.stream_io.specs.Net.{NetState}
 use Rattle.stream_io.specs.Store.{StoreState}
 use Rattle.tool_base.specs.Ending as ending
@@ -8,7 +9,18 @@ use Rattle.tool_base.specs.Outputs.{EndsWith, Output}
 use Rattle.tool_base.specs.World.{IsUnchanged, Outside, StoreRun, TimeState, from_to}
 use Rattle.tool_base.proofs.Runs.{unchanged_none}
 use Rattle.tool_base.proofs.Writing.{ends_untouched}
-use Rattle.tool_run.specs.ToolRun.{OnStore, WordsRun}
+use Rattle.tool_run.specs.ToolRun.{IsOnStore, OnStore, WordsRun}
+use Rattle.tool_words.specs.Rows.{row}
+use Rattle.tool_words.specs.declared.command.Command.{Command}
+use Rattle.tool_words.specs.declared.command.Command.TheVariants.{Verify, Rehearse, Deal, Enrol, Migrate, Approve}
+use Rattle.tool_words.specs.declared.command.Command.TheVariants.{Trustee, Sign, Blame, HssCheck, HssSign}
+use Rattle.tool_words.specs.declared.command.Command.TheVariants.{Aggregate, Drill, Show}
+use Rattle.tool_words.specs.declared.aggregate_words.AggregateWords.{AggregateWords}
+use Rattle.tool_words.specs.declared.deal_words.DealWords.{DealWords}
+use Rattle.tool_words.specs.declared.drill_words.DrillWords.{DrillWords}
+use Rattle.tool_words.specs.declared.hss_sign_words.HssSignWords.{HssSignWords}
+use Rattle.tool_words.specs.declared.sign_words.SignWords.{SignWords}
+use Rattle.tool_words.specs.declared.trustee_words.TrusteeWords.{TrusteeWords}
 
 -- a command that leaves the store and the net as they were
 pub untouched : (ends : StoreRun → Ending → List Output → Type 0) (before after : Outside) (end : Ending) → IsUnchanged before.store after.store
@@ -24,3 +36,43 @@ pub usage_run : (a : StoreState) (net : NetState) (time : TimeState)
 usage_run a net time =
     let still : Outside = record { store = a; net = net; time = time } in
     untouched (λ store end written. (end ≡ ending.Usage) × (written ≡ [])) still still ending.Usage (unchanged_none a) refl (refl, refl)
+
+-- a command that is none of those that need more than the store
+pub on_store : (command : Command) → ((words : DealWords) → command ≡ Deal words → ⊥) → ((words : TrusteeWords) → command ≡ Trustee words → ⊥)
+    → ((words : SignWords) → command ≡ Sign words → ⊥) → ((words : SignWords) → command ≡ Blame words → ⊥)
+    → ((words : HssSignWords) → command ≡ HssSign words → ⊥) → ((words : AggregateWords) → command ≡ Aggregate words → ⊥) → IsOnStore (row command)
+on_store (Verify key message signature) deal trustee sign blame hss_sign aggregate = tt
+on_store (Rehearse entropy message key_out signature_out) deal trustee sign blame hss_sign aggregate = tt
+on_store (Deal words) deal trustee sign blame hss_sign aggregate = deal words refl
+on_store (Enrol file journal) deal trustee sign blame hss_sign aggregate = tt
+on_store (Migrate share journal new) deal trustee sign blame hss_sign aggregate = tt
+on_store (Approve share book message) deal trustee sign blame hss_sign aggregate = tt
+on_store (Trustee words) deal trustee sign blame hss_sign aggregate = trustee words refl
+on_store (Sign words) deal trustee sign blame hss_sign aggregate = sign words refl
+on_store (Blame words) deal trustee sign blame hss_sign aggregate = blame words refl
+on_store (HssCheck key message signature) deal trustee sign blame hss_sign aggregate = tt
+on_store (HssSign words) deal trustee sign blame hss_sign aggregate = hss_sign words refl
+on_store (Aggregate words) deal trustee sign blame hss_sign aggregate = aggregate words refl
+on_store (Drill words) deal trustee sign blame hss_sign aggregate = tt
+on_store (Show file leaves) deal trustee sign blame hss_sign aggregate = tt
+
+-- a command on the store alone is one of these
+pub all_done : (command : Command) → IsOnStore (row command) → ((a b c : Bor (List ℕ)) → command ≡ Verify a b c → ⊥)
+    → ((a b c d : Bor (List ℕ)) → command ≡ Rehearse a b c d → ⊥) → ((a b : Bor (List ℕ)) → command ≡ Enrol a b → ⊥)
+    → ((a b c : Bor (List ℕ)) → command ≡ Migrate a b c → ⊥) → ((a b c : Bor (List ℕ)) → command ≡ Approve a b c → ⊥)
+    → ((a b c : Bor (List ℕ)) → command ≡ HssCheck a b c → ⊥) → ((words : DrillWords) → command ≡ Drill words → ⊥)
+    → ((a : Bor (List ℕ)) (b : Bool) → command ≡ Show a b → ⊥) → ⊥
+all_done (Verify key message signature) alone verify rehearse enrol migrate approve hss_check drill show = verify key message signature refl
+all_done (Rehearse entropy message key_out signature_out) alone verify rehearse enrol migrate approve hss_check drill show = rehearse entropy message key_out signature_out refl
+all_done (Deal words) alone verify rehearse enrol migrate approve hss_check drill show = alone
+all_done (Enrol file journal) alone verify rehearse enrol migrate approve hss_check drill show = enrol file journal refl
+all_done (Migrate share journal new) alone verify rehearse enrol migrate approve hss_check drill show = migrate share journal new refl
+all_done (Approve share book message) alone verify rehearse enrol migrate approve hss_check drill show = approve share book message refl
+all_done (Trustee words) alone verify rehearse enrol migrate approve hss_check drill show = alone
+all_done (Sign words) alone verify rehearse enrol migrate approve hss_check drill show = alone
+all_done (Blame words) alone verify rehearse enrol migrate approve hss_check drill show = alone
+all_done (HssCheck key message signature) alone verify rehearse enrol migrate approve hss_check drill show = hss_check key message signature refl
+all_done (HssSign words) alone verify rehearse enrol migrate approve hss_check drill show = alone
+all_done (Aggregate words) alone verify rehearse enrol migrate approve hss_check drill show = alone
+all_done (Drill words) alone verify rehearse enrol migrate approve hss_check drill show = drill words refl
+all_done (Show file leaves) alone verify rehearse enrol migrate approve hss_check drill show = show file leaves refl

@@ -1,5 +1,5 @@
 -- What a call of the tool does: words, status, store and output before and after.
-use Rattle.std.specs.Prelude.{◌≡◌, ◌⊎◌, ◌<◌, ℕ, List, [], Option, Some, None, ◌++◌, length, IsTrue, ◌==◌}
+use Rattle.std.specs.Prelude.{◌≡◌, ◌⊎◌, ◌<◌, ⊤, ℕ, List, [], Option, Some, None, ◌++◌, length, IsTrue, ◌==◌}
 use Rattle.std.specs.Prelude.{if◌then◌else◌}
 use Rattle.disk_trait.specs.Faults.{Rose}
 use Rattle.stream_io.specs.Talk.{WrotePart}
@@ -73,6 +73,16 @@ CommandRun (Drill number sessions events) =
     OnStore (λ store. EndsWith (λ end written. DrillEnds number sessions events end × (written ≡ [])) store)
 CommandRun (Show file leaves) =
     OnStore (λ store. EndsWith (λ end written. ShowEnds store file leaves end × (written ≡ [])) store)
+
+-- internal: the command works on the store alone, and deals nothing
+abbrev pub IsOnStore : Row → Type 0
+IsOnStore (Deal words) = ⊥
+IsOnStore (Trustee words) = ⊥
+IsOnStore (Sign words) = ⊥
+IsOnStore (Blame words) = ⊥
+IsOnStore (HssSign words) = ⊥
+IsOnStore (Aggregate words) = ⊥
+IsOnStore row = ⊤
 
 -- what words do: other words than a command's are a faulty command line, and change nothing
 abbrev pub WordsRun : Option Row → Outside → Outside → Ending → Type 0

@@ -1,11 +1,12 @@
 //! The top call.
 
 ghost use Rattle.std.specs.Prelude.{◌≡◌, ◌⊎◌, map, string_bytes, ◌==◌, if◌then◌else◌};
+ghost use Rattle.stream_io.specs.Net.{NetState};
 ghost use Rattle.tool_base.specs.Endings.{ending};
-ghost use Rattle.tool_run.specs.ToolRun.{CommandRun, EndsSo, IsCutShort, IsPrinted, ToolRun, WordsRun};
+ghost use Rattle.tool_run.specs.ToolRun.{CommandRun, EndsSo, IsCutShort, IsOnStore, IsPrinted, ToolRun, WordsRun};
 ghost use Rattle.tool_words.specs.Rows.{row};
 ghost use Rattle.tool_words.specs.Words.{OutputsDiffer, command_of};
-ghost use Rattle.tool_base.specs.World.{IsBack, IsNetBack, output_run};
+ghost use Rattle.tool_base.specs.World.{IsBack, IsNetBack, TimeState, output_run};
 
 use crate::drilling::drill_sessions;
 use std::alloc::Global;
@@ -87,6 +88,27 @@ fn run_command<R: Threads + Wait + Progress + Sync, S: Store, N: Net, T: Clocks>
     ensures time { T.state time.new ≡ T.state time.old }
 {
     match command {
+        Command::Deal(words) => deal_files(rt, alloc, store, words),
+        Command::Trustee(words) => serve_trustee(rt, alloc, words, store, net, time),
+        Command::Sign(words) => sign(alloc, words, store, net),
+        Command::Blame(words) => blame(alloc, words, store, net),
+        Command::HssSign(words) => hss_sign(alloc, words, store, net),
+        Command::Aggregate(words) => aggregate(rt, alloc, words, store, net),
+        _ => run_on_store(alloc, command, store),
+    }
+}
+
+/// Does what a command asks for that works on the store alone, and answers how it ends.
+fn run_on_store<S: Store>(alloc: Global, command: &Command, store: &mut S) -> Ending
+    requires alone { IsOnStore (row command.now) }
+    requires differ { OutputsDiffer (row command.now) }
+    ensures ended { (net : NetState) (time : TimeState) → CommandRun (row command.now)
+        (record { store = S.state store.old; net = net; time = time })
+        (record { store = S.state store.new; net = net; time = time })
+        (ending result) }
+    ensures back { IsBack (S.state store.old) (S.state store.new) }
+{
+    match command {
         Command::Verify {
             key,
             message,
@@ -98,7 +120,6 @@ fn run_command<R: Threads + Wait + Progress + Sync, S: Store, N: Net, T: Clocks>
             key_out,
             signature_out,
         } => rehearse_files(alloc, store, entropy, message, key_out, signature_out),
-        Command::Deal(words) => deal_files(rt, alloc, store, words),
         Command::Enrol { file, journal } => enrol_file(alloc, store, file, journal),
         Command::Migrate {
             share,
@@ -110,18 +131,14 @@ fn run_command<R: Threads + Wait + Progress + Sync, S: Store, N: Net, T: Clocks>
             book,
             message,
         } => approve_message(alloc, store, share, book, message),
-        Command::Trustee(words) => serve_trustee(rt, alloc, words, store, net, time),
-        Command::Sign(words) => sign(alloc, words, store, net),
-        Command::Blame(words) => blame(alloc, words, store, net),
-        Command::HssSign(words) => hss_sign(alloc, words, store, net),
         Command::HssCheck {
             key,
             message,
             signature,
         } => hss_check_files(alloc, store, key, message, signature),
-        Command::Aggregate(words) => aggregate(rt, alloc, words, store, net),
         Command::Drill(words) => drill_sessions(alloc, words),
         Command::Show { file, leaves } => show_file(alloc, store, file, *leaves),
+        _ => unreachable!(),
     }
 }
 
