@@ -60,3 +60,6 @@ returns-in-Show g c =
 pub unreachable-requires : goal.unreachable-requires
 unreachable-requires g c = all_done _ c.requires.alone c.in_default.not-Verify c.in_default.not-Rehearse c.in_default.not-Enrol c.in_default.not-Migrate c.in_default.not-Approve
     c.in_default.not-HssCheck c.in_default.not-Drill c.in_default.not-Show
+
+pub rehearse_files-requires : goal.rehearse_files-requires
+rehearse_files-requires g c = (c.type_bounds.send-S-Disk, (c.type_bounds.send-S-View, rw c.in-Rehearse.is at c.requires.differ))
