@@ -57,3 +57,48 @@ returns-clause-net g c =
     (g.N.Net.state c.args.net.now) (g.N.Net.state c.gather-2.new.self) (g.T.Clocks.state c.args.time.now)
     state c.in-Ok.ports.items c.serve_ports-trustee.new.ports.items _ c.serve_ports-trustee.result.1 serves.served serves.refused in
     net_back _ _ _ _ _ _ _ made c.in-Ok.ensures.onward many c.gather-2.ensures.kept c.gather-2.ensures.onward
+
+pub returns-in-Err-Failed-clause-name : goal.returns-in-Err-Failed-clause-name
+returns-in-Err-Failed-clause-name g c = refl
+
+pub returns-in-Err-Failed-clause-faults : goal.returns-in-Err-Failed-clause-faults
+returns-in-Err-Failed-clause-faults g c = omega arith
+
+pub returns-in-Err-Failed-clause-time : goal.returns-in-Err-Failed-clause-time
+returns-in-Err-Failed-clause-time g c = refl
+
+pub returns-in-Err-NoMemory-clause-name : goal.returns-in-Err-NoMemory-clause-name
+returns-in-Err-NoMemory-clause-name g c = refl
+
+pub returns-in-Err-NoMemory-clause-faults : goal.returns-in-Err-NoMemory-clause-faults
+returns-in-Err-NoMemory-clause-faults g c = omega arith
+
+pub returns-in-Err-NoMemory-clause-time : goal.returns-in-Err-NoMemory-clause-time
+returns-in-Err-NoMemory-clause-time g c = refl
+
+pub returns-in-Err-clause-name : goal.returns-in-Err-clause-name
+returns-in-Err-clause-name g c = refl
+
+pub returns-in-Err-clause-faults : goal.returns-in-Err-clause-faults
+returns-in-Err-clause-faults g c = omega arith
+
+pub returns-in-Err-clause-time : goal.returns-in-Err-clause-time
+returns-in-Err-clause-time g c = c.clocks.ensures.same
+
+pub returns-clause-name : goal.returns-clause-name
+returns-clause-name g c = c.serve_ports-trustee.ensures.name
+
+pub returns-clause-faults : goal.returns-clause-faults
+returns-clause-faults g c = c.serve_ports-trustee.ensures.onward
+
+pub returns-clause-time : goal.returns-clause-time
+returns-clause-time g c = c.in-Ok-clocks.ensures.same
+
+pub returns-in-Err-Failed-clause-net : goal.returns-in-Err-Failed-clause-net
+returns-in-Err-Failed-clause-net g c = record { onward = c.in-Err-Failed.ensures.onward; out = λ told. c.in-Err-Failed.ensures.refused.out }
+
+pub returns-in-Err-NoMemory-clause-net : goal.returns-in-Err-NoMemory-clause-net
+returns-in-Err-NoMemory-clause-net g c = record { onward = c.in-Err-NoMemory.ensures.onward; out = λ told. c.in-Err-NoMemory.ensures.refused.out }
+
+pub returns-in-Err-clause-net : goal.returns-in-Err-clause-net
+returns-in-Err-clause-net g c = net_back _ _ _ _ _ _ _ c.in-Ok.ensures.made c.in-Ok.ensures.onward refl c.gather.ensures.kept c.gather.ensures.onward

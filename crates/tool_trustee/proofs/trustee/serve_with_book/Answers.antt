@@ -1,4 +1,4 @@
-use Rattle.std.proofs.Common.{◌≡◌, IsTrue, refl, sym, ap, subst}
+use Rattle.std.proofs.Common.{◌≡◌, IsTrue, refl, sym, ap, subst, arith}
 use Rattle.std.specs.Option.{option_map}
 use Rattle.trustee_core.specs.Approved.{ids_of}
 use Rattle.approval_book.specs.Book.{state_of}
@@ -13,6 +13,7 @@ use Rattle.tool_base.proofs.Takes.{back, reads_as, slots_not_loaded, stays}
 use Rattle.tool_base.specs.Headers.{book_header}
 use Rattle.tool_trustee.specs.Journals.{IsBook}
 use Rattle.tool_trustee.specs.Nets.{service_of}
+use Rattle.tool_base.proofs.Nets.{net_none}
 use Rattle.tool_base.proofs.Heard.{heard_none}
 use Rattle.tool_trustee.proofs.Booking.{run_absent, run_refused, run_with, run_without}
 use Rattle.tool_words.specs.Rows.{trustee_words}
@@ -93,3 +94,54 @@ returns-clause-ended g c =
     (record { file = disk.reads; was = taken.reads; stays = stays first _ last name disk now taken goes step comes kind.told kind.honest kind.steady unwritten.same unwritten.images })
     (reads_as first _ last name disk now taken goes step comes kind.told kind.honest kind.steady (IsBook share ids) is_book)
     c.serve_net-trustee.ensures.ends
+
+pub returns-in_default-clause-name : goal.returns-in_default-clause-name
+returns-in_default-clause-name g c = c.serve_net.ensures.name
+
+pub returns-in_default-clause-faults : goal.returns-in_default-clause-faults
+returns-in_default-clause-faults g c = c.serve_net.ensures.faults
+
+pub returns-in_default-clause-net : goal.returns-in_default-clause-net
+returns-in_default-clause-net g c = c.serve_net.ensures.net
+
+pub returns-in_default-clause-time : goal.returns-in_default-clause-time
+returns-in_default-clause-time g c = c.serve_net.ensures.time
+
+pub returns-in-Err-clause-name : goal.returns-in-Err-clause-name
+returns-in-Err-clause-name g c = refl
+
+pub returns-in-Err-clause-faults : goal.returns-in-Err-clause-faults
+returns-in-Err-clause-faults g c = omega arith
+
+pub returns-in-Err-clause-net : goal.returns-in-Err-clause-net
+returns-in-Err-clause-net g c = net_none _
+
+pub returns-in-Err-clause-time : goal.returns-in-Err-clause-time
+returns-in-Err-clause-time g c = refl
+
+pub returns-in-Err-load-clause-name : goal.returns-in-Err-load-clause-name
+returns-in-Err-load-clause-name g c = refl
+
+pub returns-in-Err-load-clause-faults : goal.returns-in-Err-load-clause-faults
+returns-in-Err-load-clause-faults g c = omega arith
+
+pub returns-in-Err-load-clause-net : goal.returns-in-Err-load-clause-net
+returns-in-Err-load-clause-net g c = net_none _
+
+pub returns-in-Err-load-clause-time : goal.returns-in-Err-load-clause-time
+returns-in-Err-load-clause-time g c = refl
+
+pub returns-clause-name : goal.returns-clause-name
+returns-clause-name g c = c.serve_net-trustee.ensures.name
+
+pub returns-clause-faults : goal.returns-clause-faults
+returns-clause-faults g c = c.serve_net-trustee.ensures.faults
+
+pub returns-clause-net : goal.returns-clause-net
+returns-clause-net g c = c.serve_net-trustee.ensures.net
+
+pub returns-clause-time : goal.returns-clause-time
+returns-clause-time g c = c.serve_net-trustee.ensures.time
+
+pub load-requires : goal.load-requires
+load-requires g c = ap (λ header. header.version) c.header_of.ensures
