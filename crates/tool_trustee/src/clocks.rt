@@ -29,7 +29,7 @@ pub trait Clocks {
 }
 
 /// Makes clocks that count up by one from a number, and stay at the greatest.
-#[derive(Clone, Copy, Debug, PartialEq, Eq)]
+#[derive(Clone, Copy)]
 pub struct MemClocks {
     start: u64,
 }
@@ -56,7 +56,7 @@ impl Clocks for MemClocks {
 }
 
 /// A clock that counts up by one, and stays at the greatest number.
-#[derive(Clone, Copy, Debug, PartialEq, Eq)]
+#[derive(Clone, Copy)]
 pub struct MemClock {
     next: u64,
 }

@@ -1,4 +1,5 @@
-use Rattle.std.proofs.Common.{◌≡◌, ◌++◌, ◌∙◌, map, refl, ap, arith}
+use Rattle.std.proofs.Common.{◌≡◌, ◌≤◌, ◌++◌, ◌∙◌, ℕ, map, refl, sym, ap, subst, arith}
+use Rattle.std.proofs.lemmas.List.{length-map}
 use Rattle.std.specs.Option.{option_map}
 use Rattle.trustee_core.specs.Approved.{ids_of}
 use Rattle.trustee_node.specs.Connections.{clock_state}
@@ -102,3 +103,17 @@ returns-in-Err-NoMemory-clause-net g c = record { onward = c.in-Err-NoMemory.ens
 
 pub returns-in-Err-clause-net : goal.returns-in-Err-clause-net
 returns-in-Err-clause-net g c = net_back _ _ _ _ _ _ _ c.in-Ok.ensures.made c.in-Ok.ensures.onward refl c.gather.ensures.kept c.gather.ensures.onward
+
+pub serve_ports-trustee-requires-clause-share : goal.serve_ports-trustee-requires-clause-share
+serve_ports-trustee-requires-clause-share g c κs within = c.requires
+
+pub serve_ports-trustee-requires-clause-ports : goal.serve_ports-trustee-requires-clause-ports
+serve_ports-trustee-requires-clause-ports g c κs within =
+    let ports = c.in-Ok.ports in
+    let words = c.args.words.now in
+    subst (λ (n : ℕ). (1 ≤ n) × (n ≤ 64)) (sym c.in-Ok.ensures.made.many ∙ length-map ports.items g.N.Port.Port.state ∙ sym ports.ok.0) (words.some_workers, words.few_workers)
+
+pub serve_ports-trustee-requires-clause-clocks : goal.serve_ports-trustee-requires-clause-clocks
+serve_ports-trustee-requires-clause-clocks g c κs within =
+    let ports = c.in-Ok.ports in
+    c.in-Ok-clocks.clocks.ok.0 ∙ c.in-Ok-clocks.ensures.count ∙ sym c.in-Ok.ensures.made.many ∙ length-map ports.items g.N.Port.Port.state ∙ sym ports.ok.0
