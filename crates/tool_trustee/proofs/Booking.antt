@@ -18,7 +18,11 @@ use Rattle.tool_trustee.specs.Journals.{IsBook, book, no_book}
 use Rattle.tool_trustee.specs.Nets.{NetServiceEnds, Service}
 use Rattle.tool_trustee.specs.Services.{BookEnds, StaysThere, absent, end_of_call, no_memory, not_loaded, with_book}
 use Rattle.tool_words.specs.Words.{TrusteeWords}
-use Rattle.stream_io.specs.Store.{PagesState}
+use Rattle.stream_io.specs.Store.{PagesState, handed}
+
+-- a disk as told, honest and steady as another is handed as it
+pub handed_same : (disk now : PagesState) → now.told ≡ disk.told → now.honest ≡ disk.honest → now.steady ≡ disk.steady → handed disk ≡ handed now
+handed_same disk now told honest steady = cc
 
 module _ (words : TrusteeWords) (service : Service) (same : Type 0) where
   -- no book: the store is as it was

@@ -16,6 +16,7 @@ use Rattle.tool_trustee.proofs.Loading.{journal_not_loaded}
 use Rattle.tool_trustee.specs.Journals.{IsJournal}
 use Rattle.tool_trustee.specs.Trustee.{IsTrustee, handed_of}
 use Rattle.tool_trustee.proofs.Asked.{no_doubts}
+use Rattle.tool_trustee.proofs.Booking.{handed_same}
 use Rattle.tool_trustee.proofs.Lasts.{has_entries, leaves_journal, run_unread, run_untaken}
 use Rattle.tool_trustee.proofs.Wholes.{ends_whole, run_refused}
 use Rattle.tool_words.specs.Rows.{trustee_words}
@@ -183,3 +184,28 @@ returns g c =
       net = served.net;
       time = served.time;
     }
+
+pub return_disk-requires : goal.return_disk-requires
+return_disk-requires g c =
+    let disks = g.S.Disk in
+    let pages = pages_state disks.Pages.told disks.Pages.honest disks.Faults.steady disks.Faults.count disks.Pages.room disks.Pages.reads disks.Pages.may_leave in
+    let name = c.args.words.now.journal.now in
+    let disk = pages c.in-Ok-take_disk.disk in
+    let now = pages c.in-Err-load.disk in
+    let out = c.in-Ok-take_disk.ensures in
+    let kind = c.in-Err-load.ensures.unwritten.stays in
+    let same : handed disk ≡ handed now = handed_same disk now kind.told kind.honest kind.steady in
+    record { out = λ is_told. out_here _ _ name disk (taken_out _ _ name disk out.taken out.onward) is_told ∙ ap Some same }
+
+pub load-requires : goal.load-requires
+load-requires g c = record {
+  version = ap (λ header. header.version) c.header_of-header.ensures;
+  lms = ap (λ header. header.lms) c.header_of-header.ensures;
+  ots = ap (λ header. header.ots) c.header_of-header.ensures;
+}
+
+pub new-trustee-requires : goal.new-trustee-requires
+new-trustee-requires g c = record {
+  header = c.in-Ok-load.ensures.loaded.named ∙ c.header_of-header.ensures;
+  params = c.in-Ok-load.ensures.loaded.sized;
+}

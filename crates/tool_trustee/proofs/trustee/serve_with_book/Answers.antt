@@ -1,21 +1,22 @@
-use Rattle.std.proofs.Common.{◌≡◌, IsTrue, refl, sym, ap, subst, arith}
+use Rattle.std.proofs.Common.{◌≡◌, Some, IsTrue, refl, sym, ap, ◌∙◌, subst, arith}
 use Rattle.std.specs.Option.{option_map}
 use Rattle.trustee_core.specs.Approved.{ids_of}
 use Rattle.approval_book.specs.Book.{state_of}
 use Rattle.slot_file.specs.Loading.{LoadRefused}
 use Rattle.slot_file.specs.State.{HasSlots}
 use Rattle.slot_file.specs.Disks.{Unwritten}
-use Rattle.stream_io.specs.Store.{pages_state}
+use Rattle.stream_io.specs.Store.{handed, pages_state}
 use Rattle.tool_base.specs.Endings.{ending}
 use Rattle.tool_base.specs.World.{IsUnchanged, from_to}
 use Rattle.tool_base.specs.Loads.{FailsToLoad}
+use Rattle.tool_base.proofs.Outs.{out_here, taken_out}
 use Rattle.tool_base.proofs.Takes.{back, reads_as, slots_not_loaded, stays}
 use Rattle.tool_base.specs.Headers.{book_header}
 use Rattle.tool_trustee.specs.Journals.{IsBook}
 use Rattle.tool_trustee.specs.Nets.{service_of}
 use Rattle.tool_base.proofs.Nets.{net_none}
 use Rattle.tool_base.proofs.Heard.{heard_none}
-use Rattle.tool_trustee.proofs.Booking.{run_absent, run_refused, run_with, run_without}
+use Rattle.tool_trustee.proofs.Booking.{handed_same, run_absent, run_refused, run_with, run_without}
 use Rattle.tool_words.specs.Rows.{trustee_words}
 use Rattle.trustee_node.specs.Trustees.{trustee_state}
 use Rattle.tool_trustee.proofs.trustee.serve_with_book.Goals as goal
@@ -145,3 +146,29 @@ returns-clause-time g c = c.serve_net-trustee.ensures.time
 
 pub load-requires : goal.load-requires
 load-requires g c = ap (λ header. header.version) c.header_of.ensures
+
+pub return_disk-requires : goal.return_disk-requires
+return_disk-requires g c =
+    let disks = g.S.Disk in
+    let pages = pages_state disks.Pages.told disks.Pages.honest disks.Faults.steady disks.Faults.count disks.Pages.room disks.Pages.reads disks.Pages.may_leave in
+    let name = c.in-Some.name.now in
+    let disk = pages c.in-Ok.disk in
+    let now = pages c.in-Err-load.disk in
+    let out = c.in-Ok.ensures in
+    let kind = c.in-Err-load.ensures.unwritten.stays in
+    let same : handed disk ≡ handed now = handed_same disk now kind.told kind.honest kind.steady in
+    record { out = λ is_told. out_here _ _ name disk (taken_out _ _ name disk out.taken out.onward) is_told ∙ ap Some same }
+
+pub return_disk-requires-2 : goal.return_disk-requires-2
+return_disk-requires-2 g c =
+    let disks = g.S.Disk in
+    let pages = pages_state disks.Pages.told disks.Pages.honest disks.Faults.steady disks.Faults.count disks.Pages.room disks.Pages.reads disks.Pages.may_leave in
+    let name = c.in-Some.name.now in
+    let disk = pages c.in-Ok.disk in
+    let now = pages c.end.result in
+    let out = c.in-Ok.ensures in
+    let unwritten : Unwritten disks.Pages disks.Faults c.in-Ok.disk c.end.result =
+    subst (λ d. Unwritten disks.Pages disks.Faults c.in-Ok.disk d) (sym c.end.ensures.disk) c.in-Ok-load.ensures.loaded.unwritten in
+    let kind = unwritten.stays in
+    let same : handed disk ≡ handed now = handed_same disk now kind.told kind.honest kind.steady in
+    record { out = λ is_told. out_here _ _ name disk (taken_out _ _ name disk out.taken out.onward) is_told ∙ ap Some same }
