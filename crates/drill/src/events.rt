@@ -17,7 +17,7 @@ use crate::desk::Desk;
 use crate::openings::Openings;
 use crate::seat::Seat;
 use crate::state::{Asks, Drill, NO_ASKS};
-use crate::steps::{answered, lease, put_ask};
+use crate::steps::{answered, lease, put_ask, put_cut};
 use disk_trait::MemDisk;
 use drill_schedule::{Event, message_of};
 use drill_trustees::{Answer, Trustees};
@@ -264,9 +264,7 @@ fn cut(
         seats,
         mut openings,
     } = drill;
-    let (trustees, answer) = trustees.cut(alloc, next.member, &next.ask, pick)?;
-    let granted = matches!(&answer, Answer::Granted(_));
-    openings.note(next.member, &next.ask, granted)?;
+    let (trustees, answer) = put_cut(alloc, trustees, &mut openings, &next, pick)?;
     let drill = Drill {
         trustees,
         table,

@@ -9,7 +9,7 @@ use memory::NoMemory;
 use std::alloc::Global;
 
 /// A randomizer and a digest under which a trustee opened a leaf.
-#[derive(Clone, Copy, Debug, PartialEq, Eq)]
+#[derive(Clone, Copy, PartialEq)]
 pub(crate) struct Opening {
     pub(crate) member: u8,
     pub(crate) leaf: u32,

@@ -1,7 +1,7 @@
 //! The steps of one session.
 
-ghost use Rattle.std.specs.Prelude.{◌≡◌, ◌⊎◌, ◌<◌, ◌≤◌, ℕ, suc, length, IfOk, IfSome, IfErr, IsErr, IsSome, None};
-ghost use Rattle.std.specs.Prelude.{Ok, OnOk};
+ghost use Rattle.std.specs.Prelude.{◌≡◌, ◌≢◌, ◌⊎◌, ◌<◌, ◌≤◌, ℕ, suc, length, IfOk, IfSome, IfErr, IsErr, IsSome};
+ghost use Rattle.std.specs.Prelude.{IsTrue, None, Ok, OnOk};
 ghost use Rattle.drill.specs.Courses.{AllKept, AreFree, GoesTo, HasSigned, HaveShares, IsBare, IsGranted};
 ghost use Rattle.drill.specs.Courses.{IsOnCourse, IsSettled, Steps, World, steps_in, uses_of, world};
 ghost use Rattle.drill.specs.Drills.{IsSized, IsTableFor};
@@ -10,7 +10,7 @@ ghost use Rattle.drill.specs.Openings.{Notes};
 ghost use Rattle.drill.specs.Seats.{Fits, IsOf};
 ghost use Rattle.drill_schedule.specs.Draws.{message_bytes};
 ghost use Rattle.drill_trustees.specs.Members.{MayAsk, state_after};
-ghost use Rattle.drill_trustees.specs.Trustees.{SameShares, SetsAt, leaf_at, share_at};
+ghost use Rattle.drill_trustees.specs.Trustees.{CutAt, SameShares, SetsAt, leaf_at, share_at};
 ghost use Rattle.drill_trustees.specs.declared.trustees.Trustees.{Trustees};
 ghost use Rattle.leaf_table.specs.Entries.{LeafUse};
 ghost use Rattle.opening_journal.specs.Entries.{LeafState};
@@ -22,7 +22,7 @@ use crate::openings::Openings;
 use crate::replies::take_masks;
 use crate::seat::Seat;
 use disk_trait::MemDisk;
-use drill_trustees::Trustees;
+use drill_trustees::{Answer, Trustees};
 use leaf_table::Table;
 use lms_bytes::MessageId;
 use memory::NoMemory;
@@ -195,4 +195,32 @@ pub(crate) fn put_ask(
     let (trustees, grant) = trustees.ask(next.member, &next.ask);
     openings.note(next.member, &next.ask, grant.is_some())?;
     Ok((trustees, grant))
+}
+
+/// Puts an ask to its trustee while the trustee's disk stops, and notes what was granted.
+pub(crate) fn put_cut(
+    alloc: Global,
+    trustees: Trustees,
+    openings: &mut Openings,
+    next: &NextAsk,
+    pick: u32,
+) -> Result<(Trustees, Answer), NoMemory>
+    requires member { (1 ≤ next.now.member) × (next.now.member ≤ 3) }
+    requires sizes { IsSized next.now.ask }
+    ensures shares { IfOk result (λ pair. SameShares trustees pair.0) }
+    ensures sets { MayAsk (share_at trustees next.now.member) (leaf_at trustees next.now.member) next.now.ask
+        → IfOk result (λ pair. CutAt trustees pair.0 next.now.member next.now.ask pair.1) }
+    ensures notes { IfOk result (λ _.
+        Notes openings.old.list.items next.now.member next.now.ask openings.new.list.items) }
+{
+    let (trustees, answer) = trustees.cut(alloc, next.member, &next.ask, pick)?;
+    openings.note(next.member, &next.ask, is_granted(&answer))?;
+    Ok((trustees, answer))
+}
+
+/// Whether an ask that may have stopped a disk was granted.
+fn is_granted(answer: &Answer) -> bool
+    ensures { IsTrue result → answer.now ≢ Answer.Refused }
+{
+    matches!(answer, Answer::Granted(_))
 }

@@ -20,7 +20,7 @@ returns-clause-goes c = λ own good.
     let may = may-of desk own c.args.i (uses_of drill.table) drill.trustees seat next going good.shares is in
     let some = cut-some drill.trustees new next c.in_ok-trustees.answer (asked.sets may) in
     puts-one desk own c.args.i drill seat good c.requires.within c.index.ensures new _ next some.state c.one_of.result is asked.shares some.sets some.known
-    (c.one_of.ensures.parts some.answered) c.one_of.ensures.put c.in_ok-note.ensures.notes
+    (c.one_of.ensures.parts some.answered) c.one_of.ensures.put asked.notes
 
 pub returns-in_default-clause-goes : goal.returns-in_default-clause-goes
 returns-in_default-clause-goes c = λ own good.
