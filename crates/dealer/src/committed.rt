@@ -17,6 +17,7 @@ use lms_bytes::Params;
 use memory::NoMemory;
 use share_files::length_of_commits;
 use std::alloc::Global;
+use std::fmt::{self, Formatter, Write};
 use std::thread::Threads;
 use stream_io::Progress;
 use thiserror::Error;
@@ -25,7 +26,7 @@ use thiserror::Error;
 const COMMITS_LIMIT: u64 = 67_108_864;
 
 /// Why there is no dealing with commitments.
-#[derive(Clone, Copy, Debug, PartialEq, Eq, Error)]
+#[derive(Clone, Copy, Error)]
 pub enum CommittedFault {
     /// There is no dealing.
     #[error("no dealing: {0}")]
@@ -33,6 +34,13 @@ pub enum CommittedFault {
     /// The commitment file would have more than 67,108,864 bytes.
     #[error("a commitment file of {bytes} bytes, where at most 67108864 are made")]
     TooLarge { bytes: u64 },
+}
+
+impl fmt::Debug for CommittedFault {
+    /// Writes the line that is displayed.
+    fn fmt<W: Write>(&self, f: &mut Formatter<W>) -> fmt::Result {
+        fmt::Display::fmt(self, f)
+    }
 }
 
 /// Deals the key that the entropy stands for, as `deal` does, and commits to the masks of all trustees as they are

@@ -1,9 +1,10 @@
 //! Why a key is not dealt.
 
+use std::fmt::{self, Formatter, Write};
 use thiserror::Error;
 
 /// Why there is no dealing.
-#[derive(Clone, Copy, Debug, PartialEq, Eq, Error)]
+#[derive(Clone, Copy, PartialEq, Eq, Error)]
 pub enum DealFault {
     /// The tree is higher than 10.
     #[error("a tree of height {h}, where at most 10 is wanted")]
@@ -20,4 +21,11 @@ pub enum DealFault {
     /// Want of memory.
     #[error("out of memory")]
     NoMemory,
+}
+
+impl fmt::Debug for DealFault {
+    /// Writes the line that is displayed.
+    fn fmt<W: Write>(&self, f: &mut Formatter<W>) -> fmt::Result {
+        fmt::Display::fmt(self, f)
+    }
 }
