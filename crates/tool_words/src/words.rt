@@ -63,8 +63,8 @@ fn row_of<'a>(words: &'a [String], split: &[&'a str]) -> Option<Command<'a>>
         "migrate" => migrate_of(words, split),
         "approve" => approve_of(words, split),
         "trustee" => trustee_of(words, split),
-        "sign" => sign_words_of(words, split).map(Command::Sign),
-        "blame" => sign_words_of(words, split).map(Command::Blame),
+        "sign" => sign_of(words, split),
+        "blame" => blame_of(words, split),
         "hss" => hss_of(words, split),
         "aggregate" => aggregate_of(words, split),
         "drill" => drill_of(words),
@@ -238,6 +238,20 @@ fn trustee_with<'a>(
         connections: number_within(connections, 1, u32::MAX)?,
         book,
     }))
+}
+
+/// The words after `sign`.
+fn sign_of<'a>(words: &'a [String], split: &[&'a str]) -> Option<Command<'a>>
+    ensures { option_map row result ≡ option_map Row.Sign (sign_words_of (map string_bytes words.now)) }
+{
+    sign_words_of(words, split).map(Command::Sign)
+}
+
+/// The words after `blame`.
+fn blame_of<'a>(words: &'a [String], split: &[&'a str]) -> Option<Command<'a>>
+    ensures { option_map row result ≡ option_map Row.Blame (sign_words_of (map string_bytes words.now)) }
+{
+    sign_words_of(words, split).map(Command::Blame)
 }
 
 /// The words after `sign` and after `blame`. What the names of the files of the dealing begin with is not empty.
