@@ -1,4 +1,5 @@
 pub mod Addresses
 pub mod Commands
 pub mod Digits
+pub mod Few
 pub mod Options

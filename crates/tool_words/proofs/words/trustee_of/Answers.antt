@@ -2,6 +2,7 @@ use Rattle.std.proofs.Common.{◌≡◌, ◌≤◌, ◌-◌, ◌∙◌, ℕ, Lis
 use Rattle.std.specs.String.{string_bytes}
 use Rattle.std.proofs.lemmas.List.{take_rest}
 use Rattle.tool_words.specs.Words.{trustee_of}
+use Rattle.tool_words.proofs.Few.{few-trustee}
 use Rattle.tool_words.proofs.words.trustee_of.Goals as goal
 
 -- five words and those behind them, by the function that gives a word's bytes
@@ -31,3 +32,6 @@ returns c =
     ∙ ap trustee_of
     (taken string_bytes c.args.words.now _ _ _ _ _ c.in-len5-up.len_at_least
     c.share-item.is c.journal-item.is c.place-item.is c.workers-item.is c.connections-item.is)))
+
+pub returns-in_default : goal.returns-in_default
+returns-in_default c = few-trustee string_bytes _ c.in_default.len_below

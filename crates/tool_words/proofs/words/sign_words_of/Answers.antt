@@ -1,0 +1,6 @@
+use Rattle.std.specs.String.{string_bytes}
+use Rattle.tool_words.proofs.Few.{few-sign_words}
+use Rattle.tool_words.proofs.words.sign_words_of.Goals as goal
+
+pub returns-in_default : goal.returns-in_default
+returns-in_default c = few-sign_words string_bytes _ c.in_default.len_below
