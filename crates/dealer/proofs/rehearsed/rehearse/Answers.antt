@@ -56,3 +56,18 @@ returns-clause-refused c = λ fault has.
 pub returns-clause-cause : goal.returns-clause-cause
 returns-clause-cause c =
     inl (refl, can-rehearse c.rehearsal_params.result c.plan_of_two-plan.result c.args.entropy.now c.plan_of_two-plan.ensures c.in_ok-dealt.ensures.dealable)
+
+pub returns-in_err-dealt-clause-rehearsed : goal.returns-in_err-dealt-clause-rehearsed
+returns-in_err-dealt-clause-rehearsed c = rw (err_from_is_err_and c.from_residual.result c.from_residual.ensures.1).1 tt
+
+pub returns-in_err-dealt-clause-tested : goal.returns-in_err-dealt-clause-tested
+returns-in_err-dealt-clause-tested c = rw (err_from_is_err_and c.from_residual.result c.from_residual.ensures.1).1 tt
+
+pub returns-in-Ok-clause-cause : goal.returns-in-Ok-clause-cause
+returns-in-Ok-clause-cause c = tt
+
+pub returns-clause-rehearsed : goal.returns-clause-rehearsed
+returns-clause-rehearsed c = tt
+
+pub returns-clause-tested : goal.returns-clause-tested
+returns-clause-tested c = tt

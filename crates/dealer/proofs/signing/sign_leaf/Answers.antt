@@ -33,3 +33,27 @@ returns c =
     omega (arith, size, c.in_ok-signature.ensures.len, c.write_layout.ensures.length, ap length c.bytes.ensures.bytes, c.unmask_randomizer-c.ensures.length, c.len.ensures, c.in_ok-chains.ensures.length, c.len-2.ensures, c.in_ok-path.ensures.length) in
     over_all c.in_ok-signature.signature.len c.write_layout.new.out c.in_ok-signature.signature.items (signed_leaf c.args.plan.now dealt c.args.keys.now c.args.q c.args.message.now) size
     (sym (take_all c.write_layout.result c.write_layout.new.out whole) ∙ (c.write_layout.ensures.bytes ∙ same_bytes params c.args.q _ _ _ _ _ _ random chains path))
+
+pub unmask_randomizer-c-requires-clause-fits : goal.unmask_randomizer-c-requires-clause-fits
+unmask_randomizer-c-requires-clause-fits c = c.requires.fits
+
+pub unmask_randomizer-c-requires-clause-leaf : goal.unmask_randomizer-c-requires-clause-leaf
+unmask_randomizer-c-requires-clause-leaf c = c.requires.leaf
+
+pub unmask_chains-requires-clause-fits : goal.unmask_chains-requires-clause-fits
+unmask_chains-requires-clause-fits c = c.requires.fits
+
+pub unmask_chains-requires-clause-leaf : goal.unmask_chains-requires-clause-leaf
+unmask_chains-requires-clause-leaf c = c.requires.leaf
+
+pub unmask_chains-requires-clause-digest : goal.unmask_chains-requires-clause-digest
+unmask_chains-requires-clause-digest c = c.of-digest.ensures.length
+
+pub path_of-requires-clause-hash_length : goal.path_of-requires-clause-hash_length
+path_of-requires-clause-hash_length c = c.requires.fits.hash_length
+
+pub path_of-requires-clause-height : goal.path_of-requires-clause-height
+path_of-requires-clause-height c = c.requires.fits.levels
+
+pub path_of-requires-clause-leaf : goal.path_of-requires-clause-leaf
+path_of-requires-clause-leaf c = c.requires.leaf

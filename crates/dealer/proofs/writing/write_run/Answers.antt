@@ -38,9 +38,9 @@ leaves-preserved g c =
     let leaf = part-within _ _ c.leaves.i c.args.run.count (length c.leaves.out) same (c.leaves.auto.out ∙ c.requires.leaves) c.leaves-test.true in
     let part = part-within _ _ c.leaves.i c.args.run.count (length c.leaves.commits) c.asked_bytes-row.ensures (c.leaves.auto.commits ∙ c.requires.commits) c.leaves-test.true in
     record {
-      leaves = part-written (λ k. leaf_part d (first + k)) _ c.leaves.i c.leaves.out c.write_leaf.new.out leaf c.write_leaf.auto.out
+      leaves = part-written (λ k. leaf_part d (first + k)) c.leaf_bytes-size.result c.leaves.i c.leaves.out c.write_leaf.new.out leaf c.write_leaf.auto.out
           c.write_leaf.ensures.leaf c.leaves.invariant.leaves;
-      commits = part-written (λ k. leaf_asked (is_some c.args.secrets.now.macs) d (first + k)) _ c.leaves.i c.leaves.commits c.write_leaf.new.commits part c.write_leaf.auto.commits
+      commits = part-written (λ k. leaf_asked (is_some c.args.secrets.now.macs) d (first + k)) c.asked_bytes-row.result c.leaves.i c.leaves.commits c.write_leaf.new.commits part c.write_leaf.auto.commits
           c.write_leaf.ensures.commits c.leaves.invariant.commits;
     }
 
