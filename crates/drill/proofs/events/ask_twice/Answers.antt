@@ -1,4 +1,5 @@
 use Rattle.std.proofs.Common.{◌≡◌, ◌<◌, ◌∙◌, ℕ, Bool, Option, is_some, not, IfNone, IfSome, if◌then◌else◌, length, get_or, refl, sym, ap, subst, arith}
+use Rattle.std.proofs.lemmas.Result.{err_from_is_err_and}
 use Rattle.drill_trustees.specs.Trustees.{leaf_at}
 use Rattle.reference_value.specs.Dealing.{Dealing}
 use Rattle.drill.specs.Courses.{HasNoNext, IsGoing, IsGood, IsNextOf, asks_in, uses_of}
@@ -64,3 +65,21 @@ returns-clause-stays c =
     let first = c.in_ok-drill.ensures.stays in
     let second = c.in_ok-drill-2.ensures.stays in
     record { is_for = second.is_for; count = second.count ∙ first.count; bound = c.sum.ensures.bound }
+
+pub returns-in_err-drill-clause-stays : goal.returns-in_err-drill-clause-stays
+returns-in_err-drill-clause-stays c = rw (err_from_is_err_and c.from_residual.result c.from_residual.ensures.1).1 tt
+
+pub returns-in_err-drill-clause-cut : goal.returns-in_err-drill-clause-cut
+returns-in_err-drill-clause-cut c = rw (err_from_is_err_and c.from_residual.result c.from_residual.ensures.1).1 tt
+
+pub returns-in_err-drill-clause-goes : goal.returns-in_err-drill-clause-goes
+returns-in_err-drill-clause-goes c = λ own good. rw (err_from_is_err_and c.from_residual.result c.from_residual.ensures.1).1 tt
+
+pub returns-in_err-drill-2-clause-stays : goal.returns-in_err-drill-2-clause-stays
+returns-in_err-drill-2-clause-stays c = rw (err_from_is_err_and c.from_residual-in_err-drill-2.result c.from_residual-in_err-drill-2.ensures.1).1 tt
+
+pub returns-in_err-drill-2-clause-cut : goal.returns-in_err-drill-2-clause-cut
+returns-in_err-drill-2-clause-cut c = rw (err_from_is_err_and c.from_residual-in_err-drill-2.result c.from_residual-in_err-drill-2.ensures.1).1 tt
+
+pub returns-in_err-drill-2-clause-goes : goal.returns-in_err-drill-2-clause-goes
+returns-in_err-drill-2-clause-goes c = λ own good. rw (err_from_is_err_and c.from_residual-in_err-drill-2.result c.from_residual-in_err-drill-2.ensures.1).1 tt

@@ -1,3 +1,4 @@
+use Rattle.std.proofs.lemmas.Result.{err_from_is_err_and}
 use Rattle.drill.specs.Courses.{uses_of}
 use Rattle.drill.proofs.Dropping.{goes, puts-none, puts-one}
 use Rattle.drill.proofs.Seated.{cut-some, may-of}
@@ -25,3 +26,15 @@ returns-clause-goes c = λ own good.
 pub returns-in_default-clause-goes : goal.returns-in_default-clause-goes
 returns-in_default-clause-goes c = λ own good.
     puts-none c.args.desk.now own c.args.i c.args.drill c.index.result.now good c.requires.within c.index.ensures c.in_default.ensures.none
+
+pub put_cut-requires-clause-member : goal.put_cut-requires-clause-member
+put_cut-requires-clause-member c = c.in-Some.ensures.within
+
+pub put_cut-requires-clause-sizes : goal.put_cut-requires-clause-sizes
+put_cut-requires-clause-sizes c = c.in-Some.ensures.sizes
+
+pub returns-in_err-trustees-clause-stays : goal.returns-in_err-trustees-clause-stays
+returns-in_err-trustees-clause-stays c = rw (err_from_is_err_and c.from_residual.result c.from_residual.ensures.1).1 tt
+
+pub returns-in_err-trustees-clause-goes : goal.returns-in_err-trustees-clause-goes
+returns-in_err-trustees-clause-goes c = λ own good. rw (err_from_is_err_and c.from_residual.result c.from_residual.ensures.1).1 tt

@@ -1,4 +1,5 @@
 use Rattle.std.proofs.Common.{arith, length, set, sym, ◌∙◌, refl, subst}
+use Rattle.std.proofs.lemmas.Result.{err_from_is_err_and}
 use Rattle.std.proofs.lemmas.List.{length-set}
 use Rattle.drill_trustees.specs.Trustees.{leaf_at}
 use Rattle.drill.specs.Courses.{HasSigned, IsGoing, MayStep, uses_of}
@@ -43,3 +44,18 @@ returns-clause-goes c = λ own good.
       keeps = omega arith;
       some = λ has. good.some c.args.i c.index_mut.result.now c.requires.within (subst HasSigned was has);
     }))
+
+pub returns-in_err-trustees-clause-stays : goal.returns-in_err-trustees-clause-stays
+returns-in_err-trustees-clause-stays c = rw (err_from_is_err_and c.from_residual.result c.from_residual.ensures.1).1 tt
+
+pub returns-in_err-trustees-clause-cut : goal.returns-in_err-trustees-clause-cut
+returns-in_err-trustees-clause-cut c = rw (err_from_is_err_and c.from_residual.result c.from_residual.ensures.1).1 tt
+
+pub returns-in_err-trustees-clause-goes : goal.returns-in_err-trustees-clause-goes
+returns-in_err-trustees-clause-goes c = λ own good. rw (err_from_is_err_and c.from_residual.result c.from_residual.ensures.1).1 tt
+
+pub step_seat-requires-clause-table : goal.step_seat-requires-clause-table
+step_seat-requires-clause-table c = c.requires.is_for.table
+
+pub returns-clause-cut : goal.returns-clause-cut
+returns-clause-cut c = c.in_ok-trustees.ensures.to.cut

@@ -1,4 +1,5 @@
 use Rattle.std.proofs.Common.{◌∙◌, refl}
+use Rattle.std.proofs.lemmas.Result.{err_from_is_err_and}
 use Rattle.drill.specs.Courses.{world}
 use Rattle.drill.proofs.Asked.{granted-digest}
 use Rattle.drill.proofs.Noting.{keeps-all, noted, second-there}
@@ -72,3 +73,33 @@ returns-clause-to c = record { fits = c.in_ok-seat.ensures.fits; bound = c.one-a
 
 pub returns-clause-shares : goal.returns-clause-shares
 returns-clause-shares c = c.in_ok-trustees.ensures.shares
+
+pub answered-requires-clause-member : goal.answered-requires-clause-member
+answered-requires-clause-member c = c.in-Some.ensures.within
+
+pub answered-requires-clause-message : goal.answered-requires-clause-message
+answered-requires-clause-message c = c.message_of-message.ensures
+
+pub returns-in_err-trustees-clause-to : goal.returns-in_err-trustees-clause-to
+returns-in_err-trustees-clause-to c = rw (err_from_is_err_and c.from_residual.result c.from_residual.ensures.1).1 tt
+
+pub returns-in_err-trustees-clause-shares : goal.returns-in_err-trustees-clause-shares
+returns-in_err-trustees-clause-shares c = rw (err_from_is_err_and c.from_residual.result c.from_residual.ensures.1).1 tt
+
+pub returns-in_err-trustees-clause-goes : goal.returns-in_err-trustees-clause-goes
+returns-in_err-trustees-clause-goes c = λ own map shares course awaited. rw (err_from_is_err_and c.from_residual.result c.from_residual.ensures.1).1 tt
+
+pub returns-in_err-trustees-clause-openings : goal.returns-in_err-trustees-clause-openings
+returns-in_err-trustees-clause-openings c = λ own map count inside different shares course awaited before. rw (err_from_is_err_and c.from_residual.result c.from_residual.ensures.1).1 tt
+
+pub returns-in_err-seat-clause-to : goal.returns-in_err-seat-clause-to
+returns-in_err-seat-clause-to c = rw (err_from_is_err_and c.from_residual-in_err-seat.result c.from_residual-in_err-seat.ensures.1).1 tt
+
+pub returns-in_err-seat-clause-shares : goal.returns-in_err-seat-clause-shares
+returns-in_err-seat-clause-shares c = rw (err_from_is_err_and c.from_residual-in_err-seat.result c.from_residual-in_err-seat.ensures.1).1 tt
+
+pub returns-in_err-seat-clause-goes : goal.returns-in_err-seat-clause-goes
+returns-in_err-seat-clause-goes c = λ own map shares course awaited. rw (err_from_is_err_and c.from_residual-in_err-seat.result c.from_residual-in_err-seat.ensures.1).1 tt
+
+pub returns-in_err-seat-clause-openings : goal.returns-in_err-seat-clause-openings
+returns-in_err-seat-clause-openings c = λ own map count inside different shares course awaited before. rw (err_from_is_err_and c.from_residual-in_err-seat.result c.from_residual-in_err-seat.ensures.1).1 tt

@@ -1,4 +1,5 @@
 use Rattle.std.proofs.Common.{IfOk, refl, sym, subst}
+use Rattle.std.proofs.lemmas.Result.{err_from_is_err_and}
 use Rattle.drill_trustees.specs.Trustees.{leaf_at}
 use Rattle.drill.specs.Courses.{IsGoing, IsSettled, Steps, uses_of, world}
 use Rattle.drill.specs.declared.seat.Seat.{Seat as Place}
@@ -54,3 +55,39 @@ returns-in-Signed-clause-to c = record { fits = tt; bound = none-asked 1; cut = 
 
 pub returns-in-Refused-clause-to : goal.returns-in-Refused-clause-to
 returns-in-Refused-clause-to c = record { fits = tt; bound = none-asked 1; cut = refl }
+
+pub lease-requires-clause-table : goal.lease-requires-clause-table
+lease-requires-clause-table c = c.requires.table
+
+pub returns-in-Running-clause-table : goal.returns-in-Running-clause-table
+returns-in-Running-clause-table c = c.requires.table
+
+pub returns-in-Signed-clause-table : goal.returns-in-Signed-clause-table
+returns-in-Signed-clause-table c = c.requires.table
+
+pub returns-in-Refused-clause-table : goal.returns-in-Refused-clause-table
+returns-in-Refused-clause-table c = c.requires.table
+
+pub returns-in_ok-seat-in-Waiting-clause-table : goal.returns-in_ok-seat-in-Waiting-clause-table
+returns-in_ok-seat-in-Waiting-clause-table c = c.lease.ensures.table
+
+pub returns-in_err-seat-in-Waiting-clause-table : goal.returns-in_err-seat-in-Waiting-clause-table
+returns-in_err-seat-in-Waiting-clause-table c = c.lease.ensures.table
+
+pub returns-in_err-seat-in-Waiting-clause-goes : goal.returns-in_err-seat-in-Waiting-clause-goes
+returns-in_err-seat-in-Waiting-clause-goes c = λ own may. rw (err_from_is_err_and c.from_residual.result c.from_residual.ensures.1).1 tt
+
+pub returns-in_err-seat-in-Waiting-clause-openings : goal.returns-in_err-seat-in-Waiting-clause-openings
+returns-in_err-seat-in-Waiting-clause-openings c = λ own count inside different may before. rw (err_from_is_err_and c.from_residual.result c.from_residual.ensures.1).1 tt
+
+pub returns-in_err-seat-in-Waiting-clause-to : goal.returns-in_err-seat-in-Waiting-clause-to
+returns-in_err-seat-in-Waiting-clause-to c = rw (err_from_is_err_and c.from_residual.result c.from_residual.ensures.1).1 tt
+
+pub step_running-requires : goal.step_running-requires
+step_running-requires c = record { of = rw c.in-Running.is at c.requires.fits }
+
+pub returns-in-Signed-clause-openings : goal.returns-in-Signed-clause-openings
+returns-in-Signed-clause-openings c = λ own count inside different may before. rw c.in-Signed.is at before
+
+pub returns-in-Refused-clause-openings : goal.returns-in-Refused-clause-openings
+returns-in-Refused-clause-openings c = λ own count inside different may before. rw c.in-Refused.is at before

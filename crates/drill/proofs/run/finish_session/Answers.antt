@@ -1,4 +1,5 @@
 use Rattle.std.proofs.Common.{◌∙◌, arith}
+use Rattle.std.proofs.lemmas.Result.{err_from_is_err_and}
 use Rattle.drill.proofs.Finishing.{one-more}
 use Rattle.drill.proofs.run.finish_session.Goals as goal
 
@@ -31,3 +32,9 @@ pub returns-clause-well : goal.returns-clause-well
 returns-clause-well c = λ own extra well.
     let at = c.steps.invariant.steps own extra well in
     record { well = at.well; ended = λ none. let low = at.least none in omega arith; others = at.others }
+
+pub returns-in_err-after-clause-seated : goal.returns-in_err-after-clause-seated
+returns-in_err-after-clause-seated c = rw (err_from_is_err_and c.from_residual.result c.from_residual.ensures.1).1 tt
+
+pub returns-in_err-after-clause-well : goal.returns-in_err-after-clause-well
+returns-in_err-after-clause-well c = λ own extra well. rw (err_from_is_err_and c.from_residual.result c.from_residual.ensures.1).1 tt

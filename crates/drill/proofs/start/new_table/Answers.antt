@@ -1,4 +1,5 @@
 use Rattle.std.proofs.Common.{◌≡◌, ◌<◌, ◌^◌, ◌∙◌, ℕ, length, ap, refl, subst, sym}
+use Rattle.std.proofs.lemmas.Result.{err_from_is_err_and}
 use Rattle.coalition_map.specs.Coalitions.{PlanNumbers}
 use Rattle.leaf_table.specs.Slots.{use_of_slot}
 use Rattle.leaf_table.specs.Table.{state_of}
@@ -26,3 +27,21 @@ returns-in-Ok-load-clause-free c = λ q within.
     let five : table.plan.h ≡ 5 = ap (λ (p : PlanNumbers). p.h) (loaded.plan_is ∙ c.args.desk.now.plan_is) in
     let inside = subst (λ (n : ℕ). q < n) (sym (size ∙ ap (λ (h : ℕ). 2 ^ h) five)) within in
     sym (table.sound.slots q inside) ∙ ap use_of_slot (sym (has.shows q inside) ∙ new.1.free q within)
+
+pub returns-in_err-disk-clause-free : goal.returns-in_err-disk-clause-free
+returns-in_err-disk-clause-free c = rw (err_from_is_err_and c.from_residual.result c.from_residual.ensures.1).1 tt
+
+pub returns-in_err-disk-clause-settled : goal.returns-in_err-disk-clause-settled
+returns-in_err-disk-clause-settled c = rw (err_from_is_err_and c.from_residual.result c.from_residual.ensures.1).1 tt
+
+pub returns-in_err-disk-clause-table : goal.returns-in_err-disk-clause-table
+returns-in_err-disk-clause-table c = rw (err_from_is_err_and c.from_residual.result c.from_residual.ensures.1).1 tt
+
+pub returns-clause-free : goal.returns-clause-free
+returns-clause-free c = tt
+
+pub returns-clause-settled : goal.returns-clause-settled
+returns-clause-settled c = tt
+
+pub returns-clause-table : goal.returns-clause-table
+returns-clause-table c = tt

@@ -1,4 +1,5 @@
 use Rattle.std.proofs.Common.{◌∙◌, ℕ, Option, IfOk, subst, ap}
+use Rattle.std.proofs.lemmas.Result.{err_from_is_err_and}
 use Rattle.drill_trustees.specs.Trustees.{leaf_at}
 use Rattle.session_core.specs.Replies.{with_delivery}
 use Rattle.share_files.specs.declared.share.Share.{Share}
@@ -39,3 +40,18 @@ advance-requires-clause-of c =
 
 pub returns-clause-fits : goal.returns-clause-fits
 returns-clause-fits c = c.advance.ensures.fits
+
+pub share-requires-clause-low : goal.share-requires-clause-low
+share-requires-clause-low c = c.requires.member.0
+
+pub share-requires-clause-high : goal.share-requires-clause-high
+share-requires-clause-high c = c.requires.member.1
+
+pub take_masks-requires : goal.take_masks-requires
+take_masks-requires c = rw c.share.ensures.hash_length (rw c.in-Some.is at c.requires.digest)
+
+pub returns-in_err-take_masks-clause-fits : goal.returns-in_err-take_masks-clause-fits
+returns-in_err-take_masks-clause-fits c = rw (err_from_is_err_and c.from_residual.result c.from_residual.ensures.1).1 tt
+
+pub returns-in_err-take_masks-clause-goes : goal.returns-in_err-take_masks-clause-goes
+returns-in_err-take_masks-clause-goes c = λ own old granted. rw (err_from_is_err_and c.from_residual.result c.from_residual.ensures.1).1 tt

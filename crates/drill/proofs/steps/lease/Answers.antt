@@ -1,4 +1,5 @@
 use Rattle.std.proofs.Common.{◌≡◌, ◌%◌, ◌∙◌, ℕ, List, ap, refl, arith}
+use Rattle.std.proofs.lemmas.Result.{err_from_is_err_and}
 use Rattle.coalition_map.specs.Coalitions.{PlanNumbers, coalition}
 use Rattle.lms_bytes.specs.MessageId.{message_id}
 use Rattle.session_core.specs.State.{started}
@@ -49,3 +50,12 @@ returns-in-Err-clause-goes c = λ own old shares settled free bare.
       moves = record { grows = it.done.grows; going = it.done.ends; shares = shares; stays = λ t q own within other. refl; parts = refl };
       advances = record { least = omega arith; exact = λ has. absurd (omega arith); put = refl };
     }
+
+pub returns-in_err-session-in-Ok-clause-fits : goal.returns-in_err-session-in-Ok-clause-fits
+returns-in_err-session-in-Ok-clause-fits c = rw (err_from_is_err_and c.from_residual.result c.from_residual.ensures.1).1 tt
+
+pub returns-in_err-session-in-Ok-clause-unsigned : goal.returns-in_err-session-in-Ok-clause-unsigned
+returns-in_err-session-in-Ok-clause-unsigned c = rw (err_from_is_err_and c.from_residual.result c.from_residual.ensures.1).1 tt
+
+pub returns-in_err-session-in-Ok-clause-goes : goal.returns-in_err-session-in-Ok-clause-goes
+returns-in_err-session-in-Ok-clause-goes c = λ own old shares settled free bare. rw (err_from_is_err_and c.from_residual.result c.from_residual.ensures.1).1 tt
