@@ -3,3 +3,4 @@ pub mod Commands
 pub mod Digits
 pub mod Few
 pub mod Options
+pub mod Taken

@@ -325,26 +325,46 @@ fn hss_sign_of<'a>(words: &'a [String], split: &[&'a str]) -> Option<Command<'a>
     }))
 }
 
-/// The words after `aggregate`. What the names of the files that it reads begin with is not empty.
+/// The words after `aggregate`.
 fn aggregate_of<'a>(words: &'a [String], split: &[&'a str]) -> Option<Command<'a>>
     ensures { option_map row result ≡ aggregate_of (map string_bytes words.now) }
 {
     let [prefix, table, place, workers, connections, addresses @ ..] = words else {
         return None;
     };
+    aggregate_with(
+        word_at(split, 0, prefix.as_str()),
+        word_at(split, 1, table.as_str()),
+        word_at(split, 2, place.as_str()),
+        workers.as_str(),
+        connections.as_str(),
+        addresses,
+    )
+}
+
+/// The words of an aggregator with these address words. What the names of the files that it reads begin with is not
+/// empty.
+fn aggregate_with<'a>(
+    prefix: &'a str,
+    table: &'a str,
+    place: &'a str,
+    workers: &str,
+    connections: &str,
+    addresses: &'a [String],
+) -> Option<Command<'a>>
+    ensures { option_map row result ≡ aggregate_of (prefix.now ∷ table.now ∷ place.now ∷ workers.now
+        ∷ connections.now ∷ map string_bytes addresses.now) }
+{
     if prefix.is_empty() {
         return None;
     }
-    let workers = number_within(workers.as_str(), 1, 64)?;
-    let connections = number_within(connections.as_str(), 1, u32::MAX)?;
-    let places = Places::of(addresses)?;
     Some(Command::Aggregate(AggregateWords {
-        prefix: word_at(split, 0, prefix.as_str()),
-        table: word_at(split, 1, table.as_str()),
-        place: word_at(split, 2, place.as_str()),
-        workers,
-        connections,
-        places,
+        prefix,
+        table,
+        place,
+        workers: number_within(workers, 1, 64)?,
+        connections: number_within(connections, 1, u32::MAX)?,
+        places: Places::of(addresses)?,
     }))
 }
 
