@@ -1,4 +1,5 @@
 use Rattle.std.proofs.Common.{◌∙◌}
+use Rattle.std.proofs.lemmas.Result.{err_from_is_err_and}
 use Rattle.dealer.proofs.Built.{built-as}
 use Rattle.dealer.proofs.building.build.Goals as goal
 
@@ -26,3 +27,15 @@ returns c =
     let leaves = c.in_ok-leaves.ensures in
     let dealt = c.in_ok-dealt.ensures in
     built-as e.dealing e.asked dealt.dealt leaves.file dealt.shares
+
+pub returns-in_err-secrets : goal.returns-in_err-secrets
+returns-in_err-secrets c = rw (err_from_is_err_and c.from_residual.result c.from_residual.ensures.1).1 tt
+
+pub returns-in_err-leaves : goal.returns-in_err-leaves
+returns-in_err-leaves c = rw (err_from_is_err_and c.from_residual-in_err-leaves.result c.from_residual-in_err-leaves.ensures.1).1 tt
+
+pub returns-in_err-keys : goal.returns-in_err-keys
+returns-in_err-keys c = rw (err_from_is_err_and c.from_residual-in_err-keys.result c.from_residual-in_err-keys.ensures.1).1 tt
+
+pub returns-in_err-dealt : goal.returns-in_err-dealt
+returns-in_err-dealt c = rw (err_from_is_err_and c.from_residual-in_err-dealt.result c.from_residual-in_err-dealt.ensures.1).1 tt

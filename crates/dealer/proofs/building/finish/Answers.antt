@@ -1,4 +1,5 @@
 use Rattle.std.proofs.Common.{◌∙◌, refl}
+use Rattle.std.proofs.lemmas.Result.{err_from_is_err_and}
 use Rattle.ots_chain.specs.LeafKey.{seed_leaf_key}
 use Rattle.dealer.specs.Secrets.{dealing_with}
 use Rattle.dealer.proofs.Built.{first_node}
@@ -17,3 +18,15 @@ returns-clause-dealt c =
       reference_is = c.requires.leaves;
       shares = c.in_ok-build_shares.ensures.shares;
     }
+
+pub returns-in_err-tree-clause-dealt : goal.returns-in_err-tree-clause-dealt
+returns-in_err-tree-clause-dealt c = rw (err_from_is_err_and c.from_residual.result c.from_residual.ensures.1).1 tt
+
+pub returns-in_err-tree-clause-shares : goal.returns-in_err-tree-clause-shares
+returns-in_err-tree-clause-shares c = rw (err_from_is_err_and c.from_residual.result c.from_residual.ensures.1).1 tt
+
+pub returns-in_err-build_shares-clause-dealt : goal.returns-in_err-build_shares-clause-dealt
+returns-in_err-build_shares-clause-dealt c = rw (err_from_is_err_and c.from_residual-in_err-build_shares.result c.from_residual-in_err-build_shares.ensures.1).1 tt
+
+pub returns-in_err-build_shares-clause-shares : goal.returns-in_err-build_shares-clause-shares
+returns-in_err-build_shares-clause-shares c = rw (err_from_is_err_and c.from_residual-in_err-build_shares.result c.from_residual-in_err-build_shares.ensures.1).1 tt

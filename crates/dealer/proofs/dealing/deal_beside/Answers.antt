@@ -1,4 +1,5 @@
 use Rattle.std.proofs.Common.{refl, inl}
+use Rattle.std.proofs.lemmas.Result.{err_from_is_err_and}
 use Rattle.dealer.proofs.Exclusive.{none_dealable}
 use Rattle.dealer.proofs.dealing.deal_beside.Goals as goal
 
@@ -10,3 +11,33 @@ returns-clause-refused g c = λ fault has. absurd (none_dealable _ _ _ fault c.i
 
 pub returns-clause-cause : goal.returns-clause-cause
 returns-clause-cause g c = inl (refl, c.in_ok-check.ensures.dealable)
+
+pub returns-in-Ok-clause-dealable : goal.returns-in-Ok-clause-dealable
+returns-in-Ok-clause-dealable g c = c.in_ok-check.ensures.dealable
+
+pub returns-in-Ok-clause-dealt : goal.returns-in-Ok-clause-dealt
+returns-in-Ok-clause-dealt g c = c.in-Ok.ensures.dealt
+
+pub returns-in-Ok-clause-shares : goal.returns-in-Ok-clause-shares
+returns-in-Ok-clause-shares g c = c.in-Ok.ensures.shares
+
+pub returns-in-Ok-clause-cause : goal.returns-in-Ok-clause-cause
+returns-in-Ok-clause-cause g c = tt
+
+pub returns-clause-dealable : goal.returns-clause-dealable
+returns-clause-dealable g c = tt
+
+pub returns-clause-dealt : goal.returns-clause-dealt
+returns-clause-dealt g c = tt
+
+pub returns-clause-shares : goal.returns-clause-shares
+returns-clause-shares g c = tt
+
+pub returns-in_err-check-clause-dealable : goal.returns-in_err-check-clause-dealable
+returns-in_err-check-clause-dealable g c = rw (err_from_is_err_and c.from_residual.result c.from_residual.ensures.1).1 tt
+
+pub returns-in_err-check-clause-dealt : goal.returns-in_err-check-clause-dealt
+returns-in_err-check-clause-dealt g c = rw (err_from_is_err_and c.from_residual.result c.from_residual.ensures.1).1 tt
+
+pub returns-in_err-check-clause-shares : goal.returns-in_err-check-clause-shares
+returns-in_err-check-clause-shares g c = rw (err_from_is_err_and c.from_residual.result c.from_residual.ensures.1).1 tt
