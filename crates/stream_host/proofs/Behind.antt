@@ -1,5 +1,5 @@
 -- What a write is for a buffered link: held back, or one of the link below once nothing is held back.
-use Rattle.std.proofs.Common.{◌≡◌, ◌-◌, ◌++◌, ℕ, Bool, true, false, List, [], Result, Ok, Err, IsTrue, length, take, if◌then◌else◌, refl, ap, subst, sym, ◌∙◌, arith, append_assoc, append-nil}
+use Rattle.std.proofs.Common.{◌≡◌, ◌-◌, ◌++◌, ℕ, Bool, true, false, List, [], Result, Ok, Err, IsErr, IsTrue, length, take, if◌then◌else◌, refl, ap, subst, sym, ◌∙◌, arith, append_assoc, append-nil}
 use Rattle.std.proofs.Math.Seq.{take-length}
 use Rattle.std.proofs.lemmas.Bool.{false≢true}
 use Rattle.stream_io.specs.declared.failed.Failed.{Failed}
@@ -8,6 +8,11 @@ use Rattle.stream_host.specs.Buffered.{SameBytes, WithAhead, buffered_talk}
 
 same-wrote : (a b : Talk) → SameBytes a b → OnlyWrote a b
 same-wrote a b s = record { told = s.told; place = s.place; taken = s.taken; left = s.left; count = s.count }
+
+-- a write that was refused, and wrote nothing
+pub refused-written : (a b : Talk) (bytes : List ℕ) (r : Result ℕ Failed) → IsErr r → SameBytes a b → HasWritten a b bytes r
+refused-written a b bytes (Ok n) err s = absurd (false≢true err)
+refused-written a b bytes (Err e) err s = record { size = tt; progress = tt; wrote = λ told. s.written }
 
 -- what comes behind a change that leaves all bytes as they were
 module _ (a b c : Talk) (s : SameBytes a b) where

@@ -1,5 +1,5 @@
 use Rattle.stream_host.specs.Buffered.{buffered_talk}
-use Rattle.stream_host.proofs.Behind.{as-before, held-only, held-written, only-before, only-behind, written-behind, written-through, wrote-through}
+use Rattle.stream_host.proofs.Behind.{as-before, held-only, held-written, only-before, only-behind, refused-written, written-behind, written-through, wrote-through}
 use Rattle.stream_host.proofs.buffered.BufferedSink.write.Goals as goal
 
 -- held back at once
@@ -17,6 +17,14 @@ pub returns-in_err-flush-clause-only : goal.returns-in_err-flush-clause-only
 returns-in_err-flush-clause-only g c =
     let k = c.if-hold.ensures in
     only-before g.L.Stream.talk c.args.self.now c.hold.new.self c.flush.new.self k.link k.ahead k.held c.flush.ensures.same
+
+pub returns-in_err-flush-clause-written : goal.returns-in_err-flush-clause-written
+returns-in_err-flush-clause-written g c =
+    let k = c.if-hold.ensures in
+    refused-written (buffered_talk (g.L.Stream.talk c.args.self.now.link) c.args.self.now.ahead c.args.self.now.behind)
+    (buffered_talk (g.L.Stream.talk c.flush.new.self.link) c.flush.new.self.ahead c.flush.new.self.behind)
+    c.args.bytes.now c.from_residual.result c.from_residual.ensures.0
+    (as-before g.L.Stream.talk c.args.self.now c.hold.new.self c.flush.new.self k.link k.ahead k.held c.flush.ensures.same)
 
 -- held back behind what went out
 pub returns-then-hold-2-clause-written : goal.returns-then-hold-2-clause-written
