@@ -26,7 +26,7 @@ use thiserror::Error;
 const COMMITS_LIMIT: u64 = 67_108_864;
 
 /// Why there is no dealing with commitments.
-#[derive(Clone, Copy, Error)]
+#[derive(Clone, Copy, PartialEq, Eq, Error)]
 pub enum CommittedFault {
     /// There is no dealing.
     #[error("no dealing: {0}")]

@@ -61,47 +61,14 @@ fn read_file<R: Files>(
     ensures within { IfOk result (λ v. length v.items ≤ limit) }
     ensures above { (got : ℕ) → result ≡ Err (ReadAllFault.TooLong got) → limit < got }
 {
-    match File::open(rt, name) {
-        Ok(file) => read_open(file, alloc, limit),
-        Err(error) => Err(read_fault(error)),
-    }
-}
-
-/// Reads an open file as `read_file` says it.
-fn read_open<F: OpenFile + Read + Drop>(
-    file: F,
-    alloc: Global,
-    limit: u64,
-) -> Result<Vec<u8>, ReadAllFault>
-    ensures within { IfOk result (λ v. length v.items ≤ limit) }
-    ensures above { (got : ℕ) → result ≡ Err (ReadAllFault.TooLong got) → limit < got }
-{
-    let room = room_for(&file, limit)?;
-    let bytes = Vec::with_capacity(alloc, room)?;
-    read_into(file, bytes, limit)
-}
-
-/// For how many bytes memory is taken before a file is read. It fails where the file is known to be too long.
-fn room_for<F: OpenFile>(file: &F, limit: u64) -> Result<usize, ReadAllFault>
-    ensures { (got : ℕ) → result ≡ Err (ReadAllFault.TooLong got) → limit < got }
-{
+    let file = File::open(rt, name).map_err(read_fault)?;
     let found = file.metadata().map_err(read_fault)?;
     let got = found.len();
     if found.is_file() && got > limit {
         return Err(ReadAllFault::TooLong { got });
     }
-    Ok(got.min(limit).saturating_add(1) as usize)
-}
-
-/// Reads a file to its end, into memory that was taken for it.
-fn read_into<F: Read + Drop>(
-    file: F,
-    mut bytes: Vec<u8>,
-    limit: u64,
-) -> Result<Vec<u8>, ReadAllFault>
-    ensures within { IfOk result (λ v. length v.items ≤ limit) }
-    ensures above { (got : ℕ) → result ≡ Err (ReadAllFault.TooLong got) → limit < got }
-{
+    let room = got.min(limit).saturating_add(1);
+    let mut bytes = Vec::with_capacity(alloc, room as usize)?;
     let read = file.take(limit.saturating_add(1)).read_to_end(&mut bytes);
     read.map_err(read_fault)?;
     let got = bytes.len() as u64;
