@@ -3,7 +3,8 @@
 ghost use Rattle.stream_io.specs.Progress.{IsLeafCount};
 
 /// Is told how far a dealing is, by the threads that work at it. Neither call promises anything, so what is dealt is
-/// the same whoever is told. Neither takes anything but how many leaves a tree has: so nothing of a key can be told.
+/// the same whoever is told. Neither takes any number but how many leaves some tree has, so that bytes cannot be handed
+/// on as they are. No clause says that it is the tree of this dealing, or how often a call is made.
 pub trait Progress {
     /// One more leaf is built, of so many in all.
     fn leaf_built(&self, all: u32)
