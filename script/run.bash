@@ -13,7 +13,7 @@ list_commands() {
         }
         what && /^  / { print "  " $0; what = 0 }
     ' "$share/commands.txt"
-    printf '\nrikselbe help COMMAND says more of one.\n'
+    printf '\nrikselbe help COMMAND says more about one.\n'
 }
 
 # Prints what one command does, its words and an example; status 1 where there is no such command.
@@ -53,12 +53,12 @@ words_first() {
         shift
         [ $# != 0 ] || { list_commands; exit 0; }
         [ -n "$*" ] && explain_command "$@" && exit 0
-        printf 'rikselbe: %s is no command\n\n' "$*" >&2 ;;
+        printf 'rikselbe: %s is not a command\n\n' "$*" >&2 ;;
     --version) return ;;
     '') ;;
     *)
         is_command "$1" && return
-        printf 'rikselbe: %s is no command\n\n' "$1" >&2 ;;
+        printf 'rikselbe: %s is not a command\n\n' "$1" >&2 ;;
     esac
     list_commands >&2
     printf 'error 2 usage\n'
@@ -113,7 +113,7 @@ say_of_file() {
         return
     fi
     if [ ! -e "$name" ]; then [ "$mark" = + ] || say "$name is not there"
-    elif [ ! -f "$name" ]; then say "$name is no regular file"
+    elif [ ! -f "$name" ]; then say "$name is not a regular file"
     elif [ ! -r "$name" ] || [ ! -w "$name" ]; then say "$name cannot be read and written by the user $(id -un)"
     elif grep -q "FLOCK.*:$(stat -Lc %i -- "$name") " /proc/locks 2>/dev/null; then
         say "$name is in use by another process"
@@ -126,7 +126,7 @@ say_of_room() {
     [ "$1" != '<' ] || return
     folder=$(dirname -- "$2")
     room=$(df -P -- "$folder" 2>/dev/null | awk 'NR == 2 { print $4 }')
-    [ "$room" != 0 ] || say "there is no room in the folder $folder, where $2 lies"
+    [ "$room" != 0 ] || say "there is no room in the folder $folder, where $2 is"
 }
 
 # Whether this machine listens at a port; with a process, whether that process does.
@@ -145,10 +145,10 @@ is_listening() {
 # Says why nobody can listen at a place.
 say_of_place() {
     local port=${1##*:}
-    if [[ ! $port =~ ^[0-9]{1,5}$ ]]; then say "$1 has no port: HOST:PORT is wanted"
+    if [[ ! $port =~ ^[0-9]{1,5}$ ]]; then say "$1 has no port: it has to be HOST:PORT"
     elif is_listening "$port"; then say "something listens at port $port already"
-    elif [ "$port" -lt 1024 ] && [ "$(id -u)" != 0 ]; then say "port $port is below 1024, which wants privileges"
-    else say "${1%:*} may be no address of this machine, or a name that has none"
+    elif [ "$port" -lt 1024 ] && [ "$(id -u)" != 0 ]; then say "port $port is below 1024, which needs privileges"
+    else say "${1%:*} may not be an address of this machine, or may be a name without an address"
     fi
 }
 
@@ -158,7 +158,7 @@ say_of_members() {
     want=$(od -An -tu1 -j6 -N2 -- "$1.ref" 2>/dev/null)
     # shellcheck disable=SC2086 # two numbers
     set -- $want
-    [ $# != 2 ] || say "this key wants $1 different trustees of 1 to $2"
+    [ $# != 2 ] || say "this key needs $1 different trustees of 1 to $2"
 }
 
 # Says on standard error what a status means, what was found by looking, and what to do.
