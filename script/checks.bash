@@ -1,11 +1,11 @@
-# What the scripts of checks/ share. Whoever sources this has set `top`; `program` is the built program.
+# What the scripts of checks/ share. A script that sources this has set `top`; `program` is the built program.
 . "$top/script/ports.bash"
 program=${PROGRAM:-$top/crates/tl_cli/out/tl_cli}
 
 fail() { printf '%s: %s\n' "checks/${0##*/}" "$1" >&2; exit 1; }
 passed() { printf 'ok: %s\n' "$1"; }
 
-# Wants the built program.
+# Fails if the program is not built.
 want_program() { [ -x "$program" ] || fail 'build the program first: ./build'; }
 
 # The status that belongs to a line.
@@ -18,20 +18,20 @@ status_of() {
     esac
 }
 
-# Runs a command of the program: its line goes to `said`, and its status has to be the line's.
+# Runs a command of the program: its line goes into `said`, and its status has to be the one for that line.
 run_command() {
     local status=0
     said=$("$program" "$@") || status=$?
     [ "$status" = "$(status_of "$said")" ] || fail "status $status with the line '$said': $*"
 }
 
-# Runs a command, which has to print this line, with its status.
+# Runs a command, which has to print this line and end with the status for it.
 says() {
     run_command "${@:2}"
     [ "$said" = "$1" ] || fail "'$said' in place of '$1': ${*:2}"
 }
 
-# Runs a command, whose line has to begin so.
+# Runs a command, whose line has to begin like this.
 begins() {
     run_command "${@:2}"
     [ "${said#"$1"}" != "$said" ] || fail "'$said' in place of '$1..': ${*:2}"

@@ -1,7 +1,6 @@
 # Ports of this machine for checks, examples and benchmarks.
 
-# Prints the first of so many ports in a row that nobody has, below those that the system hands to clients; or PORT, where
-# it is set.
+# Prints the first of this many free ports in a row, below those that the system hands to clients; or PORT, if set.
 free_ports() {
     local most first at taken
     [ -z "${PORT-}" ] || { echo "$PORT"; return; }
@@ -18,8 +17,8 @@ free_ports() {
     done
 }
 
-# Waits until somebody listens at a port of the address 127.0.0.1; status 1 where nobody does within 20 seconds, or where
-# the process that is named has ended before.
+# Waits until something listens at a port of the address 127.0.0.1; status 1 if nothing does within 20 seconds, or if
+# a process whose id is given ends first.
 await_port() {
     local line
     line=$(printf '0100007F:%04X 00000000:0000 0A' "$1")

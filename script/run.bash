@@ -1,6 +1,6 @@
-# What the script of a checkout and the installed launcher share: the words before the program, how it is run, and what
-# standard error says afterwards. Whoever sources this has set `program`, and `share`, the folder with the two text files.
-# `own` has the commands of the script itself that are there; nothing is written on standard output but by help.
+# What the script of a checkout and the installed launcher share: what words they answer without the program, how it is
+# run, and what standard error says afterwards. A script that sources this has set `program`, and `share`, the folder
+# with the two text files. `own` lists the commands that the script itself has; only help writes to standard output.
 
 # Prints each command with what it does.
 list_commands() {
@@ -16,7 +16,7 @@ list_commands() {
     printf '\nrikselbe help COMMAND says more about one.\n'
 }
 
-# Prints what one command does, its words and an example; status 1 where there is no such command.
+# Prints what one command does, its words and an example; status 1 if there is no such command.
 explain_command() {
     awk -v name="$*" -v own=" $own " '
         /^#/ { next }
@@ -36,7 +36,7 @@ explain_command() {
     ' "$share/commands.txt"
 }
 
-# Whether a word begins a command that is there.
+# Whether a word is the first of a command that is available.
 is_command() {
     local line
     [[ $1 != install || " $own " == *" install "* ]] || return
@@ -46,7 +46,7 @@ is_command() {
     return 1
 }
 
-# Answers what asks for words, and what is no command, before anything is built or run.
+# Answers a call for help, and words that are not a command, before anything is built or run.
 words_first() {
     case ${1-} in
     help | --help | -h)
@@ -65,7 +65,7 @@ words_first() {
     exit 2
 }
 
-# Says a line on standard error.
+# Prints a line on standard error.
 say() { printf 'rikselbe: %s\n' "$1" >&2; }
 
 # Calls a function with mark, file and word for each file that the words of a command name.
@@ -90,7 +90,7 @@ each_file() {
     done <"$share/commands.txt"
 }
 
-# Says why a file may not have been read, made or locked. A name with a star is each that is there.
+# Says why a file may not have been read, made or locked. A name with a star stands for each that is there.
 say_of_file() {
     local mark=$1 name=$2 folder left
     folder=$(dirname -- "$name")
@@ -120,7 +120,7 @@ say_of_file() {
     fi
 }
 
-# Says where a file lies on a file system that is full.
+# Says so if a file is on a file system that is full.
 say_of_room() {
     local folder room
     [ "$1" != '<' ] || return
@@ -129,7 +129,7 @@ say_of_room() {
     [ "$room" != 0 ] || say "there is no room in the folder $folder, where $2 is"
 }
 
-# Whether this machine listens at a port; with a process, whether that process does.
+# Whether anything on this machine listens at a port; if a process is given, whether that process does.
 is_listening() {
     local node nodes it
     nodes=$(awk -v port=":$(printf %04X "$((10#$1))")" '$4 == "0A" && $2 ~ port "$" { print $10 }' /proc/self/net/tcp{,6} 2>/dev/null)
@@ -142,7 +142,7 @@ is_listening() {
     return 1
 }
 
-# Says why nobody can listen at a place.
+# Says why the program cannot listen at a place.
 say_of_place() {
     local port=${1##*:}
     if [[ ! $port =~ ^[0-9]{1,5}$ ]]; then say "$1 has no port: it has to be HOST:PORT"
@@ -152,7 +152,7 @@ say_of_place() {
     fi
 }
 
-# Says what coalition a key wants, as the head of its reference has it.
+# Says what coalition a key needs, from the head of its reference.
 say_of_members() {
     local want
     want=$(od -An -tu1 -j6 -N2 -- "$1.ref" 2>/dev/null)
@@ -181,7 +181,7 @@ say_of_status() {
     esac
 }
 
-# Says what length of entropy a dealing wants, where it has another.
+# Says how long the entropy of a dealing has to be, if it has another length.
 say_of_entropy() {
     local has want
     [[ ${5-} =~ ^[0-9]{1,2}$ ]] && has=$(stat -Lc %s -- "$2" 2>/dev/null) || return
@@ -189,7 +189,7 @@ say_of_entropy() {
     [ "$has" = "$want" ] || say "$2 has $has bytes, and a key for $5 trustees is dealt from $want"
 }
 
-# Says once that a process listens at a place, as soon as it does, in the first minute.
+# Says, once, that a process listens at a place, as soon as it does, if that is within a minute.
 say_when_listening() {
     local port=${3##*:} it
     [[ $port =~ ^[0-9]{1,5}$ ]] || return
@@ -203,17 +203,17 @@ say_when_listening() {
 # Runs the program, and ends with its status.
 run_program() {
     local status serving='' started=()
-    # A file that grows past a limit is a fault with its status, and no end in the middle of a file. No core: it may hold
-    # a key.
+    # With this, a file that grows past a limit is a fault with its status, not an end in the middle of the file. No
+    # core: it may hold a key.
     trap '' XFSZ
     ulimit -c 0
-    # A file that the program opens never gets the number of a standard stream. Nothing can be written on one that was
+    # A file that the program opens never gets the number of a standard stream. Nothing can be written to one that was
     # closed.
     { : <&0; } 2>/dev/null || exec 0</dev/null
     { : >&1; } 2>/dev/null || exec 1</dev/null
     { : >&2; } || exec 2</dev/null
-    # What serves ends with this process, however that ends: else it would keep the journal. Where there is no setpriv it
-    # takes this process's place, and nothing is said of its status.
+    # A program that serves ends with this process, however that ends: otherwise it would keep the journal. Without
+    # setpriv it takes this process's place, and nothing is said of its status.
     [ "$1" != trustee ] || [ $# -lt 6 ] || serving=trustee
     [ "$1" != aggregate ] || [ $# -lt 7 ] || serving=aggregator
     if [ -n "$serving" ]; then
@@ -224,8 +224,8 @@ run_program() {
             exec "$program" "$@"
         fi
     fi
-    # The input is handed on: a command that a script starts beside itself would else read nothing, and a piped message
-    # would pass for an empty one. A signal goes on to the program too.
+    # The input is passed on: otherwise a command that a script starts in the background would read nothing, and a piped
+    # message would be taken for an empty one. A signal is passed on to the program too.
     "${started[@]}" "$program" "$@" <&0 &
     program_at=$!
     trap 'kill "$program_at" 2>/dev/null' HUP INT TERM
