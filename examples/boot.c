@@ -1,16 +1,16 @@
-/* A boot loader in small: no C library, and of the system only the call that ends it. It verifies the image that is
- * linked into it. Its exit status is 0 where the signature is accepted, and else the lowest byte of the answer.
+/* A boot loader in miniature: no C library, and no system call but the one that ends it. It verifies the image that is
+ * linked into it. Its exit status is 0 if the signature is accepted, and otherwise the lowest byte of the answer.
  *
  *     cc -ffreestanding -fno-stack-protector -nostdlib -static -I include -DIMAGE='"image.h"' \
  *         examples/boot.c crates/rikselbe_c/out/librikselbe_c.a -o boot
  *
- * image.h has the arrays key, image and signature of bytes, as `xxd -i` prints them. */
+ * image.h has the byte arrays key, image and signature, as `xxd -i` prints them. */
 #include "rikselbe.h"
 
 #include IMAGE
 
-/* What the library needs of the program that it is linked into. The bytes are volatile, so that no compiler makes a
- * call of memcpy out of memcpy. */
+/* What the library needs from the program that it is linked into. The bytes are volatile, so that no compiler turns
+ * memcpy into a call of memcpy. */
 void *memcpy(void *to, const void *from, size_t length) {
     for (size_t i = 0; i < length; i++)
         ((volatile uint8_t *)to)[i] = ((const uint8_t *)from)[i];
@@ -31,7 +31,7 @@ void *memset(void *to, int byte, size_t length) {
     return to;
 }
 
-/* Called by the entry below, with the stack aligned as a call wants it. */
+/* Called by the entry below, with the stack aligned as a call needs it. */
 __attribute__((noreturn, used)) static void boot(void) {
     uint32_t leaf = 0;
     uint32_t answer = rikselbe_lms_verify(key, sizeof key, image, sizeof image, signature, sizeof signature, &leaf);

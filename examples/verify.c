@@ -1,12 +1,12 @@
 /* Verifies a file, piece by piece, under an LMS key: verify KEY MESSAGE SIGNATURE; or under an HSS key: verify hss KEY
- * MESSAGE SIGNATURE. Its status is 0 where the signature is accepted, 1 where it is not, 2 where a file is not read. */
+ * MESSAGE SIGNATURE. Its status is 0 if the signature is accepted, 1 if it is not, 2 if a file cannot be read. */
 #include <stdio.h>
 #include <stdlib.h>
 #include <string.h>
 
 #include "rikselbe.h"
 
-/* The longest key and the longest signature, of eight HSS levels, and a byte that tells of a file that is longer. */
+/* The longest key and the longest signature, of eight HSS levels, each with one more byte to notice a longer file. */
 static uint8_t key[60 + 1], signature[74988 + 1], piece[4096];
 
 static FILE *open_file(const char *name) {
