@@ -1,5 +1,5 @@
-/* What verification costs a program in C. With the words lms or hss, KEY, MESSAGE, SIGNATURE and TIMES it verifies so
- * often; with TIMES 0 it prints the greatest stack use of each call, found on a stack that was painted before. */
+/* What verification costs a program in C. With the words lms or hss, KEY, MESSAGE, SIGNATURE and TIMES it verifies that
+ * many times; with TIMES 0 it prints the most stack that each call uses, found on a stack that was painted before. */
 #include <stdio.h>
 #include <stdlib.h>
 #include <string.h>

@@ -1,8 +1,8 @@
 /* Makes a journal's calls for new asks, and prints how many asks a second that allows: in_turns FILE THREADS.
  *
- * The file is the one that `enrol` makes for a key of 1,024 leaves. For an ask the body of a slot is written and synced,
- * then its first byte and synced. The threads take turns, an ask each, as the workers of a trustee do where all of them
- * have asks; whose turn it is not sleeps. Nothing is decided, hashed, read or sent. */
+ * The file is the one that `enrol` makes for a key of 1,024 leaves. For an ask, the body of a slot is written and
+ * synced, then its first byte is written and synced. The threads take turns, an ask each, as the workers of a trustee
+ * do if all of them have asks; a thread sleeps until its turn. Nothing is decided, hashed, read or sent. */
 #include <fcntl.h>
 #include <pthread.h>
 #include <semaphore.h>

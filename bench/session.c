@@ -1,17 +1,17 @@
-/* What `sign` takes, and what it takes at the least:
+/* How long `sign` takes, and how long it takes at least:
  *
  *     session run SAID WORD..                 runs a program, puts what it says into SAID, and prints its microseconds
- *     session alone FOLDER NANOSECONDS        prints the microseconds of what a new message needs by `sign`
+ *     session alone FOLDER NANOSECONDS        prints the microseconds that a new message needs with `sign`
  *     session alone FOLDER NANOSECONDS COUNT  prints how many a second that allows `aggregate` with one worker
  *
- * A shell forks itself for a program, which can take as long as the program; run starts it without a copy of anything.
+ * A shell forks itself for a program, which can take as long as the program; run starts it without copying anything.
  *
  * alone makes the syncs and round trips of a session, spends the time of its hashes, and does nothing else, for a message
- * of 1 KiB and LM-OTS typecode 3, where a block of SHA-256 takes so many nanoseconds. Three trustees are processes of
- * their own behind sockets of loopback. The aggregator asks one after the other, first for the masks of the randomizer
- * and then for those of the chains. A trustee writes and syncs the body of a slot and then its first byte before it
- * replies, and so does the aggregator for a slot of its table before it asks. `sign` syncs the table as it loads it, and
- * puts the signature into a new file. Nothing is decided, parsed or joined. The files are made in FOLDER. */
+ * of 1 KiB and LM-OTS typecode 3, if a block of SHA-256 takes NANOSECONDS. Three trustees are processes of their own
+ * behind loopback sockets. The aggregator asks one after the other, first for the masks of the randomizer and then for
+ * those of the chains. A trustee writes and syncs the body of a slot and then its first byte before it replies, and so
+ * does the aggregator for a slot of its table before it asks. `sign` syncs the table as it loads it, and puts the
+ * signature into a new file. Nothing is decided, parsed or joined. The files are made in FOLDER. */
 #define _GNU_SOURCE
 #include <fcntl.h>
 #include <netinet/in.h>
@@ -26,11 +26,11 @@
 #include <unistd.h>
 
 enum { TRUSTEES = 3, CHAINS = 67, MESSAGE = 1024, SIGNATURE = 2508 };
-/* A file of slots: its header, a slot, and what of a slot is written first. */
+/* A file of slots: its header, a slot, and the part of a slot that is written first. */
 enum { HEADER = 128, SLOT = 160, BODY = 36 };
 /* Bytes of asks and replies. */
 enum { FIRST_ASK = 64, FIRST_REPLY = 97, SECOND_ASK = 92 + MESSAGE, SECOND_REPLY = 2241 };
-/* Blocks of SHA-256: a message, hashed for its id and for its digest; a mask; a verification, in the middle. */
+/* Blocks of SHA-256: a message, hashed for its id and for its digest; a mask; a typical verification. */
 enum { TWICE_MESSAGE = 2 * (MESSAGE / 64 + 1), MASK = 2, VERIFICATION = 602 };
 
 static double block;
@@ -57,7 +57,7 @@ static void send_all(int link, const char *bytes, ssize_t length) {
     need(send(link, bytes, (size_t)length, MSG_NOSIGNAL) == length);
 }
 
-/* Receives so many bytes, and returns 0 where the other side has ended. */
+/* Receives this many bytes, and returns 0 if the other side has hung up. */
 static int receive(int link, char *bytes, size_t length) {
     for (ssize_t got; length > 0; bytes += got, length -= (size_t)got) {
         got = recv(link, bytes, length, 0);
@@ -138,7 +138,7 @@ static void sign(const int *links, int table, long leaf) {
     hash(VERIFICATION);
 }
 
-/* Puts a signature into a new file, which has its name only once it is stable. */
+/* Puts a signature into a new file, which gets its name only once it is stable. */
 static void put_new(const char *folder) {
     char part[4096], whole[4096], bytes[SIGNATURE] = {0};
     snprintf(part, sizeof part, "%s/part", folder);
@@ -190,7 +190,7 @@ static int alone(int count, char **words) {
         put_new(words[0]);
     }
     double took = now() - begin;
-    /* a trustee holds the links of those that were started before it, so all are closed before one is waited for */
+    /* a trustee holds the links of those that were started before it, so all are closed before any is waited for */
     for (int i = 0; i < TRUSTEES; i++) {
         close(links[i]);
     }
