@@ -21,6 +21,10 @@ static FILE *open_file(const char *name) {
 static size_t read_file(const char *name, uint8_t *bytes, size_t room) {
     FILE *file = open_file(name);
     size_t length = fread(bytes, 1, room, file);
+    if (ferror(file)) {
+        perror(name);
+        exit(2);
+    }
     fclose(file);
     return length;
 }

@@ -1,6 +1,7 @@
 # What the script of a checkout and the installed launcher share: what words they answer without the program, how it is
 # run, and what standard error says afterwards. A script that sources this has set `program`, and `share`, the folder
-# with the two text files. `own` lists the commands that the script itself has; only help writes to standard output.
+# with the two text files. `own` lists the commands that the script itself has. On standard output stand help and, for
+# words that are not a command, `error 2 usage`.
 
 # Prints each command with what it does.
 list_commands() {
@@ -41,7 +42,7 @@ is_command() {
     local line
     [[ $1 != install || " $own " == *" install "* ]] || return
     while IFS= read -r line; do
-        [[ $line == "$1 "* ]] && return
+        [[ $line != [#\ ]* && $line == "$1 "* ]] && return
     done <"$share/commands.txt"
     return 1
 }
@@ -68,7 +69,7 @@ words_first() {
 # Prints a line on standard error.
 say() { printf 'rikselbe: %s\n' "$1" >&2; }
 
-# Calls a function with mark, file and word for each file that the words of a command name.
+# Calls a function with mark and file for each file that the words of a command name.
 each_file() {
     local call=$1 line name=$2 inside='' at=2 mark suffixes suffix
     shift 2
@@ -181,12 +182,13 @@ say_of_status() {
     esac
 }
 
-# Says how long the entropy of a dealing has to be, if it has another length.
+# Says how long the entropy of a dealing has to be, if it has another length. A rehearsal deals to two trustees.
 say_of_entropy() {
-    local has want
-    [[ ${5-} =~ ^[0-9]{1,2}$ ]] && has=$(stat -Lc %s -- "$2" 2>/dev/null) || return
-    want=$((80 + 32 * 10#$5))
-    [ "$has" = "$want" ] || say "$2 has $has bytes, and a key for $5 trustees is dealt from $want"
+    local trustees=2 has want
+    [ "$1" = rehearse ] || trustees=${5-}
+    [[ $trustees =~ ^[0-9]{1,2}$ ]] && has=$(stat -Lc %s -- "$2" 2>/dev/null) || return
+    want=$((80 + 32 * 10#$trustees))
+    [ "$has" = "$want" ] || say "$2 has $has bytes, and a key for $trustees trustees is dealt from $want"
 }
 
 # Says, once, that a process listens at a place, as soon as it does, if that is within a minute.
