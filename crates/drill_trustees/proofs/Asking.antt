@@ -1,5 +1,6 @@
 -- What an ask makes of a trustee whose disk does not stop.
 use Rattle.std.proofs.Common.{◌≡◌, ◌≢◌, ◌<◌, ℕ, List, None, Result, Ok, Err, IfOk, IsTrue, refl, sym, ◌∙◌, ap, subst, inl, inr}
+use Rattle.opening_journal.specs.declared.faults.JournalFault.TheVariants as journal
 use Rattle.disk_trait.specs.declared.disk.Pages as pages
 use Rattle.disk_trait.specs.declared.faults.Faults as faults
 use Rattle.lms_bytes.specs.declared.ask.Ask.{Ask}
@@ -12,7 +13,7 @@ use Rattle.trustee_core.specs.Trustee.{Decided, journal_of, share_of}
 use Rattle.trustee_core.specs.declared.trustee.Trustee.{Trustee}
 use Rattle.trustee_core.specs.declared.grant.Grant.{Grant}
 use Rattle.trustee_core.specs.declared.refusal.Refusal.{Refusal}
-use Rattle.trustee_core.specs.declared.refusal.Refusal.TheVariants.{Device}
+use Rattle.trustee_core.specs.declared.refusal.Refusal.TheVariants as refusal
 use Rattle.drill_trustees.specs.Members.{CutSets, MayAsk, Sets, answer_to, state_after, state_before}
 use Rattle.drill_trustees.specs.declared.member.Answer.{Answer as Became}
 use Rattle.drill_trustees.specs.declared.member.Answer.TheVariants as answer
@@ -20,12 +21,12 @@ use Rattle.trustee_core.specs.Grants.{ask_of}
 use Rattle.drill_trustees.proofs.Deciding.{Grants, decided, settled}
 use Rattle.drill_trustees.proofs.Journals.{stands-settled, stopped-sets}
 
-pub answer-device : (result : Result Grant Refusal) → answer_in result ≡ Refused Device → result ≡ Err Device
+pub answer-device : (result : Result Grant Refusal) → answer_in result ≡ Refused (refusal.Journal journal.Device) → result ≡ Err (refusal.Journal journal.Device)
 answer-device (Ok grant) is = absurd (cc)
-answer-device (Err why) is = let same : why ≡ Device = cc in ap Err same
+answer-device (Err why) is = let same : why ≡ refusal.Journal journal.Device = cc in ap Err same
 
 module _ (share : Share) (before after : JournalState) (ask : Ask) (result : Result Grant Refusal) (none : before.doubt ≡ None)
-    (goes : result ≢ Err Device) (does : Decides share before ask 0 (answer_in result) after) where
+    (goes : result ≢ Err (refusal.Journal journal.Device)) (does : Decides share before ask 0 (answer_in result) after) where
   pub asked-settled : after.doubt ≡ None
   asked-settled = settled share before ask 0 (answer_in result) after none (λ is. goes (answer-device result is)) does
 
@@ -40,7 +41,7 @@ module _ (share : Share) (before after : JournalState) (ask : Ask) (result : Res
 module _ {D : Type 0} {p : pages.Ghosts D} {f : faults.Ghosts D} (old new : Trustee D p f) (share : Share) (ask : Ask) (result : Result Grant Refusal)
     (own : share_of old ≡ share) (none : (state_of (journal_of old)).doubt ≡ None) (told : IsTold (journal_of old)) (steady : IsSteady (journal_of old))
     (does : Decides (share_of old) (state_of (journal_of old)) ask 0 (answer_in result) (state_of (journal_of new))) (says : Decided old new result) where
-  goes : result ≢ Err Device
+  goes : result ≢ Err (refusal.Journal journal.Device)
   goes = says.succeeds steady told
 
   pub still-own : share_of new ≡ share

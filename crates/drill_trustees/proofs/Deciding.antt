@@ -1,5 +1,6 @@
 -- What a trustee answers to an ask that may be put to it.
 use Rattle.std.proofs.Common.{◌≡◌, ◌⊎◌, ℕ, List, [], ◌∷◌, ◌++◌, None, Some, Result, refl, sym, ◌∙◌, ap, subst, inl, inr, arith}
+use Rattle.opening_journal.specs.declared.faults.JournalFault.TheVariants as journal
 use Rattle.lms_bytes.specs.MessageId.{message_id_bytes}
 use Rattle.lms_bytes.specs.declared.ask.Ask.{Ask}
 use Rattle.lms_bytes.specs.declared.ask.Second.{Second}
@@ -14,7 +15,7 @@ use Rattle.opening_journal.proofs.Maps.{map_of-other, map_of-same}
 use Rattle.share_files.specs.declared.share.Share.{Share}
 use Rattle.trustee_core.specs.Decisions.{Answer, Decides, FailsTest, Granted, Refused, answer_of, bad_check, first, foreign_key, no_such_leaf, not_member, second, tested, too_long}
 use Rattle.trustee_core.specs.declared.refusal.Refusal.{Refusal}
-use Rattle.trustee_core.specs.declared.refusal.Refusal.TheVariants.{Device}
+use Rattle.trustee_core.specs.declared.refusal.Refusal.TheVariants.{Journal}
 use Rattle.drill_trustees.specs.Members.{MayAsk, Sets, state_after, state_before}
 
 -- an entry of the ask's leaf is in doubt, and the leaf is as before the ask
@@ -34,7 +35,7 @@ pub record Grants (before after : JournalState) (ask : Ask) : Type 0 where
 -- an ask that may be put is granted, or stops the disk
 abbrev pub Decided : JournalState → JournalState → Ask → Answer → Type 0
 Decided before after ask answer =
-    ((answer ≡ Granted) × Grants before after ask) ⊎ ((answer ≡ Refused Device) × Stops before after ask)
+    ((answer ≡ Granted) × Grants before after ask) ⊎ ((answer ≡ Refused (Journal journal.Device)) × Stops before after ask)
 
 settles-none : (before : JournalState) (entries : List Entry) → before.doubt ≡ None → SettlesTo before entries → entries ≡ before.entries
 settles-none before entries none settles = elim settles [ inl same ↦ same | inr was ↦ absurd (cc) ]
@@ -172,7 +173,7 @@ decided share before ask moment answer after none zero may (second result new pa
 
 -- with nothing in doubt before and no disk that stops, nothing is in doubt after
 binds-settled : (before : JournalState) (leaf : ℕ) (message : MessageId) (result : Result Entered JournalFault) (after : JournalState) → before.doubt ≡ None
-    → (answer_of result ≡ Refused Device → ⊥) → Binds before leaf message result after → after.doubt ≡ None
+    → (answer_of result ≡ Refused (Journal journal.Device) → ⊥) → Binds before leaf message result after → after.doubt ≡ None
 binds-settled before leaf message result after none goes (made entries settles free) = refl
 binds-settled before leaf message result after none goes (kept entries settles answers) = refl
 binds-settled before leaf message result after none goes (spent entries other settles answers differs) = refl
@@ -181,7 +182,7 @@ binds-settled before leaf message result after none goes (unwritten entries sett
 binds-settled before leaf message result after none goes (damaged entry a b is neither) = none
 
 opens-settled : (before : JournalState) (leaf : ℕ) (message : MessageId) (c digest : List ℕ) (moment : ℕ) (result : Result Entered JournalFault) (after : JournalState) → before.doubt ≡ None
-    → (answer_of result ≡ Refused Device → ⊥) → Opens before leaf message c digest moment result after → after.doubt ≡ None
+    → (answer_of result ≡ Refused (Journal journal.Device) → ⊥) → Opens before leaf message c digest moment result after → after.doubt ≡ None
 opens-settled before leaf message c digest moment result after none goes (made entries settles is) = refl
 opens-settled before leaf message c digest moment result after none goes (kept entries then settles is) = refl
 opens-settled before leaf message c digest moment result after none goes (not_bound entries settles free) = refl
@@ -192,7 +193,7 @@ opens-settled before leaf message c digest moment result after none goes (unwrit
 opens-settled before leaf message c digest moment result after none goes (damaged entry a b is neither) = none
 
 pub settled : (share : Share) (before : JournalState) (ask : Ask) (moment : ℕ) (answer : Answer) (after : JournalState) → before.doubt ≡ None
-    → (answer ≡ Refused Device → ⊥) → Decides share before ask moment answer after → after.doubt ≡ None
+    → (answer ≡ Refused (Journal journal.Device) → ⊥) → Decides share before ask moment answer after → after.doubt ≡ None
 settled share before ask moment answer after none goes (tested why fails) = none
 settled share before ask moment answer after none goes (first result new for_leaf round does) = binds-settled before ask.leaf ask.message result new none goes does
 settled share before ask moment answer after none goes (second result new pair for_leaf round tag does) =

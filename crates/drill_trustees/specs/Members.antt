@@ -1,5 +1,6 @@
 -- internal: What trustees of a drill keep of leaves, and what an ask makes of that.
 use Rattle.std.specs.Prelude.{◌≡◌, ◌≢◌, ◌⊎◌, ◌<◌, ℕ, Some, None, Result, Ok, Err}
+use Rattle.opening_journal.specs.declared.faults.JournalFault.TheVariants as journal
 use Rattle.disk_trait.specs.MemDisk.{MemState}
 use Rattle.lms_bytes.specs.MessageId.{message_id_bytes}
 use Rattle.lms_bytes.specs.declared.ask.Ask.{Ask}
@@ -14,8 +15,7 @@ use Rattle.trustee_core.specs.Trustee.{journal_header, journal_of}
 use Rattle.trustee_core.specs.declared.grant.Grant.{Grant}
 use Rattle.trustee_core.specs.declared.refusal.Refusal.{Refusal}
 use Rattle.trustee_core.specs.declared.refusal.Refusal.TheVariants.{ForeignKey, NoSuchLeaf, NotMember, TooLong}
-use Rattle.trustee_core.specs.declared.refusal.Refusal.TheVariants.{BadCheck, Device, Damaged, NotBound, Spent}
-use Rattle.trustee_core.specs.declared.refusal.Refusal.TheVariants.{OtherDigest}
+use Rattle.trustee_core.specs.declared.refusal.Refusal.TheVariants.{BadCheck, Journal}
 use Rattle.drill_trustees.specs.declared.member.Answer.{Answer}
 use Rattle.drill_trustees.specs.declared.member.Answer.TheVariants.{Granted, Refused, Stopped}
 use Rattle.drill_trustees.specs.declared.member.Member.{Member}
@@ -64,11 +64,11 @@ answer_to (Err NoSuchLeaf) = Refused
 answer_to (Err NotMember) = Refused
 answer_to (Err (TooLong got)) = Refused
 answer_to (Err BadCheck) = Refused
-answer_to (Err Device) = Stopped
-answer_to (Err (Damaged leaf a b)) = Refused
-answer_to (Err NotBound) = Refused
-answer_to (Err (Spent kept)) = Refused
-answer_to (Err (OtherDigest c digest)) = Refused
+answer_to (Err (Journal journal.Device)) = Stopped
+answer_to (Err (Journal (journal.Damaged leaf a b))) = Refused
+answer_to (Err (Journal journal.NotBound)) = Refused
+answer_to (Err (Journal (journal.Spent kept))) = Refused
+answer_to (Err (Journal (journal.OtherDigest c digest))) = Refused
 
 -- the disk holds the file of a trustee's journal, which says of each leaf what the trustee keeps
 pub record HasJournal (member : Member) (disk : MemState) : Type 0 where

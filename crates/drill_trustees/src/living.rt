@@ -16,7 +16,7 @@ use crate::member::{Answer, Member};
 use disk_trait::MemDisk;
 use lms_bytes::Ask;
 use memory::NoMemory;
-use opening_journal::{Journal, JournalLoad};
+use opening_journal::{Journal, JournalFault, JournalLoad};
 use share_files::Share;
 use slot_file::{Header, PrepareFault, prepare};
 use std::alloc::Global;
@@ -97,17 +97,14 @@ fn answer_of(decision: Result<Grant, Refusal>) -> Answer
 {
     match decision {
         Ok(grant) => Answer::Granted(grant),
-        Err(Refusal::Device) => Answer::Stopped,
+        Err(Refusal::Journal(JournalFault::Device)) => Answer::Stopped,
         Err(
             Refusal::ForeignKey
             | Refusal::NoSuchLeaf
             | Refusal::NotMember
             | Refusal::TooLong { .. }
             | Refusal::BadCheck
-            | Refusal::Damaged { .. }
-            | Refusal::NotBound
-            | Refusal::Spent { .. }
-            | Refusal::OtherDigest { .. },
+            | Refusal::Journal(_),
         ) => Answer::Refused,
     }
 }

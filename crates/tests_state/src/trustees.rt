@@ -11,6 +11,7 @@ use crate::disks::LOAD_CALLS;
 use disk_trait::MemDisk;
 use lms_bytes::{Ask, LIMIT, MessageId, Second, Val};
 use mask_prf::{chain_mask, check_tag, random_mask};
+use opening_journal::JournalFault;
 use share_files::Share;
 use shares::{empty_journal, share, trustee_on};
 use std::alloc::Global;
@@ -139,7 +140,7 @@ fn binds_once(signer: &mut Signer, key: [u8; 16]) -> bool {
     let bound = signer.grants(&first(key, 0, kept));
     let again = signer.grants(&first(key, 0, kept));
     let empty = first(key, 0, MessageId::of(b""));
-    bound & again & signer.refuses(&empty, Refusal::Spent { kept })
+    bound & again & signer.refuses(&empty, Refusal::Journal(JournalFault::Spent { kept }))
 }
 
 /// Whether asks are refused that are for no leaf of the trustee's, of another key, or for too long a message.
@@ -172,7 +173,7 @@ fn round_one_is_for_one_message(rt: HostRuntime) {
 fn opens_once(signer: &mut Signer, share: &Share) -> bool {
     let abc = MessageId::of(b"abc");
     let ask = second(share, 10, abc, 0xCC, 0xCC);
-    let unbound = signer.refuses(&ask, Refusal::NotBound);
+    let unbound = signer.refuses(&ask, Refusal::Journal(JournalFault::NotBound));
     let bound = signer.grants(&first(share.id, 10, abc));
     let opened = signer.grants(&ask);
     unbound & bound & opened & signer.grants(&ask)
@@ -185,7 +186,7 @@ fn opens_no_other(signer: &mut Signer, share: &Share) -> bool {
     let other = second(share, 10, abc, 0xCE, 0xCE);
     let (c, digest) = (Val::of(&[0xCC; 32]), Val::of(&[0xDD; 32]));
     let forged = signer.refuses(&untagged, Refusal::BadCheck);
-    forged & signer.refuses(&other, Refusal::OtherDigest { c, digest })
+    forged & signer.refuses(&other, Refusal::Journal(JournalFault::OtherDigest { c, digest }))
 }
 
 #[test]
@@ -203,8 +204,8 @@ const NUMBERS: [(Refusal, u8); 7] = [
     (Refusal::NotMember, 3),
     (Refusal::TooLong { got: 16_777_217 }, 4),
     (Refusal::BadCheck, 5),
-    (Refusal::Device, 6),
-    (Refusal::NotBound, 8),
+    (Refusal::Journal(JournalFault::Device), 6),
+    (Refusal::Journal(JournalFault::NotBound), 8),
 ];
 
 /// Whether a refusal has this number.
@@ -219,8 +220,8 @@ fn a_refusal_has_its_number(rt: HostRuntime) {
     }
     let kept = MessageId::of(b"abc");
     let (c, digest) = (Val::of(&[0xCC; 32]), Val::of(&[0xDD; 32]));
-    assert!(rt; has_number(&Refusal::Spent { kept }, 9));
-    assert!(rt; has_number(&Refusal::OtherDigest { c, digest }, 10));
+    assert!(rt; has_number(&Refusal::Journal(JournalFault::Spent { kept }), 9));
+    assert!(rt; has_number(&Refusal::Journal(JournalFault::OtherDigest { c, digest }), 10));
 }
 
 /// Whether a grant of round one for leaf 0 gives the mask of the randomizer.
@@ -279,7 +280,7 @@ fn is_spent(signer: &mut Signer, question: &Question) -> Option<bool> {
     let kept = MessageId::of(b"abc");
     match signer.grant(question) {
         Ok(_) => Some(false),
-        Err(why) if why == Refusal::Spent { kept } => Some(true),
+        Err(why) if why == Refusal::Journal(JournalFault::Spent { kept }) => Some(true),
         Err(_) => None,
     }
 }
@@ -290,7 +291,7 @@ fn is_spent_after_failing(signer: &mut Signer, key: [u8; 16]) -> Option<bool> {
         first(key, 0, MessageId::of(b"abc")),
         first(key, 0, MessageId::of(b"")),
     );
-    let failed = signer.refuses(&abc, Refusal::Device);
+    let failed = signer.refuses(&abc, Refusal::Journal(JournalFault::Device));
     let spent = is_spent(signer, &empty);
     if failed { spent } else { None }
 }
@@ -313,6 +314,6 @@ fn a_disk_that_fails_is_asked_again(rt: HostRuntime) {
 fn a_refusal_says_what_the_leaf_is_bound_to(rt: HostRuntime) {
     let kept = MessageId::of(b"abc");
     let text = "the leaf is bound to another message, of 3 bytes";
-    let said = Refusal::Spent { kept }.to_string(rt.alloc());
+    let said = Refusal::Journal(JournalFault::Spent { kept }).to_string(rt.alloc());
     assert!(rt; said.expect(&rt, "memory").as_str() == text);
 }

@@ -18,7 +18,7 @@ use Rattle.share_files.specs.declared.share.Share.{Share}
 use Rattle.trustee_core.specs.Decisions as core
 use Rattle.trustee_core.specs.Decisions.{Answer, Decides, FailsTest, Granted, HasTag, Refused, answer_of}
 use Rattle.trustee_core.specs.declared.refusal.Refusal.{Refusal}
-use Rattle.trustee_core.specs.declared.refusal.Refusal.TheVariants.{Device}
+use Rattle.trustee_core.specs.declared.refusal.Refusal.TheVariants.{Journal}
 use Rattle.trustee_node.proofs.Serving.{with_code-append}
 use Rattle.trustee_node.specs.Turns as turns
 use Rattle.trustee_node.specs.Turns.{Answers, InTurn, Outcome, ReachesJournal, ServedTurns, Turn, is_code, with_code}
@@ -141,7 +141,7 @@ module _ (seen : List Entry) where
     answer-granted : (outcome : Outcome) (added : List Entry) → Answers share ids seen ask moment outcome added → is_code 6 outcome ≡ 0 → is_code 7 outcome ≡ 0
         → is_code 11 outcome ≡ 0 → MayGrant share ids seen ask → outcome ≡ InTurn (Decided Granted)
     answer-granted _ _ (turns.step answer added decides) six seven eleven may = ap InTurn (book-granted answer (settled_with (seen ++ added)) may decides six)
-    answer-granted _ _ (turns.device reaches) six seven eleven may = absurd (let one : is_code 6 (InTurn (Decided (Refused Device))) ≡ 1 = refl in omega (arith, six, one))
+    answer-granted _ _ (turns.device reaches) six seven eleven may = absurd (let one : is_code 6 (InTurn (Decided (Refused (Journal fault.Device)))) ≡ 1 = refl in omega (arith, six, one))
     answer-granted _ _ (turns.torn leaf a b reaches) six seven eleven may = absurd (let one : 1 ≡ 0 = seven in cc)
     answer-granted _ _ turns.worn six seven eleven may = absurd (let one : 1 ≡ 0 = eleven in cc)
 

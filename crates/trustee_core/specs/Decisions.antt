@@ -8,12 +8,10 @@ use Rattle.opening_journal.specs.Entries.{JournalState}
 use Rattle.opening_journal.specs.Opening.{Binds, Opens}
 use Rattle.opening_journal.specs.declared.faults.Entered.{Entered}
 use Rattle.opening_journal.specs.declared.faults.JournalFault.{JournalFault}
-use Rattle.opening_journal.specs.declared.faults.JournalFault.TheVariants as journal
 use Rattle.share_files.specs.declared.share.Share.{Share}
 use Rattle.trustee_core.specs.declared.refusal.Refusal.{Refusal}
 use Rattle.trustee_core.specs.declared.refusal.Refusal.TheVariants.{ForeignKey, NoSuchLeaf, NotMember, TooLong}
-use Rattle.trustee_core.specs.declared.refusal.Refusal.TheVariants.{BadCheck, Device, Damaged, NotBound, Spent}
-use Rattle.trustee_core.specs.declared.refusal.Refusal.TheVariants.{OtherDigest}
+use Rattle.trustee_core.specs.declared.refusal.Refusal.TheVariants.{BadCheck, Journal}
 
 -- this project's profile: a trustee answers for messages of at most 16,777,216 bytes
 abbrev pub longest_message : ℕ
@@ -50,14 +48,6 @@ pub data FailsTest (share : Share) (ask : Ask) : Refusal → Type 0 where
   bad_check : (second : Second) → IsForLeaf share ask → ask.second ≡ Some second
       → second.tag ≢ check_tag_of share.key share.id ask.leaf second.c → FailsTest share ask BadCheck
 
--- a journal's fault as a refusal
-abbrev pub refusal_of : JournalFault → Refusal
-refusal_of journal.Device = Device
-refusal_of (journal.Damaged leaf a b) = Damaged leaf a b
-refusal_of journal.NotBound = NotBound
-refusal_of (journal.Spent kept) = Spent kept
-refusal_of (journal.OtherDigest c digest) = OtherDigest c digest
-
 -- a grant, or why there is none
 pub data Answer : Type 0 where
   Granted : Answer
@@ -66,7 +56,7 @@ pub data Answer : Type 0 where
 -- the answer where the journal answers this
 abbrev pub answer_of : Result Entered JournalFault → Answer
 answer_of (Ok entered) = Granted
-answer_of (Err fault) = Refused (refusal_of fault)
+answer_of (Err fault) = Refused (Journal fault)
 
 -- the answer of a decision
 abbrev pub answer_in : {T : Type 0} → Result T Refusal → Answer

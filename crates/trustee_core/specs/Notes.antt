@@ -6,10 +6,11 @@ use Rattle.lms_bytes.specs.declared.ask.Second.{Second}
 use Rattle.opening_journal.specs.Entries.{JournalState}
 use Rattle.opening_journal.specs.declared.entry.Entry.{Entry}
 use Rattle.opening_journal.specs.declared.entry.Entry.TheVariants.{Bound, Opened}
+use Rattle.opening_journal.specs.declared.faults.JournalFault.TheVariants as journal
 use Rattle.trustee_core.specs.Decisions.{Answer, Refused}
 use Rattle.trustee_core.specs.declared.note.Note.{Note}
 use Rattle.trustee_core.specs.declared.note.Note.TheVariants.{Made, Doubted}
-use Rattle.trustee_core.specs.declared.refusal.Refusal.TheVariants.{Device}
+use Rattle.trustee_core.specs.declared.refusal.Refusal.TheVariants.{Journal}
 
 -- the entry that a note says was made, in a list
 abbrev pub entry_in : Note → List Entry
@@ -50,7 +51,7 @@ entry_of ask moment = entry_by ask.second ask moment
 -- doubt turned out to be made.
 pub data MayNote (notes : List Note) (ask : Ask) (moment : ℕ) (answer : Answer) : Note → Type 0 where
   own_made : MayNote notes ask moment answer (Made (entry_of ask moment))
-  own_doubted : answer ≡ Refused Device → MayNote notes ask moment answer (Doubted (entry_of ask moment))
+  own_doubted : answer ≡ Refused (Journal journal.Device) → MayNote notes ask moment answer (Doubted (entry_of ask moment))
   turned_out : (entry : Entry) → Contains notes (Doubted entry) → MayNote notes ask moment answer (Made entry)
 
 -- the notes before a decision, and behind them what it may note

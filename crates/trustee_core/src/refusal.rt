@@ -3,7 +3,7 @@
 ghost use Rattle.std.specs.Prelude.{◌≡◌};
 
 use crate::MESSAGE_LIMIT;
-use lms_bytes::{MessageId, Val};
+use opening_journal::JournalFault;
 use thiserror::Error;
 
 /// Why an ask is refused, in the order of the tests.
@@ -27,36 +27,9 @@ pub enum Refusal {
     /// The check tag is not this trustee's for the randomizer.
     #[error("the check tag is not that of the randomizer for this trustee")]
     BadCheck,
-    /// The disk failed.
-    #[error("a call of the trustee's disk failed")]
-    Device,
-    /// The slot of a leaf is neither as before its entry nor as after it: its two gates.
-    #[error("the slot of leaf {leaf} is neither as before its entry nor as after it: gates {a:#04x} and {b:#04x}")]
-    Damaged {
-        /// The leaf.
-        leaf: u32,
-        /// The byte of gate A, 0 where it is closed and the slot is not damaged.
-        a: u8,
-        /// The byte of gate B, 0 where it is closed.
-        b: u8,
-    },
-    /// Round two for a leaf that is not bound.
-    #[error("the leaf is bound to no message")]
-    NotBound,
-    /// The leaf is bound to another message.
-    #[error("the leaf is bound to another message, of {} bytes", kept.length)]
-    Spent {
-        /// The id of the message that it is bound to.
-        kept: MessageId,
-    },
-    /// The leaf was opened with another randomizer or digest.
-    #[error("the leaf was opened with another randomizer or digest")]
-    OtherDigest {
-        /// The randomizer that it was opened with.
-        c: Val,
-        /// The digest.
-        digest: Val,
-    },
+    /// The journal makes no entry.
+    #[error("{0}")]
+    Journal(JournalFault),
 }
 
 impl Refusal {
@@ -72,11 +45,11 @@ impl Refusal {
             Refusal::NotMember => 3,
             Refusal::TooLong { .. } => 4,
             Refusal::BadCheck => 5,
-            Refusal::Device => 6,
-            Refusal::Damaged { .. } => 7,
-            Refusal::NotBound => 8,
-            Refusal::Spent { .. } => 9,
-            Refusal::OtherDigest { .. } => 10,
+            Refusal::Journal(JournalFault::Device) => 6,
+            Refusal::Journal(JournalFault::Damaged { .. }) => 7,
+            Refusal::Journal(JournalFault::NotBound) => 8,
+            Refusal::Journal(JournalFault::Spent { .. }) => 9,
+            Refusal::Journal(JournalFault::OtherDigest { .. }) => 10,
         }
     }
 }

@@ -8,7 +8,7 @@ ghost use Rattle.opening_journal.specs.declared.entry.Entry.{Entry};
 ghost use Rattle.opening_journal.specs.Journal.{Enters, Holds, IsTold, disk_of, header_of, params_of, state_of};
 ghost use Rattle.trustee_core.specs.Codes.{refusal_code};
 ghost use Rattle.trustee_core.specs.Decisions.{Decides, FailsTest, HasTag, IsForLeaf, PassesTests, answer_in};
-ghost use Rattle.trustee_core.specs.Decisions.{answer_of, refusal_of};
+ghost use Rattle.trustee_core.specs.Decisions.{answer_of};
 ghost use Rattle.trustee_core.specs.Grants.{ask_of};
 ghost use Rattle.trustee_core.specs.Lives.{Lives};
 ghost use Rattle.trustee_core.specs.Notes.{HasNote, Notes, entries_in, first_notes};
@@ -77,7 +77,7 @@ impl<D: Disk> Trustee<D> {
             (state_of (journal_of self.new)) }
         ensures ask { IfOk result (λ grant. ask_of grant ≡ ask.now) }
         ensures tested { IfErr result (λ why. refusal_code why ≤ 5 → self.new ≡ self.old) }
-        ensures idle { (state_of (journal_of self.old)).doubt ≡ None → result ≢ Err Refusal.Device
+        ensures idle { (state_of (journal_of self.old)).doubt ≡ None → result ≢ Err (Refusal.Journal JournalFault.Device)
             → (state_of (journal_of self.new)).entries ≡ (state_of (journal_of self.old)).entries
             → journal_of self.new ≡ journal_of self.old }
         ensures notes { Notes ask.now moment (answer_in result) (notes_of self.old) (notes_of self.new) }
@@ -88,7 +88,7 @@ impl<D: Disk> Trustee<D> {
         }
         match self.enter(ask, moment) {
             Ok(_) => Ok(Grant { ask: *ask }),
-            Err(fault) => Err(refusal_of(&fault)),
+            Err(fault) => Err(Refusal::Journal(fault)),
         }
     }
 
@@ -216,17 +216,4 @@ fn test_tag(share: &Share, ask: &Ask, second: &Second) -> Result<(), Refusal>
         return Err(Refusal::BadCheck);
     }
     Ok(())
-}
-
-/// A journal's fault as a refusal.
-fn refusal_of(fault: &JournalFault) -> Refusal
-    ensures { result ≡ refusal_of fault.now }
-{
-    match *fault {
-        JournalFault::Device => Refusal::Device,
-        JournalFault::Damaged { leaf, a, b } => Refusal::Damaged { leaf, a, b },
-        JournalFault::NotBound => Refusal::NotBound,
-        JournalFault::Spent { kept } => Refusal::Spent { kept },
-        JournalFault::OtherDigest { c, digest } => Refusal::OtherDigest { c, digest },
-    }
 }

@@ -1,5 +1,6 @@
 -- Replies are frames.
 use Rattle.std.proofs.Common.{◌≡◌, ◌+◌, ◌*◌, ℕ, zero, suc, List, Option, None, Some, length, refl, sym, ap, ◌∙◌, arith, length-append}
+use Rattle.opening_journal.specs.declared.faults.JournalFault.TheVariants as journal
 use Rattle.trustee_core.specs.Approvals.{Decided, Denied}
 use Rattle.lms_bytes.specs.Bytes.{joined, u32str}
 use Rattle.lms_bytes.specs.declared.ask.Ask.{Ask}
@@ -47,11 +48,11 @@ refused-length share ask refusal.NoSuchLeaf keeps = refl
 refused-length share ask refusal.NotMember keeps = refl
 refused-length share ask (refusal.TooLong got) keeps = refl
 refused-length share ask refusal.BadCheck keeps = refl
-refused-length share ask refusal.Device keeps = refl
-refused-length share ask (refusal.Damaged leaf a b) keeps = refl
-refused-length share ask refusal.NotBound keeps = refl
-refused-length share ask (refusal.Spent kept) keeps = length-append (u32str kept.length) kept.hash ∙ ap (λ (n : ℕ). 4 + n) keeps
-refused-length share ask (refusal.OtherDigest c digest) keeps =
+refused-length share ask (refusal.Journal journal.Device) keeps = refl
+refused-length share ask (refusal.Journal (journal.Damaged leaf a b)) keeps = refl
+refused-length share ask (refusal.Journal journal.NotBound) keeps = refl
+refused-length share ask (refusal.Journal (journal.Spent kept)) keeps = length-append (u32str kept.length) kept.hash ∙ ap (λ (n : ℕ). 4 + n) keeps
+refused-length share ask (refusal.Journal (journal.OtherDigest c digest)) keeps =
     let a = keeps.0 in
     let b = keeps.1 in
     length-append c digest ∙ (omega (arith, a, b))

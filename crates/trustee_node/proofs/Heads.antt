@@ -1,6 +1,7 @@
 -- The heads of replies, and what follows them.
 use Rattle.std.proofs.Common.{◌≡◌, ◌⊎◌, ◌≤◌, ◌++◌, ◌∙◌, ℕ, List, Option, None, Some, IfSome, Ok, Err, length, replicate, refl, ap, sym, subst, inl, inr, arith}
 use Rattle.std.proofs.lemmas.List.{length-replicate}
+use Rattle.opening_journal.specs.declared.faults.JournalFault.TheVariants as journal
 use Rattle.trustee_core.specs.Approvals.{Decided, Denied}
 use Rattle.trustee_core.specs.declared.denial.Denial.TheVariants.{NotApproved, Core}
 use Rattle.lms_bytes.specs.declared.ask.Ask.{Ask}
@@ -39,11 +40,11 @@ refusal-small refusal.NoSuchLeaf = omega arith
 refusal-small refusal.NotMember = omega arith
 refusal-small (refusal.TooLong got) = omega arith
 refusal-small refusal.BadCheck = omega arith
-refusal-small refusal.Device = omega arith
-refusal-small (refusal.Damaged leaf a b) = omega arith
-refusal-small refusal.NotBound = omega arith
-refusal-small (refusal.Spent kept) = omega arith
-refusal-small (refusal.OtherDigest c digest) = omega arith
+refusal-small (refusal.Journal journal.Device) = omega arith
+refusal-small (refusal.Journal (journal.Damaged leaf a b)) = omega arith
+refusal-small (refusal.Journal journal.NotBound) = omega arith
+refusal-small (refusal.Journal (journal.Spent kept)) = omega arith
+refusal-small (refusal.Journal (journal.OtherDigest c digest)) = omega arith
 
 code-small : (outcome : Outcome) → code_of outcome ≤ 12
 code-small (InTurn (Decided Granted)) = omega arith

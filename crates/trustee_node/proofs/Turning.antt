@@ -2,6 +2,7 @@
 use Rattle.std.proofs.Common.{◌≡◌, ◌≢◌, ◌⊎◌, ◌+◌, ◌-◌, ◌^◌, ◌≤◌, ◌<◌, ℕ, false, List, [], ◌∷◌, ◌++◌, length, drop, None, Option, Result, Ok, Err, IsTrue, refl, sym, ap, ◌∙◌, subst, arith, inl, inr, append-nil, All}
 use Rattle.std.proofs.Math.Seq.{drop-append_seam}
 use Rattle.std.proofs.lemmas.List.Elements.{All-nil, All-weaker}
+use Rattle.opening_journal.specs.declared.faults.JournalFault.TheVariants as journal
 use mathlib.Core.List.{IsPrefix}
 use native.Mathlib.Decide.{dec_le}
 use mathlib.Core.Logic.{dite}
@@ -48,47 +49,47 @@ at-most : (x k : ℕ) → x ≡ 0 → x ≤ k
 at-most x k is = omega (arith, is)
 
 -- only a refusal by the disk has code 6, and only one for a damaged slot has code 7
-six : (why : Refusal) → why ≢ refusal.Device → is_code 6 (InTurn (Decided (Refused why))) ≡ 0
+six : (why : Refusal) → why ≢ (refusal.Journal journal.Device) → is_code 6 (InTurn (Decided (Refused why))) ≡ 0
 six refusal.ForeignKey other = refl
 six refusal.NoSuchLeaf other = refl
 six refusal.NotMember other = refl
 six (refusal.TooLong got) other = refl
 six refusal.BadCheck other = refl
-six refusal.Device other = absurd (other refl)
-six (refusal.Damaged leaf a b) other = refl
-six refusal.NotBound other = refl
-six (refusal.Spent kept) other = refl
-six (refusal.OtherDigest c digest) other = refl
+six (refusal.Journal journal.Device) other = absurd (other refl)
+six (refusal.Journal (journal.Damaged leaf a b)) other = refl
+six (refusal.Journal journal.NotBound) other = refl
+six (refusal.Journal (journal.Spent kept)) other = refl
+six (refusal.Journal (journal.OtherDigest c digest)) other = refl
 
-seven : (why : Refusal) → ((leaf a b : ℕ) → why ≢ refusal.Damaged leaf a b) → is_code 7 (InTurn (Decided (Refused why))) ≡ 0
+seven : (why : Refusal) → ((leaf a b : ℕ) → why ≢ refusal.Journal (journal.Damaged leaf a b)) → is_code 7 (InTurn (Decided (Refused why))) ≡ 0
 seven refusal.ForeignKey never = refl
 seven refusal.NoSuchLeaf never = refl
 seven refusal.NotMember never = refl
 seven (refusal.TooLong got) never = refl
 seven refusal.BadCheck never = refl
-seven refusal.Device never = refl
-seven (refusal.Damaged leaf a b) never = absurd (never leaf a b refl)
-seven refusal.NotBound never = refl
-seven (refusal.Spent kept) never = refl
-seven (refusal.OtherDigest c digest) never = refl
+seven (refusal.Journal journal.Device) never = refl
+seven (refusal.Journal (journal.Damaged leaf a b)) never = absurd (never leaf a b refl)
+seven (refusal.Journal journal.NotBound) never = refl
+seven (refusal.Journal (journal.Spent kept)) never = refl
+seven (refusal.Journal (journal.OtherDigest c digest)) never = refl
 
-six-device : is_code 6 (InTurn (Decided (Refused refusal.Device))) ≡ 1
+six-device : is_code 6 (InTurn (Decided (Refused (refusal.Journal journal.Device)))) ≡ 1
 six-device = refl
 
-device-rises : (answer : BookAnswer) (number floor : ℕ) → (answer ≡ Decided (Refused refusal.Device) → Rose number floor)
+device-rises : (answer : BookAnswer) (number floor : ℕ) → (answer ≡ Decided (Refused (refusal.Journal journal.Device)) → Rose number floor)
     → number ≤ floor → floor < 2 ^ 64 - 1 → is_code 6 (InTurn answer) ≤ floor - number
 device-rises (Denied message) number floor rose le small = at-most (is_code 6 (InTurn (Denied message))) (floor - number) refl
 device-rises (Decided Granted) number floor rose le small = at-most (is_code 6 (InTurn (Decided Granted))) (floor - number) refl
-device-rises (Decided (Refused refusal.Device)) number floor rose le small = let r = rose refl in let one = six-device in omega (arith, r, one, le, small)
+device-rises (Decided (Refused (refusal.Journal journal.Device))) number floor rose le small = let r = rose refl in let one = six-device in omega (arith, r, one, le, small)
 device-rises (Decided (Refused refusal.ForeignKey)) number floor rose le small = at-most _ (floor - number) (six refusal.ForeignKey (λ is. absurd (cc)))
 device-rises (Decided (Refused refusal.NoSuchLeaf)) number floor rose le small = at-most _ (floor - number) (six refusal.NoSuchLeaf (λ is. absurd (cc)))
 device-rises (Decided (Refused refusal.NotMember)) number floor rose le small = at-most _ (floor - number) (six refusal.NotMember (λ is. absurd (cc)))
 device-rises (Decided (Refused (refusal.TooLong got))) number floor rose le small = at-most _ (floor - number) (six (refusal.TooLong got) (λ is. absurd (cc)))
 device-rises (Decided (Refused refusal.BadCheck)) number floor rose le small = at-most _ (floor - number) (six refusal.BadCheck (λ is. absurd (cc)))
-device-rises (Decided (Refused (refusal.Damaged leaf a b))) number floor rose le small = at-most _ (floor - number) (six (refusal.Damaged leaf a b) (λ is. absurd (cc)))
-device-rises (Decided (Refused refusal.NotBound)) number floor rose le small = at-most _ (floor - number) (six refusal.NotBound (λ is. absurd (cc)))
-device-rises (Decided (Refused (refusal.Spent kept))) number floor rose le small = at-most _ (floor - number) (six (refusal.Spent kept) (λ is. absurd (cc)))
-device-rises (Decided (Refused (refusal.OtherDigest c digest))) number floor rose le small = at-most _ (floor - number) (six (refusal.OtherDigest c digest) (λ is. absurd (cc)))
+device-rises (Decided (Refused (refusal.Journal (journal.Damaged leaf a b)))) number floor rose le small = at-most _ (floor - number) (six (refusal.Journal (journal.Damaged leaf a b)) (λ is. absurd (cc)))
+device-rises (Decided (Refused (refusal.Journal journal.NotBound))) number floor rose le small = at-most _ (floor - number) (six (refusal.Journal journal.NotBound) (λ is. absurd (cc)))
+device-rises (Decided (Refused (refusal.Journal (journal.Spent kept)))) number floor rose le small = at-most _ (floor - number) (six (refusal.Journal (journal.Spent kept)) (λ is. absurd (cc)))
+device-rises (Decided (Refused (refusal.Journal (journal.OtherDigest c digest)))) number floor rose le small = at-most _ (floor - number) (six (refusal.Journal (journal.OtherDigest c digest)) (λ is. absurd (cc)))
 
 -- no worn pass stands behind a decision
 eleven-refused : (why : Refusal) → is_code 11 (InTurn (Decided (Refused why))) ≡ 0
@@ -97,11 +98,11 @@ eleven-refused refusal.NoSuchLeaf = refl
 eleven-refused refusal.NotMember = refl
 eleven-refused (refusal.TooLong got) = refl
 eleven-refused refusal.BadCheck = refl
-eleven-refused refusal.Device = refl
-eleven-refused (refusal.Damaged leaf a b) = refl
-eleven-refused refusal.NotBound = refl
-eleven-refused (refusal.Spent kept) = refl
-eleven-refused (refusal.OtherDigest c digest) = refl
+eleven-refused (refusal.Journal journal.Device) = refl
+eleven-refused (refusal.Journal (journal.Damaged leaf a b)) = refl
+eleven-refused (refusal.Journal journal.NotBound) = refl
+eleven-refused (refusal.Journal (journal.Spent kept)) = refl
+eleven-refused (refusal.Journal (journal.OtherDigest c digest)) = refl
 
 pub eleven : (answer : BookAnswer) → is_code 11 (InTurn answer) ≡ 0
 eleven (Denied message) = refl
@@ -118,15 +119,15 @@ as-core : (core : Result Grant Refusal) → book_answer_in (as_denial core) ≡ 
 as-core (Ok grant) = refl
 as-core (Err why) = refl
 
-core-device : (core : Result Grant Refusal) → Decided (answer_in core) ≡ Decided (Refused refusal.Device) → core ≡ Err refusal.Device
+core-device : (core : Result Grant Refusal) → Decided (answer_in core) ≡ Decided (Refused (refusal.Journal journal.Device)) → core ≡ Err (refusal.Journal journal.Device)
 core-device (Ok grant) is = absurd (cc)
-core-device (Err why) is = let same : why ≡ refusal.Device = cc in ap Err same
+core-device (Err why) is = let same : why ≡ (refusal.Journal journal.Device) = cc in ap Err same
 
-core-six : (core : Result Grant Refusal) → core ≢ Err refusal.Device → is_code 6 (InTurn (Decided (answer_in core))) ≡ 0
+core-six : (core : Result Grant Refusal) → core ≢ Err (refusal.Journal journal.Device) → is_code 6 (InTurn (Decided (answer_in core))) ≡ 0
 core-six (Ok grant) other = refl
 core-six (Err why) other = six why (λ is. other (ap Err is))
 
-core-seven : (core : Result Grant Refusal) → ((leaf a b : ℕ) → core ≢ Err (refusal.Damaged leaf a b)) → is_code 7 (InTurn (Decided (answer_in core))) ≡ 0
+core-seven : (core : Result Grant Refusal) → ((leaf a b : ℕ) → core ≢ Err (refusal.Journal (journal.Damaged leaf a b))) → is_code 7 (InTurn (Decided (answer_in core))) ≡ 0
 core-seven (Ok grant) never = refl
 core-seven (Err why) never = seven why (λ leaf a b is. never leaf a b (ap Err is))
 
@@ -134,7 +135,7 @@ module _ {D : Type 0} {p : pages.Ghosts D} {f : counting.Ghosts D} where
   pub record Leaves (old new : Trustee D p f) (answer : BookAnswer) : Type 0 where
     pub name : name_of new ≡ name_of old
     pub count : faults_of (journal_of old) ≤ faults_of (journal_of new)
-    pub rose : answer ≡ Decided (Refused refusal.Device) → Rose (faults_of (journal_of old)) (faults_of (journal_of new))
+    pub rose : answer ≡ Decided (Refused (refusal.Journal journal.Device)) → Rose (faults_of (journal_of old)) (faults_of (journal_of new))
     pub steady : IsTrue (f.steady (disk_of (journal_of old))) → IsTrue (p.told (disk_of (journal_of old))) → is_code 6 (InTurn answer) ≡ 0
     pub told : IsTrue (p.told (disk_of (journal_of old))) → is_code 7 (InTurn answer) ≡ 0
 
@@ -271,7 +272,7 @@ turn-notes turn notes later log noted is =
 pub turned : (share : Share) (ids : Option (List (List ℕ))) (old new : Seen Note TrusteeName) (before after : JournalState) (notes later : List Note) (number : ℕ) (ask : Ask) (moment : ℕ) (answer : BookAnswer)
     → Turned old new notes later number → entries_in notes ≡ before.entries → entries_in later ≡ after.entries → Noted ask moment notes later → (number ≡ 0 → before.doubt ≡ None)
     → BookDecides share ids before ask moment answer after
-    → (answer ≡ Decided (Refused refusal.Device) → Rose number new.floor)
+    → (answer ≡ Decided (Refused (refusal.Journal journal.Device)) → Rose number new.floor)
     → (HasSteadyDisk new.name → is_code 6 (InTurn answer) ≡ 0)
     → (TellsDisk new.name → is_code 7 (InTurn answer) ≡ 0)
     → (seen : List Entry) × (added : List Entry) × Serves share ids old new (turn_of ask moment seen (InTurn answer) added ∷ [])

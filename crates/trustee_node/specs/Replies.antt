@@ -2,6 +2,7 @@
 use Rattle.std.specs.Prelude.{◌≡◌, ◌≤◌, ◌+◌, ◌*◌, ◌++◌, ◌∷◌, [], ⊤, ℕ, List, length, replicate, Option, Some, None}
 use Rattle.std.specs.Prelude.{Ok, Err, IfOk, IfSome}
 use Rattle.std.specs.List.{flat_map}
+use Rattle.opening_journal.specs.declared.faults.JournalFault.TheVariants as journal
 use Rattle.trustee_core.specs.Approvals.{Decided, Denied, book_answer_in}
 use Rattle.trustee_core.specs.declared.denial.Denial.TheVariants.{NotApproved, Core}
 use Rattle.lms_bytes.specs.Bytes.{joined}
@@ -19,8 +20,7 @@ use Rattle.trustee_core.specs.declared.kept.TrusteeName.{TrusteeName}
 use Rattle.trustee_core.specs.declared.note.Note.{Note}
 use Rattle.trustee_core.specs.declared.refusal.Refusal.{Refusal}
 use Rattle.trustee_core.specs.declared.refusal.Refusal.TheVariants.{ForeignKey, NoSuchLeaf, NotMember, TooLong}
-use Rattle.trustee_core.specs.declared.refusal.Refusal.TheVariants.{BadCheck, Device, Damaged, NotBound, Spent}
-use Rattle.trustee_core.specs.declared.refusal.Refusal.TheVariants.{OtherDigest}
+use Rattle.trustee_core.specs.declared.refusal.Refusal.TheVariants.{BadCheck, Journal}
 use Rattle.turn_lock.specs.Pass.{Seen}
 use Rattle.trustee_node.specs.Turns.{InTurn, NoTurn, Outcome, Serves, Turn, code_of}
 use Rattle.trustee_node.specs.declared.turn.Answer.{Answer}
@@ -55,11 +55,11 @@ kept_by NoSuchLeaf = []
 kept_by NotMember = []
 kept_by (TooLong got) = []
 kept_by BadCheck = []
-kept_by Device = []
-kept_by (Damaged leaf a b) = a ∷ b ∷ []
-kept_by NotBound = []
-kept_by (Spent kept) = message_id_bytes kept
-kept_by (OtherDigest c digest) = c ++ digest
+kept_by (Journal journal.Device) = []
+kept_by (Journal (journal.Damaged leaf a b)) = a ∷ b ∷ []
+kept_by (Journal journal.NotBound) = []
+kept_by (Journal (journal.Spent kept)) = message_id_bytes kept
+kept_by (Journal (journal.OtherDigest c digest)) = c ++ digest
 
 -- the masks of a grant, one behind the other
 abbrev pub masks_joined : Share → Ask → List ℕ
@@ -74,8 +74,8 @@ reply_body share ask NoTurn = []
 
 -- what is kept has its lengths
 abbrev pub KeepsSizes : Params → Outcome → Type 0
-KeepsSizes params (InTurn (Decided (Refused (Spent kept)))) = length kept.hash ≡ 32
-KeepsSizes params (InTurn (Decided (Refused (OtherDigest c digest)))) =
+KeepsSizes params (InTurn (Decided (Refused (Journal (journal.Spent kept))))) = length kept.hash ≡ 32
+KeepsSizes params (InTurn (Decided (Refused (Journal (journal.OtherDigest c digest))))) =
     (length c ≡ params.n) × (length digest ≡ params.n)
 KeepsSizes params outcome = ⊤
 

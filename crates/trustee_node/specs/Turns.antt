@@ -3,6 +3,7 @@ use Rattle.std.specs.Prelude.{◌≡◌, ◌<◌, ◌≤◌, ◌+◌, ◌-◌, �
 use Rattle.std.specs.Prelude.{All, Contains, map}
 use Rattle.std.specs.Prelude.{Option, IfSome, IsSomeAnd, IsTrue, if◌then◌else◌}
 use Rattle.std.specs.List.{flat_map, sum_by}
+use Rattle.opening_journal.specs.declared.faults.JournalFault.TheVariants as journal
 use mathlib.Core.List.{IsPrefix}
 use Rattle.trustee_core.specs.Approvals.{BookAnswer, BookDecides, Decided, Denied, IsDenied}
 use Rattle.lms_bytes.specs.declared.ask.Ask.{Ask}
@@ -15,7 +16,7 @@ use Rattle.trustee_core.specs.Notes.{entries_in, entry_of}
 use Rattle.trustee_core.specs.declared.kept.TrusteeName.{TrusteeName}
 use Rattle.trustee_core.specs.declared.note.Note.{Note}
 use Rattle.trustee_core.specs.declared.note.Note.TheVariants.{Made, Doubted}
-use Rattle.trustee_core.specs.declared.refusal.Refusal.TheVariants.{Damaged, Device}
+use Rattle.trustee_core.specs.declared.refusal.Refusal.TheVariants.{Journal}
 use Rattle.turn_lock.specs.Lock.{Lock}
 use Rattle.turn_lock.specs.Pass.{SamePass, Seen}
 
@@ -46,9 +47,9 @@ pub data Answers (share : Share) (ids : Option (List (List ℕ))) (seen : List E
       → BookDecides share ids (settled_with seen) ask moment answer (settled_with (seen ++ added))
       → Answers share ids seen ask moment (InTurn answer) added
   device : ReachesJournal share ids ask
-      → Answers share ids seen ask moment (InTurn (Decided (Refused Device))) []
+      → Answers share ids seen ask moment (InTurn (Decided (Refused (Journal journal.Device)))) []
   torn : (leaf a b : ℕ) → ReachesJournal share ids ask
-      → Answers share ids seen ask moment (InTurn (Decided (Refused (Damaged leaf a b)))) []
+      → Answers share ids seen ask moment (InTurn (Decided (Refused (Journal (journal.Damaged leaf a b))))) []
   worn : Answers share ids seen ask moment NoTurn []
 
 -- From one log to another that goes on from it: each turn met a log that goes on from what was there before, and what

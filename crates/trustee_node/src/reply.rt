@@ -14,6 +14,7 @@ use disk_trait::Faults;
 use lms_bytes::bytes::put;
 use lms_bytes::{Ask, Params, ReplyHead, Val, digit};
 use mask_prf::MacKey;
+use opening_journal::JournalFault;
 use round_frames::put_reply_head;
 use share_files::Share;
 use stream_io::{Failed, Sink, Stream, write_whole};
@@ -142,22 +143,21 @@ fn put_kept(why: &Refusal, out: &mut [u8]) -> usize
     ensures bytes { take result out.new ≡ kept_by why.now }
 {
     match why {
-        Refusal::Damaged { a, b, .. } => {
+        Refusal::Journal(JournalFault::Damaged { a, b, .. }) => {
             put(out, 0, &[*a, *b]);
             2
         }
-        Refusal::Spent { kept } => {
+        Refusal::Journal(JournalFault::Spent { kept }) => {
             put(out, 0, &kept.to_bytes());
             36
         }
-        Refusal::OtherDigest { c, digest } => put_pair(c, digest, out),
+        Refusal::Journal(JournalFault::OtherDigest { c, digest }) => put_pair(c, digest, out),
         Refusal::ForeignKey
         | Refusal::NoSuchLeaf
         | Refusal::NotMember
         | Refusal::TooLong { .. }
         | Refusal::BadCheck
-        | Refusal::Device
-        | Refusal::NotBound => 0,
+        | Refusal::Journal(JournalFault::Device | JournalFault::NotBound) => 0,
     }
 }
 

@@ -1,11 +1,11 @@
 use Rattle.std.proofs.Common.{◌≡◌, Err, refl, ap, arith}
 use Rattle.opening_journal.specs.Journal.{disk_of}
 use Rattle.slot_file.proofs.Unwritten.{same-none}
-use Rattle.trustee_core.specs.Decisions.{refusal_of, tested}
-use Rattle.trustee_core.specs.declared.refusal.Refusal.TheVariants.{Damaged}
-use Rattle.trustee_core.proofs.Refusals.{entered-never, fault-damaged, fault-device, fault-late, granted-never}
-use Rattle.trustee_core.proofs.Refusals.{refused-device, rises-granted, rises-refusal, tests-damaged}
-use Rattle.trustee_core.proofs.Refusals.{tests-device}
+use Rattle.opening_journal.specs.declared.faults.JournalFault.TheVariants as journal
+use Rattle.trustee_core.specs.Decisions.{tested}
+use Rattle.trustee_core.specs.declared.refusal.Refusal.TheVariants.{Journal}
+use Rattle.trustee_core.proofs.Refusals.{entered-never, fault-late, fault-of, granted-never, rises-granted}
+use Rattle.trustee_core.proofs.Refusals.{rises-refusal, tests-journal}
 use Rattle.trustee_core.proofs.trustee.Trustee.decide.Goals as goal
 
 pub returns-in-Err-clause-event : goal.returns-in-Err-clause-event
@@ -16,9 +16,9 @@ returns-in-Err-clause-decided g c =
     let why = c.in-Err.why in
     let fails = c.in-Err.ensures.refused in
     record {
-      told = λ told leaf a b is. tests-damaged _ _ why fails leaf a b (cc);
-      succeeds = λ steady told is. tests-device _ _ why fails (cc);
-      cause = record { later = omega arith; failed = λ is. absurd (tests-device _ _ why fails (cc)); others = λ differs. refl };
+      told = λ told leaf a b is. tests-journal _ _ why fails (journal.Damaged leaf a b) (cc);
+      succeeds = λ steady told is. tests-journal _ _ why fails journal.Device (cc);
+      cause = record { later = omega arith; failed = λ is. absurd (tests-journal _ _ why fails journal.Device (cc)); others = λ differs. refl };
       share = refl;
       stays = record { params = refl; header = refl; disk = same-none g.D.Pages g.D.Faults (disk_of c.args.self.now.journal) };
     }
@@ -26,15 +26,11 @@ returns-in-Err-clause-decided g c =
 pub returns-in-Err-enter-clause-decided : goal.returns-in-Err-enter-clause-decided
 returns-in-Err-enter-clause-decided g c =
     let fault = c.in-Err-enter.fault in
-    let why = c.refusal_of.result in
-    let is : why ≡ refusal_of fault = c.refusal_of.ensures in
     let enters = c.in-Err-enter.ensures.enters in
     record {
-      told = λ told leaf a b same.
-          let damaged : refusal_of fault ≡ Damaged leaf a b = cc in
-          enters.told told leaf a b (ap Err (fault-damaged fault leaf a b damaged));
-      succeeds = λ steady told same. enters.succeeds steady told (ap Err (fault-device fault (cc)));
-      cause = rises-refusal _ _ fault why is enters.cause;
+      told = λ told leaf a b same. enters.told told leaf a b (ap Err (fault-of same));
+      succeeds = λ steady told same. enters.succeeds steady told (ap Err (fault-of same));
+      cause = rises-refusal _ _ fault enters.cause;
       share = c.enter.ensures.share;
       stays = enters.stays;
     }
@@ -56,13 +52,13 @@ pub returns-in-Err-clause-idle : goal.returns-in-Err-clause-idle
 returns-in-Err-clause-idle g c = λ none device same. refl
 
 pub returns-in-Err-enter-clause-tested : goal.returns-in-Err-enter-clause-tested
-returns-in-Err-enter-clause-tested g c = λ early.
-    absurd (fault-late c.in-Err-enter.fault c.refusal_of.result c.refusal_of.ensures early)
+returns-in-Err-enter-clause-tested g c = λ early. absurd (fault-late c.in-Err-enter.fault early)
 
 pub returns-in-Err-enter-clause-idle : goal.returns-in-Err-enter-clause-idle
 returns-in-Err-enter-clause-idle g c = λ none other same.
-    c.enter.ensures.idle none (λ new. c.enter.ensures.added new same)
-    (refused-device c.in-Err-enter.fault c.refusal_of.result c.refusal_of.ensures c.in-Err-enter.is other)
+    c.enter.ensures.idle none (λ new. c.enter.ensures.added new same) (λ fails.
+    let device : c.in-Err-enter.fault ≡ journal.Device = cc in
+    other (ap (λ (it : _). Err (Journal it)) device))
 
 pub returns-in-Ok-clause-idle : goal.returns-in-Ok-clause-idle
 returns-in-Ok-clause-idle g c = λ none other same.
