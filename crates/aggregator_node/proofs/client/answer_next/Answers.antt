@@ -1,8 +1,8 @@
-use Rattle.std.proofs.Common.{◌≢◌, [], ◌∷◌, Err, inl, inr, true≢false, refl, sym, ap, ◌∙◌}
+use Rattle.std.proofs.Common.{[], ◌∷◌, Err, inl, inr, refl, ap, ◌∙◌}
 use Rattle.round_frames.specs.declared.fault.FrameFault.TheVariants.{NoMemory, ReadFault}
-use Rattle.aggregator_node.specs.Clients.{Request, Stand, longest_reply, no_request}
-use Rattle.aggregator_node.proofs.Answering.{unread_answers, accepted_as, err_is, exact_cells, exchange_answered, never_as, ok_never, port_as, reference_as, reference_of, room_answered, signed_at}
-use Rattle.aggregator_node.proofs.Replying.{unread-ends, failure-short, frame-length, room-fits, room-kept, room-wrote, signature-fits, step-answered, step-unread}
+use Rattle.aggregator_node.specs.Clients.{Request, Stand, longest_reply}
+use Rattle.aggregator_node.proofs.Answering.{accepted_as, err_is, exact_cells, exchange_answered, never_as, ok_never, port_as, reference_as, reference_of, signed_at, unread_answers}
+use Rattle.aggregator_node.proofs.Replying.{failure-short, frame-length, room-fits, room-wrote, signature-fits, step-answered, unread-ends}
 use Rattle.aggregator_session.specs.Desks.{desk_state}
 use Rattle.aggregator_session.specs.Signing.{signature_in}
 use Rattle.aggregator_session.specs.declared.fault.SignFault.TheVariants as sign
@@ -14,14 +14,14 @@ returns-in-Err-clause-answers g c =
     record {
       requests = [];
       answers = unread_answers (desk_state c.args.desk.now) (reference_of g.R.Cells g.R.Faults c.args.cells.now) (record {
-          pass = c.args.pass.now;
-          port = g.P.Port.state c.args.port.now;
-          faults = g.R.Faults.count c.args.cells.now;
-          talk = g.L.Stream.talk c.args.link.now;
-        })
-            (g.L.Stream.talk c.next_request.new.source) (g.L.Stream.talk c.unread.new.sink) c.in-Err.fault c.unread.result.replies c.unread.result.ended c.unread.ensures.step
-            (λ told. elim (read.told told) [ inl none ↦ inl (err_is c.in-Err.fault NoMemory none) | inr reads ↦ inr reads ]) read.only
-            (record { later = read.cause.later; rose = λ is. read.cause.rose (ap Err is); same = λ never. read.cause.same (λ is. never (err_is c.in-Err.fault ReadFault is)) });
+        pass = c.args.pass.now;
+        port = g.P.Port.state c.args.port.now;
+        faults = g.R.Faults.count c.args.cells.now;
+        talk = g.L.Stream.talk c.args.link.now;
+      })
+          (g.L.Stream.talk c.next_request.new.source) (g.L.Stream.talk c.unread.new.sink) c.in-Err.fault c.unread.result.replies c.unread.result.ended c.unread.ensures.step
+          (λ told. elim (read.told told) [ inl none ↦ inl (err_is c.in-Err.fault NoMemory none) | inr reads ↦ inr reads ]) read.only
+          (record { later = read.cause.later; rose = λ is. read.cause.rose (ap Err is); same = λ never. read.cause.same (λ is. never (err_is c.in-Err.fault ReadFault is)) });
     }
 
 pub returns-in-Err-clause-room : goal.returns-in-Err-clause-room
@@ -35,8 +35,10 @@ pub returns-in-Err-clause-ends : goal.returns-in-Err-clause-ends
 returns-in-Err-clause-ends g c =
     let read = c.in-Err.ensures in
     unread-ends c.in-Err.fault _ _ c.unread.result.replies c.unread.result.ended c.unread.ensures.step (λ steady is. read.answers steady (ap Err is))
-    (λ steady fits. (read.steady ∙ steady,
-    room-fits (g.met.L.Sink.rooms c.args.link.now) (g.met.L.Sink.rooms c.next_request.new.source) read.only.room (failure-short c.args.desk.now.key.now.params sign.NoMemory) fits))
+    (λ steady fits. (
+      read.steady ∙ steady,
+      room-fits (g.met.L.Sink.rooms c.args.link.now) (g.met.L.Sink.rooms c.next_request.new.source) read.only.room (failure-short c.args.desk.now.key.now.params sign.NoMemory) fits,
+    ))
 
 pub returns-in-Err-clause-steady : goal.returns-in-Err-clause-steady
 returns-in-Err-clause-steady g c = c.unread.ensures.steady ∙ c.in-Err.ensures.steady
