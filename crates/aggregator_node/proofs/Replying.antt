@@ -166,9 +166,6 @@ room-left n size had has lt fits kept =
 
 -- the room that is left, by the rooms that the talks tell
 module _ {tells had told has : ℕ} (before : tells ≡ had) (after : told ≡ has) (kept : tells ≤ told) where
-  pub room-kept : (most : ℕ) → had ≤ has + most
-  room-kept most = omega arith
-
   pub room-wrote : (left size most : ℕ) → has ≤ left + size → size ≤ most → had ≤ left + most
   room-wrote left size most wrote short = omega arith
 

@@ -3,14 +3,6 @@ use Rattle.std.proofs.lemmas.Bool.Decides.{nat_tests}
 use Rattle.slot_file.specs.Layout.{moment_of, slot_of}
 use Rattle.slot_file.proofs.slot.Slot.of_bytes.Goals as goal
 
-pub returns-then-b : goal.returns-then-b
-unfolding slot_of moment_of
-returns-then-b c = search (nat_tests, rules)
-
-pub returns-else-b : goal.returns-else-b
-unfolding slot_of moment_of
-returns-else-b c = search (nat_tests, rules)
-
 pub returns-then-b-2 : goal.returns-then-b-2
 unfolding slot_of moment_of
 returns-then-b-2 c = search (nat_tests, rules)
