@@ -183,8 +183,8 @@ pub record HasAnswered (desk : DeskState) (reference : ReferenceState) (old new 
   pub requests : List Request
   pub answers : Answers desk reference old requests replies ended new
 
--- internal: What came of a request that was not read for this fault. Where there was no memory for it, that was answered
--- or a write failed, which none does where this is sure; for every other fault nothing was written.
+-- internal: What came of a request that was not read for this fault. Where there was no memory for it, that was
+-- answered or a write failed, which none does where this is sure; for every other fault nothing was written.
 pub data IsUnread (fault : FrameFault) (old new : Talk) (sure : Type 0) : ℕ → Option ServedEnd → Type 0 where
   memory_wanted : (written : Result (Unit {0}) Failed) (replies : ℕ) (ended : Option ServedEnd)
       → fault ≢ frame.ReadFault
