@@ -1,10 +1,10 @@
 -- One request of a client, read, signed and answered.
-use Rattle.std.proofs.Common.{◌≡◌, ◌≢◌, ◌++◌, ℕ, List, [], ◌∷◌, length, Option, Some, Result, Ok, Err, IfOk, MatchResult, IsTrue, sym, ap, ◌∙◌, subst}
+use Rattle.std.proofs.Common.{◌≡◌, ◌≢◌, ◌⊎◌, inl, inr, ◌++◌, ℕ, List, [], ◌∷◌, length, Option, Some, Result, Ok, Err, IfOk, MatchResult, IsTrue, sym, ap, ◌∙◌, subst}
 use Rattle.aggregator_session.specs.Desks.{DeskState}
 use Rattle.aggregator_session.specs.Tasks as tasks
 use Rattle.aggregator_session.specs.declared.fault.SignFault.{SignFault}
 use Rattle.aggregator_session.specs.declared.fault.SignFault.TheVariants as sign
-use Rattle.aggregator_node.specs.Clients.{Answers, Exchange, IsExact, IsSigned, NoRoom, ReferenceState, Request, SameReference, Stand, answered, end_after, no_request, no_room, no_room_unanswered, reply_frame, unanswered}
+use Rattle.aggregator_node.specs.Clients.{Answers, Exchange, IsExact, IsSigned, IsUnread, NoRoom, ReferenceState, Request, SameReference, Stand, answered, end_after, memory_wanted, no_request, no_room, no_room_unanswered, nothing_written, reply_frame, unanswered}
 use Rattle.disk_trait.specs.Faults.{HasCause, Rose}
 use Rattle.disk_trait.specs.declared.faults.Faults as faults
 use Rattle.reference_value.specs.Stay.{CellsStay}
@@ -17,7 +17,14 @@ use Rattle.lms_verify.specs.Accepts.{AcceptsAt}
 use Rattle.session_core.specs.declared.faults.SessionFault.TheVariants.{Reference}
 use Rattle.mask_prf.specs.Lengths.{leaves_length}
 use Rattle.stream_io.specs.Net.{PortState}
-use Rattle.stream_io.specs.Talk.{OnlyWrote, Talk, WrotePart}
+use Rattle.node_workers.specs.Ends.{end_by}
+use Rattle.round_frames.specs.Frames.{frame_of}
+use Rattle.round_frames.specs.Reads.{Reads}
+use Rattle.round_frames.specs.Requests.{requests}
+use Rattle.round_frames.specs.declared.fault.FrameFault.{FrameFault}
+use Rattle.round_frames.specs.declared.fault.FrameFault.TheVariants as frame
+use Rattle.stream_io.specs.Store.{RisesWhere}
+use Rattle.stream_io.specs.Talk.{OnlyRead, OnlyWrote, Talk, WrotePart}
 use Rattle.stream_io.specs.declared.failed.Failed.{Failed}
 use Rattle.node_workers.specs.declared.served.ServedEnd.{ServedEnd}
 use Rattle.node_workers.specs.declared.served.ServedEnd.TheVariants.{WriteFailed}
@@ -73,6 +80,21 @@ module _ (desk : DeskState) (reference : ReferenceState) (old : Stand) where
       rw (is.0, is.1) (no_room mid talk room (record { wrote = wrote; only = only; count = cause.succeeded }))
   room_answered mid talk (Err failed) replies ended room wrote only cause is =
       rw (is.0, is.1) (no_room_unanswered mid talk room (record { wrote = wrote; only = only; rose = cause.failed }))
+
+  -- a request that was not read
+  pub unread_answers : (mid talk : Talk) (fault : FrameFault) {sure : Type 0} (replies : ℕ) (ended : Option ServedEnd) → IsUnread fault mid talk sure replies ended
+      → (IsTrue old.talk.told → (fault ≡ frame.NoMemory) ⊎ Reads {V = List ℕ × List ℕ} old.talk mid (Err fault) (frame_of requests old.talk.left))
+      → OnlyRead old.talk mid → RisesWhere (fault ≡ frame.ReadFault) old.talk.count mid.count
+      → Answers desk reference old [] replies ended (record old { talk = talk })
+  unread_answers mid talk fault replies ended (memory_wanted written _ _ found wrote only cause is sure) told read count =
+      room_answered mid talk written replies ended (record { only = read; count = count.same found }) wrote only cause is
+  unread_answers mid talk fault _ _ (nothing_written differs same) told read count =
+      subst (λ (after : Talk). Answers desk reference old [] 0 (Some (end_by fault)) (record old { talk = after })) (sym same)
+      (no_request mid fault differs (record {
+        reads = λ is. elim (told is) [ inl none ↦ absurd (differs none) | inr reads ↦ reads ];
+        only = read;
+        cause = count;
+      }))
 
 -- what is said of a request with a message of this value
 pub signed_at : (desk : DeskState) (reference : ReferenceState) (old new : Stand) (request : Request) (given : List ℕ) → given ≡ request.message

@@ -2,7 +2,7 @@
 use Rattle.std.proofs.Common.{◌≡◌, ◌≢◌, ◌⊎◌, inl, inr, ◌+◌, ◌*◌, ◌^◌, ◌<◌, ◌≤◌, ◌++◌, ℕ, List, length, Option, Some, Result, Ok, Err, IfOk, IsOk, refl, sym, ap, ◌∙◌, arith, length-append}
 use Rattle.std.proofs.Math.Nat.{add-mul, mul-le-mul_right}
 use Rattle.aggregator_node.proofs.Answering.{Answered}
-use Rattle.aggregator_node.specs.Clients.{StepEnds, end_after, longest_reply, reply_frame}
+use Rattle.aggregator_node.specs.Clients.{IsUnread, StepEnds, end_after, longest_reply, memory_wanted, nothing_written, reply_frame}
 use Rattle.aggregator_node.specs.Failures.{failure_of}
 use Rattle.aggregator_session.specs.Signing.{Signature, signature_in}
 use Rattle.aggregator_session.specs.declared.fault.SignFault.{SignFault}
@@ -18,6 +18,7 @@ use Rattle.round_frames.specs.Results.{failure_frame}
 use Rattle.round_frames.specs.declared.fault.FrameFault.{FrameFault}
 use Rattle.round_frames.specs.declared.fault.FrameFault.TheVariants as frame
 use Rattle.session_core.specs.declared.faults.SessionFault.TheVariants as session
+use Rattle.stream_io.specs.Talk.{Talk}
 use Rattle.stream_io.specs.declared.failed.Failed.{Failed}
 use Rattle.node_workers.specs.Ends.{end_by}
 use Rattle.node_workers.specs.declared.served.ServedEnd.{ServedEnd}
@@ -146,6 +147,13 @@ step-unread fault end by sound = record {
   writes = λ steady fits failed. let same : end ≡ WriteFailed = cc in end-read fault (sym by ∙ same);
 }
 
+-- the same where there was no memory for it, and that was answered
+pub unread-ends : {steady fits sure : Type 0} (fault : FrameFault) (old new : Talk) (replies : ℕ) (ended : Option ServedEnd) → IsUnread fault old new sure replies ended
+    → (steady → fault ≢ frame.ReadFault) → (steady → fits → sure) → StepEnds steady fits replies ended
+unread-ends fault old new replies ended (memory_wanted written _ _ found wrote only cause is ok) sound fit =
+    step-answered written (Err sign.NoMemory) replies ended is (λ steady fits. ok (fit steady fits))
+unread-ends fault old new _ _ (nothing_written differs same) sound fit = step-unread fault (end_by fault) refl sound
+
 pub one-more : (n size : ℕ) → (n + 1) * size ≡ n * size + size
 one-more n size = omega (arith, add-mul n 1 size)
 
@@ -158,9 +166,6 @@ room-left n size had has lt fits kept =
 
 -- the room that is left, by the rooms that the talks tell
 module _ {tells had told has : ℕ} (before : tells ≡ had) (after : told ≡ has) (kept : tells ≤ told) where
-  pub room-kept : (most : ℕ) → had ≤ has + most
-  room-kept most = omega arith
-
   pub room-wrote : (left size most : ℕ) → has ≤ left + size → size ≤ most → had ≤ left + most
   room-wrote left size most wrote short = omega arith
 

@@ -1,13 +1,13 @@
 -- A client's connection: its requests are read one after the other, and each is signed and answered.
 use Rattle.std.specs.Prelude.{◌≡◌, ◌≢◌, ◌+◌, ◌*◌, ◌≤◌, ◌++◌, ℕ, Bool, List, [], ◌∷◌, length, Option, None, Some}
-use Rattle.std.specs.Prelude.{Result, Ok, Err, IfOk, IsTrue}
+use Rattle.std.specs.Prelude.{Result, Ok, Err, IfOk, IsOk, IsTrue, MatchResult}
 use Rattle.aggregator_session.specs.Desks.{DeskState}
 use Rattle.aggregator_session.specs.declared.fault.SignFault.{SignFault}
 use Rattle.aggregator_session.specs.declared.fault.SignFault.TheVariants as sign
 use Rattle.aggregator_node.specs.Failures.{failure_of}
 use Rattle.aggregator_node.specs.Logs.{Shows}
 use Rattle.aggregator_node.specs.Signing.{SignsInTurns}
-use Rattle.disk_trait.specs.Faults.{Rose}
+use Rattle.disk_trait.specs.Faults.{HasCause, Rose}
 use Rattle.leaf_table.specs.declared.lease.Lease.{Lease}
 use Rattle.leaf_table.specs.declared.table.TableName.{TableName}
 use Rattle.aggregator_session.specs.Causes.{PortCauses}
@@ -29,6 +29,7 @@ use Rattle.mask_prf.specs.Lengths.{leaves_length}
 use Rattle.stream_io.specs.Net.{PortState}
 use Rattle.stream_io.specs.Store.{RisesWhere}
 use Rattle.stream_io.specs.Talk.{OnlyRead, OnlyWrote, Talk, WrotePart}
+use Rattle.stream_io.specs.declared.failed.Failed.{Failed}
 use Rattle.node_workers.specs.Ends.{end_by}
 use Rattle.node_workers.specs.declared.served.Served.{Served}
 use Rattle.node_workers.specs.declared.served.ServedEnd.{ServedEnd}
@@ -181,6 +182,19 @@ pub record HasAnswered (desk : DeskState) (reference : ReferenceState) (old new 
     (ended : Option ServedEnd) : Type 0 where
   pub requests : List Request
   pub answers : Answers desk reference old requests replies ended new
+
+-- internal: What came of a request that was not read for this fault. Where there was no memory for it, that was
+-- answered or a write failed, which none does where this is sure; for every other fault nothing was written.
+pub data IsUnread (fault : FrameFault) (old new : Talk) (sure : Type 0) : ℕ → Option ServedEnd → Type 0 where
+  memory_wanted : (written : Result (Unit {0}) Failed) (replies : ℕ) (ended : Option ServedEnd)
+      → fault ≢ frame.ReadFault
+      → (IsTrue old.told → MatchResult written (λ _. new.written ≡ old.written ++ reply_frame (Err sign.NoMemory))
+      (λ _. WrotePart old new (reply_frame (Err sign.NoMemory))))
+      → OnlyWrote old new → HasCause old.count new.count written
+      → MatchResult written (λ _. (replies ≡ 1) × (ended ≡ end_after (Err sign.NoMemory)))
+      (λ _. (replies ≡ 0) × (ended ≡ Some WriteFailed))
+      → (sure → IsOk written) → IsUnread fault old new sure replies ended
+  nothing_written : fault ≢ frame.NoMemory → new ≡ old → IsUnread fault old new sure 0 (Some (end_by fault))
 
 -- internal: What is known of one request, by whether its link is steady and has room for a reply: one reply at most was
 -- written whole, and one where the connection goes on. A steady link is read and, with that room, written without fail.

@@ -1,9 +1,9 @@
 //! Connections of clients.
 
 ghost use Rattle.std.specs.Prelude.{◌≡◌, ◌+◌, ◌≤◌, ◌<◌, ◌^◌, ◌++◌, Some, length, IfOk, IsOk, IsTrue};
-ghost use Rattle.std.specs.Prelude.{MatchResult};
-ghost use Rattle.aggregator_node.specs.Clients.{HasAnswered, HasEnded, HasServed, StepEnds, end_after, longest_reply};
-ghost use Rattle.aggregator_node.specs.Clients.{reply_frame};
+ghost use Rattle.std.specs.Prelude.{Err, MatchResult};
+ghost use Rattle.aggregator_node.specs.Clients.{HasAnswered, HasEnded, HasServed, IsUnread, StepEnds, end_after};
+ghost use Rattle.aggregator_node.specs.Clients.{longest_reply, reply_frame};
 ghost use Rattle.aggregator_node.specs.Ports.{reference_state};
 ghost use Rattle.aggregator_node.specs.Turns.{IsIdle};
 ghost use Rattle.aggregator_node.specs.Workers.{IsReady};
@@ -103,19 +103,27 @@ fn answer_next<R: Cells, D: Disk, P: Port, L: Source + Sink>(
 {
     let (members, message) = match next_request(alloc, link) {
         Ok(request) => request,
-        Err(fault) => {
-            if fault == FrameFault::NoMemory {
-                let outcome = Err(SignFault::NoMemory);
-                return answered(&outcome, write_outcome(&outcome, link));
-            }
-            return Step {
-                replies: 0,
-                ended: Some(end_by(fault)),
-            };
-        }
+        Err(fault) => return unread(fault, link),
     };
     let outcome = sign_one(rt, alloc, desk, cells, lock, pass, port, members, &message);
     answered(&outcome, write_outcome(&outcome, link))
+}
+
+/// What comes of a request that was not read for this fault: where there was no memory for it, that is answered.
+fn unread<K: Sink>(fault: FrameFault, sink: &mut K) -> Step
+    ensures step { IsUnread fault (K.talk sink.old) (K.talk sink.new) (IsTrue (K.steady sink.old)
+        × (length (reply_frame (Err SignFault.NoMemory)) ≤ K.room sink.old)) result.replies result.ended }
+    ensures room { K.room sink.old ≤ K.room sink.new + length (reply_frame (Err SignFault.NoMemory)) }
+    ensures steady { K.steady sink.new ≡ K.steady sink.old }
+{
+    if fault == FrameFault::NoMemory {
+        let outcome = Err(SignFault::NoMemory);
+        return answered(&outcome, write_outcome(&outcome, sink));
+    }
+    Step {
+        replies: 0,
+        ended: Some(end_by(fault)),
+    }
 }
 
 /// What came of a request with this outcome, by whether the answer was written whole.

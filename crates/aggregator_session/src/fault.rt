@@ -10,10 +10,11 @@ use reference_value::RefFault;
 use round_frames::FrameFault;
 use session_core::SessionFault;
 use std::alloc::AllocError;
+use std::fmt::{self, Formatter, Write};
 use thiserror::Error;
 
 /// Why a member is lost.
-#[derive(Clone, Copy, Debug, PartialEq, Eq, Error)]
+#[derive(Clone, Copy, PartialEq, Eq, Error)]
 pub enum Why {
     /// No address names it.
     #[error("no address names it")]
@@ -38,8 +39,15 @@ pub enum Why {
     },
 }
 
+impl fmt::Debug for Why {
+    /// Writes the line that is displayed.
+    fn fmt<W: Write>(&self, f: &mut Formatter<W>) -> fmt::Result {
+        fmt::Display::fmt(self, f)
+    }
+}
+
 /// Why there is no signature.
-#[derive(Clone, Copy, Debug, PartialEq, Eq, Error)]
+#[derive(Clone, Copy, PartialEq, Eq, Error)]
 pub enum SignFault {
     /// The message is longer than a session signs.
     #[error("the message has {got} bytes, more than a session signs")]
@@ -77,6 +85,13 @@ pub enum SignFault {
     /// There was no memory.
     #[error("out of memory")]
     NoMemory,
+}
+
+impl fmt::Debug for SignFault {
+    /// Writes the line that is displayed.
+    fn fmt<W: Write>(&self, f: &mut Formatter<W>) -> fmt::Result {
+        fmt::Display::fmt(self, f)
+    }
 }
 
 impl From<AllocError> for SignFault {

@@ -1,9 +1,10 @@
 -- Slots that stand one after another.
 use Rattle.std.proofs.Common.{◌≡◌, ◌<◌, ◌≤◌, ◌+◌, ◌*◌, ◌-◌, ℕ, List, length, get_or, set, take, drop, inl, inr, ap, sym, ◌∙◌, arith}
 use Rattle.std.proofs.lemmas.Bool.{cases_eq}
-use Rattle.std.proofs.Math.Nat.{mul-add, mul-le-mul_left}
+use Rattle.std.proofs.Math.Nat.{mul-add, mul-le-mul_left, mul-le-mul_right}
 use Rattle.std.proofs.lemmas.List.{drop-drop, drop-take, get_or-set_same, get_or-set_other, take-take}
 use Rattle.slot_file.specs.Layout.{part, slot_of, slot_size, slot_start}
+use Rattle.slot_file.proofs.Puts.{most_size}
 use Rattle.slot_file.specs.Runs.{IsInBlock, IsRun}
 use Rattle.slot_file.specs.declared.slot.Slot.{Slot}
 use Rattle.slot_file.specs.declared.slot.Slot.TheVariants.{Free}
@@ -43,3 +44,9 @@ run-read version first n file block slots is size stand k below =
     ∙ ap (λ (l : List ℕ). slot_of version (part (slot_size version * k) (slot_size version) l)) is
     ∙ ap (slot_of version) (part-in (slot_size version) n (slot_start version first) k file (omega arith))
     ∙ ap (λ (at : ℕ). slot_of version (part at (slot_size version) file)) place
+
+-- the bytes of a run
+pub run-size : (version size n : ℕ) → size ≡ slot_size version → n ≤ 32 → size * n ≤ 5120
+run-size version size n is few =
+    let most : size ≤ 160 = omega (arith, is, most_size version) in
+    omega (arith, few, mul-le-mul_right n most)

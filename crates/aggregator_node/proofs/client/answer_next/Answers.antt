@@ -1,47 +1,58 @@
-use Rattle.std.proofs.Common.{◌≢◌, [], ◌∷◌, Err, inl, inr, true≢false, refl, sym, ap, ◌∙◌}
+use Rattle.std.proofs.Common.{[], ◌∷◌, Err, inl, inr, refl, ap, ◌∙◌}
 use Rattle.round_frames.specs.declared.fault.FrameFault.TheVariants.{NoMemory, ReadFault}
-use Rattle.aggregator_node.specs.Clients.{Request, Stand, longest_reply, no_request}
-use Rattle.aggregator_node.proofs.Answering.{accepted_as, err_is, exact_cells, exchange_answered, never_as, ok_never, port_as, reference_as, reference_of, room_answered, signed_at}
-use Rattle.aggregator_node.proofs.Replying.{failure-short, frame-length, room-fits, room-kept, room-wrote, signature-fits, step-answered, step-unread}
+use Rattle.aggregator_node.specs.Clients.{Request, Stand, longest_reply}
+use Rattle.aggregator_node.proofs.Answering.{accepted_as, err_is, exact_cells, exchange_answered, never_as, ok_never, port_as, reference_as, reference_of, signed_at, unread_answers}
+use Rattle.aggregator_node.proofs.Replying.{failure-short, frame-length, room-fits, room-wrote, signature-fits, step-answered, unread-ends}
 use Rattle.aggregator_session.specs.Desks.{desk_state}
 use Rattle.aggregator_session.specs.Signing.{signature_in}
 use Rattle.aggregator_session.specs.declared.fault.SignFault.TheVariants as sign
 use Rattle.aggregator_node.proofs.client.answer_next.Goals as goal
 
-pub returns-then-eq-clause-answers : goal.returns-then-eq-clause-answers
-returns-then-eq-clause-answers g c =
+pub returns-in-Err-clause-answers : goal.returns-in-Err-clause-answers
+returns-in-Err-clause-answers g c =
     let read = c.in-Err.ensures in
-    let w = c.write_outcome.ensures in
-    let found : c.in-Err.fault ≢ ReadFault = λ is. true≢false (sym c.if-eq.true ∙ (rw is at c.eq.ensures)) in
     record {
       requests = [];
-      answers = room_answered (desk_state c.args.desk.now) (reference_of g.R.Cells g.R.Faults c.args.cells.now) (record {
+      answers = unread_answers (desk_state c.args.desk.now) (reference_of g.R.Cells g.R.Faults c.args.cells.now) (record {
         pass = c.args.pass.now;
         port = g.P.Port.state c.args.port.now;
         faults = g.R.Faults.count c.args.cells.now;
         talk = g.L.Stream.talk c.args.link.now;
       })
-          (g.L.Stream.talk c.next_request.new.source) (g.L.Stream.talk c.write_outcome.new.sink) c.write_outcome.result c.answered.result.replies c.answered.result.ended
-          (record { only = read.only; count = read.cause.same (λ failed. found (err_is c.in-Err.fault ReadFault failed)) }) w.wrote w.only w.cause c.answered.ensures;
+          (g.L.Stream.talk c.next_request.new.source) (g.L.Stream.talk c.unread.new.sink) c.in-Err.fault c.unread.result.replies c.unread.result.ended c.unread.ensures.step
+          (λ told. elim (read.told told) [ inl none ↦ inl (err_is c.in-Err.fault NoMemory none) | inr reads ↦ inr reads ]) read.only
+          (record { later = read.cause.later; rose = λ is. read.cause.rose (ap Err is); same = λ never. read.cause.same (λ is. never (err_is c.in-Err.fault ReadFault is)) });
     }
 
-pub returns-in-Err-clause-answers : goal.returns-in-Err-clause-answers
-returns-in-Err-clause-answers g c =
+pub returns-in-Err-clause-room : goal.returns-in-Err-clause-room
+returns-in-Err-clause-room g c =
+    let params = c.args.desk.now.key.now.params in
+    room-wrote (g.met.L.Sink.rooms c.args.link.now) (g.met.L.Sink.rooms c.next_request.new.source) c.in-Err.ensures.only.room (g.L.Sink.room c.unread.new.sink) _ (longest_reply params)
+    c.unread.ensures.room (failure-short params sign.NoMemory)
+
+-- a reply has the room that the link had before its request was read
+pub returns-in-Err-clause-ends : goal.returns-in-Err-clause-ends
+returns-in-Err-clause-ends g c =
     let read = c.in-Err.ensures in
-    let other : c.in-Err.fault ≢ NoMemory = λ is. true≢false (sym (rw is at c.eq.ensures) ∙ c.if-eq.false) in
-    rw c.end_by.ensures (record {
-      requests = [];
-      answers = no_request (g.L.Stream.talk c.next_request.new.source) c.in-Err.fault other (record {
-        reads = λ told. elim (read.told told) [ inl none ↦ absurd (other (err_is c.in-Err.fault NoMemory none)) | inr reads ↦ reads ];
-        only = read.only;
-        cause = record { later = read.cause.later; rose = λ is. read.cause.rose (ap Err is); same = λ never. read.cause.same (λ is. never (err_is c.in-Err.fault ReadFault is)) };
-      });
-    })
+    unread-ends c.in-Err.fault _ _ c.unread.result.replies c.unread.result.ended c.unread.ensures.step (λ steady is. read.answers steady (ap Err is))
+    (λ steady fits. (
+      read.steady ∙ steady,
+      room-fits (g.met.L.Sink.rooms c.args.link.now) (g.met.L.Sink.rooms c.next_request.new.source) read.only.room (failure-short c.args.desk.now.key.now.params sign.NoMemory) fits,
+    ))
+
+pub returns-in-Err-clause-steady : goal.returns-in-Err-clause-steady
+returns-in-Err-clause-steady g c = c.unread.ensures.steady ∙ c.in-Err.ensures.steady
+
+pub returns-in-Err-clause-cells : goal.returns-in-Err-clause-cells
+returns-in-Err-clause-cells g c = record { set = refl; plan = refl; told = refl; steady = refl; leaves = λ told. refl }
+
+pub returns-in-Err-clause-pass : goal.returns-in-Err-clause-pass
+returns-in-Err-clause-pass g c = c.requires.ready.idle
 
 pub returns-clause-answers : goal.returns-clause-answers
 returns-clause-answers g c =
     let read = c.in-Ok.ensures in
-    let w = c.write_outcome-2.ensures in
+    let w = c.write_outcome.ensures in
     let s = c.sign_one-outcome.ensures in
     let result = c.sign_one-outcome.result in
     let given = c.deref.result.now in
@@ -62,7 +73,7 @@ returns-clause-answers g c =
     let request : Request = record { members = c.in-Ok.request.0; message = c.in-Ok.request.1.items; outcome = signature_in result; added = s.shows.added } in
     record {
       requests = request ∷ [];
-      answers = exchange_answered desk reference before after (g.L.Stream.talk c.write_outcome-2.new.sink) request c.write_outcome-2.result c.answered-2.result.replies c.answered-2.result.ended
+      answers = exchange_answered desk reference before after (g.L.Stream.talk c.write_outcome.new.sink) request c.write_outcome.result c.answered.result.replies c.answered.result.ended
           (record {
             read = record {
               reads = λ told. elim (read.told told) [ inl none ↦ absurd (ok_never c.in-Ok.request NoMemory none) | inr reads ↦ reads ];
@@ -80,66 +91,26 @@ returns-clause-answers g c =
               rises = reference_as before.faults after.faults result s.cells.rises;
               succeeds = λ is. never_as result (s.cells.succeeds (exact_cells g.R.Cells g.R.Faults desk c.args.cells.now c.requires.ready.reads.0 c.requires.ready.reads.1 is));
             });
-          }) w.wrote w.only w.cause c.answered-2.ensures;
+          }) w.wrote w.only w.cause c.answered.ensures;
     }
-
-pub returns-then-eq-clause-room : goal.returns-then-eq-clause-room
-returns-then-eq-clause-room g c =
-    let params = c.args.desk.now.key.now.params in
-    room-wrote (g.met.L.Sink.rooms c.args.link.now) (g.met.L.Sink.rooms c.next_request.new.source) c.in-Err.ensures.only.room (g.L.Sink.room c.write_outcome.new.sink) _ (longest_reply params)
-    c.write_outcome.ensures.room (failure-short params sign.NoMemory)
-
-pub returns-in-Err-clause-room : goal.returns-in-Err-clause-room
-returns-in-Err-clause-room g c =
-    room-kept (g.met.L.Sink.rooms c.args.link.now) (g.met.L.Sink.rooms c.next_request.new.source) c.in-Err.ensures.only.room (longest_reply c.args.desk.now.key.now.params)
 
 pub returns-clause-room : goal.returns-clause-room
 returns-clause-room g c =
-    room-wrote (g.met.L.Sink.rooms c.args.link.now) (g.met.L.Sink.rooms c.next_request.new.source) c.in-Ok.ensures.only.room (g.L.Sink.room c.write_outcome-2.new.sink) _
-    (longest_reply c.args.desk.now.key.now.params) c.write_outcome-2.ensures.room (frame-length _ _ c.sign_one-outcome.result c.sign_one-outcome.ensures.accepted)
-
--- a reply has the room that the link had before its request was read
-pub returns-then-eq-clause-ends : goal.returns-then-eq-clause-ends
-returns-then-eq-clause-ends g c =
-    let read = c.in-Err.ensures in
-    step-answered c.write_outcome.result (Err sign.NoMemory) c.answered.result.replies c.answered.result.ended c.answered.ensures
-    (λ steady fits. c.write_outcome.ensures.succeeds (read.steady ∙ steady)
-    (room-fits (g.met.L.Sink.rooms c.args.link.now) (g.met.L.Sink.rooms c.next_request.new.source) read.only.room (failure-short c.args.desk.now.key.now.params sign.NoMemory) fits))
-
-pub returns-in-Err-clause-ends : goal.returns-in-Err-clause-ends
-returns-in-Err-clause-ends g c =
-    step-unread c.in-Err.fault c.end_by.result c.end_by.ensures (λ steady is. c.in-Err.ensures.answers steady (ap Err is))
+    room-wrote (g.met.L.Sink.rooms c.args.link.now) (g.met.L.Sink.rooms c.next_request.new.source) c.in-Ok.ensures.only.room (g.L.Sink.room c.write_outcome.new.sink) _
+    (longest_reply c.args.desk.now.key.now.params) c.write_outcome.ensures.room (frame-length _ _ c.sign_one-outcome.result c.sign_one-outcome.ensures.accepted)
 
 pub returns-clause-ends : goal.returns-clause-ends
 returns-clause-ends g c =
     let read = c.in-Ok.ensures in
-    step-answered c.write_outcome-2.result (signature_in c.sign_one-outcome.result) c.answered-2.result.replies c.answered-2.result.ended c.answered-2.ensures
-    (λ steady fits. c.write_outcome-2.ensures.succeeds (read.steady ∙ steady)
+    step-answered c.write_outcome.result (signature_in c.sign_one-outcome.result) c.answered.result.replies c.answered.result.ended c.answered.ensures
+    (λ steady fits. c.write_outcome.ensures.succeeds (read.steady ∙ steady)
     (room-fits (g.met.L.Sink.rooms c.args.link.now) (g.met.L.Sink.rooms c.next_request.new.source) read.only.room (frame-length _ _ c.sign_one-outcome.result c.sign_one-outcome.ensures.accepted) fits))
 
-pub returns-then-eq-clause-steady : goal.returns-then-eq-clause-steady
-returns-then-eq-clause-steady g c = c.write_outcome.ensures.steady ∙ c.in-Err.ensures.steady
-
-pub returns-in-Err-clause-steady : goal.returns-in-Err-clause-steady
-returns-in-Err-clause-steady g c = c.in-Err.ensures.steady
-
 pub returns-clause-steady : goal.returns-clause-steady
-returns-clause-steady g c = c.write_outcome-2.ensures.steady ∙ c.in-Ok.ensures.steady
-
-pub returns-then-eq-clause-cells : goal.returns-then-eq-clause-cells
-returns-then-eq-clause-cells g c = record { set = refl; plan = refl; told = refl; steady = refl; leaves = λ told. refl }
-
-pub returns-in-Err-clause-cells : goal.returns-in-Err-clause-cells
-returns-in-Err-clause-cells g c = record { set = refl; plan = refl; told = refl; steady = refl; leaves = λ told. refl }
+returns-clause-steady g c = c.write_outcome.ensures.steady ∙ c.in-Ok.ensures.steady
 
 pub returns-clause-cells : goal.returns-clause-cells
 returns-clause-cells g c = c.sign_one-outcome.ensures.cells.stays
-
-pub returns-then-eq-clause-pass : goal.returns-then-eq-clause-pass
-returns-then-eq-clause-pass g c = c.requires.ready.idle
-
-pub returns-in-Err-clause-pass : goal.returns-in-Err-clause-pass
-returns-in-Err-clause-pass g c = c.requires.ready.idle
 
 pub returns-clause-pass : goal.returns-clause-pass
 returns-clause-pass g c = c.sign_one-outcome.ensures.pass
@@ -147,5 +118,5 @@ returns-clause-pass g c = c.sign_one-outcome.ensures.pass
 pub sign_one-outcome-requires-clause-ready : goal.sign_one-outcome-requires-clause-ready
 sign_one-outcome-requires-clause-ready g c κs within = c.requires.ready
 
-pub write_outcome-requires-2 : goal.write_outcome-requires-2
-write_outcome-requires-2 g c = signature-fits c.args.desk.now.key.now c.deref.result.now c.sign_one-outcome.result c.sign_one-outcome.ensures.accepted
+pub write_outcome-requires : goal.write_outcome-requires
+write_outcome-requires g c = signature-fits c.args.desk.now.key.now c.deref.result.now c.sign_one-outcome.result c.sign_one-outcome.ensures.accepted

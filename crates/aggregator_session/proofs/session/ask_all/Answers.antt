@@ -13,7 +13,7 @@ use Rattle.aggregator_session.specs.Runs.{CellsRead, SameSession, SignRun, bytes
 use Rattle.aggregator_session.specs.declared.fault.SignFault.{SignFault}
 use Rattle.stream_io.specs.Net.{PortState}
 use Rattle.stream_io.specs.Talk.{Talk}
-use Rattle.std.proofs.Math.Nat.{le_trans}
+use Rattle.std.proofs.Math.Nat.{le_refl, le_trans}
 use Rattle.aggregator_session.proofs.Numbers.{count-on, first-fits, ok-err, second-fits}
 use Rattle.aggregator_session.proofs.Tasks.{dials-on, judged-none, lost-as, once-as, once-of, rose-later}
 use Rattle.aggregator_session.proofs.Sessions.{cells-ok, count-as, err-as, exact-as, exact-stays, fails-as, fails-reference, first-as, first-not, none-of, opens-by, run-as, same-err, second-end, sign-reference, stays-same, stops-later, stops-reference, whole-as}
@@ -313,3 +313,20 @@ pub finish_with-requires-clause-round : goal.finish_with-requires-clause-round
 finish_with-requires-clause-round g c =
     subst (λ (o : Option (List ℕ)). IsSome o) (sym c.ask_again.ensures.same.c)
     (round-turned _ _ c.in_ok-turn.ensures.turns.turned)
+
+pub returns-in_err-dial_all-clause-count : goal.returns-in_err-dial_all-clause-count
+returns-in_err-dial_all-clause-count g c =
+    let count = g.R.Faults.count in
+    count-on _ _ _ (ap count c.dial_all.ensures.cells) (le_refl (count c.dial_all.new.cells))
+
+pub returns-in_err-turn-clause-count : goal.returns-in_err-turn-clause-count
+returns-in_err-turn-clause-count g c = count-on _ _ _ (ap g.R.Faults.count c.dial_all.ensures.cells) c.in_err-turn.ensures.onward.count
+
+pub returns-in_err-ask_again-clause-count : goal.returns-in_err-ask_again-clause-count
+returns-in_err-ask_again-clause-count g c =
+    le_trans (count-on _ _ _ (ap g.R.Faults.count c.dial_all.ensures.cells) c.in_ok-turn.ensures.onward.count) c.ask_again.ensures.count
+
+pub returns-in_err-finish_with-clause-count : goal.returns-in_err-finish_with-clause-count
+returns-in_err-finish_with-clause-count g c =
+    let turned = count-on _ _ _ (ap g.R.Faults.count c.dial_all.ensures.cells) c.in_ok-turn.ensures.onward.count in
+    le_trans (le_trans turned c.ask_again.ensures.count) c.in_err-finish_with.ensures.onward.count

@@ -223,6 +223,15 @@ returns-in_err-sync-clause-succeeds g c = λ steady told. absurd (false≢true (
 pub returns-in_err-got-clause-succeeds : goal.returns-in_err-got-clause-succeeds
 returns-in_err-got-clause-succeeds g c = λ steady told. absurd (false≢true (c.in_err-got.ensures.succeeds (c.sync.ensures.stays.steady ∙ steady)))
 
+pub returns-in_err-read_at-clause-succeeds : goal.returns-in_err-read_at-clause-succeeds
+returns-in_err-read_at-clause-succeeds g c = λ steady told.
+    let told_1 = c.sync.ensures.stays.told ∙ told in
+    let long = c.if-got.false in
+    let got = c.in_ok-got.ensures.length told_1 in
+    let same = ap length (c.len.ensures.same told_1) in
+    absurd (false≢true (c.in_err-read_at.ensures.succeeds (c.len.ensures.stays.steady ∙ c.sync.ensures.stays.steady ∙ steady) (c.len.ensures.stays.told ∙ told_1)
+    (omega (arith, long, got, same))))
+
 pub returns-then-got-clause-succeeds : goal.returns-then-got-clause-succeeds
 returns-then-got-clause-succeeds g c = λ steady told. length-not _ _
 

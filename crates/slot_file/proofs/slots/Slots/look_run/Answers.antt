@@ -1,11 +1,15 @@
-use Rattle.std.proofs.Common.{rules, ◌≡◌, ◌*◌, length, take, drop, refl, ◌∙◌}
+use Rattle.std.proofs.Common.{arith, rules, ◌≡◌, Result, Ok, Err, OnErr, ◌*◌, length, take, drop, refl, ◌∙◌}
 use Rattle.slot_file.specs.Layout.{slot_size, slot_start}
 use Rattle.slot_file.specs.Slots.{file_of, header_of}
 use Rattle.slot_file.proofs.FaultLaws.{cause-failed, on-err}
-use Rattle.slot_file.proofs.Runs.{run-read}
+use Rattle.slot_file.proofs.Runs.{run-read, run-size}
 use Rattle.slot_file.proofs.SlotsLooks.{if-err}
 use Rattle.std.proofs.lemmas.Bool.{false≢true}
 use Rattle.slot_file.proofs.slots.Slots.look_run.Goals as goal
+
+unread : {A T E : Type 0} (answer : Result T E) (out : A) → OnErr answer (out ≡ out)
+unread (Ok value) out = tt
+unread (Err fault) out = refl
 
 pub returns-in_err-read-clause-slots : goal.returns-in_err-read-clause-slots
 returns-in_err-read-clause-slots g c = λ told. on-err _ _ c.from_residual.ensures.0
@@ -53,3 +57,12 @@ returns-in_err-read-clause-succeeds g c = λ steady told. absurd (false≢true (
 
 pub read-requires-clause-within : goal.read-requires-clause-within
 read-requires-clause-within g c = c.requires.within
+
+pub overflow_mul-block : goal.overflow_mul-block
+overflow_mul-block g c = omega (arith, run-size _ _ _ c.slot_len.ensures c.requires.few)
+
+pub slice_bounds-block-end : goal.slice_bounds-block-end
+slice_bounds-block-end g c = run-size _ _ _ c.slot_len.ensures c.requires.few
+
+pub returns-in_err-read-clause-unread : goal.returns-in_err-read-clause-unread
+returns-in_err-read-clause-unread g c = unread _ _
