@@ -7,8 +7,7 @@ mod reading;
 use lms_bytes::Params;
 use reading::Reading;
 use std::alloc::Global;
-use std::fs;
-use std::io;
+use std::{fs, io};
 use stream_memory::MemSource;
 
 /// A row of the table.
