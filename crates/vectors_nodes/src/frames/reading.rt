@@ -1,38 +1,208 @@
 //! Readings as the table writes them.
 
 use coalition_map::Members;
-use lms_bytes::{Ask, Params, ReplyHead};
+use lms_bytes::{Ask, Params, ReplyHead, Second};
 use round_frames::{Failure, FrameFault, Outcome, next_ask, next_reply, next_request, next_result};
-use std::alloc::{AllocError, Global};
+use std::alloc::Global;
+use std::fmt::Write;
 use stream_io::Source;
 
-/// The name of what was read, or the fault.
-type Read = Result<&'static str, FrameFault>;
-
-/// What a reader reads of a source that has so many bytes, and how many of them it took, or the fault.
-pub(crate) fn reading<S: Source>(
+/// The text of a reading that is written: the outcome, a number and a text of values, with a tab between each two.
+/// Where memory runs out, it is cut.
+#[derive(Drop)]
+pub(crate) struct Reading {
     alloc: Global,
-    params: &Params,
-    reader: &str,
-    source: &mut S,
     length: usize,
-) -> Result<String, AllocError> {
-    let mut line = String::new(alloc);
-    let read = read_line(alloc, params, reader, source, &mut line)?;
-    let taken = length.saturating_sub(left(source));
-    reading_text(alloc, read, taken, &line)
+    text: String,
+    cut: bool,
 }
 
-/// A reading by what was read, how many bytes that took, and its values.
-fn reading_text(
-    alloc: Global,
-    read: Read,
-    taken: usize,
-    values: &str,
-) -> Result<String, AllocError> {
-    match read {
-        Ok(name) => format!(in alloc; "{name}\t{taken}\t{values}"),
-        Err(fault) => fault_text(alloc, fault),
+impl Reading {
+    /// A reading of a source that has so many bytes, which is empty yet.
+    pub(crate) fn new(alloc: Global, length: usize) -> Reading {
+        Reading {
+            alloc,
+            length,
+            text: String::new(alloc),
+            cut: false,
+        }
+    }
+
+    /// The text, empty where memory ran out.
+    pub(crate) fn text(&self) -> &str {
+        if self.cut { "" } else { &self.text }
+    }
+
+    /// Adds a text.
+    fn add(&mut self, text: &str) {
+        self.cut |= self.text.push_str(text).is_err();
+    }
+
+    /// Adds a number.
+    fn add_number(&mut self, number: usize) {
+        self.cut |= write!(self.text, "{number}").is_err();
+    }
+
+    /// Adds a blank where a value of this frame stands before.
+    fn add_blank(&mut self) {
+        if !self.text.ends_with('\t') {
+            self.add(" ");
+        }
+    }
+
+    /// Adds a word.
+    fn add_word(&mut self, word: &str) {
+        self.add_blank();
+        self.add(word);
+    }
+
+    /// Adds a value that is a number.
+    fn add_value(&mut self, number: u32) {
+        self.add_blank();
+        self.add_number(number as usize);
+    }
+
+    /// Adds a value that is bytes, in hexadecimal digits, and `-` where there are none.
+    fn add_bytes(&mut self, bytes: &[u8]) {
+        match hex::encode(self.alloc, bytes) {
+            Ok(digits) if digits.is_empty() => self.add_word("-"),
+            Ok(digits) => self.add_word(&digits),
+            Err(_) => self.cut = true,
+        }
+    }
+
+    /// Adds the number of a member, behind a comma where one stands before.
+    fn add_member(&mut self, member: u8) {
+        if !self.text.ends_with('\t') {
+            self.add(",");
+        }
+        self.add_number(usize::from(member));
+    }
+
+    /// Adds the numbers of members, with commas between them, and `-` where there are none.
+    fn add_members(&mut self, members: Members) {
+        for t in 1..=16 {
+            if members.has(t) {
+                self.add_member(t);
+            }
+        }
+        if members.bits() == 0 {
+            self.add("-");
+        }
+    }
+
+    /// Adds the outcome, and how many bytes were taken of the source.
+    fn begin<S: Source>(&mut self, outcome: &str, source: &mut S) {
+        let taken = self.length.saturating_sub(left(source));
+        self.add(outcome);
+        self.add_number(taken);
+        self.add("\t");
+    }
+
+    /// Adds a fault: its number, its name, and the number that was read where it has one.
+    fn add_fault(&mut self, fault: FrameFault) {
+        self.add(fault_name(fault));
+        if let Some(got) = fault_number(fault) {
+            self.add_number(got as usize);
+        }
+    }
+
+    /// Adds what was read of round two.
+    fn add_second(&mut self, second: &Second) {
+        self.add_bytes(second.c.bytes());
+        self.add_bytes(&second.tag);
+        self.add_bytes(second.digest.bytes());
+    }
+
+    /// Adds the values of an ask.
+    fn add_ask(&mut self, ask: &Ask) {
+        self.add_bytes(&ask.key);
+        self.add_value(ask.leaf);
+        self.add_bytes(&ask.message.to_bytes());
+        match &ask.second {
+            Some(second) => self.add_second(second),
+            None => self.add_word("-"),
+        }
+    }
+
+    /// Adds the values of a reply's head.
+    fn add_head(&mut self, head: &ReplyHead) {
+        self.add_bytes(&head.key);
+        self.add_value(head.leaf);
+        self.add_value(u32::from(head.member));
+        self.add_bytes(&head.message.to_bytes());
+        self.add_value(u32::from(head.round));
+        self.add_bytes(head.c.bytes());
+        self.add_value(u32::from(head.code));
+    }
+
+    /// Adds the values of a failure.
+    fn add_failure(&mut self, failure: &Failure) {
+        self.add_value(u32::from(failure.status));
+        self.add_value(u32::from(failure.member));
+        self.add_value(u32::from(failure.round));
+        self.add_value(failure.leaf);
+    }
+
+    /// Reads an ask, and adds its values.
+    fn read_ask<S: Source>(&mut self, params: &Params, source: &mut S) {
+        match next_ask(params, source) {
+            Ok(ask) => {
+                self.begin("ask\t", source);
+                self.add_ask(&ask);
+            }
+            Err(fault) => self.add_fault(fault),
+        }
+    }
+
+    /// Reads a reply, and adds its values.
+    fn read_reply<S: Source>(&mut self, params: &Params, source: &mut S) {
+        let mut body = [0; 8480];
+        match next_reply(params, source, &mut body) {
+            Ok((head, length)) => {
+                self.begin("reply\t", source);
+                self.add_head(&head);
+                self.add_bytes(&body[..length]);
+            }
+            Err(fault) => self.add_fault(fault),
+        }
+    }
+
+    /// Reads a request, and adds its values: the members, and the message.
+    fn read_request<S: Source>(&mut self, source: &mut S) {
+        match next_request(self.alloc, source) {
+            Ok((members, message)) => {
+                self.begin("request\t", source);
+                self.add_members(members);
+                self.add_bytes(&message);
+            }
+            Err(fault) => self.add_fault(fault),
+        }
+    }
+
+    /// Reads a result, and adds its values.
+    fn read_result<S: Source>(&mut self, params: &Params, source: &mut S) {
+        match next_result(self.alloc, params, source) {
+            Ok(Outcome::Signature(bytes)) => {
+                self.begin("signature\t", source);
+                self.add_bytes(&bytes);
+            }
+            Ok(Outcome::Failure(failure)) => {
+                self.begin("failure\t", source);
+                self.add_failure(&failure);
+            }
+            Err(fault) => self.add_fault(fault),
+        }
+    }
+
+    /// Has a reader read, and adds what came of it.
+    pub(crate) fn read<S: Source>(&mut self, params: &Params, reader: &str, source: &mut S) {
+        match reader {
+            "ask" => self.read_ask(params, source),
+            "reply" => self.read_reply(params, source),
+            "request" => self.read_request(source),
+            _ => self.read_result(params, source),
+        }
     }
 }
 
@@ -47,15 +217,6 @@ fn left<S: Source>(source: &mut S) -> usize {
         }
     }
     count
-}
-
-/// A fault by its number, its name, and the number that was read where it has one.
-fn fault_text(alloc: Global, fault: FrameFault) -> Result<String, AllocError> {
-    let name = fault_name(fault);
-    match fault_number(fault) {
-        Some(got) => format!(in alloc; "{name}{got}"),
-        None => String::from_str(alloc, name),
-    }
 }
 
 /// The number that was read and refused.
@@ -79,175 +240,4 @@ fn fault_name(fault: FrameFault) -> &'static str {
         FrameFault::ReadFault => "fault\t7\tReadFault ",
         FrameFault::NoMemory => "fault\t8\tNoMemory ",
     }
-}
-
-/// Has a reader read, and adds the values to an empty line.
-fn read_line<S: Source>(
-    alloc: Global,
-    params: &Params,
-    reader: &str,
-    source: &mut S,
-    line: &mut String,
-) -> Result<Read, AllocError> {
-    match reader {
-        "ask" => read_ask(alloc, params, source, line),
-        "reply" => read_reply(alloc, params, source, line),
-        "request" => read_request(alloc, source, line),
-        _ => read_result(alloc, params, source, line),
-    }
-}
-
-/// Reads an ask, and adds its values.
-fn read_ask<S: Source>(
-    alloc: Global,
-    params: &Params,
-    source: &mut S,
-    line: &mut String,
-) -> Result<Read, AllocError> {
-    match next_ask(params, source) {
-        Ok(ask) => add_ask(alloc, line, &ask)?,
-        Err(fault) => return Ok(Err(fault)),
-    }
-    Ok(Ok("ask"))
-}
-
-/// Reads a reply, and adds its values.
-fn read_reply<S: Source>(
-    alloc: Global,
-    params: &Params,
-    source: &mut S,
-    line: &mut String,
-) -> Result<Read, AllocError> {
-    let mut body = [0; 8480];
-    match next_reply(params, source, &mut body) {
-        Ok((head, length)) => add_reply(alloc, line, &head, &body[..length])?,
-        Err(fault) => return Ok(Err(fault)),
-    }
-    Ok(Ok("reply"))
-}
-
-/// Reads a request, and adds its values.
-fn read_request<S: Source>(
-    alloc: Global,
-    source: &mut S,
-    line: &mut String,
-) -> Result<Read, AllocError> {
-    match next_request(alloc, source) {
-        Ok((members, message)) => add_request(alloc, line, members, &message)?,
-        Err(fault) => return Ok(Err(fault)),
-    }
-    Ok(Ok("request"))
-}
-
-/// Reads a result, and adds its values.
-fn read_result<S: Source>(
-    alloc: Global,
-    params: &Params,
-    source: &mut S,
-    line: &mut String,
-) -> Result<Read, AllocError> {
-    match next_result(alloc, params, source) {
-        Ok(outcome) => add_outcome(alloc, line, &outcome),
-        Err(fault) => Ok(Err(fault)),
-    }
-}
-
-/// Adds the values of an ask.
-fn add_ask(alloc: Global, line: &mut String, ask: &Ask) -> Result<(), AllocError> {
-    add_bytes(alloc, line, &ask.key)?;
-    add_number(alloc, line, ask.leaf)?;
-    add_bytes(alloc, line, &ask.message.to_bytes())?;
-    let Some(second) = &ask.second else {
-        return add_word(line, "-");
-    };
-    add_bytes(alloc, line, second.c.bytes())?;
-    add_bytes(alloc, line, &second.tag)?;
-    add_bytes(alloc, line, second.digest.bytes())
-}
-
-/// Adds the values of a reply.
-fn add_reply(
-    alloc: Global,
-    line: &mut String,
-    head: &ReplyHead,
-    body: &[u8],
-) -> Result<(), AllocError> {
-    add_bytes(alloc, line, &head.key)?;
-    add_number(alloc, line, head.leaf)?;
-    add_number(alloc, line, u32::from(head.member))?;
-    add_bytes(alloc, line, &head.message.to_bytes())?;
-    add_number(alloc, line, u32::from(head.round))?;
-    add_bytes(alloc, line, head.c.bytes())?;
-    add_number(alloc, line, u32::from(head.code))?;
-    add_bytes(alloc, line, body)
-}
-
-/// Adds the number of a member, behind a comma where the line is not empty.
-fn add_member(alloc: Global, line: &mut String, member: u8) -> Result<(), AllocError> {
-    if !line.is_empty() {
-        line.push(',')?;
-    }
-    line.push_str(&format!(in alloc; "{member}")?)
-}
-
-/// Adds the values of a request to an empty line: the numbers of the members, with commas between them, and the
-/// message.
-fn add_request(
-    alloc: Global,
-    line: &mut String,
-    members: Members,
-    message: &[u8],
-) -> Result<(), AllocError> {
-    for t in 1..=16 {
-        if members.has(t) {
-            add_member(alloc, line, t)?;
-        }
-    }
-    if line.is_empty() {
-        line.push('-')?;
-    }
-    add_bytes(alloc, line, message)
-}
-
-/// Adds the values of a result, and names it.
-fn add_outcome(alloc: Global, line: &mut String, outcome: &Outcome) -> Result<Read, AllocError> {
-    match outcome {
-        Outcome::Signature(bytes) => {
-            add_bytes(alloc, line, bytes)?;
-            Ok(Ok("signature"))
-        }
-        Outcome::Failure(failure) => {
-            add_failure(alloc, line, failure)?;
-            Ok(Ok("failure"))
-        }
-    }
-}
-
-/// Adds the values of a failure.
-fn add_failure(alloc: Global, line: &mut String, failure: &Failure) -> Result<(), AllocError> {
-    add_number(alloc, line, u32::from(failure.status))?;
-    add_number(alloc, line, u32::from(failure.member))?;
-    add_number(alloc, line, u32::from(failure.round))?;
-    add_number(alloc, line, failure.leaf)
-}
-
-/// Adds bytes in hexadecimal digits, and `-` where there are none.
-fn add_bytes(alloc: Global, line: &mut String, bytes: &[u8]) -> Result<(), AllocError> {
-    if bytes.is_empty() {
-        return add_word(line, "-");
-    }
-    add_word(line, &hex::encode(alloc, bytes)?)
-}
-
-/// Adds a number.
-fn add_number(alloc: Global, line: &mut String, number: u32) -> Result<(), AllocError> {
-    add_word(line, &format!(in alloc; "{number}")?)
-}
-
-/// Adds a word, behind a blank where the line is not empty.
-fn add_word(line: &mut String, word: &str) -> Result<(), AllocError> {
-    if !line.is_empty() {
-        line.push(' ')?;
-    }
-    line.push_str(word)
 }
