@@ -16,6 +16,9 @@ use reference_value::{Cells, RefFault};
 use slot_file::{Header, prepare};
 use std::alloc::Global;
 use std::process::Abort;
+use std::sync::Wait;
+use std::thread::Threads;
+use stream_memory::MemPort;
 use trustee_node::Totals;
 
 /// A request for the signature of `hello` by trustees 1 and 2.
@@ -172,15 +175,27 @@ fn cells(alloc: Global, desk: &Desk) -> Result<Vec<Unread>, NoMemory>
     Ok(cells)
 }
 
-#[test]
-fn a_request_at_a_port_is_answered(rt: HostRuntime) -> Result<(), NoMemory> {
-    let alloc = rt.alloc();
-    let scene = Scene::new(&rt, alloc);
-    let table = scene.table(alloc).expect(&rt, "a table");
+/// Serves the clients at two ports with the scene and a fresh table.
+fn serve<R: Threads + Wait + Sync + Abort>(
+    rt: &R,
+    alloc: Global,
+    scene: &Scene,
+    ports: &mut Vec<MemPort>,
+) -> Result<Totals, NoMemory>
+    requires { vec_len ports.old ≡ 2 }
+{
     let desk = scene.desk();
     let mut cells = cells(alloc, &desk)?;
-    let mut ports = two_ports(alloc, &[&REQUEST])?;
-    let (_, served) = serve_clients(&rt, alloc, &desk, table, &mut cells, &mut ports, 5);
+    let table = scene.table(alloc).expect(rt, "a table");
+    let (_, served) = serve_clients(rt, alloc, &desk, table, &mut cells, ports, 5);
+    served
+}
+
+#[test]
+fn a_request_at_a_port_is_answered(rt: HostRuntime) -> Result<(), NoMemory> {
+    let scene = Scene::new(&rt, rt.alloc());
+    let mut ports = two_ports(rt.alloc(), &[&REQUEST])?;
+    let served = serve(&rt, rt.alloc(), &scene, &mut ports);
     let totals = Totals {
         connections: 1,
         frames: 1,
