@@ -68,11 +68,16 @@ fn has_two(book: &Book<MemDisk>) -> bool {
     lists(book, b"abc") & lists(book, b"") & (book.count() == 2)
 }
 
+/// Whether the book of what a crash leaves lists them, and no more.
+fn keeps_two(rt: &impl Abort, alloc: Global, book: Book<MemDisk>) -> bool {
+    has_two(&after_crash(rt, alloc, book, 0))
+}
+
 #[test]
 fn a_message_is_listed_once(rt: HostRuntime) {
     let mut book = empty_book(&rt, rt.alloc());
     let two = lists_two(&mut book);
-    assert!(rt; two & has_two(&after_crash(&rt, rt.alloc(), book, 0)));
+    assert!(rt; two & keeps_two(&rt, rt.alloc(), book));
 }
 
 /// What is answered where the disk stops at a call of a listing.

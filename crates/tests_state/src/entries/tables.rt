@@ -140,12 +140,17 @@ fn leases_two(table: &mut Table<MemDisk>) -> bool {
     first & second & again & (lease(table, 0b111, &ONE) == Err(TableFault::NotACoalition))
 }
 
+/// Whether the table of what a crash leaves lists those leaves.
+fn keeps_two(rt: &impl Abort, alloc: Global, table: Table<MemDisk>) -> bool {
+    let want = [leased(1, ONE), leased(4, TWO)];
+    lists(&after_crash(rt, alloc, table, 1), &want)
+}
+
 #[test]
 fn a_leaf_is_leased_for_one_message(rt: HostRuntime) {
     let mut table = empty_table(&rt, rt.alloc());
     let answered = leases_two(&mut table);
-    let table = after_crash(&rt, rt.alloc(), table, 1);
-    assert!(rt; answered & lists(&table, &[leased(1, ONE), leased(4, TWO)]));
+    assert!(rt; answered & keeps_two(&rt, rt.alloc(), table));
 }
 
 /// Whether a disk holds the report of leaf 1: the id in body B, and behind it the member.
@@ -287,15 +292,20 @@ fn has_own(table: &mut Table<MemDisk>, plan: &Plan, c: u32, count: u32) -> bool
     c < plan.count() && has_leaves(table, plan.members(c).bits(), c, 924, count)
 }
 
+/// Whether the coalitions up to number 99 have two leaves, and the others one.
+fn has_two_up_to_99(table: &mut Table<MemDisk>, plan: &Plan) -> bool {
+    let first = has_own(table, plan, 99, 2);
+    let second = has_own(table, plan, 100, 1);
+    first & second & has_own(table, plan, 923, 1)
+}
+
 // 1,024 leaves for six of twelve trustees, of whom there are 924 coalitions.
 #[test]
 fn a_hundred_of_924_coalitions_have_two_leaves(rt: HostRuntime) {
     let plan = plan_of(&rt, 12, 6, 10);
     let disk = free_file(&rt, rt.alloc(), &header(1, 0), 1024);
     let mut table = loaded(&rt, rt.alloc(), disk, &plan);
-    let first = has_own(&mut table, &plan, 99, 2);
-    let second = has_own(&mut table, &plan, 100, 1);
-    assert!(rt; first & second & has_own(&mut table, &plan, 923, 1));
+    assert!(rt; has_two_up_to_99(&mut table, &plan));
 }
 
 /// Whether trustees 3, 4 and 5 lease leaves 9, 19 and 29, each for one message, and no more.
