@@ -59,7 +59,7 @@ unwritten-status store outputs written end stops = not_written-status store writ
 
 -- the end once all outputs are written
 pub dealt-status : (words : DealWords) (entropy : List ℕ) (outputs : List Output) (done : Ending) → IsDealtTo words entropy outputs done → status_of done ≢ 5
-dealt-status words entropy outputs done dealt = λ (e : status_of done ≡ 5). let is : 0 ≡ 5 = sym (ap status_of dealt.done_is) ∙ e in cc
+dealt-status words entropy outputs done dealt = λ (e : status_of done ≡ 5). let is : ◌≡◌ {A = ℕ} 0 5 = sym (ap status_of dealt.done_is) ∙ e in cc
 
 -- memory was wanting behind all leaves
 pub no_memory-all : {P : Type 0} (told : P → ℕ → ℕ → P) (words : DealWords) (params : Params) (old new : P) → IsSet words params
