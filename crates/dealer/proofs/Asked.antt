@@ -4,9 +4,9 @@ use Rattle.coalition_map.specs.Coalitions.{PlanNumbers}
 use Rattle.lms_bytes.specs.Bytes.{joined}
 use Rattle.lms_bytes.specs.declared.params.Params.{Params}
 use Rattle.lms_bytes.proofs.Joined.{joined-none, joined-same, joined-suc}
-use Rattle.reference_value.specs.Commitments.{commitments, leaf_commitments}
+use Rattle.reference_value.specs.Commitments.{commitments}
 use Rattle.reference_value.specs.Dealing.{Dealing}
-use Rattle.dealer.specs.Runs.{HasRoom, asked_length, file_asked, run_asked}
+use Rattle.dealer.specs.Runs.{HasRoom, asked_length, file_asked, leaf_asked, run_asked}
 use Rattle.dealer.specs.declared.runs.Run.{Run}
 
 -- nothing, as often as one likes
@@ -15,10 +15,10 @@ joined-nothing zero = joined-none (λ _. [])
 joined-nothing (suc count) = rw (joined-suc (λ _. []) count, joined-nothing count) refl
 
 -- a run of all leaves has all commitments
-whole-commitments : (d : Dealing) (run : Run) → run.first ≡ 0 → run.count ≡ 2 ^ d.params.h → run_asked true d run ≡ commitments d
-unfolding commitments
-whole-commitments d run first count =
-    rw (first, count) (joined-same (λ i. leaf_commitments d (0 + i)) (leaf_commitments d) (2 ^ d.params.h) (λ i _. ap (leaf_commitments d) (omega arith)))
+whole-asked : (commit : Bool) (d : Dealing) (run : Run) → run.first ≡ 0 → run.count ≡ 2 ^ d.params.h
+    → run_asked commit d run ≡ joined (leaf_asked commit d) (2 ^ d.params.h)
+whole-asked commit d run first count =
+    rw (first, count) (joined-same (λ i. leaf_asked commit d (0 + i)) (leaf_asked commit d) (2 ^ d.params.h) (λ i _. ap (leaf_asked commit d) (omega arith)))
 
 -- the commitments begin within their file
 pub begins-within : (file : List ℕ) → min (length file) 32 ≤ length file
@@ -30,15 +30,21 @@ pub room-behind : (commit : Bool) (params : Params) (plan : PlanNumbers) (id fil
 room-behind true params plan id file behind count room cut all = rw all (let size = room.size in omega arith)
 room-behind false params plan id file behind count room cut all = let size = room.size in omega arith
 
--- the head and the commitments are the file
+-- the head and all commitments are the file
+pub file-joined : (commit : Bool) (d : Dealing) (file head behind : List ℕ) → HasRoom commit d.params d.plan d.id file
+    → head ≡ take (min (length file) 32) file → behind ≡ joined (leaf_asked commit d) (2 ^ d.params.h) → head ++ behind ≡ file_asked commit d
+unfolding commitments
+file-joined true d file head behind room cut is =
+    let size = room.size in
+    let start : min (length file) 32 ≡ 32 = omega arith in
+    ap₂ ◌++◌ (cut ∙ (ap (λ (n : ℕ). take n file) start ∙ room.head)) is
+file-joined false d file head behind room cut is =
+    let size = room.size in
+    let start : min (length file) 32 ≡ 0 = omega arith in
+    rw (cut, start, is) (joined-nothing (2 ^ d.params.h))
+
 pub file-whole : (commit : Bool) (d : Dealing) (run : Run) (file head behind : List ℕ) → HasRoom commit d.params d.plan d.id file
     → head ≡ take (min (length file) 32) file → behind ≡ run_asked commit d run → run.first ≡ 0 → run.count ≡ 2 ^ d.params.h
     → head ++ behind ≡ file_asked commit d
-file-whole true d run file head behind room cut is first count =
-    let size = room.size in
-    let start : min (length file) 32 ≡ 32 = omega arith in
-    ap₂ ◌++◌ (cut ∙ (ap (λ (n : ℕ). take n file) start ∙ room.head)) (is ∙ whole-commitments d run first count)
-file-whole false d run file head behind room cut is first count =
-    let size = room.size in
-    let start : min (length file) 32 ≡ 0 = omega arith in
-    rw (cut, start, is) (joined-nothing run.count)
+file-whole commit d run file head behind room cut is first count =
+    file-joined commit d file head behind room cut (is ∙ whole-asked commit d run first count)

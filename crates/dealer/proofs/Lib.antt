@@ -5,6 +5,7 @@ pub mod FilesOf
 pub mod FirstShares
 pub mod Joins
 pub mod Mapped
+pub mod Parts
 pub mod SameTree
 pub mod Undivided
 pub mod Wanting

@@ -1,5 +1,6 @@
--- The answers of a dealing with commitments.
-use Rattle.std.proofs.Common.{◌≡◌, ap, true, ℕ, ◌<◌, ◌≤◌, List, Result, Vec, Global, Ok, Err, arith}
+-- What is answered and told where memory is wanting, and the answers of a dealing with commitments.
+use Rattle.std.proofs.Common.{◌≡◌, ◌⊎◌, ap, inl, inr, refl, true, ℕ, ◌<◌, ◌≤◌, List, Result, Vec, Global, Ok, Err, arith}
+use Rattle.std.specs.Prelude.{⊤}
 use Rattle.coalition_map.specs.Coalitions.{PlanNumbers}
 use Rattle.lms_bytes.specs.declared.params.Params.{Params}
 use Rattle.share_files.specs.Commits.{commits_length}
@@ -59,3 +60,8 @@ deals-no_memory params plan entropy dealable small = record {
   too_large = λ _ large. absurd (omega arith);
   cause = no_memory dealable small;
 }
+
+-- where memory alone may be wanting, it is this fault
+pub told-wanting : {A B F : Type 0} (fault : F) → A ⊎ (⊤ × B) → A ⊎ ((fault ≡ fault) × B)
+told-wanting fault (inl nothing) = inl nothing
+told-wanting fault (inr all) = inr (refl, all.1)

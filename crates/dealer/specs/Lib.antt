@@ -7,3 +7,4 @@ pub mod Runs
 pub mod Secrets
 pub mod Rehearsal
 pub mod Signing
+pub mod Told

@@ -1,15 +1,17 @@
 //! The dealing with its leaves built by several threads.
 
-ghost use Rattle.std.specs.Prelude.{◌≡◌, ◌+◌, ◌*◌, ◌^◌, ◌<◌, ◌≤◌, All, IfOk, is_some, length};
+ghost use Rattle.std.specs.Prelude.{◌≡◌, ◌+◌, ◌*◌, ◌^◌, ◌<◌, ◌≤◌, ⊤, All, IfOk, is_some, length};
 ghost use Rattle.std.specs.Thread.{IsSync};
+ghost use Rattle.lms_bytes.specs.Bytes.{joined};
 ghost use Rattle.ots_chain.specs.LeafKey.{seed_leaf_key};
 ghost use Rattle.reference_value.specs.Dealing.{reference};
 ghost use Rattle.mask_prf.specs.Lengths.{leaf_length, leaves_length};
 ghost use Rattle.dealer.specs.Dealt.{leaf_keys_of};
 ghost use Rattle.dealer.specs.Entropy.{dealing_of};
 ghost use Rattle.dealer.specs.Faults.{IsDealable};
-ghost use Rattle.dealer.specs.Runs.{HasRoom, IsBuilt, asked_length, file_asked, run_asked, run_leaves};
+ghost use Rattle.dealer.specs.Runs.{HasRoom, IsBuilt, asked_length, file_asked, leaf_asked, run_asked, run_leaves};
 ghost use Rattle.dealer.specs.Secrets.{Suit, dealing_with};
+ghost use Rattle.dealer.specs.Told.{TellsLeaves, told_of};
 
 use crate::building::finish;
 use crate::dealing::Dealt;
@@ -28,10 +30,14 @@ use std::thread;
 use std::thread::{Threads, join_mut};
 use stream_io::Progress;
 
+/// The most leaves that are built before it is told how many are.
+const PART: u32 = 128;
+
 /// Deals the key that the entropy stands for, which has been tested, with its commitment file if it is asked for. The
 /// greatest memory is taken before the first thread is made, since the C library keeps the room of the stacks.
-pub(crate) fn build_beside<R: Threads + Progress + Sync>(
+pub(crate) fn build_beside<R: Threads + Sync, P: Progress>(
     rt: &R,
+    progress: &mut P,
     alloc: Global,
     params: &Params,
     plan: &Plan,
@@ -40,10 +46,11 @@ pub(crate) fn build_beside<R: Threads + Progress + Sync>(
 ) -> Result<(Dealt, Vec<u8>), NoMemory>
     requires height { plan.now.h ≡ params.now.h }
     requires dealable { IsDealable params.now plan.now entropy.now }
-    ensures { IfOk result (IsBuilt commit (dealing_of params.now plan.now entropy.now)) }
+    ensures built { IfOk result (IsBuilt commit (dealing_of params.now plan.now entropy.now)) }
+    ensures told { TellsLeaves P.told params.now.h (λ _. ⊤) result progress.old progress.new }
 {
     let secrets = read_entropy(alloc, params, plan, entropy, commit)?;
-    let (leaves, file) = leaves_beside(rt, alloc, params, plan, &secrets)?;
+    let (leaves, file) = leaves_beside(rt, progress, alloc, params, plan, &secrets)?;
     let keys = keys_beside(rt, alloc, params, &secrets.id, &secrets.seed)?;
     let dealt = finish(alloc, params, plan, &secrets, &keys, leaves)?;
     Ok((dealt, file))
@@ -51,8 +58,9 @@ pub(crate) fn build_beside<R: Threads + Progress + Sync>(
 
 /// The leaves of the masked reference value, with room for the head of their file, and the commitment file if it is
 /// asked for.
-fn leaves_beside<R: Threads + Progress + Sync>(
+fn leaves_beside<R: Threads + Sync, P: Progress>(
     rt: &R,
+    progress: &mut P,
     alloc: Global,
     params: &Params,
     plan: &Plan,
@@ -62,18 +70,19 @@ fn leaves_beside<R: Threads + Progress + Sync>(
     ensures leaves { IfOk result (λ both. both.0.items ≡ reference (dealing_with params.now plan.now secrets.now)) }
     ensures file { IfOk result (λ both. both.1.items
         ≡ file_asked (is_some secrets.now.macs) (dealing_with params.now plan.now secrets.now)) }
+    ensures told { TellsLeaves P.told params.now.h (λ _. ⊥) result progress.old progress.new }
 {
     let mut leaves = room_for_leaves(alloc, params, plan)?;
     let mut file = room_asked(alloc, params, plan, secrets)?;
-    write_leaves_beside(rt, params, plan, secrets, &mut leaves, &mut file);
-    rt.all_built(params.leaves());
+    write_leaves_beside(rt, progress, params, plan, secrets, &mut leaves, &mut file);
     Ok((leaves, file))
 }
 
 /// Writes the leaves of the masked reference value, and the commitments to their masks behind the head of their file,
 /// where there is one.
-fn write_leaves_beside<R: Threads + Progress + Sync>(
+fn write_leaves_beside<R: Threads + Sync, P: Progress>(
     rt: &R,
+    progress: &mut P,
     params: &Params,
     plan: &Plan,
     secrets: &Secrets,
@@ -85,15 +94,52 @@ fn write_leaves_beside<R: Threads + Progress + Sync>(
     requires file { HasRoom (is_some secrets.now.macs) params.now plan.now secrets.now.id file.old }
     ensures leaves { out.new ≡ reference (dealing_with params.now plan.now secrets.now) }
     ensures file { file.new ≡ file_asked (is_some secrets.now.macs) (dealing_with params.now plan.now secrets.now) }
+    ensures told { progress.new ≡ told_of P.told params.now.h progress.old }
 {
-    let (run, threads) = (Run::whole(params), thread_count(rt));
     let (_, commits) = file.split_at_mut(file.len().min(HEAD));
-    write_beside(rt, params, plan, secrets, run, threads, out, commits);
+    write_parts(rt, progress, params, plan, secrets, out, commits);
+}
+
+/// Writes the leaves of the masked reference value, one behind the other, and the commitments to their masks if they are
+/// asked for. It builds one part of them after the other, each by all threads, and tells behind each how many leaves are
+/// built.
+fn write_parts<R: Threads + Sync, P: Progress>(
+    rt: &R,
+    progress: &mut P,
+    params: &Params,
+    plan: &Plan,
+    secrets: &Secrets,
+    out: &mut [u8],
+    commits: &mut [u8],
+)
+    requires suit { Suit params.now plan.now secrets.now }
+    requires leaves { length out.old ≡ leaves_length params.now plan.now }
+    requires commits { length commits.old
+        ≡ asked_length (is_some secrets.now.macs) params.now plan.now.k * 2 ^ params.now.h }
+    ensures leaves { out.new ≡ reference (dealing_with params.now plan.now secrets.now) }
+    ensures commits { commits.new ≡ joined (leaf_asked (is_some secrets.now.macs)
+        (dealing_with params.now plan.now secrets.now)) (2 ^ params.now.h) }
+    ensures told { progress.new ≡ told_of P.told params.now.h progress.old }
+{
+    let (all, threads) = (params.leaves(), thread_count(rt));
+    let count = PART.min(all);
+    let size = leaf_bytes(params, plan.k()) * count as usize;
+    let row = asked_bytes(params, plan, secrets) * count as usize;
+    'parts: for i in 0..all / count {
+        let place = size * i as usize;
+        let leaves = &mut out[place..place + size];
+        let start = row * i as usize;
+        let asked = &mut commits[start..start + row];
+        let first = i * count;
+        let run = Run { first, count };
+        write_beside(rt, params, plan, secrets, run, threads, leaves, asked);
+        progress.built(first + count, all);
+    }
 }
 
 /// Writes the leaves of a run, one behind the other, and the commitments to their masks if they are asked for, by at
 /// most so many threads.
-fn write_beside<R: Threads + Progress + Sync>(
+fn write_beside<R: Threads + Sync>(
     rt: &R,
     params: &Params,
     plan: &Plan,
@@ -113,7 +159,7 @@ fn write_beside<R: Threads + Progress + Sync>(
         ≡ run_asked (is_some secrets.now.macs) (dealing_with params.now plan.now secrets.now) run }
 {
     if threads < 2 || run.count < 2 {
-        write_run(rt, params, plan, secrets, run, out, commits);
+        write_run(params, plan, secrets, run, out, commits);
         return;
     }
     let some = threads / 2;

@@ -4,6 +4,7 @@ ghost use Rattle.std.specs.Prelude.{◌≡◌, ◌<◌, ◌≤◌, Err, IfErr, O
 ghost use Rattle.share_files.specs.Commits.{commits_length};
 ghost use Rattle.dealer.specs.Committed.{DealsCommitted, FailsCommitted};
 ghost use Rattle.dealer.specs.Faults.{HasFault, IsDealable};
+ghost use Rattle.dealer.specs.Told.{TellsLeaves};
 ghost use Rattle.dealer.specs.declared.committed.CommittedFault.TheVariants.{Deal, TooLarge};
 ghost use Rattle.dealer.specs.declared.faults.DealFault.{DealFault};
 
@@ -62,20 +63,23 @@ pub fn deal_committed(
 }
 
 /// Deals the key that the entropy stands for, as `deal_committed` does, with its leaves and their commitments built
-/// beside each other by as many threads as there are processors. Where no thread can be had this one builds them. The
-/// runtime is told how far it is.
-pub fn deal_committed_beside<R: Threads + Progress + Sync>(
+/// beside each other by as many threads as there are processors. Where no thread can be had this one builds them. It is
+/// told how many leaves are built behind each part of 128 of them.
+pub fn deal_committed_beside<R: Threads + Sync, P: Progress>(
     rt: &R,
+    progress: &mut P,
     alloc: Global,
     params: &Params,
     plan: &Plan,
     entropy: &[u8],
 ) -> Result<(Dealt, Vec<u8>), CommittedFault>
     requires { plan.now.h ≡ params.now.h }
-    ensures { DealsCommitted params.now plan.now entropy.now result }
+    ensures deals { DealsCommitted params.now plan.now entropy.now result }
+    ensures told { TellsLeaves P.told params.now.h (λ fault. fault ≡ Deal DealFault.NoMemory) result
+        progress.old progress.new }
 {
     test_committed(params, plan, entropy)?;
-    match build_beside(rt, alloc, params, plan, entropy, true) {
+    match build_beside(rt, progress, alloc, params, plan, entropy, true) {
         Ok(both) => Ok(both),
         Err(NoMemory) => Err(CommittedFault::Deal(DealFault::NoMemory)),
     }

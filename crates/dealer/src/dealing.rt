@@ -4,6 +4,7 @@ ghost use Rattle.std.specs.Prelude.{◌≡◌, ◌⊎◌, ◌<◌, IfOk, OnOk, I
 ghost use Rattle.dealer.specs.Dealt.{IsDealt};
 ghost use Rattle.dealer.specs.Entropy.{dealing_of};
 ghost use Rattle.dealer.specs.Faults.{HasFault, IsDealable};
+ghost use Rattle.dealer.specs.Told.{TellsLeaves};
 ghost use Rattle.dealer.specs.declared.faults.DealFault.{DealFault};
 ghost use Rattle.dealer.specs.declared.faults.DealFault.TheVariants.{NoMemory};
 
@@ -50,9 +51,11 @@ pub fn deal(alloc: Global, params: &Params, plan: &Plan, entropy: &[u8]) -> Resu
 }
 
 /// Deals the key that the entropy stands for, as `deal` does, with its leaves built beside each other by as many
-/// threads as there are processors. Where no thread can be had this one builds them. The runtime is told how far it is.
-pub fn deal_beside<R: Threads + Progress + Sync>(
+/// threads as there are processors. Where no thread can be had this one builds them. It is told how many leaves are
+/// built behind each part of 128 of them.
+pub fn deal_beside<R: Threads + Sync, P: Progress>(
     rt: &R,
+    progress: &mut P,
     alloc: Global,
     params: &Params,
     plan: &Plan,
@@ -65,9 +68,10 @@ pub fn deal_beside<R: Threads + Progress + Sync>(
     ensures cause { IfErr result (λ fault. (fault ≡ NoMemory × IsDealable params.now plan.now entropy.now)
         ⊎ HasFault params.now plan.now entropy.now fault) }
     ensures shares { IfOk result (λ dealt. 0 < length dealt.shares.items) }
+    ensures told { TellsLeaves P.told params.now.h (λ fault. fault ≡ NoMemory) result progress.old progress.new }
 {
     check(params, plan, entropy)?;
-    match build_beside(rt, alloc, params, plan, entropy, false) {
+    match build_beside(rt, progress, alloc, params, plan, entropy, false) {
         Ok((dealt, _)) => Ok(dealt),
         Err(_) => Err(DealFault::NoMemory),
     }

@@ -12,7 +12,6 @@ use coalition_map::Plan;
 use lms_bytes::Params;
 use reference_value::{build_committed_leaf, build_leaf, leaf_bytes};
 use share_files::{HEAD, leaf_commits_bytes};
-use stream_io::{Progress, Silent};
 
 /// Writes the leaves of the masked reference value, and the commitments to their masks behind the head of their file,
 /// where there is one.
@@ -30,21 +29,11 @@ pub(crate) fn write_leaves(
     ensures file { file.new ≡ file_asked (is_some secrets.now.macs) (dealing_with params.now plan.now secrets.now) }
 {
     let (_, commits) = file.split_at_mut(file.len().min(HEAD));
-    write_run(
-        &Silent,
-        params,
-        plan,
-        secrets,
-        Run::whole(params),
-        out,
-        commits,
-    );
+    write_run(params, plan, secrets, Run::whole(params), out, commits);
 }
 
-/// Writes the leaves of a run, one behind the other, and the commitments to their masks if they are asked for. It tells
-/// of each leaf.
-pub(crate) fn write_run<P: Progress>(
-    progress: &P,
+/// Writes the leaves of a run, one behind the other, and the commitments to their masks if they are asked for.
+pub(crate) fn write_run(
     params: &Params,
     plan: &Plan,
     secrets: &Secrets,
@@ -69,7 +58,6 @@ pub(crate) fn write_run<P: Progress>(
         let start = row * i as usize;
         let part = &mut commits[start..start + row];
         write_leaf(params, plan, secrets, run.first + i, leaf, part);
-        progress.leaf_built(params.leaves());
     }
 }
 

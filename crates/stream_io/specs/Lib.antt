@@ -1,5 +1,4 @@
 pub mod Net
-pub mod Progress
 pub mod RawFiles
 pub mod Store
 pub mod Talk

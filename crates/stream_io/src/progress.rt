@@ -1,18 +1,16 @@
 //! Who is told how far a dealing is.
 
-ghost use Rattle.stream_io.specs.Progress.{IsLeafCount};
+ghost use Rattle.std.specs.Prelude.{◌≡◌, ℕ};
 
-/// Is told how far a dealing is, by the threads that work at it. Neither call promises anything, so what is dealt is
-/// the same whoever is told. Neither takes any number but how many leaves some tree has, so that bytes cannot be handed
-/// on as they are. No clause says that it is the tree of this dealing, or how often a call is made.
+/// Is told how far a dealing is. What it is after a call is a function of what it was and of what it was told, so a
+/// contract that names the function says exactly what was told, and in which order.
 pub trait Progress {
-    /// One more leaf is built, of so many in all.
-    fn leaf_built(&self, all: u32)
-        requires { IsLeafCount all };
+    /// What it is once it was told that so many leaves are built, of so many in all.
+    ghost told: { Self → ℕ → ℕ → Self };
 
-    /// All leaves are built, so many. No thread tells of a leaf any more.
-    fn all_built(&self, all: u32)
-        requires { IsLeafCount all };
+    /// So many leaves are built, of so many in all.
+    fn built(&mut self, leaves: u32, all: u32)
+        ensures { self.new ≡ told self.old leaves all };
 }
 
 /// Is told, and does nothing.
@@ -20,18 +18,7 @@ pub trait Progress {
 pub struct Silent;
 
 impl Progress for Silent {
-    fn leaf_built(&self, _all: u32) {}
+    ghost told = { λ it _ _. it };
 
-    fn all_built(&self, _all: u32) {}
-}
-
-/// A runtime, and who is told beside it.
-impl<R, P: Progress> Progress for (R, P) {
-    fn leaf_built(&self, all: u32) {
-        self.1.leaf_built(all);
-    }
-
-    fn all_built(&self, all: u32) {
-        self.1.all_built(all);
-    }
+    fn built(&mut self, _leaves: u32, _all: u32) {}
 }

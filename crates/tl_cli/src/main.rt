@@ -29,7 +29,8 @@ fn main(rt: HostRuntime) -> ExitCode {
         return ExitCode::from(14);
     };
     ExitCode::from(run_tool(
-        &(rt, ProgressLine::new(rt)),
+        &rt,
+        &mut ProgressLine::new(rt),
         rt.alloc(),
         words.as_slice(),
         &mut FileStore::new(rt),

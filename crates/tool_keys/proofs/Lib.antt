@@ -5,3 +5,4 @@ pub mod Plans
 pub mod Rehearsing
 pub mod Running
 pub mod Stepping
+pub mod Telling

@@ -5,11 +5,14 @@ ghost use Rattle.std.specs.Prelude.{IfOk, IfErr, OnOk};
 ghost use Rattle.coalition_map.specs.Coalitions.{IsPlan};
 ghost use Rattle.dealer.specs.Dealt.{IsDealt};
 ghost use Rattle.dealer.specs.Entropy.{dealing_of};
+ghost use Rattle.dealer.specs.Told.{TellsLeaves};
 ghost use Rattle.stream_io.specs.declared.store.Readers.TheVariants.{Anyone};
 ghost use Rattle.tool_base.specs.Ending as spec;
 ghost use Rattle.tool_keys.specs.Naming.{named_files, named_shares};
 ghost use Rattle.tool_keys.specs.Deal.{AreAsked, DealEnds, IsDealableBy, IsDealtTo, IsNotDealt, IsReady, IsSet};
 ghost use Rattle.tool_keys.specs.Deal.{asked_commits, commits_outputs, plan_of};
+ghost use Rattle.tool_keys.specs.Told.{TellsBy, ToldBy};
+ghost use Rattle.tool_base.specs.Ending.{status_of};
 ghost use Rattle.tool_base.specs.Endings.{ending};
 ghost use Rattle.tool_base.specs.OutputOf.{output_of};
 ghost use Rattle.tool_base.specs.Outputs.{EndsWith};
@@ -26,9 +29,11 @@ use stream_io::{Progress, Readers, Store};
 use tool_base::{Ending, FILE_LIMIT, Output, Undealt, read_file, test_all_new, write_all};
 use tool_words::DealWords;
 
-/// Deals a key, and writes its files. The leaves are built by as many threads as there are processors.
-pub fn deal_files<R: Threads + Progress + Sync, S: Store>(
+/// Deals a key, and writes its files. The leaves are built by as many threads as there are processors, and it is told
+/// how many are built.
+pub fn deal_files<R: Threads + Sync, P: Progress, S: Store>(
     rt: &R,
+    progress: &mut P,
     alloc: Global,
     store: &mut S,
     words: &DealWords,
@@ -36,8 +41,9 @@ pub fn deal_files<R: Threads + Progress + Sync, S: Store>(
     ensures ended { let run = from_to (S.state store.old) (S.state store.new) in
         EndsWith (DealEnds run (deal_words words.now)) run (ending result) }
     ensures back { IsBack (S.state store.old) (S.state store.new) }
+    ensures told { ToldBy P.told (deal_words words.now) (status_of (ending result)) progress.old progress.new }
 {
-    let (outputs, done) = match new_outputs(rt, alloc, store, words) {
+    let (outputs, done) = match new_outputs(rt, progress, alloc, store, words) {
         Ok(ready) => ready,
         Err(end) => return end,
     };
@@ -48,8 +54,9 @@ pub fn deal_files<R: Threads + Progress + Sync, S: Store>(
 }
 
 /// Reads the entropy, deals, and tests the names of the outputs. It answers these and the end once all are written.
-fn new_outputs<R: Threads + Progress + Sync, S: Store>(
+fn new_outputs<R: Threads + Sync, P: Progress, S: Store>(
     rt: &R,
+    progress: &mut P,
     alloc: Global,
     store: &mut S,
     words: &DealWords,
@@ -59,16 +66,18 @@ fn new_outputs<R: Threads + Progress + Sync, S: Store>(
     ensures refused { InAnyRun S.state store.old store.new (λ run.
         IfErr result (λ end. DealEnds run (deal_words words.now) (ending end) [])) }
     ensures unchanged { IsUnchanged (S.state store.old) (S.state store.new) }
+    ensures told { TellsBy P.told (deal_words words.now) result progress.old progress.new }
 {
     let entropy = read_file(alloc, store, words.entropy, FILE_LIMIT)?;
-    let (outputs, done) = dealt_outputs(rt, alloc, words, &entropy)?;
+    let (outputs, done) = dealt_outputs(rt, progress, alloc, words, &entropy)?;
     test_all_new(alloc, store, &outputs)?;
     Ok((outputs, done))
 }
 
 /// The files of the dealing that the words ask for, and the end once they are written.
-fn dealt_outputs<R: Threads + Progress + Sync>(
+fn dealt_outputs<R: Threads + Sync, P: Progress>(
     rt: &R,
+    progress: &mut P,
     alloc: Global,
     words: &DealWords,
     entropy: &[u8],
@@ -76,10 +85,11 @@ fn dealt_outputs<R: Threads + Progress + Sync>(
     ensures dealt { IfOk result (λ dealt.
         IsDealtTo (deal_words words.now) entropy.now (map output_of dealt.0.items) (ending dealt.1)) }
     ensures refused { IfErr result (λ end. IsNotDealt (deal_words words.now) entropy.now (ending end)) }
+    ensures told { TellsBy P.told (deal_words words.now) result progress.old progress.new }
 {
     let params = set_of(words)?;
     let plan = plan_of(words, &params)?;
-    let (dealt, commits) = deal_as_asked(rt, alloc, words, &params, &plan, entropy)?;
+    let (dealt, commits) = deal_as_asked(rt, progress, alloc, words, &params, &plan, entropy)?;
     let Ok(files) = dealt.into_files(alloc) else {
         return Err(Ending::NoMemory);
     };
@@ -94,8 +104,9 @@ fn dealt_outputs<R: Threads + Progress + Sync>(
 }
 
 /// The dealing of this set, plan and entropy, and its commitment file where the words ask for it.
-fn deal_as_asked<R: Threads + Progress + Sync>(
+fn deal_as_asked<R: Threads + Sync, P: Progress>(
     rt: &R,
+    progress: &mut P,
     alloc: Global,
     words: &DealWords,
     params: &Params,
@@ -109,9 +120,10 @@ fn deal_as_asked<R: Threads + Progress + Sync>(
     ensures dealt { OnOk result (IsDealableBy (deal_words words.now) params.now plan.now entropy.now) }
     ensures shares { IfOk result (λ both. 0 < length both.0.shares.items) }
     ensures refused { IfErr result (λ end. IsNotDealt (deal_words words.now) entropy.now (ending end)) }
+    ensures told { TellsLeaves P.told params.now.h (λ end. ending end ≡ spec.NoMemory) result progress.old progress.new }
 {
     if words.commit {
-        match deal_committed_beside(rt, alloc, params, plan, entropy) {
+        match deal_committed_beside(rt, progress, alloc, params, plan, entropy) {
             Ok((dealt, commits)) => Ok((dealt, Some(commits))),
             Err(CommittedFault::Deal(fault)) => Err(end_of_fault(fault)),
             Err(CommittedFault::TooLarge { bytes }) => {
@@ -119,7 +131,7 @@ fn deal_as_asked<R: Threads + Progress + Sync>(
             }
         }
     } else {
-        match deal_beside(rt, alloc, params, plan, entropy) {
+        match deal_beside(rt, progress, alloc, params, plan, entropy) {
             Ok(dealt) => Ok((dealt, None)),
             Err(fault) => Err(end_of_fault(fault)),
         }

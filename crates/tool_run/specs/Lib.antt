@@ -1,3 +1,4 @@
 pub mod Drill
+pub mod Told
 pub mod ToolRun
 pub mod Worlds

@@ -1,8 +1,10 @@
 //! The top call.
 
-ghost use Rattle.std.specs.Prelude.{◌≡◌, ◌⊎◌, map, string_bytes, ◌==◌, if◌then◌else◌};
+ghost use Rattle.std.specs.Prelude.{◌≡◌, ◌⊎◌, Some, map, string_bytes, ◌==◌, if◌then◌else◌};
 ghost use Rattle.stream_io.specs.Net.{NetState};
+ghost use Rattle.tool_base.specs.Ending.{status_of};
 ghost use Rattle.tool_base.specs.Endings.{ending};
+ghost use Rattle.tool_run.specs.Told.{WordsTell};
 ghost use Rattle.tool_run.specs.ToolRun.{CommandRun, EndsSo, IsCutShort, IsOnStore, IsPrinted, ToolRun, WordsRun};
 ghost use Rattle.tool_words.specs.Rows.{row};
 ghost use Rattle.tool_words.specs.Words.{OutputsDiffer, command_of};
@@ -23,10 +25,11 @@ use tool_sign::{hss_sign, sign};
 use tool_trustee::{Clocks, serve_trustee};
 use tool_words::{Command, command_of};
 
-/// Does what the words ask for, and answers the status. The words begin with the command. The runtime is told how far a
-/// dealing is.
-pub fn run_tool<R: Threads + Wait + Progress + Sync, S: Store, N: Net, T: Clocks, O: Sink>(
+/// Does what the words ask for, and answers the status. The words begin with the command. It is told how far a dealing
+/// is.
+pub fn run_tool<R: Threads + Wait + Sync, P: Progress, S: Store, N: Net, T: Clocks, O: Sink>(
     rt: &R,
+    progress: &mut P,
     alloc: Global,
     words: &[String],
     store: &mut S,
@@ -41,14 +44,16 @@ pub fn run_tool<R: Threads + Wait + Progress + Sync, S: Store, N: Net, T: Clocks
           output = output_run O.steady O.room O.talk out.old out.new;
         })
         result }
+    ensures told { WordsTell P.told (command_of (map string_bytes words.now)) result progress.old progress.new }
 {
-    let end = run_words(rt, alloc, words, store, net, time);
+    let end = run_words(rt, progress, alloc, words, store, net, time);
     finish(alloc, &end, out)
 }
 
 /// Does what the words ask for, and answers how it ends.
-fn run_words<R: Threads + Wait + Progress + Sync, S: Store, N: Net, T: Clocks>(
+fn run_words<R: Threads + Wait + Sync, P: Progress, S: Store, N: Net, T: Clocks>(
     rt: &R,
+    progress: &mut P,
     alloc: Global,
     words: &[String],
     store: &mut S,
@@ -62,16 +67,19 @@ fn run_words<R: Threads + Wait + Progress + Sync, S: Store, N: Net, T: Clocks>(
     ensures back { IsBack (S.state store.old) (S.state store.new) }
     ensures net { IsNetBack (N.state net.old) (N.state net.new) }
     ensures time { T.state time.new ≡ T.state time.old }
+    ensures told { WordsTell P.told (command_of (map string_bytes words.now)) (status_of (ending result))
+        progress.old progress.new }
 {
     match command_of(alloc, words) {
-        Some(command) => run_command(rt, alloc, &command, store, net, time),
+        Some(command) => run_command(rt, progress, alloc, &command, store, net, time),
         None => Ending::Usage,
     }
 }
 
 /// Does what a command asks for, and answers how it ends.
-fn run_command<R: Threads + Wait + Progress + Sync, S: Store, N: Net, T: Clocks>(
+fn run_command<R: Threads + Wait + Sync, P: Progress, S: Store, N: Net, T: Clocks>(
     rt: &R,
+    progress: &mut P,
     alloc: Global,
     command: &Command,
     store: &mut S,
@@ -86,9 +94,10 @@ fn run_command<R: Threads + Wait + Progress + Sync, S: Store, N: Net, T: Clocks>
     ensures back { IsBack (S.state store.old) (S.state store.new) }
     ensures net { IsNetBack (N.state net.old) (N.state net.new) }
     ensures time { T.state time.new ≡ T.state time.old }
+    ensures told { WordsTell P.told (Some (row command.now)) (status_of (ending result)) progress.old progress.new }
 {
     match command {
-        Command::Deal(words) => deal_files(rt, alloc, store, words),
+        Command::Deal(words) => deal_files(rt, progress, alloc, store, words),
         Command::Trustee(words) => serve_trustee(rt, alloc, words, store, net, time),
         Command::Sign(words) => sign(alloc, words, store, net),
         Command::Blame(words) => blame(alloc, words, store, net),

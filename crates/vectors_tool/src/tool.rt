@@ -31,5 +31,5 @@ pub(crate) fn run_over<R: Threads + Wait + Sync>(
         (output_run ⟦<MemSink as Faults>⟧.steady ⟦<MemSink as Sink>⟧.room ⟦<MemSink as Stream>⟧.talk out.old out.new))
         result }
 {
-    run_tool(&(rt, Silent), alloc, words, store, net, time, out)
+    run_tool(rt, &mut Silent, alloc, words, store, net, time, out)
 }

@@ -1,6 +1,8 @@
 //! Tests of what no contract says: that the files are those of another implementation, that several threads give them
 //! as one does, and each refusal once.
 
+ghost use Rattle.std.specs.Prelude.{◌+◌, ◌-◌, ◌^◌, min};
+
 use crate::dealings::{count_up, deal_to, dealt, digest_of, head_of, scheme_of};
 use crate::values::{first, holds};
 use dealer::{DealFault, DealingFiles, Dealt, deal_beside, deal_committed, deal_committed_beside};
@@ -8,7 +10,6 @@ use lms_bytes::write_public;
 use share_files::{Share, write_share, write_tree_head};
 use std::alloc::Global;
 use std::process::Abort;
-use std::sync::atomic::{AtomicU32, Ordering};
 use std::thread::Threads;
 use stream_io::{Progress, Silent};
 
@@ -86,7 +87,7 @@ fn files_are_those_of_another_implementation(rt: HostRuntime) {
 /// A dealing of typecodes 5 and 3 to coalitions of three of five trustees, by several threads.
 fn dealt_beside<R: Threads + Sync + Abort>(rt: &R, alloc: Global) -> Dealt {
     let (params, plan) = scheme_of(rt, (5, 3), (5, 3));
-    deal_beside(&(rt, Silent), alloc, &params, &plan, &count_up()).expect(rt, "a dealing")
+    deal_beside(rt, &mut Silent, alloc, &params, &plan, &count_up()).expect(rt, "a dealing")
 }
 
 /// The same with its commitments, by one thread.
@@ -98,7 +99,8 @@ fn committed(rt: &impl Abort, alloc: Global) -> (Dealt, Vec<u8>) {
 /// The same with its commitments, by several threads.
 fn committed_beside<R: Threads + Sync + Abort>(rt: &R, alloc: Global) -> (Dealt, Vec<u8>) {
     let (params, plan) = scheme_of(rt, (5, 3), (5, 3));
-    deal_committed_beside(&(rt, Silent), alloc, &params, &plan, &count_up()).expect(rt, "a dealing")
+    deal_committed_beside(rt, &mut Silent, alloc, &params, &plan, &count_up())
+        .expect(rt, "a dealing")
 }
 
 /// The files of a dealing.
@@ -136,68 +138,72 @@ fn several_threads_deal_as_one_does(rt: HostRuntime) {
     assert!(rt; commit_alike(&rt, rt.alloc()));
 }
 
-/// Counts what it is told of a dealing of 32 leaves.
+/// Keeps what it was told last, and how often it was told.
 #[derive(Drop)]
-struct Counted {
-    leaves: AtomicU32,
-    ends: AtomicU32,
-    /// Leaves of another number than 32, leaves behind the end, and an end before the last leaf.
-    wrong: AtomicU32,
+struct Heard {
+    leaves: u32,
+    all: u32,
+    calls: u32,
 }
 
-impl Counted {
+impl Heard {
     /// Nothing yet.
-    fn new() -> Counted {
-        Counted {
-            leaves: AtomicU32::new(0),
-            ends: AtomicU32::new(0),
-            wrong: AtomicU32::new(0),
+    fn new() -> Heard {
+        Heard {
+            leaves: 0,
+            all: 0,
+            calls: 0,
         }
     }
 
-    /// Whether each leaf was told of once, and then the end, once.
-    fn is_whole(&self) -> bool {
-        let leaves = self.leaves.load(Ordering::Acquire) == 32;
-        let ends = self.ends.load(Ordering::Acquire) == 1;
-        leaves & ends & (self.wrong.load(Ordering::Acquire) == 0)
+    /// Whether it was told so often, and last that all of so many leaves are built.
+    fn is_whole(&self, all: u32, calls: u32) -> bool {
+        (self.leaves == all) & (self.all == all) & (self.calls == calls)
     }
 }
 
-impl Progress for Counted {
-    fn leaf_built(&self, all: u32) {
-        self.leaves.fetch_add(1, Ordering::AcqRel);
-        if all != 32 || self.ends.load(Ordering::Acquire) > 0 {
-            self.wrong.fetch_add(1, Ordering::AcqRel);
-        }
-    }
+impl Progress for Heard {
+    ghost told = { λ it leaves all. record {
+      leaves = leaves;
+      all = all;
+      calls = min (it.calls + 1) (2 ^ 32 - 1);
+    } };
 
-    fn all_built(&self, all: u32) {
-        self.ends.fetch_add(1, Ordering::AcqRel);
-        if all != 32 || self.leaves.load(Ordering::Acquire) != 32 {
-            self.wrong.fetch_add(1, Ordering::AcqRel);
-        }
+    fn built(&mut self, leaves: u32, all: u32) {
+        *self = Heard {
+            leaves,
+            all,
+            calls: self.calls.saturating_add(1),
+        };
     }
 }
 
-/// Whether a dealing by several threads tells of each leaf.
-fn tells_of_leaves<R: Threads + Sync + Abort>(rt: &R, alloc: Global) -> bool {
-    let (params, plan) = scheme_of(rt, (5, 3), (5, 3));
-    let beside = (rt, Counted::new());
-    let dealt = deal_beside(&beside, alloc, &params, &plan, &count_up());
-    dealt.is_ok() & beside.1.is_whole()
+/// Whether a dealing of these typecodes by several threads tells of so many leaves in so many parts.
+fn tells_of_parts<R: Threads + Sync + Abort>(
+    rt: &R,
+    alloc: Global,
+    codes: (u32, u32),
+    all: u32,
+    parts: u32,
+) -> bool {
+    let (params, plan) = scheme_of(rt, codes, (5, 3));
+    let mut heard = Heard::new();
+    let dealt = deal_beside(rt, &mut heard, alloc, &params, &plan, &count_up());
+    dealt.is_ok() & heard.is_whole(all, parts)
 }
 
-/// Whether a dealing with commitments does.
+/// Whether a dealing of 32 leaves with commitments tells of them once.
 fn tells_of_commitments<R: Threads + Sync + Abort>(rt: &R, alloc: Global) -> bool {
     let (params, plan) = scheme_of(rt, (5, 3), (5, 3));
-    let beside = (rt, Counted::new());
-    let dealt = deal_committed_beside(&beside, alloc, &params, &plan, &count_up());
-    dealt.is_ok() & beside.1.is_whole()
+    let mut heard = Heard::new();
+    let dealt = deal_committed_beside(rt, &mut heard, alloc, &params, &plan, &count_up());
+    dealt.is_ok() & heard.is_whole(32, 1)
 }
 
 #[test]
-fn each_leaf_is_told_of_once(rt: HostRuntime) {
-    assert!(rt; tells_of_leaves(&rt, rt.alloc()));
+fn each_part_is_told_of_once(rt: HostRuntime) {
+    assert!(rt; tells_of_parts(&rt, rt.alloc(), (5, 3), 32, 1));
+    assert!(rt; tells_of_parts(&rt, rt.alloc(), (11, 5), 1024, 8));
     assert!(rt; tells_of_commitments(&rt, rt.alloc()));
 }
 

@@ -21,21 +21,24 @@ finish-requires-clause-whole g c = rw c.deref.ensures.value c.in_ok-keys.ensures
 pub finish-requires-clause-leaves : goal.finish-requires-clause-leaves
 finish-requires-clause-leaves g c = c.in_ok-leaves.ensures.leaves
 
-pub returns : goal.returns
-returns g c =
+pub returns-clause-built : goal.returns-clause-built
+returns-clause-built g c =
     let e = c.in_ok-secrets.ensures in
     let leaves = c.in_ok-leaves.ensures in
     let dealt = c.in_ok-dealt.ensures in
     built-as e.dealing e.asked dealt.dealt leaves.file dealt.shares
 
-pub returns-in_err-secrets : goal.returns-in_err-secrets
-returns-in_err-secrets g c = rw (err_from_is_err_and c.from_residual.result c.from_residual.ensures.1).1 tt
+pub returns-in_err-secrets-clause-built : goal.returns-in_err-secrets-clause-built
+returns-in_err-secrets-clause-built g c = rw (err_from_is_err_and c.from_residual.result c.from_residual.ensures.1).1 tt
 
-pub returns-in_err-leaves : goal.returns-in_err-leaves
-returns-in_err-leaves g c = rw (err_from_is_err_and c.from_residual-in_err-leaves.result c.from_residual-in_err-leaves.ensures.1).1 tt
+pub returns-in_err-leaves-clause-built : goal.returns-in_err-leaves-clause-built
+returns-in_err-leaves-clause-built g c = rw (err_from_is_err_and c.from_residual-in_err-leaves.result c.from_residual-in_err-leaves.ensures.1).1 tt
 
-pub returns-in_err-keys : goal.returns-in_err-keys
-returns-in_err-keys g c = rw (err_from_is_err_and c.from_residual-in_err-keys.result c.from_residual-in_err-keys.ensures.1).1 tt
+pub returns-in_err-keys-clause-built : goal.returns-in_err-keys-clause-built
+returns-in_err-keys-clause-built g c = rw (err_from_is_err_and c.from_residual-in_err-keys.result c.from_residual-in_err-keys.ensures.1).1 tt
 
-pub returns-in_err-dealt : goal.returns-in_err-dealt
-returns-in_err-dealt g c = rw (err_from_is_err_and c.from_residual-in_err-dealt.result c.from_residual-in_err-dealt.ensures.1).1 tt
+pub returns-in_err-dealt-clause-built : goal.returns-in_err-dealt-clause-built
+returns-in_err-dealt-clause-built g c = rw (err_from_is_err_and c.from_residual-in_err-dealt.result c.from_residual-in_err-dealt.ensures.1).1 tt
+
+pub returns-clause-told : goal.returns-clause-told
+returns-clause-told g c = c.in_ok-leaves.ensures.told

@@ -19,5 +19,5 @@ pub returns-clause-file : goal.returns-clause-file
 returns-clause-file g c =
     over_all c.in_ok-file.file.len c.write_leaves_beside.new.file c.in_ok-file.file.items _ (c.write_leaves_beside.auto.file ∙ c.deref_mut-2.ensures.len) c.write_leaves_beside.ensures.file
 
-pub all_built-requires : goal.all_built-requires
-all_built-requires g c = (c.args.params.now.h, c.leaves.ensures)
+pub returns-clause-told : goal.returns-clause-told
+returns-clause-told g c = c.write_leaves_beside.ensures.told

@@ -1,6 +1,7 @@
 use Rattle.std.proofs.Common.{refl, inl}
 use Rattle.std.proofs.lemmas.Result.{err_from_is_err_and}
 use Rattle.dealer.proofs.Exclusive.{none_dealable}
+use Rattle.dealer.proofs.Wanting.{told-wanting}
 use Rattle.dealer.proofs.dealing.deal_beside.Goals as goal
 
 pub returns-in-Ok-clause-refused : goal.returns-in-Ok-clause-refused
@@ -16,10 +17,10 @@ pub returns-in-Ok-clause-dealable : goal.returns-in-Ok-clause-dealable
 returns-in-Ok-clause-dealable g c = c.in_ok-check.ensures.dealable
 
 pub returns-in-Ok-clause-dealt : goal.returns-in-Ok-clause-dealt
-returns-in-Ok-clause-dealt g c = c.in-Ok.ensures.dealt
+returns-in-Ok-clause-dealt g c = c.in-Ok.ensures.built.dealt
 
 pub returns-in-Ok-clause-shares : goal.returns-in-Ok-clause-shares
-returns-in-Ok-clause-shares g c = c.in-Ok.ensures.shares
+returns-in-Ok-clause-shares g c = c.in-Ok.ensures.built.shares
 
 pub returns-in-Ok-clause-cause : goal.returns-in-Ok-clause-cause
 returns-in-Ok-clause-cause g c = tt
@@ -41,3 +42,12 @@ returns-in_err-check-clause-dealt g c = rw (err_from_is_err_and c.from_residual.
 
 pub returns-in_err-check-clause-shares : goal.returns-in_err-check-clause-shares
 returns-in_err-check-clause-shares g c = rw (err_from_is_err_and c.from_residual.result c.from_residual.ensures.1).1 tt
+
+pub returns-in-Ok-clause-told : goal.returns-in-Ok-clause-told
+returns-in-Ok-clause-told g c = c.in-Ok.ensures.told
+
+pub returns-clause-told : goal.returns-clause-told
+returns-clause-told g c = told-wanting _ c.in-Err.ensures.told
+
+pub returns-in_err-check-clause-told : goal.returns-in_err-check-clause-told
+returns-in_err-check-clause-told g c = rw (err_from_is_err_and c.from_residual.result c.from_residual.ensures.1).1 (inl refl)

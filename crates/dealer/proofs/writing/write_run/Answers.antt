@@ -10,7 +10,7 @@ use Rattle.dealer.proofs.Joins.{run-written}
 use Rattle.dealer.proofs.writing.write_run.Goals as goal
 
 pub leaves-init : goal.leaves-init
-leaves-init g c =
+leaves-init c =
     let d = dealing_with c.args.params.now c.args.plan.now c.args.secrets.now in
     let none : c.leaf_bytes-size.result * 0 ≡ 0 = mul-zero _ in
     let empty : c.asked_bytes-row.result * 0 ≡ 0 = mul-zero _ in
@@ -20,18 +20,18 @@ leaves-init g c =
     }
 
 pub slice_bounds-leaf-end : goal.slice_bounds-leaf-end
-slice_bounds-leaf-end g c =
+slice_bounds-leaf-end c =
     let same : c.leaf_bytes-size.result ≡ leaf_length c.args.params.now c.args.plan.now.k = rw c.k.ensures.value at c.leaf_bytes-size.ensures in
     let within = part-within _ _ c.leaves.i c.args.run.count (length c.leaves.out) same (c.leaves.auto.out ∙ c.requires.leaves) c.leaves-test.true in
     omega (arith, within)
 
 pub slice_bounds-part-end : goal.slice_bounds-part-end
-slice_bounds-part-end g c =
+slice_bounds-part-end c =
     let within = part-within _ _ c.leaves.i c.args.run.count (length c.leaves.commits) c.asked_bytes-row.ensures (c.leaves.auto.commits ∙ c.requires.commits) c.leaves-test.true in
     omega (arith, within)
 
 pub leaves-preserved : goal.leaves-preserved
-leaves-preserved g c =
+leaves-preserved c =
     let d = dealing_with c.args.params.now c.args.plan.now c.args.secrets.now in
     let first = c.args.run.first in
     let same : c.leaf_bytes-size.result ≡ leaf_length c.args.params.now c.args.plan.now.k = rw c.k.ensures.value at c.leaf_bytes-size.ensures in
@@ -45,46 +45,46 @@ leaves-preserved g c =
     }
 
 pub write_leaf-requires-clause-suit : goal.write_leaf-requires-clause-suit
-write_leaf-requires-clause-suit g c = c.requires.suit
+write_leaf-requires-clause-suit c = c.requires.suit
 
 pub write_leaf-requires-clause-leaf : goal.write_leaf-requires-clause-leaf
-write_leaf-requires-clause-leaf g c = omega (arith, c.leaves-test.true, c.requires.within)
+write_leaf-requires-clause-leaf c = omega (arith, c.leaves-test.true, c.requires.within)
 
 pub write_leaf-requires-clause-room : goal.write_leaf-requires-clause-room
-write_leaf-requires-clause-room g c =
+write_leaf-requires-clause-room c =
     let same : c.leaf_bytes-size.result ≡ leaf_length c.args.params.now c.args.plan.now.k = rw c.k.ensures.value at c.leaf_bytes-size.ensures in
     let within = part-within _ _ c.leaves.i c.args.run.count (length c.leaves.out) same (c.leaves.auto.out ∙ c.requires.leaves) c.leaves-test.true in
     length_part (c.leaf_bytes-size.result * c.leaves.i) _ c.leaves.out within ∙ same
 
 pub write_leaf-requires-clause-commits : goal.write_leaf-requires-clause-commits
-write_leaf-requires-clause-commits g c =
+write_leaf-requires-clause-commits c =
     let within = part-within _ _ c.leaves.i c.args.run.count (length c.leaves.commits) c.asked_bytes-row.ensures (c.leaves.auto.commits ∙ c.requires.commits) c.leaves-test.true in
     length_part (c.asked_bytes-row.result * c.leaves.i) _ c.leaves.commits within ∙ c.asked_bytes-row.ensures
 
 pub overflow_mul-place : goal.overflow_mul-place
-overflow_mul-place g c =
+overflow_mul-place c =
     let same : c.leaf_bytes-size.result ≡ leaf_length c.args.params.now c.args.plan.now.k = rw c.k.ensures.value at c.leaf_bytes-size.ensures in
     let within = part-within _ _ c.leaves.i c.args.run.count (length c.leaves.out) same (c.leaves.auto.out ∙ c.requires.leaves) c.leaves-test.true in
     omega (arith, within)
 
 pub overflow_add-leaf : goal.overflow_add-leaf
-overflow_add-leaf g c =
+overflow_add-leaf c =
     let same : c.leaf_bytes-size.result ≡ leaf_length c.args.params.now c.args.plan.now.k = rw c.k.ensures.value at c.leaf_bytes-size.ensures in
     let within = part-within _ _ c.leaves.i c.args.run.count (length c.leaves.out) same (c.leaves.auto.out ∙ c.requires.leaves) c.leaves-test.true in
     omega (arith, within)
 
 pub overflow_mul-start : goal.overflow_mul-start
-overflow_mul-start g c =
+overflow_mul-start c =
     let within = part-within _ _ c.leaves.i c.args.run.count (length c.leaves.commits) c.asked_bytes-row.ensures (c.leaves.auto.commits ∙ c.requires.commits) c.leaves-test.true in
     omega (arith, within)
 
 pub overflow_add-part : goal.overflow_add-part
-overflow_add-part g c =
+overflow_add-part c =
     let within = part-within _ _ c.leaves.i c.args.run.count (length c.leaves.commits) c.asked_bytes-row.ensures (c.leaves.auto.commits ∙ c.requires.commits) c.leaves-test.true in
     omega (arith, within)
 
 pub returns-clause-leaves : goal.returns-clause-leaves
-returns-clause-leaves g c =
+returns-clause-leaves c =
     let d = dealing_with c.args.params.now c.args.plan.now c.args.secrets.now in
     let last : c.leaves.i ≡ c.args.run.count = omega (arith, c.leaves-test.false, c.leaves.auto.i-end) in
     let same : c.leaf_bytes-size.result ≡ leaf_length c.args.params.now c.args.plan.now.k = rw c.k.ensures.value at c.leaf_bytes-size.ensures in
@@ -92,11 +92,8 @@ returns-clause-leaves g c =
     run-written (λ k. leaf_part d (c.args.run.first + k)) _ c.leaves.i c.args.run.count c.leaves.out room last c.leaves.invariant.leaves
 
 pub returns-clause-commits : goal.returns-clause-commits
-returns-clause-commits g c =
+returns-clause-commits c =
     let d = dealing_with c.args.params.now c.args.plan.now c.args.secrets.now in
     let last : c.leaves.i ≡ c.args.run.count = omega (arith, c.leaves-test.false, c.leaves.auto.i-end) in
     let room : length c.leaves.commits ≡ c.asked_bytes-row.result * c.args.run.count = rw c.asked_bytes-row.ensures (c.leaves.auto.commits ∙ c.requires.commits) in
     run-written (λ k. leaf_asked (is_some c.args.secrets.now.macs) d (c.args.run.first + k)) _ c.leaves.i c.args.run.count c.leaves.commits room last c.leaves.invariant.commits
-
-pub leaf_built-requires : goal.leaf_built-requires
-leaf_built-requires g c = (c.args.params.now.h, c.leaves-in-leaves.ensures)

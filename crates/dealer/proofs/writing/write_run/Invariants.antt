@@ -7,7 +7,7 @@ use Rattle.dealer.specs.Secrets.{dealing_with}
 use Rattle.dealer.proofs.writing.write_run.Given as goal
 
 abbrev pub invariant-leaves : goal.invariant-leaves
-invariant-leaves g l = record {
+invariant-leaves l = record {
   leaves : take (l.size * l.i) l.out ≡ joined (λ k. leaf_part (dealing_with l.params l.plan l.secrets) (l.run.first + k)) l.i;
   commits : take (l.row * l.i) l.commits ≡ joined (λ k. leaf_asked (is_some l.secrets.macs) (dealing_with l.params l.plan l.secrets) (l.run.first + k)) l.i;
 }

@@ -7,8 +7,10 @@ use Rattle.tool_base.proofs.Writing.{all_new_later, ends_stopped, ends_untouched
 use Rattle.tool_words.specs.Rows.{deal_words}
 use Rattle.tool_keys.specs.Deal.{DealEnds}
 use Rattle.tool_keys.specs.Steps.{all_written, stopped}
+use Rattle.tool_keys.specs.Told.{all_told}
 use Rattle.tool_keys.proofs.Dealing.{dealt_differ, ready_then}
 use Rattle.tool_keys.proofs.Running.{back_after}
+use Rattle.tool_keys.proofs.Telling.{dealt-status, unwritten-status}
 use Rattle.tool_keys.proofs.deal.deal_files.Goals as goal
 
 pub returns-in-Err-clause-ended : goal.returns-in-Err-clause-ended
@@ -64,3 +66,17 @@ returns-clause-ended g c =
 
 pub returns-clause-back : goal.returns-clause-back
 returns-clause-back g c = back_after _ _ _ c.in-Ok.ensures.unchanged c.in-Err-write_all.ensures.back
+
+pub returns-in-Err-clause-told : goal.returns-in-Err-clause-told
+returns-in-Err-clause-told g c = c.in-Err.ensures.told
+
+pub returns-in-Ok-write_all-clause-told : goal.returns-in-Ok-write_all-clause-told
+returns-in-Ok-write_all-clause-told g c =
+    let one = c.in-Ok.ensures in
+    let ready = one.ready c.args.store.now c.new_outputs.new.store (part_of _ _ _ _ (unchanged_none _) (onward_none _)) in
+    all_told (dealt-status _ _ _ _ ready.dealt) one.told
+
+pub returns-clause-told : goal.returns-clause-told
+returns-clause-told g c =
+    let stop = c.in-Err-write_all.ensures.refused c.args.store.now c.in-Ok.ensures.unchanged in
+    all_told (unwritten-status _ _ _ _ stop.cause) c.in-Ok.ensures.told

@@ -1,12 +1,14 @@
-use Rattle.std.proofs.Common.{All, map}
+use Rattle.std.proofs.Common.{All, map, refl}
 use Rattle.std.proofs.lemmas.Result.{err_from_is_err_and}
 use Rattle.tool_base.specs.Endings.{ending}
 use Rattle.tool_base.specs.OutputOf.{output_of}
 use Rattle.tool_base.specs.Outputs.{FirstNotNew, IsNew}
 use Rattle.tool_base.specs.World.{from_to}
-use Rattle.tool_base.proofs.Runs.{unchanged_on, onward_on, part_of}
+use Rattle.tool_base.proofs.Runs.{onward_none, onward_on, part_of, unchanged_none, unchanged_on}
 use Rattle.tool_base.proofs.Writing.{names_of}
 use Rattle.tool_keys.specs.Steps.{given, not_new, refused}
+use Rattle.tool_keys.specs.Told.{all_told, nothing_told}
+use Rattle.tool_keys.proofs.Telling.{taken-status, unread-status}
 use Rattle.tool_keys.proofs.deal.new_outputs.Goals as goal
 
 pub returns-in_err-entropy-clause-refused : goal.returns-in_err-entropy-clause-refused
@@ -55,3 +57,23 @@ returns-in_err-test_all_new-clause-unchanged g c = unchanged_on _ _ _ c.in_ok-en
 
 pub returns-clause-unchanged : goal.returns-clause-unchanged
 returns-clause-unchanged g c = unchanged_on _ _ _ c.in_ok-entropy.ensures.unchanged c.in_ok-test_all_new.ensures.unchanged
+
+pub returns-in_err-entropy-clause-told : goal.returns-in_err-entropy-clause-told
+returns-in_err-entropy-clause-told g c =
+    let p = err_from_is_err_and c.from_residual.result c.from_residual.ensures.1 in
+    let unread = c.in_err-entropy.ensures.refused c.args.store.now c.read_file.new.store (part_of _ _ _ _ (unchanged_none _) (onward_none _)) in
+    rw (p.1, p.2) (nothing_told (unread-status _ _ _ _ unread) refl)
+
+pub returns-in_err-outputs-clause-told : goal.returns-in_err-outputs-clause-told
+returns-in_err-outputs-clause-told g c =
+    let p = err_from_is_err_and c.from_residual-in_err-outputs.result c.from_residual-in_err-outputs.ensures.1 in
+    rw (p.1, p.2) c.in_err-outputs.ensures.told
+
+pub returns-in_err-test_all_new-clause-told : goal.returns-in_err-test_all_new-clause-told
+returns-in_err-test_all_new-clause-told g c =
+    let p = err_from_is_err_and c.from_residual-in_err-test_all_new.result c.from_residual-in_err-test_all_new.ensures.1 in
+    let taken = c.in_err-test_all_new.ensures.refused c.read_file.new.store c.test_all_new.new.store (part_of _ _ _ _ (unchanged_none _) (onward_none _)) in
+    rw (p.1, p.2) (all_told (taken-status _ _ _ taken) c.in_ok-outputs.ensures.told)
+
+pub returns-clause-told : goal.returns-clause-told
+returns-clause-told g c = c.in_ok-outputs.ensures.told

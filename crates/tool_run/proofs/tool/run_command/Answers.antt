@@ -1,6 +1,7 @@
 use Rattle.std.proofs.Common.{refl}
 use Rattle.tool_base.proofs.Nets.{net_none}
 use Rattle.tool_run.proofs.Running.{on_store}
+use Rattle.tool_run.proofs.Telling.{tells-nothing}
 use Rattle.tool_run.proofs.tool.run_command.Goals as goal
 
 pub returns-in-Deal : goal.returns-in-Deal
@@ -9,6 +10,7 @@ returns-in-Deal g c = record {
   back = c.deal_files.ensures.back;
   net = net_none _;
   time = refl;
+  told = rw c.in-Deal.is c.deal_files.ensures.told;
 }
 
 pub returns-in-Trustee : goal.returns-in-Trustee
@@ -17,6 +19,7 @@ returns-in-Trustee g c = record {
   back = c.serve_trustee.ensures.keeps.back;
   net = c.serve_trustee.ensures.net;
   time = c.serve_trustee.ensures.time;
+  told = rw c.in-Trustee.is refl;
 }
 
 pub returns-in-Sign : goal.returns-in-Sign
@@ -25,6 +28,7 @@ returns-in-Sign g c = record {
   back = c.sign.ensures.keeps.back;
   net = c.sign.ensures.ports;
   time = refl;
+  told = rw c.in-Sign.is refl;
 }
 
 pub returns-in-Blame : goal.returns-in-Blame
@@ -33,6 +37,7 @@ returns-in-Blame g c = record {
   back = c.blame.ensures.keeps.back;
   net = c.blame.ensures.ports;
   time = refl;
+  told = rw c.in-Blame.is refl;
 }
 
 pub returns-in-HssSign : goal.returns-in-HssSign
@@ -41,6 +46,7 @@ returns-in-HssSign g c = record {
   back = c.hss_sign.ensures.keeps.back;
   net = c.hss_sign.ensures.ports;
   time = refl;
+  told = rw c.in-HssSign.is refl;
 }
 
 pub returns-in-Aggregate : goal.returns-in-Aggregate
@@ -49,6 +55,7 @@ returns-in-Aggregate g c = record {
   back = c.aggregate.ensures.keeps.back;
   net = c.aggregate.ensures.ports;
   time = refl;
+  told = rw c.in-Aggregate.is refl;
 }
 
 pub returns-in_default : goal.returns-in_default
@@ -57,6 +64,7 @@ returns-in_default g c = record {
   back = c.run_on_store.ensures.back;
   net = net_none _;
   time = refl;
+  told = tells-nothing _ _ _ _ c.in_default.not-Deal;
 }
 
 pub run_on_store-requires-clause-alone : goal.run_on_store-requires-clause-alone

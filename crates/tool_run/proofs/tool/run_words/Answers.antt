@@ -16,3 +16,6 @@ pub run_command-requires-clause-differ : goal.run_command-requires-clause-differ
 run_command-requires-clause-differ g c =
     let is : command_of (map string_bytes c.args.words.now) ≡ Some (row c.in-Some.command) = rw (← c.command_of.ensures, c.in-Some.is) refl in
     λ lives order. outputs_differ _ _ is
+
+pub returns-in-None-clause-told : goal.returns-in-None-clause-told
+returns-in-None-clause-told g c = rw (← c.command_of.ensures, c.in-None.is) refl
