@@ -1,4 +1,4 @@
--- What is told of a dealing: how many of its leaves are built, each time that a part of them is.
+-- What is told of a dealing: how many of its leaves are built, after each part of them.
 use Rattle.std.specs.Prelude.{◌≡◌, ◌⊎◌, ℕ, zero, suc, ◌*◌, ◌/◌, ◌^◌, Result, MatchResult, min}
 
 -- what an object is once it was told of the first k parts, of so many leaves each, out of so many in all

@@ -30,7 +30,7 @@ use std::thread;
 use std::thread::{Threads, join_mut};
 use stream_io::Progress;
 
-/// The most leaves that are built before it is told how many are.
+/// How many leaves are built as one part, where there are as many.
 const PART: u32 = 128;
 
 /// Deals the key that the entropy stands for, which has been tested, with its commitment file if it is asked for. The
@@ -101,8 +101,7 @@ fn write_leaves_beside<R: Threads + Sync, P: Progress>(
 }
 
 /// Writes the leaves of the masked reference value, one behind the other, and the commitments to their masks if they are
-/// asked for. It builds one part of them after the other, each by all threads, and tells behind each how many leaves are
-/// built.
+/// asked for. It builds them part by part, each part by all threads, and tells after each how many leaves are built.
 fn write_parts<R: Threads + Sync, P: Progress>(
     rt: &R,
     progress: &mut P,

@@ -1,6 +1,7 @@
 -- What words tell, by the status that is answered.
 use denote.Bor.{Bor}
-use Rattle.std.proofs.Common.{◌≡◌, ◌≢◌, ◌==◌, ◌⊎◌, ℕ, zero, suc, Option, Some, None, if◌then◌else◌, inl, inr, refl, sym, ap, ◌∙◌}
+use Rattle.std.proofs.Common.{◌≡◌, ◌≢◌, ◌==◌, ◌⊎◌, ℕ, zero, suc, Option, Some, None, if◌then◌else◌, inl, inr, refl, sym, ap, ◌∙◌, arith}
+use Rattle.std.proofs.lemmas.Bool.Decides.{nat_tests}
 use Rattle.tool_base.specs.Ending.{Ending, status_of}
 use Rattle.tool_base.specs.World.{OutputRun}
 use Rattle.tool_keys.specs.Told.{ToldBy, all_told, nothing_told}
@@ -37,7 +38,7 @@ tells-nothing told (Show file leaves) status it other = refl
 shown-status : (shown status n : ℕ) → (status ≡ shown) ⊎ (status ≡ (if shown == 0 then 3 else shown)) → status ≡ n → n ≢ 3 → shown ≡ n
 shown-status shown status n (inl whole) is other = sym whole ∙ is
 shown-status zero status n (inr cut) is other = absurd (other (sym is ∙ cut))
-shown-status (suc shown) status n (inr cut) is other = sym cut ∙ is
+shown-status (suc shown) status n (inr cut) is other = grind (arith, nat_tests)
 
 -- and it is that of the end where it is not that of want of memory either
 end-status : (run : OutputRun) (end : Ending) (status n : ℕ) → EndsSo run end status → status ≡ n → n ≢ 3 → n ≢ 14 → status_of end ≡ n

@@ -25,8 +25,8 @@ use tool_sign::{hss_sign, sign};
 use tool_trustee::{Clocks, serve_trustee};
 use tool_words::{Command, command_of};
 
-/// Does what the words ask for, and answers the status. The words begin with the command. It is told how far a dealing
-/// is.
+/// Does what the words ask for, and answers the status. The words begin with the command. `progress` is told how far a
+/// dealing is.
 pub fn run_tool<R: Threads + Wait + Sync, P: Progress, S: Store, N: Net, T: Clocks, O: Sink>(
     rt: &R,
     progress: &mut P,
