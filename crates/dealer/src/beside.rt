@@ -30,7 +30,7 @@ use std::thread;
 use std::thread::{Threads, join_mut};
 use stream_io::Progress;
 
-/// How many leaves are built as one part, where there are as many.
+/// How many leaves are built as one part, if there are that many.
 const PART: u32 = 128;
 
 /// Deals the key that the entropy stands for, which has been tested, with its commitment file if it is asked for. The

@@ -186,7 +186,11 @@ fn opens_no_other(signer: &mut Signer, share: &Share) -> bool {
     let other = second(share, 10, abc, 0xCE, 0xCE);
     let (c, digest) = (Val::of(&[0xCC; 32]), Val::of(&[0xDD; 32]));
     let forged = signer.refuses(&untagged, Refusal::BadCheck);
-    forged & signer.refuses(&other, Refusal::Journal(JournalFault::OtherDigest { c, digest }))
+    forged
+        & signer.refuses(
+            &other,
+            Refusal::Journal(JournalFault::OtherDigest { c, digest }),
+        )
 }
 
 #[test]
@@ -221,7 +225,12 @@ fn a_refusal_has_its_number(rt: HostRuntime) {
     let kept = MessageId::of(b"abc");
     let (c, digest) = (Val::of(&[0xCC; 32]), Val::of(&[0xDD; 32]));
     assert!(rt; has_number(&Refusal::Journal(JournalFault::Spent { kept }), 9));
-    assert!(rt; has_number(&Refusal::Journal(JournalFault::OtherDigest { c, digest }), 10));
+    assert!(rt;
+        has_number(
+            &Refusal::Journal(JournalFault::OtherDigest { c, digest }),
+            10
+        )
+    );
 }
 
 /// Whether a grant of round one for leaf 0 gives the mask of the randomizer.

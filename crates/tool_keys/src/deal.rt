@@ -29,8 +29,8 @@ use stream_io::{Progress, Readers, Store};
 use tool_base::{Ending, FILE_LIMIT, Output, Undealt, read_file, test_all_new, write_all};
 use tool_words::DealWords;
 
-/// Deals a key, and writes its files. The leaves are built by as many threads as there are processors, and `progress` is
-/// told how many are built.
+/// Deals a key, and writes its files. The leaves are built by several threads, and `progress` is told how many are
+/// built.
 pub fn deal_files<R: Threads + Sync, P: Progress, S: Store>(
     rt: &R,
     progress: &mut P,

@@ -99,8 +99,10 @@ fn committed(rt: &impl Abort, alloc: Global) -> (Dealt, Vec<u8>) {
 /// The same with its commitments, by several threads.
 fn committed_beside<R: Threads + Sync + Abort>(rt: &R, alloc: Global) -> (Dealt, Vec<u8>) {
     let (params, plan) = scheme_of(rt, (5, 3), (5, 3));
-    deal_committed_beside(rt, &mut Silent, alloc, &params, &plan, &count_up())
-        .expect(rt, "a dealing")
+    deal_committed_beside(rt, &mut Silent, alloc, &params, &plan, &count_up()).expect(
+        rt,
+        "a dealing",
+    )
 }
 
 /// The files of a dealing.
