@@ -120,7 +120,8 @@ fn deal_as_asked<R: Threads + Sync, P: Progress>(
     ensures dealt { OnOk result (IsDealableBy (deal_words words.now) params.now plan.now entropy.now) }
     ensures shares { IfOk result (λ both. 0 < length both.0.shares.items) }
     ensures refused { IfErr result (λ end. IsNotDealt (deal_words words.now) entropy.now (ending end)) }
-    ensures told { TellsLeaves P.told params.now.h (λ end. ending end ≡ spec.NoMemory) result progress.old progress.new }
+    ensures told { TellsLeaves P.told params.now.h (λ end. ending end ≡ spec.NoMemory) result
+        progress.old progress.new }
 {
     if words.commit {
         match deal_committed_beside(rt, progress, alloc, params, plan, entropy) {

@@ -51,7 +51,8 @@ entry_of ask moment = entry_by ask.second ask moment
 -- doubt turned out to be made.
 pub data MayNote (notes : List Note) (ask : Ask) (moment : ℕ) (answer : Answer) : Note → Type 0 where
   own_made : MayNote notes ask moment answer (Made (entry_of ask moment))
-  own_doubted : answer ≡ Refused (Journal journal.Device) → MayNote notes ask moment answer (Doubted (entry_of ask moment))
+  own_doubted : answer ≡ Refused (Journal journal.Device)
+      → MayNote notes ask moment answer (Doubted (entry_of ask moment))
   turned_out : (entry : Entry) → Contains notes (Doubted entry) → MayNote notes ask moment answer (Made entry)
 
 -- the notes before a decision, and behind them what it may note

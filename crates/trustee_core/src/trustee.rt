@@ -77,7 +77,8 @@ impl<D: Disk> Trustee<D> {
             (state_of (journal_of self.new)) }
         ensures ask { IfOk result (λ grant. ask_of grant ≡ ask.now) }
         ensures tested { IfErr result (λ why. refusal_code why ≤ 5 → self.new ≡ self.old) }
-        ensures idle { (state_of (journal_of self.old)).doubt ≡ None → result ≢ Err (Refusal.Journal JournalFault.Device)
+        ensures idle { (state_of (journal_of self.old)).doubt ≡ None
+            → result ≢ Err (Refusal.Journal JournalFault.Device)
             → (state_of (journal_of self.new)).entries ≡ (state_of (journal_of self.old)).entries
             → journal_of self.new ≡ journal_of self.old }
         ensures notes { Notes ask.now moment (answer_in result) (notes_of self.old) (notes_of self.new) }
