@@ -101,7 +101,7 @@ fn write_leaves_beside<R: Threads + Sync, P: Progress>(
 }
 
 /// Writes the leaves of the masked reference value, one behind the other, and the commitments to their masks if they
-/// are asked for. It builds them part by part, each part by all threads, and tells after each how many leaves are built.
+/// are asked for. It builds them part by part, each part by all threads, and tells after each how many are built.
 fn write_parts<R: Threads + Sync, P: Progress>(
     rt: &R,
     progress: &mut P,
