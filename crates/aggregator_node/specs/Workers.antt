@@ -18,7 +18,7 @@ use Rattle.node_workers.specs.declared.worker.Worker.{Worker}
 use Rattle.turn_lock.specs.Lock.{Lock}
 use Rattle.turn_lock.specs.Pass.{Seen}
 
--- internal: a worker in one state: where it stands, the reference that it reads, and what it did
+-- a worker in one state: where it stands, the reference that it reads, and what it did
 pub record WorkerState : Type 0 where
   pub parts : WorkerParts
   pub reference : ReferenceState
@@ -27,7 +27,7 @@ pub record WorkerState : Type 0 where
   pub worn : Bool
   pub failed : Bool
 
--- internal: the state of a worker whose port and cells have these members
+-- the state of a worker whose port and cells have these members
 abbrev pub worker_state : {P T X L : Type 0} → (P → PortState) → cells.Ghosts X → faults.Ghosts X
     → Worker P T X L Lease TableName → WorkerState
 worker_state state c f worker = record {
@@ -58,7 +58,7 @@ pub record HasServedLink (desk : DeskState) (reference : ReferenceState) (old ne
   pub hung_up : HangsUp done talk new.port
   pub onward : PortOnward done new.port
 
--- internal: All of a worker: its connections, one after the other, its numbers, and whether accepting failed. A worn
+-- All of a worker: its connections, one after the other, its numbers, and whether accepting failed. A worn
 -- pass has drawn a ticket of 2^62 or more.
 pub record Worked (desk : DeskState) (old new : WorkerState) : Type 0 where
   pub served : List Connection
@@ -71,8 +71,8 @@ pub record Worked (desk : DeskState) (old new : WorkerState) : Type 0 where
   pub frames : new.frames ≡ min (frames_of served) (2 ^ 32 - 1)
   pub worn : new.worn ≡ true → 2 ^ 62 ≤ new.parts.pass.greatest
 
--- internal: why a worker ended: it served as many connections as it was to, there is no further link, accepting failed,
--- or its pass is worn
+-- why a worker ended: it served as many connections as it was to, there is no further link, accepting failed, or its
+-- pass is worn
 pub data WorkEnds (asked : ℕ) (new : WorkerState) : Type 0 where
   served_all : new.connections ≡ asked → new.failed ≡ false → WorkEnds asked new
   no_further : (IsTrue new.parts.port.told → new.parts.port.waiting ≡ 0) → new.failed ≡ false → WorkEnds asked new

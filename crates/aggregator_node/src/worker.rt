@@ -21,7 +21,7 @@ use turn_lock::{Pass, TurnLock};
 
 /// Serves one link after the other by each worker, all beside each other, until each has served `connections`, there is
 /// no further link for it, accepting fails or its pass has no more turns.
-pub(crate) fn serve<R: Threads + Wait + Sync, X: Cells + Send, D: Disk + Send, P: Port + Send>(
+pub fn serve<R: Threads + Wait + Sync, X: Cells + Send, D: Disk + Send, P: Port + Send>(
     rt: &R,
     alloc: Global,
     desk: &Desk,
