@@ -15,6 +15,27 @@ use stream_io::{Net, Readers, Store};
 use tool_base::{Ending, Output, test_new, write_all};
 use tool_words::SignWords;
 
+/// Writes a signature under a name that was found new.
+pub fn write_signature<S: Store>(alloc: Global, name: &str, signed: Signed, store: &mut S) -> Ending
+    requires new { IsNew (from_to (S.state store.old) (S.state store.old)) name.now }
+    ensures ends { WriteEnds (from_to (S.state store.old) (S.state store.new)) name.now signed.leaf signed.bytes.items
+        (ending result) }
+    ensures back { IsBack (S.state store.old) (S.state store.new) }
+{
+    let Ok(name) = String::from_str(alloc, name) else {
+        return Ending::NoMemory;
+    };
+    let outputs = [Output {
+        name,
+        bytes: signed.bytes,
+        readers: Readers::Anyone,
+    }];
+    match write_all(alloc, store, &outputs) {
+        Ok(()) => Ending::Signed { leaf: signed.leaf },
+        Err(end) => end,
+    }
+}
+
 /// Signs a message: reads the files of a dealing and the message, runs one session with a leaf of the table, and writes
 /// the signature under a new name.
 pub fn sign<S: Store, N: Net>(
@@ -36,27 +57,6 @@ pub fn sign<S: Store, N: Net>(
     };
     match sign_message(alloc, &session, Message::InFile(words.message), store, net) {
         Ok(by) => write_signature(alloc, words.out, by.signed, store),
-        Err(end) => end,
-    }
-}
-
-/// Writes a signature under a name that was found new.
-pub fn write_signature<S: Store>(alloc: Global, name: &str, signed: Signed, store: &mut S) -> Ending
-    requires new { IsNew (from_to (S.state store.old) (S.state store.old)) name.now }
-    ensures ends { WriteEnds (from_to (S.state store.old) (S.state store.new)) name.now signed.leaf signed.bytes.items
-        (ending result) }
-    ensures back { IsBack (S.state store.old) (S.state store.new) }
-{
-    let Ok(name) = String::from_str(alloc, name) else {
-        return Ending::NoMemory;
-    };
-    let outputs = [Output {
-        name,
-        bytes: signed.bytes,
-        readers: Readers::Anyone,
-    }];
-    match write_all(alloc, store, &outputs) {
-        Ok(()) => Ending::Signed { leaf: signed.leaf },
         Err(end) => end,
     }
 }
