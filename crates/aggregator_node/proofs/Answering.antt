@@ -37,7 +37,7 @@ module _ {V E : Type 0} where
   pub err_is : (fault other : E) → ◌≡◌ {A = Result V E} (Err fault) (Err other) → fault ≡ other
   err_is fault other is = cc
 
--- what is said of an answer is said of its signature
+-- what is said about an answer is said about its signature
 pub accepted_as : (key : PublicKey) (message : List ℕ) (result : Result Signed SignFault) → IfOk result (λ signed. AcceptsAt key message signed.bytes.items signed.leaf)
     → IfOk (signature_in result) (λ signature. AcceptsAt key message signature.bytes signature.leaf)
 accepted_as key message (Ok signed) accepted = accepted
@@ -56,7 +56,7 @@ pub never_as : (result : Result Signed SignFault) → result ≢ Err (sign.Sessi
 never_as (Ok signed) never is = absurd (cc)
 never_as (Err fault) never is = let same : fault ≡ sign.Session Reference = cc in never (ap Err same)
 
--- how many replies were written, and the end, by whether the answer was
+-- how many replies were written, and the end, by whether the answer was written
 abbrev pub Answered : Result (Unit {0}) Failed → Result Signature SignFault → ℕ → Option ServedEnd → Type 0
 Answered written outcome replies ended =
     MatchResult written (λ _. (replies ≡ 1) × (ended ≡ end_after outcome)) (λ _. (replies ≡ 0) × (ended ≡ Some WriteFailed))
@@ -96,7 +96,7 @@ module _ (desk : DeskState) (reference : ReferenceState) (old : Stand) where
         cause = count;
       }))
 
--- what is said of a request with a message of this value
+-- what is said about a request whose message has this value
 pub signed_at : (desk : DeskState) (reference : ReferenceState) (old new : Stand) (request : Request) (given : List ℕ) → given ≡ request.message
     → IsSigned desk reference old new (record request { message = given }) → IsSigned desk reference old new request
 signed_at desk reference old new request given is signed = subst (λ (message : List ℕ). IsSigned desk reference old new (record request { message = message })) is signed
@@ -108,7 +108,7 @@ exact_then desk old new same is = record {
   whole = ap length (same.leaves is.told) ∙ is.whole;
 }
 
--- what is said of the reference later is said of it as it was
+-- what is said about the reference later is also said about it as it was
 signed_told : (desk : DeskState) (before reference : ReferenceState) (old new : Stand) (request : Request)
     → SameReference before reference → IsSigned desk reference old new request → IsSigned desk before old new request
 signed_told desk before reference old new request same s = record {
@@ -141,7 +141,7 @@ answers_told desk before reference old _ _ replies ended same (unanswered mid ta
     unanswered mid talk request (exchange_told desk before reference old mid request same exchange) failed
 
 module _ {C : Type 0} (c : cells.Ghosts C) (f : faults.Ghosts C) where
-  -- what cells are as a reference
+  -- cells seen as a reference
   abbrev pub reference_of : C → ReferenceState
   reference_of r = record { told = c.told r; steady = f.steady r; leaves = c.leaves r }
 

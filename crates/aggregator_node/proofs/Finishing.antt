@@ -36,7 +36,7 @@ never-falls old new floor first rises is rose begun = omega arith
 
 module _ (desk : DeskState) (asked : ℕ) (lock : Lock Lease TableName) (old new : TableSeen) (pass : Seen Lease TableName) (olds news : List Place) (totals : Totals)
     (opened : OpenedBy lock old) (closed : ClosedBy lock pass new) where
-  -- so few requests draw no worn ticket
+  -- with so few requests, no worn ticket is drawn
   small : Gathered desk asked lock pass olds news totals → length olds ≤ 64 → pass.greatest < 2 ^ 62
   small all few =
       let most = all.done.most in

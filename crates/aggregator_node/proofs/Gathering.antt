@@ -1,4 +1,4 @@
--- Workers that are done, whose passes are joined.
+-- Workers that are done and whose passes are joined.
 use Rattle.aggregator_session.specs.Desks.{DeskState}
 use Rattle.std.proofs.Common.{◌≡◌, ◌+◌, ◌-◌, ◌^◌, ◌<◌, ℕ, false, true≢false, min, Option, List, [], ◌∷◌, ◌++◌, All, length, refl, sym, ap, ◌∙◌, subst, arith, append-nil}
 use Rattle.std.proofs.lemmas.List.{map-append}
@@ -24,7 +24,7 @@ use Rattle.node_workers.proofs.Logs.{begins-left, begins-right}
 use Rattle.turn_lock.specs.Lock.{Lock}
 use Rattle.turn_lock.specs.Pass.{Joins, Seen, first_pass}
 
--- what a worker's connections made of its pass and of the count of its reference
+-- what a worker's connections did to its pass and to the count of its reference
 pub works-go : (desk : DeskState) (reference : ReferenceState) (old new : WorkerParts) (served : List Connection) → Works desk reference old served new
     → Goes desk reference old.pass new.pass old.faults new.faults (requests_of served)
 works-go desk reference old new served (left at port leaves) = goes-none desk reference old.pass old.faults

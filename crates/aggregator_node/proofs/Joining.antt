@@ -1,4 +1,4 @@
--- Workers of which some are joined.
+-- Workers some of which are joined.
 use Rattle.aggregator_session.specs.Desks.{DeskState}
 use Rattle.std.proofs.Common.{◌≡◌, ◌+◌, ◌≤◌, ◌<◌, ℕ, List, [], ◌∷◌, ◌++◌, length, sym, ap, ◌∙◌, subst, arith, append_assoc, append-nil, length-append}
 use Rattle.aggregator_node.specs.Gathered.{AreDone, Gathered, IsDone}

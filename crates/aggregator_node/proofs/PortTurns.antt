@@ -1,4 +1,4 @@
--- What turns and sessions move on, message by message.
+-- What turns and sessions move forward, message by message.
 use Rattle.std.proofs.Common.{◌≡◌, ◌+◌, ◌^◌, ◌≤◌, ℕ, List, Option, Result, Ok, Err, IfErr, refl, sym, ap, ◌∙◌, subst, arith}
 use mathlib.Core.List.{IsPrefix}
 use mathlib.Core.Logic.{dite}
@@ -25,7 +25,7 @@ use Rattle.stream_io.specs.Net.{PortState}
 use Rattle.node_workers.proofs.Prefixes.{prefix-is, prefix-then}
 use Rattle.turn_lock.specs.Pass.{SamePass, Seen}
 
--- a pass went onward, and drew no more tickets than these
+-- a pass went onward, and drew at most this many tickets
 pub record Steps (old new : Seen Lease TableName) (tickets : ℕ) : Type 0 where
   pub begins : IsPrefix old.log new.log
   pub floor : old.floor ≤ new.floor
@@ -91,7 +91,7 @@ steps-burnt old new leaf message spent (signing.not_spent same) = subst (λ (p :
 steps-burnt old new leaf message spent (signing.no_turn member t) = steps-unturned old new t
 steps-burnt old new leaf message spent (signing.asked member before after t a) = steps-turned old new before after t a.entered (burns-on before.state after.state a.event)
 
--- a turn for a lease that fails by the disk, or gets no turn
+-- a turn for a lease that fails because of the disk, or gets no turn
 lease-device : (members : List ℕ) (message : MessageId) (old new : Seen Lease TableName) (result : Result ℕ SignFault) → LeaseTurn members message old new result
     → result ≡ Err (Table Device) → DiskFailed old new
 lease-device members message old new result (signing.no_turn t) is = absurd (cc)
@@ -105,7 +105,7 @@ lease-worn members message old new result (signing.no_turn t) is = t.worn
 lease-worn members message old new result (signing.asked before after (Ok leaf) t a) is = absurd (cc)
 lease-worn members message old new result (signing.asked before after (Err why) t a) is = absurd (cc)
 
--- no session ends by the table or by a worn pass
+-- no session ends because of the table or of a worn pass
 run-ends : (desk : DeskState) (reads : CellsRead) (leaf : ℕ) (message : List ℕ) (port now : PortState) (result : Result (List ℕ) SignFault) → RunsOn desk reads leaf message port now result
     → IfErr result (IsEnd leaf)
 run-ends desk reads leaf message port now result (sessions.not_started unread) = tt

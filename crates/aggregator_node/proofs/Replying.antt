@@ -72,7 +72,7 @@ signature-fits key message (Ok signed) accepted =
     omega (arith, size, small)
 signature-fits key message (Err fault) accepted = tt
 
--- a request that was answered ends the connection by a worn pass or for want of memory alone
+-- a request that was answered ends the connection only because of a worn pass or because memory ran out
 end-other : (outcome : Result Signature SignFault) (end : ServedEnd) → end_after outcome ≡ Some end → end ≢ Worn → end ≢ Frame frame.NoMemory → ⊥
 end-other (Ok signature) end is worn memory = absurd (cc)
 end-other (Err (sign.TooLong got)) end is worn memory = absurd (cc)
@@ -147,7 +147,7 @@ step-unread fault end by sound = record {
   writes = λ steady fits failed. let same : end ≡ WriteFailed = cc in end-read fault (sym by ∙ same);
 }
 
--- the same where there was no memory for it, and that was answered
+-- the same if there was no memory for it, and that was answered
 pub unread-ends : {steady fits sure : Type 0} (fault : FrameFault) (old new : Talk) (replies : ℕ) (ended : Option ServedEnd) → IsUnread fault old new sure replies ended
     → (steady → fault ≢ frame.ReadFault) → (steady → fits → sure) → StepEnds steady fits replies ended
 unread-ends fault old new replies ended (memory_wanted written _ _ found wrote only cause is ok) sound fit =
@@ -157,7 +157,7 @@ unread-ends fault old new _ _ (nothing_written differs same) sound fit = step-un
 pub one-more : (n size : ℕ) → (n + 1) * size ≡ n * size + size
 one-more n size = omega (arith, add-mul n 1 size)
 
--- the room behind some of the replies
+-- the room that is left after some of the replies
 pub room-left : (n size had has : ℕ) → n < 65536 → 65536 * size ≤ had → had ≤ has + n * size → size ≤ has
 room-left n size had has lt fits kept =
     let under : n + 1 ≤ 65536 = omega (arith, lt) in

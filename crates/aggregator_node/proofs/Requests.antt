@@ -1,4 +1,4 @@
--- Requests after requests, and what they made of a pass and of the count of a reference.
+-- Requests after requests, and what they did to a pass and to the count of a reference.
 use Rattle.aggregator_session.specs.Desks.{DeskState}
 use Rattle.std.proofs.Common.{◌≡◌, ◌+◌, ◌*◌, ◌-◌, ◌^◌, ◌≤◌, ◌<◌, ℕ, List, [], ◌∷◌, ◌++◌, length, refl, sym, ap, ◌∙◌, subst, arith, append_assoc, append-nil, length-append}
 use Rattle.std.proofs.lemmas.Grind.{flat_map-append}
@@ -11,7 +11,7 @@ use Rattle.leaf_table.specs.declared.lease.Lease.{Lease}
 use Rattle.leaf_table.specs.declared.table.TableName.{TableName}
 use Rattle.turn_lock.specs.Pass.{Seen}
 
--- what requests made of a pass, and of the count of the reference that they read
+-- what requests did to a pass, and to the count of the reference that they read
 pub record Goes (desk : DeskState) (reference : ReferenceState) (old new : Seen Lease TableName) (before now : ℕ) (requests : List Request) : Type 0 where
   pub steps : Steps old new (2 * length requests)
   pub count : before ≤ now

@@ -1,4 +1,4 @@
--- No client's link fails where all are steady and have room.
+-- No client's link fails if all are steady and have room.
 use Rattle.std.proofs.Common.{◌≡◌, ◌⊎◌, ◌≤◌, ◌∙◌, ◌*◌, ℕ, List, [], ◌∷◌, Option, Some, All, IsTrue, inl, inr, refl, ap, map, subst, sym, arith}
 use Rattle.std.proofs.lemmas.List.Elements.{All-nil, All-cons, All-head, All-tail}
 use Rattle.aggregator_node.specs.Clients.{ReferenceState, longest_reply}

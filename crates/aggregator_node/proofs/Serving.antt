@@ -1,4 +1,4 @@
--- A connection: what its requests made of pass, reference and port.
+-- A connection: what its requests did to pass, reference and port.
 use Rattle.std.proofs.Common.{◌≡◌, ◌+◌, ◌^◌, ◌≤◌, ◌++◌, ℕ, List, [], Option, None, Some, Result, Ok, Err, length, refl, ap, ◌∙◌, subst, arith, length-append}
 use Rattle.aggregator_session.specs.Desks.{DeskState}
 use Rattle.aggregator_session.specs.declared.fault.SignFault.{SignFault}
@@ -40,7 +40,7 @@ never-worn frame.Shape is = absurd (cc)
 never-worn frame.ReadFault is = absurd (cc)
 never-worn frame.NoMemory is = absurd (cc)
 
--- a connection that ends by a worn pass had a request that met it
+-- a connection that ends because of a worn pass had a request that met it
 ends-worn : (outcome : Result Signature SignFault) → end_after outcome ≡ Some Worn → outcome ≡ Err sign.Worn
 ends-worn (Ok signature) is = absurd (cc)
 ends-worn (Err (sign.TooLong got)) is = absurd (cc)
@@ -129,7 +129,7 @@ module _ (desk : DeskState) (reference : ReferenceState) where
   serves-worn old new requests replies end (clients.more at mid last asked others many later by answers served) is = serves-worn mid new others later end served is
   serves-worn old new requests replies end (clients.full at) is = absurd (cc)
 
--- what is said of the reference later is said of it as it was
+-- what is said about the reference later is also said about it as it was
 pub serves-told : (desk : DeskState) (before reference : ReferenceState) (old new : Stand) (requests : List Request) (replies : ℕ) (end : ServedEnd)
     → SameReference before reference → Serves desk reference old requests replies end new → Serves desk before old requests replies end new
 serves-told desk before reference old new requests replies end same (clients.ended at last asked many by answers) =

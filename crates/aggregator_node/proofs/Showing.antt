@@ -28,7 +28,7 @@ use Rattle.turn_lock.specs.Pass.{Seen}
 use Rattle.aggregator_node.proofs.Turning.{burns-on, settles-on}
 use Rattle.node_workers.proofs.Prefixes.{prefix-is, prefix-then}
 
--- with no doubt nothing is settled
+-- if nothing is in doubt, nothing is settled
 settled-same : (before settled : TableState) → SettlesTo before settled → before.doubt ≡ None → settled.entries ≡ before.entries
 settled-same before settled (inl same) sure = ap (λ (s : TableState). s.entries) same
 settled-same before settled (inr made) sure = absurd (let is = made.1 in cc)
@@ -59,7 +59,7 @@ module _ {R : Type 0} {old new : Seen Lease TableName} {before after : TableSeen
     λ told. e.told (subst TellsDisk (sym name-is) told) leaf a b is,
   )
 
--- own entries of a turn that added these
+-- the own entries of a turn that added these
 own-added : (old new before after added : List Lease) (entries : List Lease) → new ≡ old ++ drop (length before) after → after ≡ entries ++ added → entries ≡ before
     → new ≡ old ++ added
 own-added old new before after added entries own is same =

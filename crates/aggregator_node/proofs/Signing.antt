@@ -35,7 +35,7 @@ module _ {D : Type 0} {p : pages.Ghosts D} {f : faults.Ghosts D} {old new : Tabl
     entered = entered-as enters;
   }
 
--- a turn for a lease fails by a worn pass or by the table
+-- a turn for a lease fails because of a worn pass or because of the table
 turn-fault : (members : List ℕ) (message : MessageId) (old new : Seen Lease TableName) (result : Result ℕ SignFault) → LeaseTurn members message old new result
     → IfErr result (λ fault. (fault ≡ Worn) ⊎ ((why : TableFault) × (fault ≡ TableFailed why)))
 turn-fault members message old new result (no_turn t) = inl refl

@@ -38,7 +38,7 @@ links-leave desk reference old new served port (no_link parts) leaves = left old
 links-leave desk reference old new served port (link_more at after last first others serves rest) leaves =
     next old after (record new { port = port }) first others serves (links-leave desk reference after new others port rest leaves)
 
--- the same reference at a time that is later still
+-- the same reference at a still later time
 same-then : (old mid new : ReferenceState) → SameReference old mid → SameReference mid new → SameReference old new
 same-then old mid new a b = record { told = b.told ∙ a.told; steady = b.steady ∙ a.steady; leaves = λ is. b.leaves (a.told ∙ is) ∙ a.leaves is }
 
@@ -46,7 +46,7 @@ requests-more : (served : List Connection) (one : Connection) → requests_of (s
 requests-more served one =
     flat_map-append (λ (c : Connection). c.requests) served (one ∷ []) ∙ ap (λ (l : List Request). requests_of served ++ l) (append-nil one.requests)
 
--- the numbers of one connection more
+-- the numbers of one more connection
 few-more : (served : List Connection) (one : Connection) → length (requests_of served) ≤ 65537 * length served → one.served.frames ≤ 65536 → length one.requests ≤ one.served.frames + 1
     → length (requests_of (served ++ one ∷ [])) ≤ 65537 * length (served ++ one ∷ [])
 few-more served one before most here =
@@ -76,12 +76,12 @@ pub record Working (desk : DeskState) (old new : WorkerState) : Type 0 where
   pub connections : new.connections ≡ length served
   pub frames : new.frames ≡ min (frames_of served) (2 ^ 32 - 1)
 
--- a worker ends where its port gave no link
+-- a worker ends if its port gave no link
 pub ends-none : (asked : ℕ) (new : WorkerState) (old : PortState) (failed : Bool) → new.failed ≡ failed → NoLink old new.parts.port failed → WorkEnds asked new
 ends-none asked new old true is none = accept_failed is (none.unsteady refl)
 ends-none asked new old false is none = no_further (none.none_waits refl) is
 
--- a worker ends where it served as many as it was to
+-- a worker ends once it has served as many as it was to
 as-many : (connections counter asked : ℕ) → connections ≡ counter → counter ≤ asked → asked ≤ counter → connections ≡ asked
 as-many connections counter asked is most least = omega arith
 
@@ -139,7 +139,7 @@ module _ (desk : DeskState) where
         frames = frames-more a.served one mid.frames frames a.frames sum;
       }
 
-  -- a link that ended by a worn pass
+  -- a link that ended because of a worn pass
   pub link-worn : (reference : ReferenceState) (old new : WorkerParts) (link : Talk) (steady : Bool) (served : Served) → HasServedLink desk reference old new link steady served → served.ended ≡ Worn
       → 2 ^ 62 ≤ new.pass.greatest
   link-worn reference old new link steady served b is = serves-worn desk reference _ _ _ _ _ b.serves is

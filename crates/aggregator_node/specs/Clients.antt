@@ -54,7 +54,7 @@ reply_frame (Err fault) = failure_frame (failure_of fault)
 abbrev pub longest_reply : Params → ℕ
 longest_reply params = 8 + signature_length params
 
--- how a connection ends behind a request whose session had this fault, or none where it goes on
+-- how a connection ends after a request whose session had this fault, or none if it goes on
 abbrev pub end_by_session : session.SessionFault → Option ServedEnd
 end_by_session (Missing member round) = None
 end_by_session (SpentLeaf leaf member kept) = None
@@ -64,7 +64,7 @@ end_by_session (MemberRefused member code) = None
 end_by_session Reference = None
 end_by_session session.TheVariants.NoMemory = Some (Frame frame.NoMemory)
 
--- the same of any fault of a request
+-- the same for any fault of a request
 abbrev pub end_by_fault : SignFault → Option ServedEnd
 end_by_fault (sign.TooLong got) = None
 end_by_fault sign.Worn = Some Worn
@@ -74,7 +74,7 @@ end_by_fault (sign.Stray member round) = None
 end_by_fault (sign.Session fault) = end_by_session fault
 end_by_fault sign.NoMemory = Some (Frame frame.NoMemory)
 
--- the same of an outcome: a request for which there was no memory, or no turn, is the last
+-- the same for an outcome: a request for which there was no memory, or no turn, is the last
 abbrev pub end_after : Result Signature SignFault → Option ServedEnd
 end_after (Ok signature) = None
 end_after (Err fault) = end_by_fault fault
@@ -91,7 +91,7 @@ pub record NoRequest (old new : Talk) (fault : FrameFault) : Type 0 where
   pub only : OnlyRead old new
   pub cause : RisesWhere (fault ≡ frame.ReadFault) old.count new.count
 
--- there was no memory for the message of the request that came next
+-- there was no memory for the message of the next request
 pub record NoRoom (old new : Talk) : Type 0 where
   pub only : OnlyRead old new
   pub count : new.count ≡ old.count
@@ -114,7 +114,7 @@ pub record ReferenceState : Type 0 where
   pub steady : Bool
   pub leaves : List ℕ
 
--- the reference gives what it has whenever it is asked: a steady one that tells all leaves
+-- the reference gives what it has whenever it is asked: it is steady and tells all leaves
 pub record IsExact (desk : DeskState) (reference : ReferenceState) : Type 0 where
   pub steady : IsTrue reference.steady
   pub told : IsTrue reference.told
@@ -133,9 +133,8 @@ pub record Request : Type 0 where
   pub outcome : Result Signature SignFault
   pub added : List Lease
 
--- What signing the message of a request made of pass, port and cells. Before the first fault the pass has added just
--- the entries of the request. The reference is found unread only where its count rose, and never where it gives what
--- it has.
+-- What signing the message of a request did to pass, port and cells. Before the first fault the pass has added just the
+-- entries of the request. The reference is found unread only if its count rose, and never if it gives what it has.
 pub record IsSigned (desk : DeskState) (reference : ReferenceState) (old new : Stand) (request : Request) : Type 0 where
   pub read : List ℕ
   pub read_is : IsTrue reference.told → read ≡ reference.leaves
@@ -154,13 +153,13 @@ pub record IsSigned (desk : DeskState) (reference : ReferenceState) (old new : S
   pub rises : request.outcome ≡ Err (sign.Session Reference) → Rose old.faults new.faults
   pub succeeds : IsExact desk reference → request.outcome ≢ Err (sign.Session Reference)
 
--- a request was read and signed, and is still to be answered
+-- a request was read and signed, and still has to be answered
 pub record Exchange (desk : DeskState) (reference : ReferenceState) (old new : Stand) (request : Request) : Type 0 where
   pub read : RequestRead old.talk new.talk request.members request.message
   pub signed : IsSigned desk reference old new request
 
 -- One request: what it was, if it was read whole, how many replies were written whole, and how the connection ends
--- behind it, if it does.
+-- after it, if it does.
 pub data Answers (desk : DeskState) (reference : ReferenceState) (old : Stand)
     : List Request → ℕ → Option ServedEnd → Stand → Type 0 where
   no_request : (talk : Talk) (fault : FrameFault) → fault ≢ frame.NoMemory → NoRequest old.talk talk fault
@@ -183,8 +182,8 @@ pub record HasAnswered (desk : DeskState) (reference : ReferenceState) (old new 
   pub requests : List Request
   pub answers : Answers desk reference old requests replies ended new
 
--- internal: What came of a request that was not read for this fault. Where there was no memory for it, that was
--- answered or a write failed, which none does where this is sure; for every other fault nothing was written.
+-- internal: What came of a request that was not read because of this fault. Either the answer was that there was no
+-- memory for it, or a write of that failed, which no write does if this is sure; or nothing was written.
 pub data IsUnread (fault : FrameFault) (old new : Talk) (sure : Type 0) : ℕ → Option ServedEnd → Type 0 where
   memory_wanted : (written : Result (Unit {0}) Failed) (replies : ℕ) (ended : Option ServedEnd)
       → fault ≢ frame.ReadFault
@@ -196,8 +195,9 @@ pub data IsUnread (fault : FrameFault) (old new : Talk) (sure : Type 0) : ℕ �
       → (sure → IsOk written) → IsUnread fault old new sure replies ended
   nothing_written : fault ≢ frame.NoMemory → new ≡ old → IsUnread fault old new sure 0 (Some (end_by fault))
 
--- internal: What is known of one request, by whether its link is steady and has room for a reply: one reply at most was
--- written whole, and one where the connection goes on. A steady link is read and, with that room, written without fail.
+-- internal: What is known of one request, by whether its link is steady and has room for a reply: at most one reply was
+-- written whole, and exactly one if the connection goes on. Reading a steady link never fails, nor does writing to it
+-- if it has that room.
 pub record StepEnds (steady fits : Type 0) (replies : ℕ) (ended : Option ServedEnd) : Type 0 where
   pub most : replies ≤ 1
   pub one : ended ≡ None → replies ≡ 1
@@ -206,7 +206,7 @@ pub record StepEnds (steady fits : Type 0) (replies : ℕ) (ended : Option Serve
   pub writes : steady → fits → ended ≢ Some WriteFailed
 
 -- A connection from where it stands: the requests that were read whole, in their order, how many replies were written
--- whole in all, and how it ended: by a request that was the last, or since it was full.
+-- whole in all, and how it ended: by a request that was the last, or because it was full.
 pub data Serves (desk : DeskState) (reference : ReferenceState)
     : Stand → List Request → ℕ → ServedEnd → Stand → Type 0 where
   ended : (old new : Stand) (requests : List Request) (replies : ℕ) (end : ServedEnd)
@@ -223,9 +223,9 @@ pub record HasServed (desk : DeskState) (reference : ReferenceState) (old new : 
   pub requests : List Request
   pub serves : Serves desk reference old requests replies end new
 
--- How serving a link ended that is steady where this says so, and has this room: with 65536 replies at most, and full
--- only with so many. A steady link never fails to be read, nor to be written where it has room for as many of the
--- longest replies.
+-- How serving a link ended that is steady if this says so, and has this room: with at most 65536 replies, and full only
+-- with that many. Reading a steady link never fails, nor does writing to it if it has room for that many of the longest
+-- replies.
 pub record HasEnded (params : Params) (steady : Bool) (room : ℕ) (served : Served) : Type 0 where
   pub most : served.frames ≤ 65536
   pub full : served.ended ≡ Full → served.frames ≡ 65536

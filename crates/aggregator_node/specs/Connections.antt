@@ -44,7 +44,7 @@ pub record ServesLink (desk : DeskState) (reference : ReferenceState) (old new :
   pub kept : KeepsTalk done one.last new.port
   pub onward : PortOnward old.port new.port
 
--- no link was accepted, and no further one was asked for
+-- no link was accepted, and none was asked for any more
 pub record Leaves (old new : PortState) : Type 0 where
   pub links : SameLinks old new
   pub onward : PortOnward old new
@@ -70,7 +70,7 @@ frames_of served = sum_by (λ (one : Connection). one.served.frames) served
 abbrev pub added_by : List Request → List Lease
 added_by requests = flat_map (λ (request : Request). request.added) requests
 
--- the status that a client is told of an outcome, and 0 for a signature
+-- the status that a client is told for an outcome, and 0 for a signature
 abbrev pub status_of : Result Signature SignFault → ℕ
 status_of (Ok signature) = 0
 status_of (Err fault) = (failure_of fault).status

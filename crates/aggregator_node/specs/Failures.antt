@@ -1,4 +1,4 @@
--- Faults of signing as they are told to a client.
+-- Faults of signing, as a client is told them.
 use Rattle.std.specs.Prelude.{ℕ}
 use Rattle.aggregator_session.specs.declared.fault.SignFault.{SignFault}
 use Rattle.aggregator_session.specs.declared.fault.SignFault.TheVariants.{Lost, NoMemory, Session, Stray, Table}
@@ -22,7 +22,7 @@ table_failure Device = failure 10 0 0 0
 table_failure (Damaged leaf a b) = failure 13 0 0 0
 table_failure (NoLeaf coalition) = failure 9 0 0 0
 
--- this project's profile: why a session gave no signature. No reply is missing where none of the members is lost.
+-- this project's profile: why a session gave no signature. No reply is missing if no member is lost.
 abbrev pub session_failure : session.SessionFault → Failure
 session_failure (Missing member round) = failure 6 member round 0
 session_failure (SpentLeaf leaf member kept) = failure 7 member 0 leaf
@@ -32,7 +32,7 @@ session_failure (MemberRefused member code) = failure 11 member 0 0
 session_failure Reference = failure 10 0 0 0
 session_failure session.TheVariants.NoMemory = failure 14 0 0 0
 
--- this project's profile: why there is no signature. No message of a request is too long.
+-- this project's profile: why there is no signature. No message in a request is too long.
 abbrev pub failure_of : SignFault → Failure
 failure_of (TooLong got) = failure 12 0 0 0
 failure_of Worn = failure 16 0 0 0

@@ -43,8 +43,8 @@ abbrev pub AreDone : {W : Type 0} → (W → WorkerState) → DeskState → ℕ 
 AreDone state desk asked pass places workers =
     StandTo (λ place worker. IsDone desk asked pass place (state worker)) places workers
 
--- internal: What the requests of these runs made of a pass in which the passes of their workers are joined. Two tickets
--- are drawn for a request at most.
+-- internal: What the requests of these runs did to a pass in which the passes of their workers are joined. At most two
+-- tickets are drawn for a request.
 pub record HasDone (desk : DeskState) (lock : Lock Lease TableName) (pass : Seen Lease TableName) (runs : List PortRun)
     : Type 0 where
   pub draws : pass.draws ≤ 2 * length (requests_in runs)

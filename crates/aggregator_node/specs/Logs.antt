@@ -18,7 +18,7 @@ use Rattle.lms_bytes.specs.MessageId.{message_id_bytes}
 use Rattle.lms_bytes.specs.declared.message.MessageId.{MessageId}
 use Rattle.turn_lock.specs.Pass.{Seen}
 
--- the disk failed: the pass's own rises grew, or its floor stands at the end of a count, and the disk is not steady
+-- the disk failed: the pass's own rises grew, or its floor is at the end of a count, and the disk is not steady
 abbrev pub DiskFailed : (old new : Seen Lease TableName) → Type 0
 DiskFailed old new = (new.floor < 2 ^ 64 - 1 → old.rises < new.rises) × (HasSteadyDisk new.name → ⊥)
 
@@ -35,7 +35,7 @@ Refuses plan members message old new Device = DiskFailed old new
 Refuses plan members message old new (Damaged leaf a b) = SlotDamaged new
 
 -- The lease of a leaf in the log: it is `LeaseOf` on the entries that were met, which go on from the log before. The
--- entry of a new lease stands just behind them.
+-- entry of a new lease comes right after them.
 pub record LeaseShows (plan : PlanNumbers) (members : List ℕ) (message : MessageId) (old log : List Lease) (leaf : ℕ)
     (added : List Lease) : Type 0 where
   pub c : ℕ
@@ -61,8 +61,8 @@ IsBurning None leaf entries = entries ≡ []
 IsBurning (Some member) leaf entries = (entries ≡ []) ⊎ (entries ≡ Burnt leaf ∷ [])
 
 -- What signing a message with these members shows in a pass, by its outcome, and the entries that it added. A ticket is
--- drawn for the lease, and a second one exactly where a member has spent the leaf. What is added are the entry of the
--- lease and that of the burning alone.
+-- drawn for the lease, and a second one exactly if a member has spent the leaf. What is added are the entries of the
+-- lease and of the burning alone.
 pub data Shows (plan : PlanNumbers) (members : List ℕ) (message : MessageId) (old new : Seen Lease TableName)
     : Result Signature SignFault → List Lease → Type 0 where
   too_long : (got : ℕ) → new ≡ old → Shows plan members message old new (Err (TooLong got)) []

@@ -1,4 +1,4 @@
--- Ports at which one table's clients were served, all beside each other.
+-- Ports at which the clients of one table were served, all side by side.
 use Rattle.std.specs.Prelude.{◌≡◌, ◌≤◌, ◌<◌, ◌+◌, ◌-◌, ◌^◌, ℕ, Bool, List, All, length, map, min, count_by, IsTrue}
 use Rattle.std.specs.Prelude.{Option, Some}
 use Rattle.std.specs.List.{flat_map, sum_by, zip}
@@ -23,11 +23,11 @@ pub record Place : Type 0 where
   pub faults : ℕ
 
 module _ {X : Type 0} (c : cells.Ghosts X) (f : faults.Ghosts X) where
-  -- what cells are as a reference
+  -- cells seen as a reference
   abbrev pub reference_state : X → ReferenceState
   reference_state own = record { told = c.told own; steady = f.steady own; leaves = c.leaves own }
 
-  -- these ports and these cells as places, one with one
+  -- these ports and these cells as places, one to one
   abbrev pub places_of : {P : Type 0} → (P → PortState) → List P → List X → List Place
   places_of state ports own = map (λ both. record {
     port = state both.0;
@@ -42,7 +42,7 @@ pub record PortRun : Type 0 where
   pub served : List Connection
 
 -- A port was served: the worker's connections had their turns one after the other, by a pass that began with this name
--- and this log, and that ends with a beginning of the last one.
+-- and this log, and whose log at the end begins the last one.
 pub record IsPortRun (desk : DeskState) (asked : ℕ) (name : Option TableName) (log last : List Lease) (run : PortRun)
     : Type 0 where
   pub first : Seen Lease TableName
@@ -62,7 +62,7 @@ pub record IsPortRun (desk : DeskState) (asked : ℕ) (name : Option TableName) 
 abbrev pub requests_in : List PortRun → List Request
 requests_in runs = flat_map (λ (run : PortRun). requests_of run.served) runs
 
--- the counts of faults of all references before
+-- the counts of faults of all references, before
 abbrev pub faults_before : List PortRun → ℕ
 faults_before runs = sum_by (λ (run : PortRun). run.before.faults) runs
 
@@ -70,8 +70,8 @@ faults_before runs = sum_by (λ (run : PortRun). run.before.faults) runs
 abbrev pub faults_after : List PortRun → ℕ
 faults_after runs = sum_by (λ (run : PortRun). run.after.faults) runs
 
--- What failures say of the devices: failure 10 stands in no more replies than the counts of the table's disk and of
--- the references rose together, and in none where all are steady and give what they have. No pass is worn.
+-- What failures say about the devices: the number of replies with failure 10 is no more than the counts of the table's
+-- disk and of the references rose together, and 0 if all are steady and give what they have. No pass is worn.
 pub record HasFailures (desk : DeskState) (old new : TableSeen) (runs : List PortRun) : Type 0 where
   pub rises : new.faults < 2 ^ 64 - 1 → All (λ (run : PortRun). run.after.faults < 2 ^ 64 - 1) runs
       → old.faults + faults_before runs + with_status 10 (requests_in runs) ≤ new.faults + faults_after runs
@@ -85,8 +85,8 @@ pub record HasTotals (runs : List PortRun) (totals : Totals) : Type 0 where
       totals.connections ≡ min (sum_by (λ (run : PortRun). length run.served) runs) (2 ^ 32 - 1)
   pub frames : totals.frames ≡ min (sum_by (λ (run : PortRun). frames_of run.served) runs) (2 ^ 32 - 1)
 
--- What serving clients at these places made of a table and of them, in their order. Where there was no fault, each
--- entry stands in the last log as often as in the first one and in what the requests added together.
+-- What serving clients at these places did to a table and to them, in their order. If there was no fault, each entry is
+-- in the last log as often as in the first one and in what the requests added together.
 pub record ServedClients (desk : DeskState) (asked : ℕ) (old new : TableSeen) (places_old places_new : List Place)
     (totals : Totals) : Type 0 where
   pub runs : List PortRun

@@ -14,7 +14,7 @@ TakesAll params room = 65536 * longest_reply params ≤ room
 abbrev pub HasRoomyLinks : Params → Place → Type 0
 HasRoomyLinks params place = IsTrue place.port.steady × TakesAll params place.port.room
 
--- no client's connection of these runs ended by a read or a write that failed
+-- no client's connection of these runs ended because a read or a write failed
 abbrev pub NoLinkFails : List PortRun → Type 0
 NoLinkFails runs =
     All (λ (run : PortRun). All (λ (one : Connection). IsLinkFault one.served.ended → ⊥) run.served) runs

@@ -18,22 +18,22 @@ abbrev pub lease_answer : Result ℕ TableFault → Result ℕ SignFault
 lease_answer (Ok leaf) = Ok leaf
 lease_answer (Err fault) = Err (Table fault)
 
--- one turn for a lease: the pass got none, or these members' leaf was asked for in it
+-- one turn for a lease: the pass got none, or a leaf of these members was asked for in it
 pub data LeaseTurn (members : List ℕ) (message : MessageId) (old new : Seen Lease TableName)
     : Result ℕ SignFault → Type 0 where
   no_turn : NotTurned old new → LeaseTurn members message old new (Err Worn)
   asked : (before after : TableSeen) (answer : Result ℕ TableFault) → Turned old new before after
       → AsksLeaf before members message answer after → LeaseTurn members message old new (lease_answer answer)
 
--- what follows a session: a leaf that a member has spent was to be burnt in one turn, or the pass got none; and else
--- the pass is as it was
+-- what follows a session: if a member has spent the leaf, it was to be burnt in one turn, or the pass got none;
+-- otherwise the pass is as it was
 pub data Burning (old new : Seen Lease TableName) (leaf : ℕ) (message : MessageId) : Option ℕ → Type 0 where
   not_spent : new ≡ old → Burning old new leaf message None
   no_turn : (member : ℕ) → NotTurned old new → Burning old new leaf message (Some member)
   asked : (member : ℕ) (before after : TableSeen) → Turned old new before after
       → AsksToBurn before leaf message member after → Burning old new leaf message (Some member)
 
--- What signing a message with a leaf of these members makes of a pass and of the port, and its outcome. The message is
+-- What signing a message with a leaf of these members does to a pass and to the port, and its outcome: the message is
 -- too long, and nothing happened; or no leaf was leased in the turn for it, and nobody was dialled; or a session was
 -- run with the leaf, outside a turn.
 pub data SignsInTurns (sign : ToSign) (old : Seen Lease TableName) (port : PortState)

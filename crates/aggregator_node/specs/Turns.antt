@@ -18,12 +18,13 @@ IsIdle lock plan pass =
 abbrev pub TellsDisk : Option TableName → Type 0
 TellsDisk name = IsSomeAnd name (λ name. IsTrue name.told)
 
--- the same, and the disk is steady too
+-- the same, and the disk is also steady
 abbrev pub HasSteadyDisk : Option TableName → Type 0
 HasSteadyDisk name = IsSomeAnd name (λ name. IsTrue name.steady × IsTrue name.told)
 
 -- A turn: the pass met a table that goes on from what it had seen, in which nothing is in doubt before the first fault,
--- and gave it back as another. Its log, its floor, its own rises and its own entries are what the turn made of them.
+-- and gave it back as another one. The log, the floor, the own rises and the own entries of the pass are what the turn
+-- made of them.
 pub record Turned (old new : Seen Lease TableName) (before after : TableSeen) : Type 0 where
   pub begins : IsPrefix old.log before.state.entries
   pub reaches : old.floor ≤ before.faults

@@ -45,7 +45,7 @@ pub record IsReady {X : Type 0} (c : cells.Ghosts X) (lock : Lock Lease TableNam
   pub idle : IsIdle lock desk.plan.now pass
   pub reads : ReadsFor c desk own
 
--- internal: a link, steady where this says so, was served from where the worker stood, and hung up where it stands
+-- internal: a link, steady if this says so, was served from where the worker stood, and hung up where it stands now
 pub record HasServedLink (desk : DeskState) (reference : ReferenceState) (old new : WorkerParts) (link : Talk)
     (steady : Bool) (served : Served) : Type 0 where
   pub talk : Talk
@@ -58,7 +58,7 @@ pub record HasServedLink (desk : DeskState) (reference : ReferenceState) (old ne
   pub hung_up : HangsUp done talk new.port
   pub onward : PortOnward done new.port
 
--- All of a worker: its connections, one after the other, its numbers, and whether accepting failed. A worn
+-- Everything about a worker: its connections, one after the other, its numbers, and whether accepting failed. A worn
 -- pass has drawn a ticket of 2^62 or more.
 pub record Worked (desk : DeskState) (old new : WorkerState) : Type 0 where
   pub served : List Connection

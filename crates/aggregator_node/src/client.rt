@@ -35,14 +35,14 @@ const MOST_FRAMES: u32 = 65_536;
 struct Step {
     /// How many replies were written whole: one or none.
     replies: u32,
-    /// How the connection ended behind it, if it did.
+    /// How the connection ended after it, if it did.
     ended: Option<ServedEnd>,
 }
 
 /// Serves a client's connection: reads requests one after the other, signs each over the port, and writes the signature
 /// or why there is none. The table's lock is held for leases and burnings alone, each in a turn of its own: neither
-/// while a request is read or answered, nor while a member is talked to. A request for which there is no memory, or no
-/// turn, is answered so and ends the connection.
+/// while a request is read or answered, nor while talking to a member. If there is no memory or no turn for a request,
+/// that is the answer, and the connection ends.
 pub fn serve_client<R: Cells, D: Disk, P: Port, L: Source + Sink>(
     rt: &impl Wait,
     alloc: Global,
@@ -109,7 +109,7 @@ fn answer_next<R: Cells, D: Disk, P: Port, L: Source + Sink>(
     answered(&outcome, write_outcome(&outcome, link))
 }
 
-/// What comes of a request that was not read for this fault: where there was no memory for it, that is answered.
+/// What comes of a request that was not read because of this fault: if there was no memory for it, that is answered.
 fn unread<K: Sink>(fault: FrameFault, sink: &mut K) -> Step
     ensures step { IsUnread fault (K.talk sink.old) (K.talk sink.new) (IsTrue (K.steady sink.old)
         × (length (reply_frame (Err SignFault.NoMemory)) ≤ K.room sink.old)) result.replies result.ended }
@@ -144,7 +144,7 @@ fn answered(outcome: &Result<Signed, SignFault>, written: Result<(), Failed>) ->
     }
 }
 
-/// How a connection ends behind a request with this outcome, if it does.
+/// How a connection ends after a request with this outcome, if it does.
 fn end_after(outcome: &Result<Signed, SignFault>) -> Option<ServedEnd>
     ensures { result ≡ end_after (signature_in outcome.now) }
 {

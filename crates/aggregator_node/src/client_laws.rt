@@ -9,7 +9,7 @@ ghost use Rattle.stream_io.specs.Net.{IsNewPort, NetState};
 ghost use Rattle.stream_io.specs.declared.totals.Totals.{Totals};
 
 /// Over steady ports whose links have room for 65,536 of the longest replies of the key's parameter set, no client's
-/// connection ended by a link that failed. New ports of a steady net with that room are such ports.
+/// connection ended because a link failed. New ports of a steady net with that room are such ports.
 pub fn no_link_fails()
     ensures ports { (desk : DeskState) (asked : ℕ) (old new : TableSeen) (before after : List Place) (totals : Totals)
         → (all : ServedClients desk asked old new before after totals)

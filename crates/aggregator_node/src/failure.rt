@@ -1,4 +1,4 @@
-//! Faults of signing as they are told to a client.
+//! Faults of signing, as a client is told them.
 
 ghost use Rattle.std.specs.Prelude.{◌≡◌};
 ghost use Rattle.aggregator_node.specs.Failures.{failure, failure_of, session_failure, table_failure};
@@ -8,7 +8,7 @@ use leaf_table::TableFault;
 use round_frames::Failure;
 use session_core::SessionFault;
 
-/// What a client is told of a fault: the status that a run of the tool would have ended with, and what it names.
+/// What a client is told about a fault: the status with which a run of the tool would have ended, and what it names.
 pub fn failure_of(fault: &SignFault) -> Failure
     ensures { result ≡ failure_of fault.now }
 {
@@ -23,7 +23,7 @@ pub fn failure_of(fault: &SignFault) -> Failure
     }
 }
 
-/// What a client is told where no leaf was leased.
+/// What a client is told if no leaf was leased.
 fn table_failure(fault: &TableFault) -> Failure
     ensures { result ≡ table_failure fault.now }
 {
@@ -35,7 +35,7 @@ fn table_failure(fault: &TableFault) -> Failure
     }
 }
 
-/// What a client is told of a session's fault.
+/// What a client is told about a session's fault.
 fn session_failure(fault: &SessionFault) -> Failure
     ensures { result ≡ session_failure fault.now }
 {

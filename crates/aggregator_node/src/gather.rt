@@ -1,4 +1,4 @@
-//! Workers after they were run.
+//! Workers after their run.
 
 ghost use Rattle.aggregator_session.specs.Desks.{DeskState};
 ghost use Rattle.std.specs.Prelude.{◌≡◌, ◌≤◌, ◌<◌, ◌+◌, ◌++◌, ℕ, [], ◌∷◌, List, All, vec_len, vec_capacity};
@@ -15,7 +15,7 @@ use reference_value::Cells;
 use stream_io::{Port, Totals};
 use turn_lock::{Pass, TurnLock};
 
-/// Joins the passes of workers that are done, adds their numbers, and puts their ports and cells into the room that
+/// Joins the passes of workers that are done, adds up their numbers, and puts their ports and cells into the room that
 /// there is, the last worker's first.
 pub(crate) fn gather<X: Cells, D: Disk, P: Port>(
     lock: &TurnLock<Table<D>>,
@@ -77,7 +77,7 @@ fn begin<X: Cells, D: Disk, P: Port>(
     (pass, totals)
 }
 
-/// Joins the pass of one more worker, adds its numbers, and puts its port and its cells behind the others.
+/// Joins the pass of one more worker, adds its numbers, and puts its port and its cells after the others.
 fn take_in<X: Cells, D: Disk, P: Port>(
     lock: &TurnLock<Table<D>>,
     pass: &mut Pass<Table<D>>,

@@ -1,5 +1,5 @@
-//! The running aggregator: it signs for clients, over a table under a lock. Workers serve the clients of ports, beside
-//! each other.
+//! The running aggregator: it signs for clients, over a table under a lock. Workers serve the clients of ports, side by
+//! side.
 #![tactic(auto)]
 
 mod client;

@@ -20,10 +20,10 @@ use std::thread::Threads;
 use stream_io::{Port, Totals};
 use turn_lock::TurnLock;
 
-/// Serves the clients of a leaf table over ports, by a worker for each port, all beside each other, each with cells of
+/// Serves the clients of a leaf table over ports, with one worker for each port, all side by side, each with cells of
 /// its own. A worker serves one link after the other, until it has served `connections`, there is no further link or
 /// accepting fails; the members of the requests are dialled from the same port. The ports and the cells come back in
-/// their order. Where memory runs out before a link is accepted, nothing was served.
+/// their order. If memory runs out before a link is accepted, nothing was served.
 pub fn serve_clients<R: Threads + Wait + Sync, X: Cells + Send, D: Disk + Send, P: Port + Send>(
     rt: &R,
     alloc: Global,

@@ -23,8 +23,8 @@ use stream_io::Port;
 use turn_lock::{Pass, TurnLock};
 
 /// Signs a message: leases a leaf of these members for it in one turn of the table's lock, runs a session outside the
-/// turn, and burns the leaf in a second turn where a member has spent it. A lease that was made stays. What comes of
-/// the burning does not change the answer: a leaf that could not be burnt is burnt by the next session that meets it.
+/// turn, and burns the leaf in a second turn if a member has spent it. A lease that was made stays. What comes of the
+/// burning does not change the answer: a leaf that could not be burnt is burnt by the next session that meets it.
 pub fn sign_one<R: Cells, D: Disk, P: Port>(
     rt: &impl Wait,
     alloc: Global,

@@ -1,4 +1,4 @@
-//! The turns that signing a message takes of the table's lock.
+//! The turns of the table's lock that signing a message takes.
 
 ghost use Rattle.std.specs.Prelude.{◌≡◌, ◌<◌, ◌^◌, IfOk, Some};
 ghost use Rattle.aggregator_node.specs.Signing.{Burning, LeaseTurn};
@@ -41,8 +41,7 @@ pub(crate) fn lease_in_turn<D: Disk>(
     }
 }
 
-/// Burns a leaf that was leased for this message, in a turn of its own, where a member has spent it. It takes no
-/// memory.
+/// Burns a leaf that was leased for this message, in a turn of its own, if a member has spent it. It takes no memory.
 pub(crate) fn burn_spent<D: Disk>(
     rt: &impl Wait,
     lock: &TurnLock<Table<D>>,
@@ -63,8 +62,8 @@ pub(crate) fn burn_spent<D: Disk>(
     }
 }
 
-/// Burns a leaf that was leased for this message, as this member reported it spent, in a turn of its own. What comes of
-/// it changes no answer. It takes no memory.
+/// Burns a leaf that was leased for this message, since this member reported it spent, in a turn of its own. What comes
+/// of it changes no answer. It takes no memory.
 fn burn_in_turn<D: Disk>(
     rt: &impl Wait,
     lock: &TurnLock<Table<D>>,

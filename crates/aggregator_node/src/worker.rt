@@ -19,8 +19,8 @@ use std::thread::Threads;
 use stream_io::{Port, Sink, Stream};
 use turn_lock::{Pass, TurnLock};
 
-/// Serves one link after the other by each worker, all beside each other, until each has served `connections`, there is
-/// no further link for it, accepting fails or its pass has no more turns.
+/// Has each worker serve one link after the other, all workers side by side, until each has served `connections`, there
+/// is no further link for it, accepting fails or its pass has no more turns.
 pub fn serve<R: Threads + Wait + Sync, X: Cells + Send, D: Disk + Send, P: Port + Send>(
     rt: &R,
     alloc: Global,

@@ -1,4 +1,4 @@
--- Links that are put behind others.
+-- Links that are put after others.
 use Rattle.std.proofs.Common.{◌≡◌, ◌≤◌, ◌+◌, ◌++◌, [], ◌∷◌, ℕ, Bool, List, IsTrue, All, sym, subst, ◌∙◌, arith}
 use Rattle.std.proofs.lemmas.List.{append-nil}
 use Rattle.std.proofs.lemmas.List.Elements.{All-append, All-cons, All-nil}
@@ -29,7 +29,7 @@ module _ {L : Type 0} (is_steady : L → Bool) (room_of : L → ℕ) where
     news_are = is;
   }
 
-  -- links of a port, and behind them those of the port at a later time
+  -- links of a port, and after them those of the port at a later time
   pub asked-more : (first port : PortState) (olds news : List L) → PortOnward first port → AreAsked is_steady room_of first olds → AddsAsked is_steady room_of port olds news
       → AreAsked is_steady room_of first news
   asked-more first port olds news onward are adds = record {

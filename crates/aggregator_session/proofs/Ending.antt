@@ -50,7 +50,7 @@ none-waits [] p = tt
 none-waits (seat ∷ seats) (inl are) = absurd (cc)
 none-waits (seat ∷ seats) (inr p) = inr (p.0, none-waits seats p.1)
 
--- the reply of a member goes into the first seat of it
+-- the reply of a member goes into its first seat
 
 reply-here : (seat : Seat) (seats : List Seat) (m code : ℕ) (body : List ℕ) → (seat.member == m) ≡ true → with_reply (seat ∷ seats) m code body ≡ filled_seat seat code body ∷ seats
 unfolding place_of
@@ -120,7 +120,7 @@ step-kept true true is = absurd (cc)
 step-kept true false is = (refl, refl)
 step-kept false f is = absurd (cc)
 
--- the session once it kept this reply of this member, of whom nothing was kept
+-- the session once it kept this reply of this member, of which nothing was kept
 abbrev Keeps : State → ℕ → Reply → Type 0
 Keeps s member reply = (is_filled (seat_of (seats_of s) member) ≡ false) × (kept_in s (Ok reply) ≡ with_seats s (with_reply (seats_of s) member reply.0.code reply.1))
 
@@ -186,7 +186,7 @@ calls-comes leaf addresses ask s member port after talks answer (nowhere none) =
 calls-comes leaf addresses ask s member port after talks answer (undialled place a found onward rose same nobody) = tt
 calls-comes leaf addresses ask s member port after talks answer (dialled place start talk steady a x found onward quiet dials asks) = asked-comes leaf s member ask start talk x asks
 
--- round one: how it ends, and what is kept of it where nobody is lost
+-- round one: how it ends, and what is kept of it if nobody is lost
 
 pub first-end : (leaf : ℕ) (addresses : List Address) (ask : List ℕ) (port : PortState) (s : State) (members : List ℕ) (talks : List Talk) (last : State) (end : Result (Unit {0}) SignFault)
     → First addresses ask port s members talks last end → IfErr end (IsEnd leaf)
@@ -380,7 +380,7 @@ numbers : (room : ℕ) (members : List ℕ) → AreOf members (map (empty_seat r
 numbers room [] = refl
 numbers room (m ∷ members) = ap (λ (ms : List ℕ). m ∷ ms) (numbers room members)
 
--- how a session ends that begins with nothing kept
+-- how a session that begins with nothing kept ends
 pub started-end : (key : PublicKey) (plan : PlanNumbers) (leaf : ℕ) (id : MessageId) (desk : DeskState) (reads : CellsRead) (message : List ℕ) (before now : PortState) (last : State)
     (result : Result (List ℕ) SignFault) → HasRun desk reads message before now (started key plan leaf id) last result → IfErr result (IsEnd leaf)
 started-end key plan leaf id desk reads message before now last result run =

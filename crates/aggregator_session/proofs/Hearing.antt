@@ -94,18 +94,18 @@ read-failed NoMemory not is = absurd (not refl)
 pub reads-as : (p q : Params) (old new : Talk) (result : Result Reply FrameFault) → p ≡ q → Reads {V = Reply} old new result (frame_of (replies q) old.left) → Reads {V = Reply} old new result (frame_of (replies p) old.left)
 reads-as p q old new result is reads = subst (λ (x : Params). Reads {V = Reply} old new result (frame_of (replies x) old.left)) (sym is) reads
 
--- an answer that is no failed read, after calls that raised no count
+-- an answer that is not a failed read, after calls that raised no count
 pub quiet-cause : (Failed : Type 0) (before now : ℕ) → (Failed → ⊥) → now ≡ before → RisesWhere Failed before now
 quiet-cause Failed before now never same = record { later = omega arith; rose = λ is. absurd (never is); same = λ _. same }
 
--- a reader's answer, and a member's, that are no reply
+-- a reader's answer, and a member's, that are not a reply
 abbrev no_frame : FrameFault → Result (ReplyHead × ℕ) FrameFault
 no_frame fault = Err fault
 
 abbrev pub no_answer : SignFault → Result Reply SignFault
 no_answer fault = Err fault
 
--- the loss of a member by a fault of a frame raises the count where the fault is a failed read
+-- the loss of a member by a fault of a frame raises the count if the fault is a failed read
 pub lost-cause : (s : State) (member : ℕ) (fault : FrameFault) (before mid now : ℕ) → fault ≢ NoMemory → mid ≡ before
     → RisesWhere (no_frame fault ≡ no_frame ReadFault) mid now → RisesWhere (no_answer (Lost member (round_of s) (why_of fault)) ≡ unread s member) before now
 lost-cause s member fault before mid now small same cause = record {
@@ -128,7 +128,7 @@ heard-why Shape = refl
 heard-why ReadFault = refl
 heard-why NoMemory = refl
 
--- a member that is lost or strays is no reference that was not read
+-- a member that is lost or strays is not a reference that was not read
 pub lost-reference : {V : Type 0} (member round : ℕ) (why : Why) → ◌≡◌ {A = Result V SignFault} (Err (Lost member round why)) (Err (Session Reference)) → ⊥
 lost-reference member round why is = absurd (cc)
 

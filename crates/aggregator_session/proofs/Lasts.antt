@@ -18,7 +18,7 @@ ended-more [] (x ∷ lasts) talk last all one = absurd all
 ended-more (t ∷ gone) [] talk last all one = absurd all
 ended-more (t ∷ gone) (x ∷ lasts) talk last all one = (all.0, ended-more gone lasts talk last all.1 one)
 
--- the first of a list that is not empty, and what is behind it
+-- the first of a list that is not empty, and what is after it
 pub first-of : {A : Type 0} (items rest : List A) (first : A) → 0 < length items → first ≡ slice_index_or items 0 first → rest ≡ drop 1 items → items ≡ first ∷ rest
 first-of [] rest first some value is = absurd (omega (arith, some))
 first-of (x ∷ items) rest first some value is = λ i. sym value i ∷ sym is i
@@ -80,7 +80,7 @@ ended-faulty talks lasts all some none =
     let one = some-last talks lasts all (dite (dec_le 1 (counts_of talks)) (λ is. is) (λ never. absurd (some (omega (arith, never))))) in
     omega (arith, one, none)
 
--- what was hung up is all where no link is left
+-- what was hung up is all if no link is left
 pub hung-all : {L : Type 0} (talk : L → Talk) (links : List L) (old new : PortState) (all gone : List Talk)
     → all ≡ gone ++ map talk links → length links ≡ 0 → HangsUpAll old gone new → HangsUpAll old all new
 hung-all talk [] old new all gone is none hung =

@@ -17,7 +17,7 @@ once-hung a b c faulty once most = omega arith
 pub none-hung : (a b c faulty : ℕ) → b ≤ a → c ≤ b + faulty → c ≤ a + faulty
 none-hung a b c faulty once most = omega arith
 
--- the room of all asks has that of the first, and behind the first that of the second
+-- the room of all asks has that of the first, and after the first that of the second
 pub first-fits : (message room : ℕ) → 156 + message ≤ room → 64 ≤ room
 first-fits message room fits = omega arith
 
@@ -57,7 +57,7 @@ room-asked port had left size is some kept = omega arith
 pub room-first : (port had size : ℕ) → size ≡ 64 → port ≤ had → 64 ≤ port → size ≤ had
 room-first port had size is some fits = omega arith
 
--- what is left of a link's room where an ask was written and an answer read
+-- what is left of a link's room once an ask was written and an answer read
 pub room-after : (old mid new told seen frame size : ℕ) → old ≤ mid + frame → frame ≡ size → told ≤ seen → told ≡ mid → seen ≡ new → old ≤ new + size
 room-after old mid new told seen frame size wrote long read before after = omega arith
 
@@ -71,7 +71,7 @@ some-left len count end items is more same = omega arith
 pub inside : (i many links : ℕ) → links ≡ many → i < many → i < links
 inside i many links same lt = omega arith
 
--- what holds of the elements from a place on holds of those behind it, whatever is put there
+-- what holds of the elements from a place on holds of those after it, whatever is put there
 module _ {L : Type 0} (P : L → Type 0) (links : List L) (i : ℕ) (link : L) where
   other-place : (k : ℕ) → i + 1 ≤ k → k ≢ i
   other-place k low is = absurd (omega arith)

@@ -1,4 +1,4 @@
--- Whoever is there is dialled.
+-- Anyone who is there is dialled.
 use Rattle.std.proofs.Common.{◌≡◌, ℕ, Bool, false, List, [], ◌∷◌, IfErr, IfSome, IsTrue, Option, Some, None, Result, Ok, Err, refl, sym, ap, subst, ◌∙◌}
 use Rattle.std.specs.Str.{bytes_eq}
 use Rattle.aggregator_session.specs.Addresses.{place_of}
@@ -23,7 +23,7 @@ use Rattle.stream_io.specs.Talk.{Talk}
 abbrev no_reply : SignFault → Result Reply SignFault
 no_reply fault = Err fault
 
--- a loss that was heard is no failed dial
+-- a loss that was heard is not a failed dial
 loss-not : (s : State) (member : ℕ) (f : SignFault) → IsLoss s member f → IsLostBy DialFailed f → ⊥
 loss-not s member (TooLong got) loss by = by
 loss-not s member Worn loss by = by

@@ -75,7 +75,7 @@ called-taken addresses ask s member port after talks answer reply is (nowhere no
 called-taken addresses ask s member port after talks answer reply is (undialled place a found onward rose same nobody) = absurd (cc)
 called-taken addresses ask s member port after talks answer reply is (dialled place start talk steady a x found onward quiet dials asked) = taken-of s member ask start talk x reply is asked
 
--- where a member that was called refused
+-- if a member that was called refused
 pub called-refused : (addresses : List Address) (ask : List ℕ) (s last : State) (member : ℕ) (port after : PortState) (talks : List Talk) (answer : Result Reply SignFault) (result : Result Bool SignFault)
     → s.c ≡ None → Calls addresses ask s member port after talks answer → last ≡ kept_in s answer → result ≡ granted answer → result ≡ Ok false → AreMasks last.first → ⊥
 called-refused addresses ask s last member port after talks (Err fault) result none calls state told is all = absurd (cc)

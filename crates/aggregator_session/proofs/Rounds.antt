@@ -87,7 +87,7 @@ module _ (addresses : List Address) (ask : List ℕ) (before : PortState) (old :
 pub ok-is : (r : Result Bool SignFault) (b x : Bool) → r ≡ Ok b → b ≡ x → r ≡ Ok x
 ok-is r b x was is = was ∙ ap (λ (y : Bool). okay y) is
 
--- the same of round two, where the later members have these links
+-- the same of round two, if the later members have these links
 abbrev pub SecondFrom : SecondFrames → List ℕ → List Talk → State → List ℕ → List Talk → List Talk → Type 0
 SecondFrom frames members olds new later left talks =
     (news : List Talk) (last : State) (end : Result (Unit {0}) SignFault) → Second frames new later left news last end → Second frames frames.session members olds (talks ++ news) last end

@@ -212,7 +212,7 @@ pub first-as : (addresses : List Address) (ask : List ℕ) (port : PortState) (s
 first-as addresses ask port s m n talks last e f is same run =
     subst (λ (x : List ℕ). First addresses ask port s x talks last f) is (subst (λ (x : Result (Unit {0}) SignFault). First addresses ask port s m talks last x) same run)
 
--- the fault that is handed on
+-- the fault that is passed on
 pub err-as : {V W : Type 0} (r : Result V SignFault) (q : Result W SignFault) (x y z : SignFault) → r ≡ Err x → x ≡ y → q ≡ Err y → r ≡ Err z → q ≡ Err z
 err-as r q x y z is same was end = cc
 

@@ -79,7 +79,7 @@ cells-none c f own result none = record {
   stays = record { set = refl; plan = refl; told = refl; steady = refl; leaves = λ told. refl };
 }
 
--- want of memory is no fault of the reference
+-- running out of memory is no fault of the reference
 pub cells-refused : {C V : Type 0} (c : cells.Ghosts C) (f : faults.Ghosts C) (own : C)
     → ReferenceCauses {V = V} c f own own (Err NoMemory)
 cells-refused c f own = cells-none c f own (Err NoMemory) (λ is. absurd (cc))

@@ -64,14 +64,14 @@ module _ {addresses : List Address} {member : ℕ} {old new : Dialling} {result 
 pub rose-later : (a b c : ℕ) → a ≤ b → Rose b c → Rose a c
 rose-later a b c le rose = omega arith
 
--- a loss that is handed on is the loss that came
+-- a loss that is passed on is the loss that came
 pub lost-as : {V W : Type 0} (why : Why) (r : Result V SignFault) (q : Result W SignFault) (x y : SignFault) → r ≡ Err x → x ≡ y → q ≡ Err y → LostBy why r → LostBy why q
 lost-as {V} {W} why r q x y is same was lost =
     let here : IsLostBy why x = subst (λ (z : Result V SignFault). LostBy why z) is lost in
     let there : IsLostBy why y = subst (IsLostBy why) same here in
     subst (λ (z : Result W SignFault). LostBy why z) (sym was) there
 
--- where a value came, no member is lost
+-- if a value came, no member is lost
 pub ok-not : {V : Type 0} (why : Why) (r : Result V SignFault) (x : V) → r ≡ Ok x → LostBy why r → ⊥
 ok-not {V} why r x is lost = subst (λ (z : Result V SignFault). LostBy why z) is lost
 
@@ -81,7 +81,7 @@ rises-later a b c le rises = record {
   same = λ not. let same = rises.same not in omega (arith, same);
 }
 
--- the same of an answer that hands on the loss
+-- the same of an answer that passes on the loss
 pub once-as : {V W : Type 0} (r : Result V SignFault) (q : Result W SignFault) (x y : SignFault) (before now : ℕ) → r ≡ Err x → x ≡ y → q ≡ Err y
     → RisesOnce (LostBy DialFailed r) before now → RisesOnce (LostBy DialFailed q) before now
 once-as {V} {W} r q x y before now is same was rises = record {
@@ -89,7 +89,7 @@ once-as {V} {W} r q x y before now is same was rises = record {
   same = λ not. rises.same (λ lost. not (lost-as DialFailed r q x y is same was lost));
 }
 
--- the same where a value came, whatever is made of it
+-- the same if a value came, whatever is made of it
 pub once-of : {V : Type 0} (failed : Type 0) (r : Result V SignFault) (x : V) (before now : ℕ) → r ≡ Ok x → RisesOnce (LostBy DialFailed r) before now → RisesOnce failed before now
 once-of failed r x before now is rises = record {
   once = rises.once;
@@ -127,7 +127,7 @@ dials-on n m before now r q x is none d = record {
   only = d.only;
 }
 
--- a member without an address, of whom nobody was dialled, and one who was dialled in vain
+-- a member without an address, for which nobody was dialled, and one that was dialled in vain
 pub dials-nowhere : (n member : ℕ) (port : PortState)
     → DialCauses {V = Bool} n port port (Err (Lost member 1 NoAddress))
 dials-nowhere n member port = record {

@@ -9,7 +9,7 @@ use Rattle.aggregator_session.specs.Tables.{TableSeen}
 use Rattle.session_core.specs.State.{State}
 use Rattle.stream_io.specs.Net.{PortState}
 
--- how the session of this run stands at its end, where it was started
+-- how the session of this run stands at its end, if it was started
 abbrev pub last_on : {desk : DeskState} → {reads : CellsRead} → {leaf : ℕ} → {message : List ℕ} → {port now : PortState}
     → {result : Result (List ℕ) SignFault} → RunsOn desk reads leaf message port now result → Option State
 last_on (not_started same) = None

@@ -12,7 +12,8 @@ use Rattle.session_core.specs.declared.faults.SessionFault as session
 use Rattle.session_core.specs.declared.faults.SessionFault.TheVariants.{Missing, SpentLeaf, WrongCheck, WrongRoot}
 use Rattle.session_core.specs.declared.faults.SessionFault.TheVariants.{MemberRefused, Reference}
 
--- why a member is lost whose next frame has this fault: its link ended, or what it sent has a fault of frames by number
+-- why a member is lost if its next frame has this fault: its link ended, or what it sent has a fault of frames by
+-- number
 abbrev pub why_of : frame.FrameFault → Why
 why_of End = Ended
 why_of Cut = Ended
@@ -38,7 +39,7 @@ abbrev pub LostBy : {V : Type 0} → Why → Result V SignFault → Type 0
 LostBy why (Ok value) = ⊥
 LostBy why (Err fault) = IsLostBy why fault
 
--- a fault of a session as one of the call: want of memory is merged with nothing
+-- a fault of a session as one of the call: running out of memory is merged with nothing
 abbrev pub sign_fault : session.SessionFault → SignFault
 sign_fault session.TheVariants.NoMemory = NoMemory
 sign_fault (Missing member round) = Session (Missing member round)

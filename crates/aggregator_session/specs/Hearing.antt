@@ -25,11 +25,11 @@ is_kept NotMine = false
 is_kept Repeat = false
 is_kept Kept = true
 
--- the reply names the link's member in its head, and the session keeps it: no other is handed to the session
+-- the reply names the link's member in its head, and the session keeps it: no other is given to the session
 abbrev pub is_answer : State → ℕ → Reply → Bool
 is_answer s member reply = if reply.0.member == member then is_kept (step_of s reply.0 reply.1) else false
 
--- it is masks, and no refusal
+-- it is masks, and not a refusal
 abbrev pub is_masks : Reply → Bool
 is_masks reply = reply.0.code == 0
 
@@ -38,7 +38,7 @@ pub record Came : Type 0 where
   pub answer : Result Reply SignFault
   pub rest : List ℕ
 
--- by the next frame, which is passed over where it is no answer
+-- by the next frame, which is passed over if it is not an answer
 abbrev pub by_frame : State → ℕ → (List ℕ → Came) → List ℕ → Result Reply SignFault → Came
 by_frame s member next rest (Err fault) = record { answer = Err fault; rest = rest }
 by_frame s member next rest (Ok reply) =
@@ -49,7 +49,7 @@ abbrev pub or_lost : State → ℕ → Result Reply FrameFault → Result Reply 
 or_lost s member (Ok reply) = Ok reply
 or_lost s member (Err fault) = Err (Lost member (round_of s) (why_of fault))
 
--- what is heard of a member where so many frames at most are read
+-- what is heard of a member if at most that many frames are read
 unfoldable pub hear : State → ℕ → ℕ → List ℕ → Came
 hear s member zero bytes = record { answer = Err (Stray member (round_of s)); rest = bytes }
 hear s member (suc most) bytes =
@@ -79,7 +79,7 @@ IsLoss s member (Stray who round) = (who ≡ member) × (round ≡ round_of s)
 IsLoss s member (Session fault) = ⊥
 IsLoss s member NoMemory = ⊥
 
--- What is heard on a link, of eight frames at most: where it tells its bytes, what they say, unless a read failed
+-- What is heard on a link, of eight frames at most: if it tells its bytes, what they say, unless a read failed
 pub record Heard (s : State) (member : ℕ) (old new : Talk) (answer : Result Reply SignFault) : Type 0 where
   pub only : OnlyRead old new
   pub all : IsTrue old.told → new.taken ++ new.left ≡ old.taken ++ old.left

@@ -10,7 +10,7 @@ Apart addresses place [] = Unit {0}
 Apart addresses place (member ∷ members) =
     IfSome (place_of addresses member) (λ other. bytes_eq other place ≡ false) × Apart addresses place members
 
--- at the place of each of these members somebody is there to be dialled, and no two have one place
+-- at the place of each of these members somebody is there to be dialled, and no two have the same place
 abbrev pub Reachable : List Address → (List ℕ → Bool) → List ℕ → Type 0
 Reachable addresses reaches [] = Unit {0}
 Reachable addresses reaches (member ∷ members) =

@@ -65,7 +65,7 @@ abbrev pub second_frames : CellsRead → State → List ℕ → SecondFrames
 second_frames reads s message =
     record { told = reads.told; leaves = reads.leaves; session = s; message = message }
 
--- this is the frame of the ask of round two to a member: its tag is that of the reference, where this is told
+-- this is the frame of the ask of round two to a member: its tag is that of the reference, if this is told
 pub record IsSecondFrame (frames : SecondFrames) (member : ℕ) (bytes : List ℕ) : Type 0 where
   pub tag : List ℕ
   pub is : bytes ≡ second_frame frames.session frames.message tag
@@ -73,7 +73,7 @@ pub record IsSecondFrame (frames : SecondFrames) (member : ℕ) (bytes : List �
       → tag ≡ tag_in frames.session.key.params frames.session.plan frames.leaves frames.session.leaf member
 
 -- A member is dialled and asked in round one: the port and the session as they stand before, the port after, the talk
--- on its link if there is one, and what came. The port's count rises where dialling failed, and nowhere else.
+-- on its link if there is one, and what came. The port's count rises if dialling failed, and not otherwise.
 pub data Calls (addresses : List Address) (ask : List ℕ) (s : State) (member : ℕ) (port : PortState)
     : PortState → List Talk → Result Reply SignFault → Type 0 where
   nowhere : place_of addresses member ≡ None
@@ -163,12 +163,12 @@ pub data AskedAgain (frames : SecondFrames) (new : State) (member : ℕ) (before
 abbrev pub Stops : CellsRead → State → SessionFault → Type 0
 Stops reads s fault = (round_fault s [] ≡ Some fault) ⊎ Unread s [] reads.before reads.now fault
 
--- where reference and masks are the dealer's, the randomizer is the dealer's
+-- if reference and masks are the dealer's, the randomizer is the dealer's
 abbrev pub DealtC : State → State → List ℕ → Type 0
 DealtC kept turned leaves = (d : Dealing) (key : UndividedKey) → leaves ≡ reference d → IsOfDealing d key kept
     → FirstMasks d kept → turned ≡ record kept { c = Some (leaf_randomizer d kept.leaf) }
 
--- where reference, tree and masks are the dealer's, the bytes are the undivided key's signature
+-- if reference, tree and masks are the dealer's, the bytes are the undivided key's signature
 abbrev pub DealtBytes : State → List ℕ → TreeNodes → List ℕ → List ℕ → Type 0
 DealtBytes s leaves tree message bytes = (d : Dealing) (key : UndividedKey)
     → IsAnswered d key s (digest_of s message) leaves tree
@@ -220,9 +220,9 @@ pub data SignRun (desk : DeskState) (reads : CellsRead) (message : List ℕ) (po
       → Signs reads desk.tree kept message bytes
       → SignRun desk reads message port s talks kept (Ok bytes)
 
--- All of a session's call: the talks that were hung up, in their order, what came of them, and how each then ended. Of
--- the session it is the replies that are kept, and the randomizer in round two, that may be other than before. The port
--- counts each link that ended with a fault, and beside these a dial that failed, which is the last: so no member is
+-- A session's whole call: the talks that were hung up, in their order, what came of them, and how each then ended. In
+-- the session, it is the replies that are kept, and the randomizer in round two, that may differ from before. The port
+-- counts each link that ended with a fault, and besides these a dial that failed, which is the last: so no member is
 -- dialled twice.
 pub record HasRun (desk : DeskState) (reads : CellsRead) (message : List ℕ) (before now : PortState) (old new : State)
     (result : Result (List ℕ) SignFault) : Type 0 where

@@ -47,7 +47,7 @@ abbrev pub signed_with : ℕ → Result (List ℕ) SignFault → Result Signatur
 signed_with leaf (Ok bytes) = Ok (record { leaf = leaf; bytes = bytes })
 signed_with leaf (Err fault) = Err fault
 
--- the member that has spent the leaf for something else, where this is a session's fault
+-- the member that has spent the leaf for something else, if this is a session's fault
 abbrev pub spender : session.SessionFault → Option ℕ
 spender (Missing member round) = None
 spender (SpentLeaf leaf member kept) = Some member
@@ -72,7 +72,7 @@ abbrev pub spent_by : Result (List ℕ) SignFault → Option ℕ
 spent_by (Ok bytes) = None
 spent_by (Err fault) = spender_in fault
 
--- what follows a session: a leaf that a member has spent is burnt, and else the table is as it was
+-- what follows a session: a leaf that a member has spent is burnt, and otherwise the table is as it was
 abbrev pub Spends : TableSeen → ℕ → MessageId → Option ℕ → TableSeen → Type 0
 Spends before leaf message None after = after ≡ before
 Spends before leaf message (Some member) after = AsksToBurn before leaf message member after
@@ -88,7 +88,7 @@ IsJudged leaf (MemberRefused member code) = Unit {0}
 IsJudged leaf Reference = Unit {0}
 IsJudged leaf session.TheVariants.NoMemory = ⊥
 
--- the same of a call's fault: want of memory, or a member that is lost or strays, or a fault of the session
+-- the same of a call's fault: memory ran out, or a member is lost or strays, or a fault of the session
 abbrev pub IsEnd : ℕ → SignFault → Type 0
 IsEnd leaf (TooLong got) = ⊥
 IsEnd leaf Worn = ⊥

@@ -38,8 +38,8 @@ pub record TableOnward (old new : TableSeen) : Type 0 where
   pub name : new.name ≡ old.name
   pub faults : old.faults ≤ new.faults
 
--- What leasing and burning say of the disk: no slot is found damaged where the disk tells its content, a steady disk
--- that tells it does not fail, and the count rises where the answer is Device and nowhere else.
+-- What leasing and burning say of the disk: no slot is found damaged if the disk tells its content, a steady disk that
+-- tells it does not fail, and the count rises if the answer is Device and not otherwise.
 pub record Entered {R : Type 0} (before after : TableSeen) (result : Result R TableFault) : Type 0 where
   pub told : IsTrue before.name.told → (leaf a b : ℕ) → result ≢ Err (Damaged leaf a b)
   pub succeeds : IsTrue before.name.steady → IsTrue before.name.told → result ≢ Err Device

@@ -25,7 +25,7 @@ pub record MayRun (key : PublicKey) (plan : PlanNumbers) (message : List ℕ) (s
   pub limit : length message ≤ 16777216
   pub round : s.c ≡ None
 
--- internal: A task stands so with a session, the set and the plan of its cells, and so many bytes of room: the session
+-- internal: How a task stands with a session, the set and the plan of its cells, and `size` bytes of room: the session
 -- is of its key, plan and message, the members are those of its leaf, the cells are of its set and plan, and the room
 -- holds the masks of all chains.
 pub record Stands (task : Task) (s : State) (params : Params) (numbers : PlanNumbers) (size : ℕ) : Type 0 where
@@ -51,8 +51,8 @@ pub record StandsAgain
   pub round : IsSome s.c
   pub digest_is : digest ≡ digest_of s task.message.now
 
--- internal: A session of this set may send this ask, with this message behind it, and have the answer's body read into
--- so many bytes of room: the ask is for the message and has a randomizer of the set's length, or none, and the room
+-- internal: A session of this set may send this ask, with this message after it, and have the answer's body read into
+-- `size` bytes of room: the ask is for the message and has a randomizer of the set's length, or none, and the room
 -- holds the masks of all chains.
 pub record MayAsk (params : Params) (s : State) (ask : Ask) (message : List ℕ) (size : ℕ) : Type 0 where
   pub set : s.key.params ≡ params
@@ -73,14 +73,14 @@ pub record OnlyDials (old new : PortState) : Type 0 where
   pub talks : new.talks ≡ old.talks
   pub accepting : new.accept_count ≡ old.accept_count
 
--- internal: links of this port on which an ask of round one was written: they are steady where the port is, and have
--- its room but for the 64 bytes of the ask
+-- internal: links of this port on which an ask of round one was written: they are steady if the port is, and have its
+-- room except for the 64 bytes of the ask
 pub record AreAsked {L : Type 0} (is_steady : L → Bool) (room_of : L → ℕ) (port : PortState) (links : List L)
     : Type 0 where
   pub steady : IsTrue port.steady → All (λ link. IsTrue (is_steady link)) links
   pub rooms : All (λ link. port.room ≤ room_of link + 64) links
 
--- internal: such links were put behind others
+-- internal: such links were put after others
 pub record AddsAsked {L : Type 0} (is_steady : L → Bool) (room_of : L → ℕ) (port : PortState) (olds news : List L)
     : Type 0 where
   pub added : List L
@@ -108,7 +108,7 @@ pub record HangsUpAll (old : PortState) (talks : List Talk) (new : PortState) : 
   pub onward : PortOnward old new
   pub accepting : new.accept_count ≡ old.accept_count
 
--- a count is at most this, and at most one more where a dial failed
+-- a count is at most this, or at most one more if a dial failed
 pub record RisesOnce (failed : Type 0) (before now : ℕ) : Type 0 where
   pub once : now ≤ before + 1
   pub same : (failed → ⊥) → now ≤ before

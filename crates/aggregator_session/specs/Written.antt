@@ -1,4 +1,4 @@
--- What is written in a session: the ask of round one on each link, and behind it the ask of round two on the first
+-- What is written in a session: the ask of round one on each link, and after it the ask of round two on the first
 -- links, up to the last that is asked.
 use Rattle.std.specs.Prelude.{◌≡◌, ◌⊎◌, ◌≤◌, ◌++◌, ℕ, zero, suc, List, [], ◌∷◌, length, take}
 use Rattle.aggregator_session.specs.Runs.{CellsRead, IsSecondFrame, Opens, SecondFrames, first_frame, second_frames}
@@ -8,19 +8,19 @@ use Rattle.session_core.specs.State.{State}
 use Rattle.stream_io.specs.Net.{PortState}
 use Rattle.stream_io.specs.Talk.{Talk}
 
--- these bytes were written on a link, or a beginning of them where its count of faults is not 0
+-- these bytes were written on a link, or a beginning of them if its count of faults is not 0
 pub record Wrote (talk : Talk) (bytes : List ℕ) : Type 0 where
   pub size : ℕ
   pub begins : talk.written ≡ take size bytes
   pub whole : talk.count ≡ 0 → talk.written ≡ bytes
 
--- the ask of round one, and behind it that of round two to this member
+-- the ask of round one, and after it that of round two to this member
 pub record WroteBoth (frames : SecondFrames) (first : List ℕ) (member : ℕ) (talk : Talk) : Type 0 where
   pub second : List ℕ
   pub framed : IsSecondFrame frames member second
   pub wrote : Wrote talk (first ++ second)
 
--- on the links of these members, of which so many were asked twice
+-- on the links of these members, of which that many were asked twice
 abbrev pub Wrotes : SecondFrames → List ℕ → ℕ → List ℕ → List Talk → Type 0
 Wrotes frames first reach members [] = Unit {0}
 Wrotes frames first reach [] (talk ∷ talks) = ⊥

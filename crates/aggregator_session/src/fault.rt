@@ -31,7 +31,7 @@ pub enum Why {
     /// Its link ended before a reply.
     #[error("its link ended before a reply")]
     Ended,
-    /// What it sent is no frame of a reply.
+    /// What it sent is not a frame of a reply.
     #[error("what it sent is no reply: fault {fault} of frames")]
     Garbled {
         /// The number of the frame's fault: 3 to 6.
@@ -71,7 +71,7 @@ pub enum SignFault {
         /// Why it is lost.
         why: Why,
     },
-    /// A member sent eight frames in a row that were no reply to the ask.
+    /// A member sent eight frames in a row, none of which was a reply to the ask.
     #[error("trustee {member} sent eight frames in round {round}, none of which answers the ask")]
     Stray {
         /// The number of the member.
@@ -82,7 +82,7 @@ pub enum SignFault {
     /// The session has no signature.
     #[error("{0}")]
     Session(SessionFault),
-    /// There was no memory.
+    /// Memory ran out.
     #[error("out of memory")]
     NoMemory,
 }
@@ -121,7 +121,7 @@ impl From<SessionFault> for SignFault {
     }
 }
 
-/// Why a member is lost whose next frame has this fault.
+/// Why a member is lost if its next frame has this fault.
 pub(crate) fn why_of(fault: FrameFault) -> Why
     ensures { result ≡ why_of fault }
 {
@@ -131,7 +131,7 @@ pub(crate) fn why_of(fault: FrameFault) -> Why
         FrameFault::Kind { .. } => Why::Garbled { fault: 4 },
         FrameFault::TooLong { .. } => Why::Garbled { fault: 5 },
         FrameFault::Shape => Why::Garbled { fault: 6 },
-        // The reader of replies takes no memory, so it answers the last one never.
+        // The reader of replies takes no memory, so it never answers the last one.
         FrameFault::ReadFault | FrameFault::NoMemory => Why::ReadFailed,
     }
 }

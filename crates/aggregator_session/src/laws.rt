@@ -14,8 +14,8 @@ ghost use Rattle.session_core.specs.State.{State};
 ghost use Rattle.stream_io.specs.Net.{PortState};
 ghost use Rattle.stream_io.specs.Talk.{Talk};
 
-/// What a session writes on its links, where the port tells its content, as they end: the ask of round one on each, and
-/// the ask of round two behind it on the first of them, and only where all members answered round one with masks.
+/// What a session writes on its links, as they end, if the port tells its content: the ask of round one on each, and
+/// the ask of round two after it on the first of them, and only if all members answered round one with masks.
 pub fn written()
     ensures { (desk : DeskState) (reads : CellsRead) (message : List ℕ) (port : PortState) (s last : State)
         (talks lasts : List Talk) (result : Result (List ℕ) SignFault)
@@ -23,8 +23,8 @@ pub fn written()
         → Written desk.addresses reads message port s lasts }
 {}
 
-/// A session at a steady port that tells its content loses nobody by a failed dial, where at the place of each member
-/// somebody is there and no two have one place.
+/// A session at a steady port that tells its content loses nobody by a failed dial, if somebody is there at the place
+/// of each member and no two have the same place.
 pub fn reached()
     ensures { (desk : DeskState) (reads : CellsRead) (message : List ℕ) (port : PortState) (s last : State)
         (talks : List Talk) (result : Result (List ℕ) SignFault)

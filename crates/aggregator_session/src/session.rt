@@ -111,7 +111,7 @@ fn digest_of(key: &PublicKey, session: &Session, message: &[u8]) -> Val
     MessageHash::of(&key.params, &key.id, session.leaf(), &c, message)
 }
 
-/// Hangs all links up, the first one first.
+/// Hangs up all links, the first one first.
 fn hang_up_all<P: Port>(port: &mut P, mut links: Vec<P::Link>)
     ensures { HangsUpAll (P.state port.old) (map (λ link. P.Link.talk link) links.items) (P.state port.new) }
 {

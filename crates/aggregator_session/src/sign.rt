@@ -1,4 +1,4 @@
-//! A leaf is leased, a session is run with it, and it is burnt where a member has spent it.
+//! A leaf is leased, a session is run with it, and it is burnt if a member has spent it.
 
 ghost use Rattle.std.specs.Prelude.{◌≡◌, ◌≤◌, ◌<◌, ◌^◌, length, IfErr, IfOk, Err, None, Ok};
 ghost use Rattle.aggregator_session.specs.Runs.{bytes_in, reads_of};
@@ -37,11 +37,11 @@ pub struct Signed {
 pub struct Ended<T> {
     /// What came of it.
     pub outcome: T,
-    /// The session with all that it kept, where one was begun.
+    /// The session with all that it kept, if one was begun.
     pub session: Option<Session>,
 }
 
-/// Leases a leaf of these members for the message, runs a session with it, and burns it where a member has spent it. A
+/// Leases a leaf of these members for the message, runs a session with it, and burns it if a member has spent it. A
 /// lease that was made stays. What comes of the burning does not change the answer: a leaf that could not be burnt is
 /// burnt by the next session that meets it.
 pub fn sign_leased<R: Cells, D: Disk, P: Port>(
@@ -67,7 +67,7 @@ pub fn sign_leased<R: Cells, D: Disk, P: Port>(
     outcome
 }
 
-/// Does what `sign_leased` does, and also gives the session as it stands at its end, where one was begun.
+/// Does what `sign_leased` does, and also gives the session as it stands at its end, if one was begun.
 pub fn run_leased<R: Cells, D: Disk, P: Port>(
     alloc: Global,
     desk: &Desk,
@@ -104,7 +104,7 @@ pub fn run_leased<R: Cells, D: Disk, P: Port>(
     }
 }
 
-/// The end where no session was begun.
+/// The end if no session was begun.
 fn not_begun(fault: SignFault) -> Ended<Result<Signed, SignFault>>
     ensures { (result.outcome ≡ Err fault) × (result.session ≡ None) }
 {
@@ -126,7 +126,7 @@ pub fn signed_with(leaf: u32, outcome: Result<Vec<u8>, SignFault>) -> Result<Sig
     }
 }
 
-/// Runs a session with a leaf that was leased for the message, and also gives it as it stands at its end, where one was
+/// Runs a session with a leaf that was leased for the message, and also gives it as it stands at its end, if one was
 /// begun.
 pub fn run_on<R: Cells, P: Port>(
     alloc: Global,
@@ -160,7 +160,7 @@ pub fn run_on<R: Cells, P: Port>(
     }
 }
 
-/// The member that has spent the leaf of a session for something else, where this is what came of the session.
+/// The member that has spent the leaf of a session for something else, if this is what came of the session.
 pub fn spent_by(outcome: &Result<Vec<u8>, SignFault>) -> Option<u8>
     ensures { result ≡ spent_by (bytes_in outcome.now) }
 {
@@ -170,7 +170,7 @@ pub fn spent_by(outcome: &Result<Vec<u8>, SignFault>) -> Option<u8>
     }
 }
 
-/// Burns a leaf that was leased for this message, where a member has spent it.
+/// Burns a leaf that was leased for this message, if a member has spent it.
 fn burn_spent<D: Disk>(table: &mut Table<D>, leaf: u32, id: &MessageId, spent: Option<u8>)
     requires within { leaf < 2 ^ (plan_of table.old).h }
     requires leased { map_of (state_of table.old).entries leaf ≡ IsLeased (message_id_bytes id.now) }

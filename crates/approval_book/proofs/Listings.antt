@@ -37,7 +37,7 @@ module _ {X : Type 0} (p : X → Bool) where
       let new : cond {A = ℕ} (p y) 1 0 ≡ 1 = ap (λ (b : Bool). cond b 1 0) one in
       omega (arith, sums, old, new)
 
-  -- where one element fails the test, fewer pass than there are
+  -- if one element fails the test, fewer pass than there are
   pub count-less : (xs : List X) (i : ℕ) (y d : X) → i < length xs → p (get_or xs i d) ≡ false → p y ≡ true
       → count_by p xs < length xs
   count-less xs i y d inside none one =
@@ -115,7 +115,7 @@ was_made before after found doubt id is event same half adding =
       room = taken_count-less before.slots put.slot adds.place id;
     }
 
--- the put in doubt, where settling has found that it was made, lists an id
+-- the put in doubt lists an id if settling has found that it was made
 pub made_half : (before after : CacheState) (found : Settled) (doubt : Option Doubted) → found ≡ Made
     → Settles 3 before (Ok found) after → doubt ≡ before.doubt
     → ((put : Doubted) → before.doubt ≡ Some put → IsAdding before.slots put)

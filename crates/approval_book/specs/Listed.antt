@@ -33,7 +33,7 @@ is_listed slots id = list_any (λ slot. lists slot id) slots
 abbrev pub first_free : List Slot → Option ℕ
 first_free slots = position is_free slots
 
--- What a settled book does where an id is to be listed: it is there, or there is room for it and it is put into the
+-- What a settled book does when an id has to be listed: the id is there, or there is room for it and it is put into the
 -- least free slot, or all slots are taken.
 pub data AddsTo (slots : List Slot) (id : List ℕ) : Result Entered BookFault → CacheState → Type 0 where
   old : IsTrue (is_listed slots id) → AddsTo slots id (Ok Old) (settled_with slots)

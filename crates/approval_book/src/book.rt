@@ -99,7 +99,7 @@ impl<D: Disk> Book<D> {
     ghost use Rattle.slot_file.specs.Cache.{Holds, IsSteady, IsTold, Stays};
     ghost use Rattle.slot_file.specs.Loading.{IsLoaded, LoadRefused};
 
-    /// Loads a book: reads its 1024 slots, and takes all the memory that is wanted. A refusal gives the disk back.
+    /// Loads a book: reads its 1024 slots, and takes all the memory that is needed. A refusal gives the disk back.
     pub fn load(alloc: Global, disk: D, header: &Header) -> Result<Book<D>, (D, CacheLoad)>
         requires { header.now.version ≡ 3 }
         ensures loaded { IfOk result (λ book.
@@ -135,7 +135,7 @@ impl<D: Disk> Book<D> {
         slots.iter().filter(|slot| !slot.is_free()).count() as u32
     }
 
-    /// Lists a message. From `Ok` on each image that a crash may leave lists it.
+    /// Lists a message. From `Ok` on, each image that a crash may leave lists it.
     pub fn add(&mut self, message: &MessageId) -> Result<Entered, BookFault>
         ensures event { Adds (state_of self.old) (message_id_bytes message.now) result (state_of self.new) }
         ensures idle { (state_of self.old).doubt ≡ None

@@ -3,8 +3,8 @@ use Rattle.std.specs.Prelude.{◌≡◌, ℕ, ◌-◌, ◌*◌, ◌^◌, ◌<◌
 use Rattle.turn_lock.specs.Lock.{Lock}
 use Rattle.turn_lock.specs.Pass.{Seen}
 
--- a pass of this lock that holds no turn, and in which each pass that is joined took so many turns, which raised the
--- number by 1, unless it was worn or the number stands at its end
+-- a pass of this lock that holds no turn, and in which each joined pass took `each` turns, each of which raised the
+-- number by 1, unless the pass was worn or the number stands at its end
 pub record IsDone {E N : Type 0} (lock : Lock E N) (each : ℕ) (pass : Seen E N) : Type 0 where
   pub of : pass.lock ≡ lock
   pub idle : pass.in_turn ≡ false

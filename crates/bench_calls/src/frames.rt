@@ -10,13 +10,13 @@ use std::alloc::{AllocError, Global};
 use std::io;
 use stream_memory::MemSource;
 
-/// The words behind the first.
+/// The words after the first.
 const WORDS: &str = "read or hash, and how often";
 
 /// The length of the message, 16 MiB.
 const MESSAGE: usize = 16_777_216;
 
-/// What stands before the message: the header of a frame of kind 2, and zeros in the place of the ask's head.
+/// The header of a frame of kind 2. Zeros follow it in place of the ask's head.
 const HEADER: [u8; 8] = [0x54, 0x4C, 1, 2, 1, 0, 0, 84];
 
 /// The frame of an ask whose message is all zeros.
@@ -52,7 +52,7 @@ fn hash(params: &Params, bytes: &[u8]) -> u8 {
     first_byte(&id.finish().hash) ^ first_byte(digest.finish().bytes())
 }
 
-/// The first bytes of both hashes of a new frame, in one of both ways.
+/// The first bytes of both hashes of a new frame, in one of the two ways.
 fn read_or_hash(alloc: Global, params: &Params, way: &str) -> Result<u8, AllocError> {
     let bytes = frame(alloc)?;
     if way == "read" {
@@ -62,7 +62,7 @@ fn read_or_hash(alloc: Global, params: &Params, way: &str) -> Result<u8, AllocEr
     }
 }
 
-/// Reads or hashes so often.
+/// Reads or hashes `times` times.
 fn repeat(alloc: Global, params: &Params, way: &str, times: u32) -> Result<u8, AllocError> {
     let mut all = 0;
     for _ in 0..times {
@@ -71,7 +71,7 @@ fn repeat(alloc: Global, params: &Params, way: &str, times: u32) -> Result<u8, A
     Ok(all)
 }
 
-/// Reads or hashes so often, and gives the status.
+/// Reads or hashes `times` times, and gives the status.
 fn run_way(rt: HostRuntime, params: &Params, way: &str, times: u32) -> io::Result<u8> {
     let all = repeat(rt.alloc(), params, way, times)?;
     println!(rt; "{times} messages: {all}")?;

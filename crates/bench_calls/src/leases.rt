@@ -1,4 +1,4 @@
-//! Leases the leaves of a table over a disk in memory and asks for them again, or makes just the calls of the disk that
+//! Leases the leaves of a table over a disk in memory and asks for them again, or makes only the calls of the disk that
 //! leasing makes. `bench/leases` times both.
 
 ghost use Rattle.std.specs.Prelude.{◌≡◌, IfSome};
@@ -13,13 +13,13 @@ use slot_file::{Header, prepare};
 use std::alloc::Global;
 use std::io;
 
-/// The words behind the first.
+/// The words after the first.
 const WORDS: &str = "lease or call, and how often";
 
 /// How many leaves there are.
 const LEAVES: u32 = 1024;
 
-/// The bytes of their file.
+/// The length of their file in bytes.
 const ROOM: usize = 131_200;
 
 /// The header of the file.
@@ -49,8 +49,8 @@ fn message(number: u32) -> MessageId {
     MessageId { length: 3, hash }
 }
 
-/// Asks so many times for the leaf of a message, over and over of as many messages as there are leaves, and says how
-/// often it was the one of the message's number.
+/// Asks `times` times for the leaf of a message, going over and over as many messages as there are leaves, and tells
+/// how often it was the leaf of the message's number.
 fn lease(table: &mut Table<MemDisk>, plan: &Plan, times: u32) -> u32 {
     let mut right: u32 = 0;
     for time in 0..times {
@@ -72,7 +72,7 @@ fn put(disk: &mut MemDisk, number: u32) -> Result<(), DiskFault> {
     disk.sync()
 }
 
-/// Makes the calls of so many puts, and says how many succeeded.
+/// Makes the calls of `times` puts, and tells how many succeeded.
 fn call(disk: &mut MemDisk, times: u32) -> u32 {
     let mut right: u32 = 0;
     for time in 0..times {
@@ -83,7 +83,7 @@ fn call(disk: &mut MemDisk, times: u32) -> u32 {
     right
 }
 
-/// Makes the calls of so many puts on a new disk.
+/// Makes the calls of `times` puts on a new disk.
 fn call_new(alloc: Global, times: u32) -> Option<u32> {
     let mut disk = prepared(alloc)?;
     Some(call(&mut disk, times))
@@ -96,14 +96,14 @@ fn table_of(alloc: Global, plan: &Plan) -> Option<Table<MemDisk>>
     Table::load(alloc, prepared(alloc)?, &header(), plan).ok()
 }
 
-/// Leases so many times from a new table.
+/// Leases `times` times from a new table.
 fn lease_new(alloc: Global, times: u32) -> Option<u32> {
     let plan = Plan::new(5, 3, 10).ok()?;
     let mut table = table_of(alloc, &plan)?;
     Some(lease(&mut table, &plan, times))
 }
 
-/// Does one or the other so many times.
+/// Does one or the other `times` times.
 fn repeat(alloc: Global, way: &str, times: u32) -> Option<u32> {
     if way == "call" {
         call_new(alloc, times)
@@ -118,7 +118,7 @@ fn print_right(rt: HostRuntime, right: u32, times: u32) -> io::Result<u8> {
     Ok(0)
 }
 
-/// Leases or calls so often, and gives the status.
+/// Leases or calls `times` times, and gives the status.
 fn run_way(rt: HostRuntime, way: &str, times: u32) -> io::Result<u8> {
     match repeat(rt.alloc(), way, times) {
         Some(right) => print_right(rt, right, times),

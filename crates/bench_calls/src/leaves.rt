@@ -9,7 +9,7 @@ use reference_value::{build_leaf, leaf_bytes};
 use std::alloc::{AllocError, Global};
 use std::io;
 
-/// The words behind the first.
+/// The words after the first.
 const WORDS: &str = "build or hash, and a number of leaves";
 
 /// The identifier, the seed, the key of the randomizers and the keys of five trustees.
@@ -26,7 +26,7 @@ const KEYS: [[u8; 32]; 5] = [[1; 32], [2; 32], [3; 32], [4; 32], [5; 32]];
 /// with the blocks of each key.
 const BLOCKS: u32 = 67 * 16 + 67 * 16 * 3 * 2 + 4 + 3 * (2 + 2 + 2);
 
-/// Builds so many leaves, each into the same bytes.
+/// Builds that many leaves, each into the same bytes.
 fn build(params: &Params, plan: &Plan, leaves: u32, out: &mut [u8]) -> u8 {
     if plan.h() != params.h || plan.n() != 5 || out.len() != leaf_bytes(params, plan.k()) {
         return 0;
@@ -44,7 +44,7 @@ fn build(params: &Params, plan: &Plan, leaves: u32, out: &mut [u8]) -> u8 {
     all
 }
 
-/// Builds so many leaves, or hashes as many blocks as they take.
+/// Builds that many leaves, or hashes as many blocks as they take.
 fn repeat(
     alloc: Global,
     params: &Params,
@@ -59,7 +59,7 @@ fn repeat(
     Ok(build(params, plan, leaves, &mut out))
 }
 
-/// Builds so many leaves, or hashes as many blocks as they take, and gives the status.
+/// Builds that many leaves, or hashes as many blocks as they take, and gives the status.
 fn run_way(
     rt: HostRuntime,
     params: &Params,

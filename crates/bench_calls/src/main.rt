@@ -1,5 +1,5 @@
 //! Calls whose cost the scripts of `bench/` print: reading frames, building leaves, leasing them, masks, turns of a
-//! lock, and verifying. The first word says which, and the words behind it how and how often. Each prints one line, and
+//! lock, and verifying. The first word tells which, and the words after it how and how often. Each prints one line, and
 //! `all` makes a few calls of each.
 #![tactic(auto)]
 
@@ -17,10 +17,10 @@ use std::sync::Wait;
 use std::thread::Threads;
 use std::{env, io};
 
-/// The first words that there are.
+/// The possible first words.
 const KINDS: &str = "frames, leaves, leases, masks, turns, verify or all";
 
-/// A few calls of each kind. Two ways to the same thing come to the same.
+/// A few calls of each kind. Two ways to do the same thing give the same result.
 const FEW: [&str; 11] = [
     "frames read 1",
     "frames hash 1",
@@ -44,7 +44,7 @@ fn words_of(alloc: Global, text: &str) -> Result<Vec<String>, AllocError> {
     Ok(words)
 }
 
-/// The word and the number that two words are.
+/// The word and the number that two words stand for.
 fn word_and_number(words: &[String]) -> Option<(&str, u32)> {
     match words {
         [word, number] => Some((word.as_str(), number.parse().ok()?)),
@@ -58,7 +58,7 @@ fn lack(rt: HostRuntime) -> io::Result<u8> {
     Ok(14)
 }
 
-/// Says which words are wanted, and gives the status for that.
+/// Says which words are expected, and gives the status for that.
 fn refuse(rt: HostRuntime, wanted: &str) -> io::Result<u8> {
     println!(rt; "wanted: {wanted}")?;
     Ok(2)

@@ -1,4 +1,4 @@
-//! Computes chain masks under one key, by the plain call or by the keyed state, and prints the exclusive or of the
+//! Computes chain masks under one key, with the plain call or with the keyed state, and prints the exclusive or of the
 //! first bytes. `bench/masks` times both.
 
 use crate::hashing::first_byte;
@@ -7,7 +7,7 @@ use lms_bytes::Params;
 use mask_prf::{MacKey, chain_mask};
 use std::io;
 
-/// The words behind the first.
+/// The words after the first.
 const WORDS: &str = "keyed or plain, and a number of masks";
 
 /// The trustee key of each mask.
@@ -16,7 +16,7 @@ const KEY: [u8; 32] = [0x4b; 32];
 /// The id of the key whose masks these are.
 const ID: [u8; 16] = [0x1d; 16];
 
-/// The mask of a place, by a state made once for all places.
+/// The mask of a place, from a state made once for all places.
 fn keyed(params: &Params, masks: u32) -> u8 {
     let key = MacKey::new(&KEY);
     let mut all = 0;
@@ -26,7 +26,7 @@ fn keyed(params: &Params, masks: u32) -> u8 {
     all
 }
 
-/// The mask of a place, by a key that is taken in anew for each place.
+/// The mask of a place, from a key that is taken in anew for each place.
 fn plain(params: &Params, masks: u32) -> u8 {
     let mut all = 0;
     for q in 0..masks {
@@ -35,7 +35,7 @@ fn plain(params: &Params, masks: u32) -> u8 {
     all
 }
 
-/// Computes so many masks in one of both ways.
+/// Computes that many masks in one of the two ways.
 fn repeat(params: &Params, way: &str, masks: u32) -> u8 {
     if way == "plain" {
         plain(params, masks)
@@ -44,7 +44,7 @@ fn repeat(params: &Params, way: &str, masks: u32) -> u8 {
     }
 }
 
-/// Computes so many masks, and gives the status.
+/// Computes that many masks, and gives the status.
 fn run_way(rt: HostRuntime, params: &Params, way: &str, masks: u32) -> io::Result<u8> {
     let all = repeat(params, way, masks);
     println!(rt; "{masks} masks: {all}")?;

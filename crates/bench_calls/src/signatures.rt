@@ -1,5 +1,5 @@
-//! Verifies one signature many times, of one LMS key or of several levels, says how many blocks of SHA-256 that takes
-//! in, or hashes so many blocks. `bench/verify` times both.
+//! Verifies one signature many times, of one LMS key or of several levels, tells how many blocks of SHA-256 that takes
+//! in, or hashes that many blocks. `bench/verify` times both.
 
 use crate::hashing::hash_blocks;
 use crate::refuse;
@@ -12,7 +12,7 @@ use std::io;
 use stream_host::FileStore;
 use stream_io::Store;
 
-/// The words behind the first.
+/// The words after the first.
 const WORDS: &str = "verify, levels, blocks or hash, a name, and a number";
 
 /// The longest file that is read, in bytes.
@@ -46,7 +46,7 @@ fn read_signed(alloc: Global, store: &mut FileStore<HostRuntime>, name: &str) ->
     })
 }
 
-/// Verifies so often, at least once, and gives what came of the last time.
+/// Verifies `times` times, but at least once, and gives the result of the last time.
 fn verify_often(key: &PublicKey, signed: &Signed, times: u32) -> Verdict {
     let mut verdict = verify(key, &signed.message, &signed.signature);
     for _ in 1..times {
@@ -55,12 +55,12 @@ fn verify_often(key: &PublicKey, signed: &Signed, times: u32) -> Verdict {
     verdict
 }
 
-/// How many blocks SHA-256 takes in for so many bytes, with the padding.
+/// How many blocks SHA-256 takes in for `length` bytes, with the padding.
 fn blocks_of(length: usize) -> usize {
     length.saturating_add(9).div_ceil(64)
 }
 
-/// The digest of the message under the randomizer of its signature, if that has the length of one.
+/// The digest of the message under the randomizer of its signature, if that has the length of a randomizer.
 fn digest_of(key: &PublicKey, message: &[u8], view: &SigView) -> Option<Val> {
     if view.c.len() != key.params.n as usize || (view.c.len() != 24 && view.c.len() != 32) {
         return None;
@@ -85,8 +85,8 @@ fn steps_left(params: &Params, digest: &Val) -> usize {
     steps
 }
 
-/// How many blocks a verification takes in: the message and the randomizer behind 22 bytes, a block for each step that
-/// is left of a chain, the ends of the chains, the leaf, and two nodes for each level, each behind 22 bytes.
+/// How many blocks a verification takes in: the message and the randomizer after 22 bytes, a block for each step that
+/// is left in a chain, the ends of the chains, the leaf, and two nodes for each level, each after 22 bytes.
 fn blocks(key: &PublicKey, signed: &Signed) -> Option<usize> {
     let params = &key.params;
     let view = read_signature(params, &signed.signature).ok()?;
@@ -110,7 +110,7 @@ fn unread(rt: HostRuntime, name: &str) -> io::Result<u8> {
     Ok(3)
 }
 
-/// Says that the key of this name is none, and gives the status for that.
+/// Says that the key of this name is not a key, and gives the status for that.
 fn no_key(rt: HostRuntime, name: &str) -> io::Result<u8> {
     println!(rt; "{name}.key is no key")?;
     Ok(4)
@@ -128,7 +128,7 @@ fn print_blocks(rt: HostRuntime, count: usize) -> io::Result<u8> {
     Ok(0)
 }
 
-/// Prints what came of a verification, and gives the status.
+/// Prints the result of a verification, and gives the status.
 fn print_verdict(rt: HostRuntime, verdict: Verdict) -> io::Result<u8> {
     let Verdict::Accepted { leaf } = verdict else {
         return not_accepted(rt);
@@ -137,7 +137,7 @@ fn print_verdict(rt: HostRuntime, verdict: Verdict) -> io::Result<u8> {
     Ok(0)
 }
 
-/// Prints what came of a verification of several levels, and gives the status.
+/// Prints the result of a verification of several levels, and gives the status.
 fn print_levels(rt: HostRuntime, verdict: HssVerdict) -> io::Result<u8> {
     let HssVerdict::Accepted { levels } = verdict else {
         return not_accepted(rt);
@@ -146,7 +146,7 @@ fn print_levels(rt: HostRuntime, verdict: HssVerdict) -> io::Result<u8> {
     Ok(0)
 }
 
-/// Verifies an HSS signature so often, at least once, and gives what came of the last time.
+/// Verifies an HSS signature `times` times, but at least once, and gives the result of the last time.
 fn verify_levels(key: &HssKey, signed: &Signed, times: u32) -> HssVerdict {
     let mut verdict = hss_verify(key, &signed.message, &signed.signature);
     for _ in 1..times {
@@ -155,7 +155,7 @@ fn verify_levels(key: &HssKey, signed: &Signed, times: u32) -> HssVerdict {
     verdict
 }
 
-/// Verifies this signature so often, or says how many blocks that takes in, and gives the status.
+/// Verifies this signature `times` times, or tells how many blocks that takes in, and gives the status.
 fn run_read(rt: HostRuntime, way: &str, name: &str, signed: &Signed, times: u32) -> io::Result<u8> {
     match read_public(&signed.key) {
         Ok(key) if way == "blocks" => print_blocks(rt, blocks(&key, signed).unwrap_or(0)),
@@ -164,7 +164,7 @@ fn run_read(rt: HostRuntime, way: &str, name: &str, signed: &Signed, times: u32)
     }
 }
 
-/// Verifies this HSS signature so often, at least once, and gives the status.
+/// Verifies this HSS signature `times` times, but at least once, and gives the status.
 fn run_levels_read(rt: HostRuntime, name: &str, signed: &Signed, times: u32) -> io::Result<u8> {
     match read_hss_key(&signed.key) {
         Ok(key) => print_levels(rt, verify_levels(&key, signed, times)),
@@ -172,7 +172,7 @@ fn run_levels_read(rt: HostRuntime, name: &str, signed: &Signed, times: u32) -> 
     }
 }
 
-/// Verifies the signature of this name so often, or says how many blocks that takes in, and gives the status.
+/// Verifies the signature of this name `times` times, or tells how many blocks that takes in, and gives the status.
 fn run_signed(rt: HostRuntime, way: &str, name: &str, times: u32) -> io::Result<u8> {
     let mut store = FileStore::new(rt);
     match read_signed(rt.alloc(), &mut store, name) {
@@ -181,7 +181,7 @@ fn run_signed(rt: HostRuntime, way: &str, name: &str, times: u32) -> io::Result<
     }
 }
 
-/// Verifies the HSS signature of this name so often, at least once, and gives the status.
+/// Verifies the HSS signature of this name `times` times, but at least once, and gives the status.
 fn run_levels(rt: HostRuntime, name: &str, times: u32) -> io::Result<u8> {
     let mut store = FileStore::new(rt);
     match read_signed(rt.alloc(), &mut store, name) {

@@ -1,4 +1,4 @@
-//! Takes turns of one lock in many threads beside each other, and prints how many were taken. `bench/turns` times it.
+//! Takes turns of one lock in many threads side by side, and prints how many were taken. `bench/turns` times it.
 
 ghost use Rattle.std.specs.Prelude.{◌≡◌, ◌+◌, ◌-◌, ◌*◌, ◌^◌, ◌<◌, ◌≤◌, min, [], false, All, IfSome};
 ghost use Rattle.turn_lock.specs.Pass.{first_pass};
@@ -11,7 +11,7 @@ use std::thread::Threads;
 use std::{io, thread};
 use turn_lock::{Kept, Pass, TurnLock};
 
-/// The words behind the first.
+/// The words after the first.
 const WORDS: &str = "1 to 4096 threads, and turns of each";
 
 /// The most passes of one lock.
@@ -36,7 +36,7 @@ impl Kept for Count {
 }
 
 impl Count {
-    /// Raises the number, where it is not at its end.
+    /// Raises the number, if it is not at its end.
     fn raise(&mut self)
         ensures { self.new.turns ≡ min (self.old.turns + 1) (2 ^ 64 - 1) }
     {
@@ -44,7 +44,7 @@ impl Count {
     }
 }
 
-/// Takes so many turns, unless the pass is worn before.
+/// Takes `each` turns, unless the pass is worn before.
 fn count_each(rt: &impl Wait, lock: &TurnLock<Count>, pass: &mut Pass<Count>, each: u64)
     requires lock { pass.old.lock ≡ lock.now }
     requires idle { pass.old.in_turn ≡ false }
@@ -64,7 +64,7 @@ fn count_each(rt: &impl Wait, lock: &TurnLock<Count>, pass: &mut Pass<Count>, ea
     }
 }
 
-/// Takes so many turns by each pass, in threads beside each other.
+/// Takes `each` turns with each pass, in threads side by side.
 fn count_beside<R: Threads + Wait + Sync>(
     rt: &R,
     lock: &TurnLock<Count>,
@@ -93,7 +93,7 @@ fn meet(lock: &TurnLock<Count>, pass: &mut Pass<Count>, other: Pass<Count>, each
     lock.meet(pass, other);
 }
 
-/// Joins all passes to one, where there is one.
+/// Joins all passes to one, if there is one.
 fn meet_all(lock: &TurnLock<Count>, mut passes: Vec<Pass<Count>>, each: u64) -> Option<Pass<Count>>
     requires { All (IsDone lock.now each) passes.items }
     ensures { IfSome result (IsDone lock.now each) }
@@ -105,7 +105,7 @@ fn meet_all(lock: &TurnLock<Count>, mut passes: Vec<Pass<Count>>, each: u64) -> 
     Some(pass)
 }
 
-/// Takes this many turns in each of so many threads, and gives how many were taken, or nothing where memory ran out.
+/// Takes `each` turns in each of `threads` threads, and gives how many were taken, or nothing if memory ran out.
 fn take_turns<R: Threads + Wait + Sync>(
     rt: &R,
     alloc: Global,
@@ -133,7 +133,7 @@ fn print_turns(rt: HostRuntime, turns: u64) -> io::Result<u8> {
     Ok(0)
 }
 
-/// The numbers of threads and of turns that two words are, where there may be so many threads.
+/// The numbers of threads and of turns that two words stand for, if that many threads are allowed.
 fn numbers_of(words: &[String]) -> Option<(u32, u64)>
     ensures { IfSome result (λ numbers. (1 ≤ numbers.0) × (numbers.0 ≤ 4096)) }
 {
@@ -148,7 +148,7 @@ fn numbers_of(words: &[String]) -> Option<(u32, u64)>
     Some((threads, each))
 }
 
-/// Takes so many turns in each of so many threads, and gives the status.
+/// Takes turns in threads, as many of each as the words say, and gives the status.
 pub(crate) fn run<R: Threads + Wait + Sync>(
     host: &R,
     rt: HostRuntime,

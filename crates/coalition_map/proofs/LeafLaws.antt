@@ -11,7 +11,7 @@ range_push : (a n : ℕ) → range_with_len a (suc n) ≡ range_with_len a n ++ 
 range_push a zero = let e : a + 0 ≡ a = omega arith in rw e refl
 range_push a (suc n) = let e : a + suc n ≡ a + 1 + n = omega arith in rw e (ap (λ l. a ∷ l) (range_push (a + 1) n))
 
--- of the numbers below m, those that leave the rest c
+-- the numbers below m that leave the remainder c
 rest_c : ℕ → ℕ → ℕ → List ℕ
 rest_c b c m = filter (λ q. eqb (q % b) c) (range_with_len 0 m)
 
@@ -27,7 +27,7 @@ length-rest_c-own b c m e = rw (rest_c-suc b c m, length-append, cond-true (eqb 
 length-rest_c-other : (b c m : ℕ) → m % b ≢ c → length (rest_c b c (suc m)) ≡ length (rest_c b c m)
 length-rest_c-other b c m e = rw (rest_c-suc b c m, length-append, cond-false (eqb (m % b) c) (m ∷ []) [] (ne_eqb (m % b) c e)) (omega arith)
 
--- one number on, the rest rises or starts anew
+-- one number on, the remainder rises or starts anew
 record IsRise (b m : ℕ) : Type 0 where
   below : suc (m % b) < b
   rest : suc m % b ≡ suc (m % b)
@@ -51,7 +51,7 @@ rise_or_wrap b m h =
           inr (record { last = omega arith; rest = ap (λ x. x % b) e ∙ mod-mul-add (suc (m / b)) b 0 h; whole = ap (λ x. x / b) e ∙ div-mul-add (suc (m / b)) b 0 h })
     ]
 
--- one more where the rest of m is above c
+-- one more if the remainder of m is above c
 extra : ℕ → ℕ → ℕ → ℕ
 extra b c m = cond (ltb c (m % b)) 1 0
 

@@ -54,7 +54,7 @@ trustees_from-more a (suc m) more b h =
       | inr e ↦ rw (s, trustees_from-out a (m + more) b e, trustees_from-out a m b e, ih) refl
     ]
 
--- ---- one bit more, above the others
+-- ---- one more bit, above the others
 pub trustees_from-push : (a m j b : ℕ) → j < m → b < 2 ^ j → trustees_from a m (b + 2 ^ j) ≡ trustees_from a m b ++ (a + j) ∷ []
 unfolding trustees_from
 trustees_from-push a zero j b lt h = absurd (omega arith)
@@ -221,7 +221,7 @@ below-none a e t [] asc h = refl
 below-none a e t (x ∷ xs) asc h =
     rw (left_out t x xs (omega (arith, asc.0))) (below-none (x + 1) e t xs asc.2 (omega (arith, asc.0)))
 
--- one trustee more that is in the set
+-- one more trustee that is in the set
 unequal : (x t : ℕ) (xs : List ℕ) → (x ≡ t → ⊥) → Contains (x ∷ xs) t → Contains xs t
 unequal x t xs ne h = elim (Contains-cases x xs t h) [ inl e ↦ absurd (ne e) | inr rest ↦ rest ]
 

@@ -8,7 +8,7 @@ use Rattle.coalition_map.specs.Coalitions.{subsets, binomial}
 use Rattle.coalition_map.proofs.CoalitionLaws.{length-subsets, length-subsets-suc, subsets-with, subsets-without, subsets-zero, length-IsAscendingIn}
 
 -- `bits` are the `wanted` members among the `left` trustees from `trustee` on; whatever place these have in their own
--- order, the members have that place after `number` in the order of all
+-- order, the members have that place, counted from `number`, in the order of all
 pub record Ranking (n k : ℕ) (members : List ℕ) (bits trustee wanted number left : ℕ) : Type 0 where
   pub span : trustee + left ≡ n + 1
   pub size : length (trustees_from trustee left bits) ≡ wanted
@@ -56,7 +56,7 @@ passed n k members bits t w number m e s =
           rw sum (s.place (length (subsets (t + 1) m w) + r) (omega (arith, length-subsets-suc t m w)) (rw (subsets-without t m w r, split, same) refl)));
     }
 
--- ---- the same as the loop has it
+-- ---- the same in the form of the loop
 opened : (n k : ℕ) (members : List ℕ) (bits t wanted number : ℕ) → 0 < wanted → t ≤ n
     → Ranking n k members bits t wanted number (n + 1 - t) → Ranking n k members bits t (suc (wanted - 1)) number (suc (n - t))
 opened n k members bits t wanted number some within s =

@@ -51,7 +51,7 @@ passed n k c bits t w rest m there s = record {
   place = s.place ∙ rw (subsets-later t m w rest there) refl;
 }
 
--- ---- the same as the loop has it
+-- ---- the same in the form of the loop
 pub record IsTurn (n t wanted : ℕ) : Type 0 where
   pub t_within : t ≤ n
   pub fits : wanted - 1 ≤ n - t

@@ -46,7 +46,7 @@ count_of p = length (coalitions p.n p.k)
 abbrev pub coalition : PlanNumbers → ℕ → List ℕ
 coalition p c = slice_index_or (coalitions p.n p.k) c []
 
--- this project's profile: leaf q belongs to coalition q mod B, where there are B
+-- this project's profile: leaf q belongs to coalition q mod B, if there are B coalitions
 abbrev pub leaf_members : PlanNumbers → ℕ → List ℕ
 leaf_members p q = coalition p (q % count_of p)
 
@@ -54,7 +54,7 @@ leaf_members p q = coalition p (q % count_of p)
 unfoldable pub leaves_of : PlanNumbers → ℕ → List ℕ
 leaves_of p c = filter (λ q. q % count_of p == c) (range_with_len 0 (2 ^ p.h))
 
--- q is a leaf of coalition c that comes after `after`, where that is given
+-- q is a leaf of coalition c that comes after `after`, if that is given
 pub record IsLeafAfter (p : PlanNumbers) (c : ℕ) (after : Option ℕ) (q : ℕ) : Type 0 where
   pub leaf : q < 2 ^ p.h
   pub own : q % count_of p ≡ c

@@ -2,7 +2,7 @@
 use Rattle.std.specs.Prelude.{ℕ, zero, suc, ◌<◌, ◌≤◌, nat_lt, filter, ◌+◌, ◌-◌, ◌/◌, ◌%◌, ◌^◌, ◌==◌, if◌then◌else◌}
 use Rattle.std.specs.Prelude.{List, [], ◌∷◌, ◌++◌}
 
--- this project's profile: of the trustees a .. a + count - 1 those whose bit is set, the lowest bit standing for a
+-- this project's profile: those of the trustees a .. a + count - 1 whose bit is set, the lowest bit standing for a
 unfoldable pub trustees_from : ℕ → ℕ → ℕ → List ℕ
 trustees_from a zero bits = []
 trustees_from a (suc count) bits =

@@ -1,12 +1,12 @@
--- A set of trustees gives its bits back. The proofs stand with the definitions, since the toolchain wants what a type's
--- model names to be among them.
+-- The bits of a set of trustees can be got back from it. The proofs stand with the definitions, since the toolchain
+-- requires what a type's model names to be among them.
 use Rattle.std.proofs.Common.{◌≡◌, inl, inr, ◌≢◌, ℕ, zero, suc, ◌+◌, ◌-◌, ◌*◌, ◌/◌, ◌%◌, ◌^◌, ◌<◌, eqb, [], ◌∷◌}
 use Rattle.std.proofs.Common.{refl, ◌∙◌, ap, arith, pow-suc}
 use Rattle.std.proofs.lemmas.Bool.{cases_eq, cond-true, cond-false}
 use Rattle.coalition_map.specs.declared.members.Members.TheInside.{Inside}
 use Rattle.coalition_map.specs.Members.{trustees_from, member_numbers, bits_of}
 
--- one trustee more, in front
+-- one more trustee, in front
 pub trustees_from-in : (a m b : ℕ) → b % 2 ≡ 1 → trustees_from a (suc m) b ≡ a ∷ trustees_from (a + 1) m (b / 2)
 unfolding trustees_from
 trustees_from-in a m b e = rw (cond-true (eqb (b % 2) 1) (a ∷ []) [] (grind arith)) refl

@@ -1,5 +1,5 @@
--- A plan gives its fields back. The proof stands with the definitions, since the toolchain wants what a type's model
--- names to be among them.
+-- The fields of a plan can be got back from it. The proof stands with the definitions, since the toolchain requires
+-- what a type's model names to be among them.
 use Rattle.std.specs.Prelude.{◌≡◌}
 use Rattle.std.proofs.Common.{refl}
 use Rattle.coalition_map.specs.declared.plan.Plan.TheInside.{Inside}

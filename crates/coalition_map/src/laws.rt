@@ -1,4 +1,4 @@
-//! What follows from the definitions, for whoever proves something about coalitions. No function here does anything.
+//! What follows from the definitions, for proofs about coalitions. No function here does anything.
 
 ghost use Rattle.std.specs.Prelude.{◌≡◌, ◌⊎◌, ◌↔◌, ℕ, List, [], ◌∷◌, ◌++◌, ◌+◌, ◌/◌, ◌%◌, ◌^◌, ◌<◌, ◌≤◌, All, Contains};
 ghost use Rattle.std.specs.Prelude.{length};
@@ -7,7 +7,7 @@ ghost use Rattle.coalition_map.specs.Coalitions.{binomial, coalition, coalitions
 ghost use Rattle.coalition_map.specs.Coalitions.{IsSubset, PlanNumbers};
 ghost use Rattle.coalition_map.specs.Members.{below, bits_of, member_numbers, IsAscendingIn};
 
-/// The bits of a set give the set, and the set its bits.
+/// The bits of a set give the set, and the set gives its bits.
 pub fn bits_and_members()
     ensures { (b : ℕ) → b < 2 ^ 16 → bits_of (member_numbers b) ≡ b }
 {}
@@ -39,8 +39,8 @@ pub fn members_of_leaf()
     ensures { (p : PlanNumbers) (q c : ℕ) → q % count_of p ≡ c → leaf_members p q ≡ coalition p c }
 {}
 
-/// Each coalition has `2^h / B` leaves, rounded down, or one more, where there are `B` coalitions: the first ones have
-/// one more, as many as the division leaves.
+/// If there are `B` coalitions, each has `2^h / B` leaves, rounded down, or one more: the first ones have one more, as
+/// many of them as the remainder of the division.
 pub fn leaves_of_coalition()
     ensures each { (p : PlanNumbers) (c : ℕ) → c < count_of p
         → (length (leaves_of p c) ≡ 2 ^ p.h / count_of p) ⊎ (length (leaves_of p c) ≡ 2 ^ p.h / count_of p + 1) }

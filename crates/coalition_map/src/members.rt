@@ -45,7 +45,7 @@ impl Eq for Members {
 }
 
 impl Members {
-    /// The set of these bits: trustee `t` is in it where bit `t - 1` is set.
+    /// The set of these bits: trustee `t` is in it if bit `t - 1` is set.
     pub fn of_bits(bits: u16) -> Members
         ensures { result ≡ member_numbers bits }
     {

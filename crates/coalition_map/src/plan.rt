@@ -13,7 +13,7 @@ use thiserror::Error;
 /// The most trustees that a plan can have.
 const MOST_TRUSTEES: u8 = 12;
 
-/// Why there is no plan of these numbers.
+/// Why there is no plan with these numbers.
 #[derive(Clone, Copy, Debug, PartialEq, Eq, Error)]
 pub enum PlanFault {
     /// Not `2 <= k <= n <= 12`.
@@ -25,7 +25,7 @@ pub enum PlanFault {
 }
 
 /// A plan: every leaf of a tree of height `h` belongs to one coalition of `k` of the trustees `1..=n`, and leaf `q` to
-/// the coalition `q mod B` of the `B` that there are, in lexicographic order.
+/// coalition `q mod B` of all `B` coalitions, in lexicographic order.
 #[derive(Clone, Copy, Debug, PartialEq, Eq)]
 pub struct Plan {
     n: u8,
@@ -63,7 +63,7 @@ fn binomial_of(n: u8, k: u8) -> u32
     ways
 }
 
-/// The least number above `after`, or the least of all, that leaves the rest `c` by `count`.
+/// The least number above `after`, or the least of all, that leaves the remainder `c` when divided by `count`.
 fn next_with_rest(count: u32, c: u32, after: Option<u32>) -> u64
     requires { c < count }
     ensures rest { result % count ≡ c }
@@ -140,7 +140,7 @@ impl Plan {
         let mut trustee = 1;
         let mut wanted = self.k;
         let mut rest = c;
-        // The coalitions from here on that have the trustee come before those that do not.
+        // From here on, the coalitions that have the trustee come before those that do not.
         'trustees: while wanted > 0 {
             let having = binomial_of(self.n - trustee, wanted - 1);
             if rest < having {
@@ -154,7 +154,7 @@ impl Plan {
         Members::of_bits(bits)
     }
 
-    /// The number of the coalition of these members, or `None` where they are not `k` of the trustees `1..=n`.
+    /// The number of the coalition of these members, or `None` if they are not `k` of the trustees `1..=n`.
     pub fn number_of(&self, members: Members) -> Option<u32>
         ensures number { IfSome result (λ c. (c < count_of self.now) × (coalition self.now c ≡ members)) }
         ensures listed { IsSome result ↔ Contains (coalitions self.now.n self.now.k) members }
@@ -178,7 +178,7 @@ impl Plan {
         let mut number = 0;
         let mut trustee = 1;
         let mut wanted = self.k;
-        // Whoever is not a member is passed over with the coalitions that have him.
+        // A trustee that is not a member is passed over, along with the coalitions that have it.
         'trustees: while wanted > 0 {
             if bits & 1 == 1 {
                 wanted -= 1;

@@ -1,4 +1,4 @@
--- What is written where commitments are asked for, and where they are not.
+-- What is written if commitments are asked for, and if they are not.
 use Rattle.std.proofs.Common.{◌≡◌, ℕ, zero, suc, ◌+◌, ◌*◌, ◌^◌, ◌≤◌, Bool, true, false, List, [], ◌++◌, length, take, min, refl, ap, ap₂, ◌∙◌, arith}
 use Rattle.coalition_map.specs.Coalitions.{PlanNumbers}
 use Rattle.lms_bytes.specs.Bytes.{joined}
@@ -9,7 +9,7 @@ use Rattle.reference_value.specs.Dealing.{Dealing}
 use Rattle.dealer.specs.Runs.{HasRoom, asked_length, file_asked, leaf_asked, run_asked}
 use Rattle.dealer.specs.declared.runs.Run.{Run}
 
--- nothing, as often as one likes
+-- nothing, any number of times
 joined-nothing : (count : ℕ) → joined (λ _. []) count ≡ []
 joined-nothing zero = joined-none (λ _. [])
 joined-nothing (suc count) = rw (joined-suc (λ _. []) count, joined-nothing count) refl
@@ -24,7 +24,7 @@ whole-asked commit d run first count =
 pub begins-within : (file : List ℕ) → min (length file) 32 ≤ length file
 begins-within file = omega arith
 
--- behind the head there is room for those of all leaves
+-- after the head there is room for the commitments of all leaves
 pub room-behind : (commit : Bool) (params : Params) (plan : PlanNumbers) (id file behind : List ℕ) (count : ℕ) → HasRoom commit params plan id file
     → length behind + min (length file) 32 ≡ length file → count ≡ 2 ^ params.h → length behind ≡ asked_length commit params plan.k * count
 room-behind true params plan id file behind count room cut all = rw all (let size = room.size in omega arith)

@@ -1,4 +1,4 @@
--- No two faults at once, and none where there is a dealing.
+-- No two faults at once, and none if there is a dealing.
 use Rattle.std.proofs.Common.{◌≡◌, ℕ, List, refl, ap, ◌∙◌, arith}
 use Rattle.coalition_map.specs.Coalitions.{PlanNumbers}
 use Rattle.lms_bytes.specs.declared.params.Params.{Params}

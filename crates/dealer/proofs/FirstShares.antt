@@ -51,7 +51,7 @@ no_shares d shares none = rw none (record {
   id = All-nil (λ share. share.id ≡ d.id);
 })
 
--- behind the last
+-- after the last
 pub all_shares : (d : Dealing) (count : ℕ) (shares : List Share) → HasShares d count shares → count ≡ d.plan.n → length d.keys ≡ d.plan.n → AreShares d shares
 all_shares d count shares h all keys = record {
   members = rw all at h.members;

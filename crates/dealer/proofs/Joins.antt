@@ -17,7 +17,7 @@ mapped-all f n xs size each =
     ext_get_or [] xs (map f (range_with_len 0 n)) (size ∙ sym (length-map-range_with_len f 0 n))
     (λ q inside. each q (omega (arith, size)) ∙ sym (get_or-map-range_with_len f 0 n q q [] (omega (arith, size)) (omega arith)))
 
--- the strings of one run and those of the run behind it, joined
+-- the strings of one run and those of the run after it, joined
 pub runs-joined : (f : ℕ → List ℕ) (first next m n count : ℕ) → next ≡ first + m → m + n ≡ count
     → joined (λ i. f (first + i)) m ++ joined (λ i. f (next + i)) n ≡ joined (λ i. f (first + i)) count
 runs-joined f first next m zero count behind all =

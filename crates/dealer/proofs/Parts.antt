@@ -7,7 +7,7 @@ use Rattle.lms_bytes.proofs.Joined.{joined-none, joined-suc}
 use Rattle.reference_value.proofs.Parts.{part-within}
 use Rattle.dealer.specs.Told.{told_of, told_parts}
 
--- as many parts as there are whole ones are all, where some number of them is
+-- as many parts as there are whole ones are all of it, if any number of them is
 parts-cut : (part n all : ℕ) → 0 < part → n * part ≡ all → all / part * part ≡ all
 parts-cut part n all some is = rw (← is) (ap (λ (k : ℕ). k * part) (mul-div_cancel n some))
 
@@ -26,7 +26,7 @@ parts-all h = elim (cases_lt h 7) [
       parts-cut (min 128 (2 ^ h)) (2 ^ (h - 7)) (2 ^ h) (omega arith) (rw full is)
 ]
 
--- strings, and those behind them, joined
+-- strings, and those after them, joined
 joined-behind : (f : ℕ → List ℕ) (m n count : ℕ) → m + n ≡ count → joined f m ++ joined (λ i. f (m + i)) n ≡ joined f count
 joined-behind f m zero count all =
     let whole : m ≡ count = omega arith in
@@ -47,7 +47,7 @@ parts-joined f part (suc n) count all =
     let last : n * part + part ≡ count = omega (arith, suc-mul n part, all) in
     rw (joined-suc (λ k. joined (λ i. f (k * part + i)) part) n, before) (joined-behind f (n * part) part count last)
 
--- of all leaves of a tree of height h so many are a part
+-- of all leaves of a tree of height h, `part` make up a part
 pub record AreCut (h all part : ℕ) : Type 0 where
   pub whole : all ≡ 2 ^ h
   pub size : part ≡ min 128 all
@@ -81,7 +81,7 @@ leaves-fit {h} {all} {part} i cut inside =
     let last : i * part + part ≤ all / part * part = rw (← suc-mul i part) (mul-le-mul_right part inside) in
     omega (arith, last, cut-all cut, cut.whole)
 
--- all leaves, of which the last part was written
+-- all leaves, once the last part of them was written
 pub parts-written : {h all part : ℕ} (f : ℕ → List ℕ) (one each i : ℕ) (out : List ℕ) → AreCut h all part → one ≡ each → length out ≡ each * 2 ^ h
     → all / part ≤ i → i ≤ all / part → take (one * part * i) out ≡ joined (λ k. joined (λ j. f (k * part + j)) part) i → out ≡ joined f (2 ^ h)
 parts-written {h} {all} {part} f one each i out cut same room last most taken =
@@ -95,7 +95,7 @@ pub told-none : {P : Type 0} (told : P → ℕ → ℕ → P) (part all : ℕ) (
 unfolding told_parts
 told-none told part all it = refl
 
--- one part more was told of
+-- one more part was told of
 pub told-more : {P : Type 0} (told : P → ℕ → ℕ → P) (part all k : ℕ) (it old new : P) → old ≡ told_parts told part all k it
     → new ≡ told old (k * part + part) all → new ≡ told_parts told part all (k + 1) it
 unfolding told_parts

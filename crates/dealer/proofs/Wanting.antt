@@ -1,4 +1,4 @@
--- What is answered and told where memory is wanting, and the answers of a dealing with commitments.
+-- What is answered and told if memory runs out, and the answers of a dealing with commitments.
 use Rattle.std.proofs.Common.{◌≡◌, ◌⊎◌, ap, inl, inr, refl, true, ℕ, ◌<◌, ◌≤◌, List, Result, Vec, Global, Ok, Err, arith}
 use Rattle.std.specs.Prelude.{⊤}
 use Rattle.coalition_map.specs.Coalitions.{PlanNumbers}
@@ -47,7 +47,7 @@ deals-refused params plan entropy fault refused large cause = record {
   cause = cause;
 }
 
--- memory is wanting
+-- memory runs out
 pub deals-no_memory : (params : Params) (plan : PlanNumbers) (entropy : List ℕ) → IsDealable params plan entropy
     → commits_length params plan ≤ 67108864 → DealsCommitted params plan entropy (Err (Deal NoMemory))
 deals-no_memory params plan entropy dealable small = record {
@@ -61,7 +61,7 @@ deals-no_memory params plan entropy dealable small = record {
   cause = no_memory dealable small;
 }
 
--- where memory alone may be wanting, it is this fault
+-- if memory alone can run out, it is this fault
 pub told-wanting : {A B F : Type 0} (fault : F) → A ⊎ (⊤ × B) → A ⊎ ((fault ≡ fault) × B)
 told-wanting fault (inl nothing) = inl nothing
 told-wanting fault (inr all) = inr (refl, all.1)

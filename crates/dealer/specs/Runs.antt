@@ -14,11 +14,11 @@ use Rattle.dealer.specs.Dealt.{IsDealt}
 use Rattle.dealer.specs.declared.dealing.Dealt.{Dealt}
 use Rattle.dealer.specs.declared.runs.Run.{Run}
 
--- the leaves of a run of the masked reference value, one behind the other
+-- the leaves of a run of the masked reference value, one after the other
 abbrev pub run_leaves : Dealing → Run → List ℕ
 run_leaves d run = joined (λ i. leaf_part d (run.first + i)) run.count
 
--- the commitments to the masks of a leaf where they are asked for, and nothing elsewhere
+-- the commitments to the masks of a leaf if they are asked for, and nothing otherwise
 abbrev pub leaf_asked : Bool → Dealing → ℕ → List ℕ
 leaf_asked commit d q = if commit then leaf_commitments d q else []
 
@@ -30,7 +30,7 @@ asked_length commit params k = if commit then leaf_commits_length params k else 
 abbrev pub run_asked : Bool → Dealing → Run → List ℕ
 run_asked commit d run = joined (λ i. leaf_asked commit d (run.first + i)) run.count
 
--- the commitment file where commitments are asked for, and nothing elsewhere
+-- the commitment file if commitments are asked for, and nothing otherwise
 abbrev pub file_asked : Bool → Dealing → List ℕ
 file_asked commit d = if commit then commits_file d else []
 
@@ -39,7 +39,7 @@ pub record HasRoom (commit : Bool) (params : Params) (plan : PlanNumbers) (id fi
   pub head : take 32 file ≡ (if commit then commits_head_of params plan id else [])
   pub size : length file ≡ (if commit then commits_length params plan else 0)
 
--- what is built of a dealing: what it gives, with a share at least, and its commitment file where it is asked for
+-- what is built of a dealing: what it gives, with at least one share, and its commitment file if it is asked for
 pub record IsBuilt (commit : Bool) (d : Dealing) (built : Dealt × Vec ℕ Global) : Type 0 where
   pub dealt : IsDealt d built.0
   pub file : built.1.items ≡ file_asked commit d

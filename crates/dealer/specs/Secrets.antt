@@ -16,7 +16,7 @@ dealing_with params plan secrets = record {
 }
 
 -- internal: they are of this set and this plan, which have one height: SEED has the set's hash length, and there is a
--- key for each trustee, by which it commits too
+-- key for each trustee, with which it also commits
 pub record Suit (params : Params) (plan : PlanNumbers) (secrets : Secrets) : Type 0 where
   pub height : plan.h ≡ params.h
   pub seed : length secrets.seed ≡ params.n

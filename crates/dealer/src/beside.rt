@@ -34,7 +34,7 @@ use stream_io::Progress;
 const PART: u32 = 128;
 
 /// Deals the key that the entropy stands for, which has been tested, with its commitment file if it is asked for. The
-/// greatest memory is taken before the first thread is made, since the C library keeps the room of the stacks.
+/// largest memory is taken before the first thread is made, since the C library keeps the room of the stacks.
 pub(crate) fn build_beside<R: Threads + Sync, P: Progress>(
     rt: &R,
     progress: &mut P,
@@ -78,8 +78,8 @@ fn leaves_beside<R: Threads + Sync, P: Progress>(
     Ok((leaves, file))
 }
 
-/// Writes the leaves of the masked reference value, and the commitments to their masks behind the head of their file,
-/// where there is one.
+/// Writes the leaves of the masked reference value, and the commitments to their masks after the head of their file, if
+/// there is one.
 fn write_leaves_beside<R: Threads + Sync, P: Progress>(
     rt: &R,
     progress: &mut P,
@@ -100,8 +100,8 @@ fn write_leaves_beside<R: Threads + Sync, P: Progress>(
     write_parts(rt, progress, params, plan, secrets, out, commits);
 }
 
-/// Writes the leaves of the masked reference value, one behind the other, and the commitments to their masks if they
-/// are asked for. It builds them part by part, each part by all threads, and tells after each how many are built.
+/// Writes the leaves of the masked reference value, one after the other, and the commitments to their masks if they are
+/// asked for. It builds them part by part, each part by all threads, and tells after each how many are built.
 fn write_parts<R: Threads + Sync, P: Progress>(
     rt: &R,
     progress: &mut P,
@@ -136,8 +136,8 @@ fn write_parts<R: Threads + Sync, P: Progress>(
     }
 }
 
-/// Writes the leaves of a run, one behind the other, and the commitments to their masks if they are asked for, by at
-/// most so many threads.
+/// Writes the leaves of a run, one after the other, and the commitments to their masks if they are asked for, by at
+/// most `threads` threads.
 fn write_beside<R: Threads + Sync>(
     rt: &R,
     params: &Params,

@@ -23,7 +23,7 @@ use std::thread::Threads;
 use stream_io::Progress;
 use thiserror::Error;
 
-/// The most bytes that a commitment file has which is made.
+/// The most bytes of a commitment file that is made.
 const COMMITS_LIMIT: u64 = 67_108_864;
 
 /// Why there is no dealing with commitments.
@@ -62,8 +62,8 @@ pub fn deal_committed(
     }
 }
 
-/// Deals the key that the entropy stands for, as `deal_committed` does, with its leaves and their commitments built
-/// by several threads. If no thread can be had, this one builds them. After each part of 128 leaves, or after all if
+/// Deals the key that the entropy stands for, as `deal_committed` does, with its leaves and their commitments built by
+/// several threads. If no thread can be made, this one builds them. After each part of 128 leaves, or after all if
 /// there are fewer, `progress` is told how many are built.
 pub fn deal_committed_beside<R: Threads + Sync, P: Progress>(
     rt: &R,

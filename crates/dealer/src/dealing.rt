@@ -27,7 +27,7 @@ pub struct Dealt {
     pub public: PublicKey,
     /// The tree, with all its nodes.
     pub tree: Tree,
-    /// The leaves of the masked reference value, one behind the other.
+    /// The leaves of the masked reference value, one after the other.
     pub reference: Vec<u8>,
     /// The shares, that of trustee 1 first.
     pub shares: Vec<Share>,
@@ -51,8 +51,8 @@ pub fn deal(alloc: Global, params: &Params, plan: &Plan, entropy: &[u8]) -> Resu
 }
 
 /// Deals the key that the entropy stands for, as `deal` does, with its leaves built by several threads. If no thread
-/// can be had, this one builds them. After each part of 128 leaves, or after all if there are fewer, `progress` is told
-/// how many are built.
+/// can be made, this one builds them. After each part of 128 leaves, or after all if there are fewer, `progress` is
+/// told how many are built.
 pub fn deal_beside<R: Threads + Sync, P: Progress>(
     rt: &R,
     progress: &mut P,

@@ -24,11 +24,11 @@ pub(crate) struct Secrets {
     pub(crate) random_key: [u8; 32],
     /// The keys of the trustees, that of trustee 1 first.
     pub(crate) keys: Vec<[u8; 32]>,
-    /// The same keys, each with its blocks hashed once, where the masks are committed to.
+    /// The same keys, each with its blocks hashed once, if the masks are committed to.
     pub(crate) macs: Option<Vec<MacKey>>,
 }
 
-/// Reads what the entropy stands for, with keys to commit to the masks by if that is asked for.
+/// Reads what the entropy stands for, with keys to commit to the masks with, if that is asked for.
 pub(crate) fn read_entropy(
     alloc: Global,
     params: &Params,

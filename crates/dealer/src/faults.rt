@@ -12,7 +12,7 @@ pub enum DealFault {
     /// Digits of 8 bits with a tree of height 10.
     #[error("digits of 8 bits with a tree of height 10, where narrower ones are wanted")]
     TooWide,
-    /// The entropy has another length than `80 + 32n` bytes for `n` trustees.
+    /// The entropy has a length other than `80 + 32n` bytes for `n` trustees.
     #[error("{got} bytes of entropy, where {want} are wanted")]
     BadEntropy { got: usize, want: usize },
     /// Two trustees have the same key. This is the first such pair, `t` first.

@@ -30,7 +30,7 @@ pub struct DealingFiles {
 }
 
 impl Dealt {
-    /// The files. The head of the reference is that of the shares. The leaves are not copied, and take no memory where
+    /// The files. The head of the reference is that of the shares. The leaves are not copied, and take no memory if
     /// they have room for the 32 bytes of this head.
     pub fn into_files(self, alloc: Global) -> Result<DealingFiles, NoMemory>
         requires { 0 < length self.shares.items }

@@ -1,4 +1,4 @@
-//! What follows from the definitions, for whoever proves something about dealings. No function here does anything.
+//! What follows from the definitions, for proofs about dealings. No function here does anything.
 
 ghost use Rattle.std.specs.Prelude.{◌≡◌, ℕ, List, ◌<◌, ◌^◌, length};
 ghost use Rattle.coalition_map.specs.Coalitions.{PlanNumbers};

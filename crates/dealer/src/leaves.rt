@@ -19,7 +19,7 @@ use reference_value::leaf_bytes;
 use share_files::{HEAD, RefHeader, length_of_commits, write_commits_head};
 use std::alloc::Global;
 
-/// The tree over the public values of the leaves, which are these.
+/// The tree over these public values of the leaves.
 pub(crate) fn build_tree(
     alloc: Global,
     params: &Params,

@@ -6,7 +6,7 @@ use lms_bytes::Params;
 use std::thread;
 use std::thread::Threads;
 
-/// So many leaves, from the first one on.
+/// A number of leaves, from the first one on.
 #[derive(Clone, Copy)]
 pub(crate) struct Run {
     /// The number q of the first leaf.
@@ -27,7 +27,7 @@ impl Run {
         }
     }
 
-    /// Cuts a run in two: the leaves that `some` of so many threads build, and those of the other threads.
+    /// Cuts a run in two: the leaves that `some` of `threads` threads build, and those of the other threads.
     pub(crate) fn cut(self, some: usize, threads: usize) -> (Run, Run)
         requires leaves { 1 < self.count }
         requires small { self.first + self.count < 2 ^ 32 }
@@ -52,7 +52,7 @@ impl Run {
 }
 
 /// How many threads build leaves: four for each processor, since no two processors are equally fast and one that is
-/// done takes over a thread of another; one where there is one.
+/// done takes over a thread of another; or one if there is one.
 pub(crate) fn thread_count<R: Threads>(rt: &R) -> usize
     ensures { 0 < result }
 {

@@ -14,7 +14,7 @@ use ots_chain::MessageHash;
 use reference_value::{Whole, join_chains, join_randomizer};
 use std::alloc::Global;
 
-/// The signature of the message with leaf `q`, whose members both trustees are (RFC 8554 section 5.4.1).
+/// The signature of the message with leaf `q`, of which both trustees are members (RFC 8554 section 5.4.1).
 pub(crate) fn sign_leaf(
     alloc: Global,
     plan: &Plan,

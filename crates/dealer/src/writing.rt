@@ -1,4 +1,4 @@
-//! The writing of runs of leaves, with the commitments to their masks where they are asked for.
+//! The writing of runs of leaves, with the commitments to their masks if they are asked for.
 
 ghost use Rattle.std.specs.Prelude.{◌≡◌, ◌+◌, ◌*◌, ◌^◌, ◌<◌, ◌≤◌, cond, is_some, length};
 ghost use Rattle.mask_prf.specs.Lengths.{leaf_length, leaves_length};
@@ -13,8 +13,8 @@ use lms_bytes::Params;
 use reference_value::{build_committed_leaf, build_leaf, leaf_bytes};
 use share_files::{HEAD, leaf_commits_bytes};
 
-/// Writes the leaves of the masked reference value, and the commitments to their masks behind the head of their file,
-/// where there is one.
+/// Writes the leaves of the masked reference value, and the commitments to their masks after the head of their file, if
+/// there is one.
 pub(crate) fn write_leaves(
     params: &Params,
     plan: &Plan,
@@ -32,7 +32,7 @@ pub(crate) fn write_leaves(
     write_run(params, plan, secrets, Run::whole(params), out, commits);
 }
 
-/// Writes the leaves of a run, one behind the other, and the commitments to their masks if they are asked for.
+/// Writes the leaves of a run, one after the other, and the commitments to their masks if they are asked for.
 pub(crate) fn write_run(
     params: &Params,
     plan: &Plan,
@@ -61,7 +61,7 @@ pub(crate) fn write_run(
     }
 }
 
-/// How many bytes the commitments to the masks of a leaf have, which are none if they are not asked for.
+/// How many bytes the commitments to the masks of a leaf have, or 0 if they are not asked for.
 pub(crate) fn asked_bytes(params: &Params, plan: &Plan, secrets: &Secrets) -> usize
     ensures { result ≡ asked_length (is_some secrets.now.macs) params.now plan.now.k }
 {

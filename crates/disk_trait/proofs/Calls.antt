@@ -19,7 +19,7 @@ counted_later n = grind (arith, nat_tests)
 abbrev pub outcome : Bool → Result (Unit {0}) DiskFault
 outcome fails = if fails then Err (record {}) else Ok tt
 
--- a disk on which no call is listed and no bound is set fails no call for another cause than its arguments
+-- a disk on which no call is listed and no bound is set fails no call for any cause other than its arguments
 quiet : (fails stops : Option ℕ) (unbounded : Bool) (calls bound changes : ℕ) → (is_none fails && is_none stops && unbounded) ≡ true
     → (is_call fails calls || is_from stops calls || (not unbounded && nat_le bound changes)) ≡ false
 quiet None None true calls bound changes steady = refl
@@ -36,7 +36,7 @@ well = refl
 pub sync-succeeds : (disk : MemState) → is_steady disk ≡ true → IsOk (outcome (sync_fails disk))
 sync-succeeds disk steady = rw (sync-quiet disk steady) well
 
--- of a write that succeeds both tests of its range held
+-- for a write that succeeds both tests of its range held
 ranged : (refused begins ends : Bool) (A B : Type 0) → (begins ≡ true → A) → (ends ≡ true → B) → OnOk (outcome (refused || not (begins && ends))) (A × B)
 ranged true begins ends A B one two = tt
 ranged false false ends A B one two = tt

@@ -5,7 +5,7 @@ use Rattle.std.specs.Prelude.{◌≡◌, ℕ, ◌+◌, ◌-◌, ◌^◌, ◌≤�
 abbrev pub Rose : ℕ → ℕ → Type 0
 Rose before now = min (before + 1) (2 ^ 64 - 1) ≤ now
 
--- what a call makes of a count, by its result: it never falls, and rises where the call fails and nowhere else
+-- what a call makes of a count, by its result: it never falls, and rises if the call fails and not otherwise
 pub record HasCause {T E : Type 0} (before now : ℕ) (result : Result T E) : Type 0 where
   pub later : before ≤ now
   pub succeeded : OnOk result (now ≡ before)

@@ -64,11 +64,11 @@ is_listed disk = is_call disk.fails disk.calls || is_from disk.stops disk.calls
 abbrev pub is_spent : MemState → Bool
 is_spent disk = not (disk.bound == 2 ^ 64 - 1) && nat_le disk.bound disk.changes
 
--- a read fails where it is listed, and where it reaches past the end
+-- a read fails if it is listed, or if it reaches past the end
 abbrev pub read_fails : MemState → ℕ → ℕ → Bool
 read_fails disk at n = is_listed disk || nat_lt (length disk.bytes) (at + n)
 
--- a sync fails where it is listed, and past the bound
+-- a sync fails if it is listed, or past the bound
 abbrev pub sync_fails : MemState → Bool
 sync_fails disk = is_listed disk || is_spent disk
 
@@ -76,11 +76,11 @@ sync_fails disk = is_listed disk || is_spent disk
 abbrev pub has_room : MemState → ℕ → ℕ → Bool
 has_room disk at n = nat_le at (length disk.bytes) && nat_le (at + n) disk.capacity
 
--- a write fails where a sync would, and where it has no room
+-- a write fails if a sync would, or if it has no room
 abbrev pub write_fails : MemState → ℕ → ℕ → Bool
 write_fails disk at n = sync_fails disk || not (has_room disk at n)
 
--- after a call, of which it is said whether it failed
+-- after a call, given whether it failed
 abbrev pub called : Bool → MemState → MemState
 called failed disk = record disk {
   calls = counted disk.calls;
@@ -109,8 +109,8 @@ with_named disk at n = record (changed true disk) { pending = named disk.pending
 abbrev pub with_stable : MemState → MemState
 with_stable disk = record (changed false disk) { stable = disk.bytes; pending = replicate (length disk.bytes) false }
 
--- A crash may leave this: no byte differs but those that are pending, and the length is between that of the last sync
--- and the present one, which is no shorter.
+-- A crash may leave this: no byte differs except those that are pending, and the length is between that of the last
+-- sync and the present one, which is no shorter.
 pub record IsImage (bytes stable : List ℕ) (pending : List Bool) (image : List ℕ) : Type 0 where
   pub no_shorter : min (length stable) (length bytes) ≤ length image
   pub no_longer : length image ≤ length bytes

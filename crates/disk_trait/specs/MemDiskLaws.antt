@@ -1,5 +1,5 @@
--- What a read of a disk in memory gives is an image. The proof stands with the definitions, since the toolchain wants
--- what an implementation names to be among them.
+-- What a read of a disk in memory gives is an image. The proof stands with the definitions, since the toolchain
+-- requires what an implementation names to be among them.
 use Rattle.std.specs.Prelude.{true, IsTrue, refl}
 use Rattle.std.proofs.Common.{arith}
 use Rattle.disk_trait.specs.MemDisk.{MemState, MayLeave}

@@ -19,10 +19,10 @@ pub trait Pages: Faults {
     /// Whether the content is told.
     ghost told: { Self → Bool };
 
-    /// What a read gives, where the content is told.
+    /// What a read gives, if the content is told.
     ghost reads: { Self → List ℕ };
 
-    /// How many bytes a disk has room for, where its content is told.
+    /// How many bytes a disk has room for, if its content is told.
     ghost room: { Self → ℕ } = { λ _. 0 };
 
     /// Whether a disk keeps the model of crashes.
@@ -60,10 +60,10 @@ pub trait Pages: Faults {
 }
 
 /// A disk that is read and written. Until a sync succeeds, a crash may leave any bytes in each
-/// range that a write named, a failed write too, and any length from that of the last sync to the
+/// range that a write named, even a failed one, and any length from that of the last sync to the
 /// present one. After a sync that succeeds a crash leaves what a read gives. An honest disk keeps
-/// this model, and may stop at any of its calls and fail each later one: so what a function says
-/// of the images of every honest disk after it returns is said of a crash at any moment within it.
+/// this model, and may stop at any of its calls and fail each later one: so what a function says of
+/// the images of every honest disk after it returns is said of a crash at any moment within it.
 pub trait Disk: Pages {
     /// Writes over what is there, and past the end. A write that begins past the end, or ends past
     /// the room, fails. After a failed write a read may give any bytes in its range.
@@ -83,7 +83,7 @@ pub trait Disk: Pages {
 
         ensures stays { SameKind Self.told Self.honest Self.steady Self.room self.old self.new };
 
-    /// Makes what was written stable. What is there has room, also after a failed sync.
+    /// Makes what was written stable. What is there has room, even after a failed sync.
     fn sync(&mut self) -> Result<(), DiskFault>
         ensures stable { IsTrue (Self.honest self.old) → IsTrue (Self.told self.old)
             → OnOk result (Only (Self.reads self.old) (Self.may_leave self.new)) }

@@ -209,21 +209,21 @@ impl MemDisk {
         self.is_listed() || self.bound != usize::MAX && self.bound <= self.changes
     }
 
-    // Whether a write of this many bytes begins within what is there, and ends within the room.
+    // Whether a write of `n` bytes begins within what is there, and ends within the room.
     fn has_room(&self, at: u64, n: usize) -> bool
         ensures { result ≡ has_room self.now at n }
     {
         at <= self.len as u64 && n <= self.bytes.len() - at as usize
     }
 
-    // Whether a write of this many bytes fails.
+    // Whether a write of `n` bytes fails.
     fn is_refusing_write(&self, at: u64, n: usize) -> bool
         ensures { result ≡ write_fails self.now at n }
     {
         self.is_refusing() || !self.has_room(at, n)
     }
 
-    // Whether a read of this many bytes fails.
+    // Whether a read of `n` bytes fails.
     fn is_refusing_read(&self, at: u64, n: usize) -> bool
         ensures { result ≡ read_fails self.now at n }
     {

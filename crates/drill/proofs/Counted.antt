@@ -16,7 +16,7 @@ use Rattle.drill.specs.declared.seat.Seat.{Seat as Place}
 use Rattle.drill.specs.declared.seat.Seat.TheVariants.{Refused, Running, Signed, Waiting}
 use Rattle.drill.proofs.Sums.{no-value, none-value, own-value, sum-change, sum-most, sum-or-less, sum-parts, sum-same, sum-sessions, sum-zero}
 
--- ---- a session has a leaf where one is leased for it
+-- ---- a session has a leaf if one is leased for it
 
 module _ (desk : Desk) (d : Dealing) (i : ℕ) (map : ℕ → LeafUse) (leaves : ℕ → ℕ → LeafState) where
   small : (s : State) → IsOnCourse desk d i map leaves s → s.leaf < 32
@@ -45,7 +45,7 @@ same-holds desk d i map after old new same Refused place was going = bare-holds 
 
 -- ---- a step of one session
 
--- what a change of one seat makes of a sum over those of a coalition
+-- how a change of one seat changes a sum over the seats of a coalition
 pub held-change : (i : ℕ) (seats after : List Place) (c : ℕ) → i < length seats → length after ≡ length seats → ((j : ℕ) (none : Place) → j ≢ i → get_or after j none ≡ get_or seats j none)
     → held_by c after + (if i % 3 == c then holds (get_or seats i Refused) else 0) ≡ held_by c seats + (if i % 3 == c then holds (get_or after i Refused) else 0)
 held-change i seats after c inside size others =
@@ -63,7 +63,7 @@ pub free-change : (c leaf : ℕ) (map after : ℕ → LeafUse) → leaf < 32 →
 free-change c leaf map after inside others = sum-change (λ (q : ℕ). if q % 3 == c then is_open (map q) else 0) (λ (q : ℕ). if q % 3 == c then is_open (after q) else 0) 32 leaf inside
     (λ q within other. ap (λ (x : LeafUse). if q % 3 == c then is_open x else 0) (others q other))
 
--- one more has a leaf, and one leaf less is free
+-- one more has a leaf, and one leaf fewer is free
 one-each : (c i leaf held held' free free' had has was is all : ℕ) → leaf % 3 ≡ i % 3 → had ≡ 0 → has ≡ 1 → was ≡ 1 → is ≡ 0
     → held' + (if i % 3 == c then had else 0) ≡ held + (if i % 3 == c then has else 0)
     → free' + (if leaf % 3 == c then was else 0) ≡ free + (if leaf % 3 == c then is else 0) → held + free ≡ all → held' + free' ≡ all
@@ -133,7 +133,7 @@ not-open (IsLeased message) other = refl
 not-open IsBurnt other = refl
 not-open IsTorn other = refl
 
--- where no leaf of a coalition is free
+-- if no leaf of a coalition is free
 pub full-none : (i c : ℕ) (map : ℕ → LeafUse) → i % 3 ≡ c → ((q : ℕ) → q < 32 → q % 3 ≡ i % 3 → map q ≢ IsFree) → free_of c map ≡ 0
 full-none i c map own full = sum-zero (λ (q : ℕ). if q % 3 == c then is_open (map q) else 0) 32
     (λ q within. elim (cases_eq (q % 3) c) [
@@ -155,7 +155,7 @@ weigh c i x y low = elim (cases_eq (i % 3) c) [
   | inr e ↦ let a = no-value c i x e in let b = no-value c i y e in omega arith
 ]
 
--- of two that differ within a coalition
+-- two values that differ within a coalition
 pub record Own (c i x y : ℕ) : Type 0 where
   pub own : i % 3 ≡ c
   pub less : x < y
@@ -166,7 +166,7 @@ weighed c i x y less = elim (cases_eq (i % 3) c) [
   | inr e ↦ let a = no-value c i x e in let b = no-value c i y e in absurd (omega arith)
 ]
 
--- of each coalition as many sessions have a leaf as there are, or as it has leaves
+-- in each coalition all sessions have a leaf, or as many as it has leaves
 pub held-all : (desk : Desk) (d : Dealing) (map : ℕ → LeafUse) (leaves : ℕ → ℕ → LeafState) (seats : List Place) (c : ℕ) → c < 3
     → ((i : ℕ) (none : Place) → i < length seats → IsGoing desk d i map leaves (get_or seats i none)) → All HasEnded seats → held_by c seats + free_of c map ≡ leaves_of c
     → held_by c seats ≡ min (sessions_of c (length seats)) (leaves_of c)
@@ -201,7 +201,7 @@ signed-are seats ended each =
     let e : held_by 2 seats ≡ min (sessions_of 2 (length seats)) 10 = each 2 (omega arith) in
     omega arith
 
--- the sessions that have signed and the leaves that are free are all 32 leaves
+-- the sessions that have signed and the leaves that are free add up to the 32 leaves
 pub signed-and-free : (seats : List Place) (map : ℕ → LeafUse) → All HasEnded seats → ((c : ℕ) → c < 3 → held_by c seats + free_of c map ≡ leaves_of c)
     → signed_in seats + sum_below (λ q. is_open (map q)) 32 ≡ 32
 signed-and-free seats map ended each =

@@ -48,12 +48,12 @@ counts-more number i old new was one =
     let now = one.restarts in
     record { cuts = omega arith; restarts = omega arith }
 
--- what holds besides, holds of an answer too
+-- what holds anyway holds of an answer too
 pub ok-too : {A E : Type 0} (P : A → Type 0) (Q : Type 0) (r : Result A E) → Q → IfOk r P → IfOk r (λ a. Q × P a)
 ok-too P Q (Ok a) q p = (q, p)
 ok-too P Q (Err e) q p = tt
 
--- what was asked stays within a higher bound, where only a restart is counted
+-- what was asked stays within a higher bound if only a restart is counted
 pub within-more : (bound most : ℕ) (old new : Tally) → IsWithin bound old → bound ≤ most → new.asks ≡ old.asks → new.granted ≡ old.granted → new.cuts ≡ old.cuts → IsWithin most new
 within-more bound most old new within more asks granted cuts =
     let low = within.asks in
@@ -64,7 +64,7 @@ within-more bound most old new within more asks granted cuts =
 pub drawn-below : (drawn sessions count : ℕ) → count ≡ sessions → 0 < sessions → drawn % sessions < count
 drawn-below drawn sessions count is some = omega (arith, is, some)
 
--- what follows of a value from one fact, or from two, follows of an answer
+-- what follows for a value from one fact, or from two, follows for an answer
 pub ok-so : {A E : Type 0} (P R : A → Type 0) (r : Result A E) → ((a : A) → P a → R a) → IfOk r P → IfOk r R
 ok-so P R (Ok a) so p = so a p
 ok-so P R (Err e) so p = tt

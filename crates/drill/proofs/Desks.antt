@@ -137,7 +137,7 @@ desk-of params plan entropy dealt lms ots n p h is dealt_is =
       shares = rw same dealt_is.shares.params;
     }
 
--- the dealing that a desk's key is from
+-- the dealing that a desk's key comes from
 pub own-dealing : (params : Params) (plan : PlanNumbers) (entropy : List ℕ) (number : ℕ) (dealt : Dealt) → params.n ≡ 32 → entropy ≡ entropy_of number
     → IsDealt (dealing_of params plan entropy) dealt → HasDealing plan dealt
 own-dealing params plan entropy number dealt n drawn is =

@@ -17,7 +17,7 @@ use Rattle.drill.specs.declared.tally.Tally.{Tally}
 use Rattle.drill.proofs.Following.{few-steps}
 use Rattle.drill.proofs.Seated.{get_or-any}
 
--- session i has taken at least so many steps since it began to finish
+-- session i has taken at least `taken` steps since it began to finish
 pub record AtStep (desk : Desk) (d : Dealing) (extra i : ℕ) (old now : Drill) (tally : Tally) (taken : ℕ) : Type 0 where
   pub well : IsWell desk d extra now tally
   pub least : (none : Place) → taken ≤ steps_of (get_or now.seats.items i none)
@@ -70,7 +70,7 @@ pub record Signer (seats : List Place) : Type 0 where
   pub within : session < length seats
   pub signed : (none : Place) → HasSigned (get_or seats session none)
 
--- where something is noted a session has signed
+-- if something is noted, a session has signed
 pub signer : (desk : Desk) (d : Dealing) (drill : Drill) → IsGood desk d drill → All HasEnded drill.seats.items → 0 < length drill.openings.list.items → Signer drill.seats.items
 signer desk d drill good ended some =
     let o = good.openings.each 0 no-opening some in

@@ -140,7 +140,7 @@ module _ (p : Progress) (i : ℕ) (seats now : List Place) (inside : i < length 
       → Follows (after_step p i) now
   follow-on some same here = follow-one (after_step p i) (min (p.steps i + 1) 5) p.leased (step-on p i some) here (same-held same)
 
--- ---- what a step makes of a session
+-- ---- what a step does to a session
 
 some-step : (s : State) (o : Option (List ℕ)) → s.c ≡ o → 1 ≤ steps_in s
 some-step s None is = let e : steps_in s ≡ 1 + count_filled (seats_of s) = rw is refl in omega arith
@@ -205,7 +205,7 @@ module _ (desk : Desk) (d : Dealing) (i : ℕ) (map after : ℕ → LeafUse) (ol
 
   module _ (seats now : List Place) (inside : i < length seats) (size : length now ≡ length seats)
       (others : (j : ℕ) (none : Place) → j ≢ i → get_or now j none ≡ get_or seats j none) where
-    -- the same of all sessions
+    -- the same for all sessions
     pub all-replies : (asks : Asks) → asks.put + replies_of (get_or seats i Refused) ≡ replies_of (get_or now i Refused) → asks.put + replies_in seats ≡ replies_in now
     all-replies asks more =
         let f : ℕ → ℕ = λ k. replies_of (get_or seats k Refused) in
@@ -289,7 +289,7 @@ some-next desk i (Running s) next is = refl
 some-next desk i (Signed leaf) next is = absurd is
 some-next desk i Refused next is = absurd is
 
--- what is_none says of a next ask
+-- what is_none tells of a next ask
 pub next-known : (desk : Desk) (d : Dealing) (i : ℕ) (map : ℕ → LeafUse) (leaves : ℕ → ℕ → LeafState) (seat : Place) (o : Option NextAsk) (b : Bool) → is_some o ≡ not b
     → IfSome o (λ next. IsNextOf desk i next seat) → IfNone o (HasNoNext seat) → IsGoing desk d i map leaves seat → asks_in seat ≡ (if b then 0 else 1)
 next-known desk d i map leaves seat None true is some none going = no-next desk d i map leaves seat going none

@@ -1,4 +1,4 @@
--- A session that is on its course: what it may ask, and what the answers make of it.
+-- A session that is on its course: what it may ask, and what the answers do to it.
 use Rattle.std.proofs.Common.{◌≡◌, ◌≢◌, ◌⊎◌, ◌<◌, ◌≤◌, ◌%◌, ◌^◌, ℕ, false, suc, List, [], ◌∷◌, All, Contains, IfSome, None, Some, inl, inr, refl, sym, ◌∙◌, ap, subst, arith}
 use Rattle.std.proofs.lemmas.Bool.{cases_eq}
 use Rattle.std.proofs.lemmas.List.Elements.{All-cons, All-head, All-nil, All-tail}
@@ -92,9 +92,9 @@ module _ (desk : Desk) (own : HasDealing desk.plan desk.dealt) where
       } in
       subst (λ (a : Ask). MayAsk share (leaves t) a) (sym is.ask) may
 
--- ---- what an answer makes of a session
+-- ---- what an answer does to a session
 
--- the same of a seat
+-- the same for a seat
 pub record StandsAt (leaves : ℕ → ℕ → LeafState) (s : State) (message : List ℕ) (seat : Seat) : Type 0 where
   pub may : (leaves seat.member s.leaf ≡ state_before (asked s message)) ⊎ (leaves seat.member s.leaf ≡ state_after (asked s message))
   pub kept : masks_at seat ≢ None → leaves seat.member s.leaf ≡ state_after (asked s message)
@@ -257,7 +257,7 @@ module _ (desk : Desk) (d : Dealing) (i : ℕ) (map : ℕ → LeafUse) where
         filled = ap count_filled now ∙ (count-last p.x p.y masks empty ∙ ap (λ (l : List Seat). suc (count_filled l)) (sym p.seats));
       }
 
-  -- nothing is kept of a member that is awaited
+  -- nothing from a member that is awaited is kept
   pub empty-x : (leaves : ℕ → ℕ → LeafState) (s : State) (p : Pair s) → IsOnCourse desk d i map leaves s → kept_masks s (round_of s) p.x.member ≡ None → is_filled p.x ≡ false
   empty-x leaves s p c none = empty-seat d s (digest_of s m) p.x (honest-x leaves s p c) (sym (kept-one s p) ∙ none)
 

@@ -1,4 +1,4 @@
--- What leasing a leaf for a session gives, where nothing is in doubt and none is leased for its message.
+-- What leasing a leaf for a session gives, if nothing is in doubt and none is leased for its message.
 use Rattle.std.proofs.Common.{◌≡◌, ◌≢◌, ◌<◌, ◌%◌, ℕ, List, [], Contains, Option, None, Some, IsSome, IsTrue, Result, Ok, Err, inl, inr, refl, sym, ◌∙◌, ap, subst}
 use Rattle.std.proofs.lemmas.Bool.{cases_eq}
 use Rattle.std.proofs.lemmas.List.Elements.{Contains-get_or}
@@ -123,7 +123,7 @@ module _ (i : ℕ) (before : TableState) (sure : before.doubt ≡ None) (bare : 
   leased-for after members message result theirs is goes (unwritten settled c leaf own settles found used) = absurd (goes refl)
   leased-for after members message result theirs is goes (damaged c a b doubted own put neither) = absurd (cc)
 
--- the same of a table whose disk is steady
+-- the same for a table whose disk is steady
 pub record LeasedIn {D : Type 0} {p : pages.Ghosts D} {f : faults.Ghosts D} (i : ℕ) (old new : Table D p f) (result : Result ℕ TableFault) : Type 0 where
   pub done : Done i (state_of old) (state_of new) result
   pub settled : IsSettled new

@@ -1,4 +1,4 @@
--- What asks make of the openings that are noted.
+-- What asks do to the openings that are noted.
 use Rattle.std.proofs.Common.{◌≡◌, ◌≢◌, ◌⊎◌, ◌<◌, ◌≤◌, ◌%◌, ◌++◌, ◌+◌, ℕ, Bool, true, false, List, [], ◌∷◌, All, IfSome, Some, IsSome, count_by, get_or, zero, suc, if◌then◌else◌, length, inl, inr, refl, sym, ◌∙◌, ap, subst, arith}
 use Rattle.std.specs.Prelude.{cond}
 use Rattle.std.proofs.lemmas.Bool.{cases_eq}
@@ -98,7 +98,7 @@ leased-same a b is = cc
 pub free-not : (a : List ℕ) → IsFree ≡ IsLeased a → ⊥
 free-not a is = absurd (cc)
 
--- what a step of session i makes of one leaf
+-- what a step of session i does to one leaf
 pub at-leaf : (i : ℕ) (old new : ℕ → LeafUse) → Grows i old new → (q : ℕ) → q < 32 → (new q ≡ old q) ⊎ ((old q ≡ IsFree) × ((q % 3 ≡ i % 3) × (new q ≡ IsLeased (id_of i))))
 at-leaf i old new (inl same) q within = inl (same q within)
 at-leaf i old new (inr takes) q within = elim (cases_eq q takes.leaf) [
@@ -164,7 +164,7 @@ all-steps (Running s) n is has = absurd has
 all-steps (Signed leaf) n is has = omega arith
 all-steps Refused n is has = absurd has
 
--- where the answer to an ask ends a session signed, the ask was one of round two
+-- if the answer to an ask ends a session signed, the ask was one of round two
 pub second-there : (desk : Desk) (d : Dealing) (i : ℕ) (map : ℕ → LeafUse) (leaves after : ℕ → ℕ → LeafState) (s : State) (next : NextAsk) (place : Place) → IsOnCourse desk d i map leaves s
     → IsNext desk s (message_bytes i) next → GoesTo desk d i map after (suc (steps_in s)) place → HasSigned place → IsSome next.ask.second
 second-there desk d i map leaves after s next place course is goes has =
@@ -205,7 +205,7 @@ module _ (desk : Desk) (d : Dealing) (i count : ℕ) (inside : i < count) (map :
         digest = parts.1.0 ∙ moved;
       }
 
-  -- what is noted of the next ask of a session
+  -- what is noted for a session's next ask
   pub noted : (s : State) (next : NextAsk) (old new : List Opening) → DifferentIds count → IsOnCourse desk d i map leaves s → IsNext desk s (message_bytes i) next
       → Notes old next.member next.ask new → AreOwn desk d count map old → AreOwn desk d count map new
   noted s next old new different course is (inl same) own = subst (λ (l : List Opening). AreOwn desk d count map l) (sym same) own

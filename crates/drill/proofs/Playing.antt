@@ -1,4 +1,4 @@
--- Events that are played, and what the schedule says of them.
+-- Events that are played, and what the schedule says about them.
 use Rattle.std.proofs.Common.{◌≡◌, ◌<◌, ◌≤◌, ◌+◌, ◌*◌, ◌%◌, ℕ, List, length, get_or, if◌then◌else◌, refl, sym, ap, subst, arith, add-one}
 use Rattle.drill_schedule.specs.Draws.{event_at}
 use Rattle.drill_schedule.specs.Events.{is_cut}

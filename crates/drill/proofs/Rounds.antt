@@ -67,7 +67,7 @@ answers-it s t masks there size =
     let whole : (length masks == body_length s.key.params (round_of s) 0) ≡ true = eq-eqb _ _ size in
     rw (names-it s t, there, whole) refl
 
--- a grant's masks are kept where nothing is
+-- a grant's masks are kept where nothing is kept yet
 pub grant-kept : (s : State) (t : ℕ) (masks : List ℕ) → has_seat (seats_of s) t ≡ true → is_filled (seat_of (seats_of s) t) ≡ false
     → length masks ≡ body_length s.key.params (round_of s) 0
     → seats_of (with_delivery s (grant_head s t) masks) ≡ with_reply (seats_of s) t 0 masks
@@ -76,7 +76,7 @@ grant-kept s t masks there empty size =
     let goes : with_delivery s (grant_head s t) masks ≡ with_seats s (with_reply (seats_of s) t 0 masks) = rw (is, empty) refl in
     ap seats_of goes ∙ seats-with (with_reply (seats_of s) t 0 masks) s
 
--- the two members, and what is kept of them in the present round
+-- the two members, and what is kept for them in the present round
 pub record Pair (s : State) : Type 0 where
   pub x : Seat
   pub y : Seat
@@ -126,7 +126,7 @@ first-member s p = subst (λ (l : List ℕ). Contains l p.x.member) (sym p.membe
 pub second-member : (s : State) (p : Pair s) → Contains (leaf_members s.plan s.leaf) p.y.member
 second-member s p = subst (λ (l : List ℕ). Contains l p.y.member) (sym p.members) (Contains-later p.x.member (p.y.member ∷ []) p.y.member (Contains-first p.y.member []))
 
--- where the seat of a member stands, of two
+-- at which of two places a member's seat stands
 pub place-one : (x y : Seat) → place_of (x ∷ y ∷ []) x.member ≡ 0
 place-one x y = place-here x (y ∷ []) x.member refl
 
@@ -151,7 +151,7 @@ has-one x y = rw (place-one x y) refl
 pub has-two : (x y : Seat) → x.member < y.member → has_seat (x ∷ y ∷ []) y.member ≡ true
 has-two x y order = rw (place-two x y order) refl
 
--- what is kept of each
+-- what is kept for each
 pub kept-one : (s : State) (p : Pair s) → kept_masks s (round_of s) p.x.member ≡ masks_at p.x
 kept-one s p = kept-is p.x.member s ∙ ap (λ (l : List Seat). masks_at (seat_of l p.x.member)) p.seats ∙ ap masks_at (seat-one p.x p.y)
 

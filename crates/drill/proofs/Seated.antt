@@ -135,7 +135,7 @@ get_or-any [] i a b within = absurd (omega arith)
 get_or-any (x ∷ xs) zero a b within = refl
 get_or-any (x ∷ xs) (suc i) a b within = get_or-any xs i a b (omega arith)
 
--- once a leaf is leased each is still free or leased for a session
+-- once a leaf is leased, each is still free or leased for a session
 still-taken : (i count : ℕ) (uses after : ℕ → LeafUse) → i < count → Grows i uses after → AreTaken count uses → AreTaken count after
 still-taken i count uses after inside grows taken q within = elim (at-leaf i uses after grows q within) [
   | inl same ↦ elim (taken q within) [
@@ -145,7 +145,7 @@ still-taken i count uses after inside grows taken q within = elim (at-leaf i use
   | inr fresh ↦ inr (record { session = i; within = inside; coalition = fresh.1.0; leased = fresh.1.1 })
 ]
 
--- where a session has signed something is noted
+-- if a session has signed, something is noted
 signed-some : (seats : List Place) (put place : Place) (i n m : ℕ) → n ≤ m → (HasSigned place → 0 < m) → i < length seats
     → ((j : ℕ) (none : Place) → j < length seats → HasSigned (get_or seats j none) → 0 < n)
     → (j : ℕ) (none : Place) → j < length (set (set seats i put) i place) → HasSigned (get_or (set (set seats i put) i place) j none) → 0 < m
@@ -219,7 +219,7 @@ stepped desk own i drill after seat put place asks good within was settled steps
           (good.leaves (i % 3) (omega arith)) p f seat place asks now before going moves.going steps.advances;
     }
 
--- what may be asked where session i stands at this place
+-- what may be asked if session i stands at this place
 pub may-of : (desk : Desk) (own : HasDealing desk.plan desk.dealt) (i : ℕ) (uses : ℕ → LeafUse) (old : Trustees) (place : Place) (next : NextAsk) → IsGoing desk own.dealing i uses (leaf_at old) place
     → HaveShares own.dealing old → IsNextOf desk i next place → MayAsk (share_at old next.member) (leaf_at old next.member) next.ask
 may-of desk own i uses old Waiting next going shares is = absurd is

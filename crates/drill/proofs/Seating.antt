@@ -12,15 +12,15 @@ use Rattle.drill.specs.declared.seat.Seat.{Seat}
 use Rattle.drill.specs.declared.seat.Seat.TheVariants.{Waiting}
 use Rattle.drill.specs.declared.state.Drill.{Drill}
 
--- a seat of a drill for a desk is of the session of its number
+-- each seat of a drill for a desk belongs to the session of its number
 pub fits-here : (desk : Desk) (drill : Drill) (i : ℕ) (seat : Seat) → IsFor desk drill → i < length drill.seats.items → seat ≡ get_or drill.seats.items i seat → Fits desk.dealt.public desk.plan i seat
 fits-here desk drill i seat is_for within was = subst (λ (s : Seat). Fits desk.dealt.public desk.plan i s) (sym was) (is_for.seats i seat within)
 
--- a seat of a session that waits is of any
+-- the seat of a session that waits fits any session
 pub waiting-fit : (key : PublicKey) (plan : PlanNumbers) (seats : List Seat) → AreWaiting seats → AllFit key plan seats
 waiting-fit key plan seats waiting i none inside = subst (λ (s : Seat). Fits key plan i s) (sym (waiting i none inside)) tt
 
--- so many sessions wait
+-- `many` sessions wait
 pub record Wait (seats : List Seat) (many : ℕ) : Type 0 where
   pub count : length seats ≡ many
   pub waiting : AreWaiting seats

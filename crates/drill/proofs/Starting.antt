@@ -83,7 +83,7 @@ sets-for desk s m next old new is sets =
     let state : state_after next.ask ≡ state_after (asked s m) = ap state_after is.ask ∙ after-any _ [] (digest_of s m) s in
     subst (λ (q : ℕ). SetsAt old new next.member q (state_after (asked s m))) leaf (subst (λ (x : LeafState). SetsAt old new next.member next.ask.leaf x) state sets)
 
--- no leaf but the session's changes, and that with a member alone
+-- no leaf but the session's changes, and that one with a member alone
 pub others-stay : (old new : Trustees) (member leaf i : ℕ) (state : LeafState) (uses : ℕ → LeafUse) → SetsAt old new member leaf state → uses leaf ≡ IsLeased (id_of i)
     → Contains (leaf_members three leaf) member → (t q : ℕ) → IsTrustee t → q < 32 → (uses q ≢ IsLeased (id_of i)) ⊎ IsOut t q → leaf_at new t q ≡ leaf_at old t q
 others-stay old new member leaf i state uses sets leased theirs t q own within other = elim (cases_eq t member) [
@@ -113,7 +113,7 @@ lease-moves desk d i uses after old leaf s shares free grows new same session =
       advances = record { least = omega arith; exact = λ has. steps; put = refl };
     }
 
--- where a member is awaited there is a next ask
+-- if a member is awaited, there is a next ask
 pub not-all : (s : State) → IsSession s → s.plan ≡ three → ((t : ℕ) × Awaits s t) → AllKept s → ⊥
 not-all s session plan awaited all =
     let t = trustee-of s (pair-of s session plan) awaited.0 awaited.1.0 in
@@ -170,7 +170,7 @@ ended-stays desk d i uses old Refused ended going shares = record {
   advances = record { least = omega arith; exact = λ has. refl; put = refl };
 }
 
--- the same, where the session's seat is known to be at this place
+-- the same, if the session's seat is known to be at this place
 pub has-ended : (desk : Desk) (d : Dealing) (i : ℕ) (uses : ℕ → LeafUse) (old : Trustees) (seat place : Place) → seat ≡ place → HasEnded place → IsGoing desk d i uses (leaf_at old) seat
     → HaveShares d old → Steps desk d i (world uses old) (world uses old) seat place (record { put = 0; granted = 0; cut = 0 })
 has-ended desk d i uses old seat place is ended going shares =

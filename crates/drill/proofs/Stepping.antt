@@ -27,7 +27,7 @@ two-filled : (x y : Seat) → x.code ≡ Some 0 → y.code ≡ Some 0 → count_
 unfolding count_filled
 two-filled x y fx fy = rw (fx, fy) refl
 
--- where the reference is read, only memory may be wanting
+-- if the reference is read, joining fails only for want of memory
 pub memory-alone : (before now : ℕ) (fault : SessionFault) → JoinFails before now fault → fault ≢ Reference → fault ≡ NoMemory
 memory-alone before now fault (inl memory) unread = memory
 memory-alone before now fault (inr reference) unread = absurd (unread reference.0)
@@ -57,7 +57,7 @@ no-ok : {A E : Type 0} (P : A → Type 0) → (r : Result A E) → IsErr r → I
 no-ok P (Ok a) is = absurd (cc)
 no-ok P (Err e) is = tt
 
--- a session whose signature can be wanting for memory alone ends signed
+-- a session whose signature can fail for want of memory alone ends signed
 pub ends : {B M : Type 0} (P : B → Type 0) → (G : Place → Type 0) → (before now leaf : ℕ) (result : Result B SessionFault) (place : Result Place M)
     → OnOk result (place ≡ Ok (Signed leaf)) → IfErr result (λ fault. fault ≡ NoMemory → IsErr place) → MatchResult result P (JoinFails before now)
     → IfErr result (λ fault. fault ≢ Reference) → G (Signed leaf) → IfOk place G

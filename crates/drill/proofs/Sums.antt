@@ -1,4 +1,4 @@
--- Sums over the first so many numbers.
+-- Sums over the numbers below a bound.
 use Rattle.std.proofs.Common.{◌≡◌, ◌≢◌, ◌⊎◌, ◌<◌, ◌≤◌, ◌+◌, ◌*◌, ◌%◌, ◌==◌, ℕ, zero, suc, if◌then◌else◌, inl, inr, refl, sym, ◌∙◌, ap, subst, arith}
 use Rattle.std.proofs.lemmas.Bool.{cases_eq, cases_lt, eq-eqb, ne_eqb}
 use Rattle.drill.specs.Counts.{sum_below, sum_in}
@@ -82,7 +82,7 @@ sum-one f (suc n) i inside =
       | inr e ↦ let rest = sum-one f n i (omega arith) in omega arith
     ]
 
--- values that are no more than others: all are as many, or one is less
+-- values that are no more than others: all are equal, or one is less
 pub record Less (f g : ℕ → ℕ) (n : ℕ) : Type 0 where
   pub place : ℕ
   pub within : place < n
@@ -125,7 +125,7 @@ parts i x = elim (by-rest i) [
   | inr more ↦ elim more [ inl e ↦ rw e (omega arith) | inr e ↦ rw e (omega arith) ]
 ]
 
--- the three coalitions have all
+-- the three coalitions together make up the whole sum
 pub sum-parts : (f : ℕ → ℕ) (n : ℕ) → sum_below f n ≡ sum_in 0 f n + (sum_in 1 f n + sum_in 2 f n)
 sum-parts f n =
     let a = λ (i : ℕ). if i % 3 == 0 then f i else 0 in
@@ -141,7 +141,7 @@ one-more c n small = elim (cases_eq (n % 3) c) [
   | inr e ↦ let one = no-value c n 1 e in subst (λ (x : ℕ). sessions_of c (suc n) ≡ sessions_of c n + x) (sym one) (omega arith)
 ]
 
--- so many of the first so many are of a coalition
+-- how many of the first `n` are of a coalition
 pub sum-sessions : (c n : ℕ) → c < 3 → sum_in c (λ i. 1) n ≡ sessions_of c n
 sum-sessions c zero small = sum-none (λ (i : ℕ). if i % 3 == c then 1 else 0) ∙ omega arith
 sum-sessions c (suc n) small =

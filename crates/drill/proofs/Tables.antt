@@ -7,7 +7,7 @@ use Rattle.slot_file.specs.declared.faults.CacheLoad.TheVariants as load
 use Rattle.slot_file.specs.Fresh.{IsNew}
 use Rattle.slot_file.specs.declared.header.Header.{Header}
 
--- it is loaded, but for want of memory or a disk that failed
+-- it is loaded, unless memory runs out or the disk failed
 pub new-refused : (header : Header) (count : ℕ) (file : List ℕ) (why : CacheLoad) → IsNew header count file → LoadRefused header count file why
     → why ≢ load.Device → why ≡ load.NoMemory
 new-refused header count file why new (other_file fault opens) goes = absurd (let e = sym new.1.opens ∙ opens in cc)

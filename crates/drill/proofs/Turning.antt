@@ -1,4 +1,4 @@
--- The ends of a session's rounds, where every member's own masks are kept.
+-- The ends of a session's rounds, if every member's own masks are kept.
 use Rattle.std.proofs.Common.{◌≡◌, ◌≢◌, ℕ, List, [], ◌∷◌, All, Contains, IfSome, Option, None, Some, map, inl, inr, refl, sym, ◌∙◌, ap, subst}
 use Rattle.std.proofs.lemmas.List.Elements.{All-cons, All-head, All-nil, All-tail}
 use Rattle.coalition_map.specs.Coalitions.{IsPlan, PlanNumbers, leaf_members}

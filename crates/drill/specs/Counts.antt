@@ -4,12 +4,12 @@ use Rattle.leaf_table.specs.Entries.{LeafUse, IsFree, IsLeased, IsBurnt, IsTorn}
 use Rattle.drill.specs.declared.seat.Seat.{Seat}
 use Rattle.drill.specs.declared.seat.Seat.TheVariants.{Waiting, Running, Signed, Refused}
 
--- the sum of the first so many values
+-- the sum of the values below a number
 unfoldable pub sum_below : (ℕ → ℕ) → ℕ → ℕ
 sum_below value zero = 0
 sum_below value (suc i) = sum_below value i + value i
 
--- the same of those of coalition c alone
+-- the same for the values of coalition c alone
 abbrev pub sum_in : ℕ → (ℕ → ℕ) → ℕ → ℕ
 sum_in c value count = sum_below (λ i. if i % 3 == c then value i else 0) count
 

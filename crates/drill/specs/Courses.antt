@@ -1,4 +1,4 @@
--- internal: How a session of a drill goes on, where no two messages have one id.
+-- internal: How a session of a drill goes on, if no two messages have the same id.
 use Rattle.std.specs.Prelude.{◌≡◌, ◌≢◌, ◌⊎◌, ◌<◌, ◌≤◌, ◌%◌, ◌+◌, ◌-◌, ◌*◌, ℕ, suc, List, [], ◌∷◌, All, Contains, IfSome}
 use Rattle.std.specs.Prelude.{IsSome, None, Some, Option, length, replicate, slice_index_or, if◌then◌else◌}
 use Rattle.coalition_map.specs.Coalitions.{leaf_members}
@@ -52,7 +52,7 @@ own_masks d s digest t = elim s.c [
   | Some c ↦ digit_masks d s.leaf digest t
 ]
 
--- nothing is kept of a member, or its own masks
+-- nothing from a member is kept, or its own masks are
 abbrev pub IsHonest : Dealing → State → List ℕ → Seat → Type 0
 IsHonest d s digest seat =
     (seat.code ≡ None) ⊎ ((seat.code ≡ Some 0) × (seat.body ≡ own_masks d s digest seat.member))
@@ -61,7 +61,7 @@ IsHonest d s digest seat =
 abbrev pub asked : State → List ℕ → Ask
 asked s message = ask_with s [] (digest_of s message)
 
--- Trustee t has the leaf as it is before the ask of the present round or as it is after it, and as after it where its
+-- Trustee t has the leaf as it is before the ask of the present round or as it is after it, and as after it if its
 -- reply is kept.
 pub record Stands (leaves : ℕ → ℕ → LeafState) (s : State) (message : List ℕ) (t : ℕ) : Type 0 where
   pub may : (leaves t s.leaf ≡ state_before (asked s message)) ⊎ (leaves t s.leaf ≡ state_after (asked s message))
@@ -71,8 +71,8 @@ pub record Stands (leaves : ℕ → ℕ → LeafState) (s : State) (message : Li
 abbrev pub IsOnly : ℕ → (ℕ → LeafUse) → ℕ → Type 0
 IsOnly i map leaf = (q : ℕ) → q < 32 → map q ≡ IsLeased (id_of i) → q ≡ leaf
 
--- The session is of the key and of message i, with a leaf of its coalition that is leased for it, and no other is. It
--- has the dealer's randomizer in round two, and each reply that it keeps is the member's own masks.
+-- The session belongs to the key and to message i, with a leaf of its coalition that is leased for it, and no other is.
+-- It has the dealer's randomizer in round two, and each reply that it keeps is the member's own masks.
 pub record IsOnCourse (desk : Desk) (d : Dealing) (i : ℕ) (map : ℕ → LeafUse) (leaves : ℕ → ℕ → LeafState)
     (s : State) : Type 0 where
   pub session : IsSession s
@@ -84,21 +84,21 @@ pub record IsOnCourse (desk : Desk) (d : Dealing) (i : ℕ) (map : ℕ → LeafU
   pub seats : All (IsHonest d s (digest_of s (message_bytes i))) (seats_of s)
   pub members : (t : ℕ) → Contains (leaf_members s.plan s.leaf) t → Stands leaves s (message_bytes i) t
 
--- a reply of each member is kept
+-- a reply from each member is kept
 abbrev pub AllKept : State → Type 0
 AllKept s = (u : ℕ) → 1 ≤ u → u ≤ 3 → Contains (leaf_members s.plan s.leaf) u
     → kept_masks s (round_of s) u ≢ None
 
--- of how many seats a reply is kept
+-- for how many seats a reply is kept
 unfoldable pub count_filled : List Seat → ℕ
 count_filled [] = 0
 count_filled (seat ∷ seats) = (if is_filled seat then 1 else 0) + count_filled seats
 
--- no reply of trustee t is kept
+-- no reply from trustee t is kept
 abbrev pub Awaits : State → ℕ → Type 0
 Awaits s t = Contains (leaf_members s.plan s.leaf) t × (kept_masks s (round_of s) t ≡ None)
 
--- the ask of the present round to a member of whom nothing is kept, with the tag of the desk's reference
+-- the ask of the present round to a member for which nothing is kept, with the tag of the desk's reference
 pub record IsNext (desk : Desk) (s : State) (message : List ℕ) (next : NextAsk) : Type 0 where
   pub trustee : IsTrustee next.member
   pub awaits : Awaits s next.member
@@ -122,7 +122,7 @@ pub record IsSigned (d : Dealing) (i : ℕ) (map : ℕ → LeafUse) (leaves : �
   pub only : IsOnly i map leaf
   pub opened : (t : ℕ) → Contains (leaf_members d.plan leaf) t → leaves t leaf ≡ opened_for d i leaf
 
--- the head of the reply that a trustee's grant of an ask is
+-- the head of the reply by which a trustee grants an ask
 abbrev pub head_with : Params → ℕ → Ask → ReplyHead
 head_with params t ask = record {
   key = ask.key;
@@ -134,7 +134,7 @@ head_with params t ask = record {
   code = 0;
 }
 
--- the masks of a share for an ask, one behind the other
+-- the masks of a share for an ask, one after the other
 abbrev pub masks_joined : Share → Ask → List ℕ
 masks_joined share ask = joined (mask_of share ask) (mask_count share.params ask)
 
@@ -142,7 +142,7 @@ masks_joined share ask = joined (mask_of share ask) (mask_count share.params ask
 abbrev pub HaveShares : Dealing → Trustees → Type 0
 HaveShares d trustees = (t : ℕ) → IsTrustee t → IsShareOf d t (share_at trustees t)
 
--- what the table says of each leaf, and the trustees
+-- what the table says about each leaf, and the trustees
 pub record World : Type 0 where
   pub uses : ℕ → LeafUse
   pub trustees : Trustees
@@ -176,14 +176,14 @@ IsGoing desk d i map leaves Refused = ((q : ℕ) → q < 32 → q % 3 ≡ i % 3 
 abbrev pub steps_in : State → ℕ
 steps_in s = (elim s.c [ None ↦ 1 | Some c ↦ 3 ]) + count_filled (seats_of s)
 
--- the same of every session: one that has ended has taken all five
+-- the same for every session: one that has ended has taken all five
 abbrev pub steps_of : Place → ℕ
 steps_of Waiting = 0
 steps_of (Running s) = steps_in s
 steps_of (Signed leaf) = 5
 steps_of Refused = 5
 
--- session i goes to this place, and has then taken so many steps
+-- session i goes to this place, and has then taken `steps` steps
 pub record GoesTo (desk : Desk) (d : Dealing) (i : ℕ) (map : ℕ → LeafUse) (leaves : ℕ → ℕ → LeafState) (steps : ℕ)
     (place : Place) : Type 0 where
   pub going : IsGoing desk d i map leaves place
@@ -226,7 +226,7 @@ pub record Moves (desk : Desk) (d : Dealing) (i : ℕ) (old new : World) (place 
       → leaf_at new.trustees t q ≡ leaf_at old.trustees t q
   pub parts : asks.granted + asks.cut ≡ asks.put
 
--- how many steps a session has at least taken after one more
+-- how many steps at least a session has taken after one more
 abbrev pub next_step : Place → ℕ
 next_step Waiting = 1
 next_step (Running s) = suc (steps_in s)
@@ -289,28 +289,28 @@ HasSigned (Running s) = ⊥
 HasSigned (Signed leaf) = Unit {0}
 HasSigned Refused = ⊥
 
--- What a step to this place makes of the openings: each is that of a session, none is taken away, and there is one
--- where the session has signed.
+-- What a step to this place does to the openings: each is that of a session, none is taken away, and there is one if
+-- the session has signed.
 pub record Opens (desk : Desk) (d : Dealing) (count : ℕ) (map : ℕ → LeafUse) (old new : List Opening) (place : Place)
     : Type 0 where
   pub own : AreOwn desk d count map new
   pub keeps : length old ≤ length new
   pub some : HasSigned place → 0 < length new
 
--- the leaf is leased for one of so many sessions, of its own coalition
+-- the leaf is leased for one of `count` sessions, of its own coalition
 pub record IsTaken (count : ℕ) (map : ℕ → LeafUse) (q : ℕ) : Type 0 where
   pub session : ℕ
   pub within : session < count
   pub coalition : q % 3 ≡ session % 3
   pub leased : map q ≡ IsLeased (id_of session)
 
--- each leaf is free, or leased for one of so many sessions of its coalition
+-- each leaf is free, or leased for one of `count` sessions of its coalition
 abbrev pub AreTaken : ℕ → (ℕ → LeafUse) → Type 0
 AreTaken count map = (q : ℕ) → q < 32 → (map q ≡ IsFree) ⊎ IsTaken count map q
 
 -- All is well in a drill: trustees have their shares, nothing is in doubt, each leaf that is leased is for a session,
--- each session goes on, of each coalition's leaves those that are not free are as many as its sessions that have one,
--- each opening is that of a session, and there is one where a session has signed.
+-- each session goes on, each coalition has as many leaves that are not free as sessions that have one, each opening is
+-- that of a session, and there is one if a session has signed.
 pub record IsGood (desk : Desk) (d : Dealing) (drill : Drill) : Type 0 where
   pub different : DifferentIds (length drill.seats.items)
   pub shares : HaveShares d drill.trustees
@@ -347,7 +347,7 @@ pub record Drops (desk : Desk) (d : Dealing) (i : ℕ) (old new : Drill) (asks :
   pub put : asks.put ≡ asks_in (slice_index_or old.seats.items i Refused)
 
 -- An event of session i in a drill in which all is well: the asks are those whose replies were taken, and those whose
--- answers were dropped. A disk stops only where the event is of that kind and the session has a next ask.
+-- answers were dropped. A disk stops only if the event is of that kind and the session has a next ask.
 pub record Plays (desk : Desk) (d : Dealing) (event : Event) (i : ℕ) (old new : Drill) (asks : Asks) : Type 0 where
   pub stays : StaysGood desk d new asks
   pub follows : (p : Progress) → Follows p old.seats.items → Follows (after_event event p i) new.seats.items
@@ -355,7 +355,7 @@ pub record Plays (desk : Desk) (d : Dealing) (event : Event) (i : ℕ) (old new 
       → asks.put + replies_in old.seats.items ≡ replies_in new.seats.items + extra_in event p i
   pub cut : (p : Progress) → Follows p old.seats.items → asks.cut ≤ cut_in event p i
 
--- the next ask of session i, where it stands at this place
+-- the next ask of session i, if it stands at this place
 abbrev pub IsNextOf : Desk → ℕ → NextAsk → Place → Type 0
 IsNextOf desk i next Waiting = ⊥
 IsNextOf desk i next (Running s) = IsNext desk s (message_bytes i) next
@@ -369,21 +369,21 @@ HasNoNext (Running s) = AllKept s
 HasNoNext (Signed leaf) = Unit {0}
 HasNoNext Refused = Unit {0}
 
--- All is well in a drill. Each ask that was counted was granted or stopped a disk, and all but so many are those whose
+-- All is well in a drill. Each ask that was counted was granted or stopped a disk, and all but `extra` are those whose
 -- replies the sessions took.
 pub record IsWell (desk : Desk) (d : Dealing) (extra : ℕ) (drill : Drill) (tally : Tally) : Type 0 where
   pub good : IsGood desk d drill
   pub parts : tally.granted + tally.cuts ≡ tally.asks
   pub taken : tally.asks ≡ replies_in drill.seats.items + extra
 
--- so many events were played, and all is well: a disk has stopped only where it may
+-- `events` events were played, and all is well: a disk has stopped only when it may
 pub record HasPlayed (desk : Desk) (d : Dealing) (number sessions events : ℕ) (drill : Drill) (tally : Tally)
     : Type 0 where
   pub well : IsWell desk d (extra_asks number sessions events) drill tally
   pub follows : Follows (progress_of number sessions events) drill.seats.items
   pub cuts : tally.cuts ≤ cut_asks number sessions events
 
--- Where so many events of a schedule were played and all is well, one more has been played, and all is well. The first
+-- If a number of events of a schedule were played and all is well, one more has been played, and all is well. The next
 -- is drawn from this state.
 abbrev pub PlaysOn : Desk → ℕ → ℕ → Drill → Tally → Drill → Tally → Type 0
 PlaysOn desk sessions state drill tally after now =
@@ -391,14 +391,14 @@ PlaysOn desk sessions state drill tally after now =
     → HasPlayed desk own.dealing number sessions k drill tally
     → HasPlayed desk own.dealing number sessions (k + 1) after now
 
--- session i has ended, and the others stand where they stood
+-- session i has ended, and the others are where they were
 pub record IsFinished (desk : Desk) (d : Dealing) (extra i : ℕ) (old new : Drill) (tally : Tally) : Type 0 where
   pub well : IsWell desk d extra new tally
   pub ended : (none : Place) → 5 ≤ steps_of (slice_index_or new.seats.items i none)
   pub others : (j : ℕ) (none : Place) → j ≢ i
       → slice_index_or new.seats.items j none ≡ slice_index_or old.seats.items j none
 
--- all is well, and the first so many sessions have ended
+-- all is well, and the first `count` sessions have ended
 pub record AreFinished (desk : Desk) (d : Dealing) (extra count : ℕ) (drill : Drill) (tally : Tally) : Type 0 where
   pub well : IsWell desk d extra drill tally
   pub ended : (j : ℕ) (none : Place) → j < count → 5 ≤ steps_of (slice_index_or drill.seats.items j none)

@@ -29,23 +29,23 @@ table_header dealt = record {
   id = dealt.public.id;
 }
 
--- the table is of the desk's plan and key
+-- the table is for the desk's plan and key
 pub record IsTableFor {D : Type 0} {p : pages.Ghosts D} {f : faults.Ghosts D} (desk : Desk) (table : Table D p f)
     : Type 0 where
   pub plan : plan_of table ≡ desk.plan
   pub header : header_of table ≡ table_header desk.dealt
 
--- the table is the desk's, and each seat is of the session of its number
+-- the table is the desk's, and each seat belongs to the session of its number
 pub record IsFor (desk : Desk) (drill : Drill) : Type 0 where
   pub table : IsTableFor desk drill.table
   pub seats : AllFit desk.dealt.public desk.plan drill.seats.items
 
--- the drill is for the desk, and has so many sessions
+-- the drill is for the desk, and has `sessions` sessions
 pub record Seats (desk : Desk) (sessions : ℕ) (drill : Drill) : Type 0 where
   pub is_for : IsFor desk drill
   pub count : length drill.seats.items ≡ sessions
 
--- at most so many asks were put; each was granted, stopped a disk, or was refused
+-- at most `bound` asks were put; each was granted, stopped a disk, or was refused
 pub record AtMost (bound : ℕ) (asks : Asks) : Type 0 where
   pub put : asks.put ≤ bound
   pub parts : asks.granted + asks.cut ≤ asks.put
@@ -55,7 +55,7 @@ pub record IsSized (ask : Ask) : Type 0 where
   pub c : IfSome ask.second (λ (second : Second). length second.c ≡ 32)
   pub digest : IfSome ask.second (λ (second : Second). length second.digest ≡ 32)
 
--- the drill is for the desk still, with as many sessions, and at most so many asks were put
+-- the drill is still for the desk, with as many sessions, and at most `most` asks were put
 pub record StaysFor (desk : Desk) (old new : Drill) (most : ℕ) (asks : Asks) : Type 0 where
   pub is_for : IsFor desk new
   pub count : length new.seats.items ≡ length old.seats.items
@@ -67,7 +67,7 @@ pub record StepsTo (desk : Desk) (i : ℕ) (place : Place) (asks : Asks) : Type 
   pub bound : AtMost 1 asks
   pub cut : asks.cut ≡ 0
 
--- the disk holds the table's file, which says of each leaf what the table does
+-- the disk holds the table's file, which says about each leaf what the table says
 pub record HasTable {D : Type 0} {p : pages.Ghosts D} {f : faults.Ghosts D} (table : Table D p f) (disk : MemState)
     : Type 0 where
   pub file : IsTableFile (header_of table) 32 disk.bytes

@@ -7,6 +7,6 @@ use Rattle.lms_bytes.specs.MessageId.{message_id, message_id_bytes}
 abbrev pub id_of : ℕ → List ℕ
 id_of i = message_id_bytes (message_id (message_bytes i))
 
--- no two of so many messages have one id
+-- no two of the first `count` messages have the same id
 abbrev pub DifferentIds : ℕ → Type 0
 DifferentIds count = (i j : ℕ) → i < count → j < count → id_of i ≡ id_of j → i ≡ j

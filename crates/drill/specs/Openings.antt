@@ -1,4 +1,4 @@
--- internal: Under what trustees open leaves in a drill.
+-- internal: What trustees open leaves under in a drill.
 use Rattle.std.specs.Prelude.{◌≡◌, ◌≢◌, ◌⊎◌, ◌<◌, ◌≤◌, ◌==◌, ◌&&◌, ◌++◌, ℕ, Bool, List, [], ◌∷◌, All, Some, count_by}
 use Rattle.drill_schedule.specs.Draws.{message_bytes}
 use Rattle.leaf_table.specs.Entries.{IsLeased, LeafUse}
@@ -18,7 +18,7 @@ is_at member leaf opening = (opening.member == member) && (opening.leaf == leaf)
 abbrev pub AreSingle : List Opening → Type 0
 AreSingle openings = (member leaf : ℕ) → count_by (is_at member leaf) openings ≤ 1
 
--- the leaf is leased for one of so many sessions, and opened for its message with the dealer's randomizer
+-- the leaf is leased for one of `count` sessions, and opened for its message with the dealer's randomizer
 pub record IsOwn (desk : Desk) (d : Dealing) (count : ℕ) (map : ℕ → LeafUse) (opening : Opening) : Type 0 where
   pub session : ℕ
   pub within : session < count
@@ -28,7 +28,7 @@ pub record IsOwn (desk : Desk) (d : Dealing) (count : ℕ) (map : ℕ → LeafUs
   pub digest : opening.digest ≡ message_digest desk.dealt.public.params desk.dealt.public.id opening.leaf
       (leaf_randomizer d opening.leaf) (message_bytes session)
 
--- each opening is that of a session, and no trustee has two of a leaf
+-- each opening is that of a session, and no trustee has two openings of a leaf
 pub record AreOwn (desk : Desk) (d : Dealing) (count : ℕ) (map : ℕ → LeafUse) (openings : List Opening) : Type 0 where
   pub each : All (IsOwn desk d count map) openings
   pub single : AreSingle openings

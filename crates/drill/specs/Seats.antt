@@ -8,7 +8,7 @@ use Rattle.drill.specs.declared.seat.Seat.{Seat}
 use Rattle.drill.specs.declared.seat.Seat.TheVariants.{Waiting, Running, Signed, Refused}
 use Rattle.drill_schedule.specs.Draws.{message_bytes}
 
--- the session is of this key and this plan, and signs message i
+-- the session belongs to this key and this plan, and signs message i
 pub record IsOf (key : PublicKey) (plan : PlanNumbers) (i : ℕ) (s : State) : Type 0 where
   pub key_is : s.key ≡ key
   pub plan_is : s.plan ≡ plan
@@ -20,7 +20,7 @@ Fits key plan i (Running s) = IsOf key plan i s
 Fits key plan i (Signed leaf) = Unit {0}
 Fits key plan i Refused = Unit {0}
 
--- each seat is of the session of its number
+-- each seat belongs to the session of its number
 abbrev pub AllFit : PublicKey → PlanNumbers → List Seat → Type 0
 AllFit key plan seats =
     (i : ℕ) (none : Seat) → i < length seats → Fits key plan i (slice_index_or seats i none)

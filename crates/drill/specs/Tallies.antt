@@ -16,7 +16,7 @@ pub record CountsOne (event : Event) (old new : Tally) : Type 0 where
   pub cuts : new.cuts ≤ old.cuts + (if is_cut event then 1 else 0)
   pub restarts : new.restarts ≡ old.restarts + (if is_restart event then 1 else 0)
 
--- the first so many events of a schedule were counted: a disk has stopped only in events of that kind, and a trustee
+-- the first `events` events of a schedule were counted: a disk has stopped only in events of that kind, and a trustee
 -- was loaded anew in each event of that kind
 pub record HasCounted (number events : ℕ) (tally : Tally) : Type 0 where
   pub cuts : tally.cuts ≤ events_of is_cut number events

@@ -15,14 +15,14 @@ use ots_chain::MessageHash;
 use reference_value::Whole;
 use session_core::Session;
 
-/// The next ask of a session, and whom it is put to.
+/// The next ask of a session, and the member it is put to.
 #[derive(Clone, Copy)]
 pub(crate) struct NextAsk {
     pub(crate) member: u8,
     pub(crate) ask: Ask,
 }
 
-/// Whether the session keeps no reply of the present round of this member.
+/// Whether the session keeps no reply of this member for the present round.
 fn awaits(session: &Session, t: u8) -> bool
     ensures member { IsTrue result → Contains (leaf_members session.now.plan session.now.leaf) t }
     ensures none { IsTrue result → kept_masks session.now (round_of session.now) t ≡ None }
@@ -35,7 +35,7 @@ fn awaits(session: &Session, t: u8) -> bool
     session.kept_reply(session.round(), t).is_none()
 }
 
-/// The least member of whom the session keeps no reply of the present round.
+/// The least member whose reply for the present round the session does not keep.
 pub(crate) fn next_member(session: &Session) -> Option<u8>
     ensures within { IfSome result (λ t. (1 ≤ t) × (t ≤ 3)) }
     ensures member { IfSome result (Contains (leaf_members session.now.plan session.now.leaf)) }
@@ -53,7 +53,7 @@ pub(crate) fn next_member(session: &Session) -> Option<u8>
     None
 }
 
-/// The digest of the message under the session's randomizer, and in round one zeros, which no ask has.
+/// The digest of the message under the session's randomizer, or zeros in round one, which no ask has.
 fn digest_of(desk: &Desk, session: &Session, message: &[u8]) -> Val
     requires { session.now.key ≡ desk.now.dealt.public }
     ensures length { length result ≡ 32 }

@@ -27,7 +27,7 @@ use session_core::Session;
 use std::alloc::Global;
 use std::mem;
 
-/// One more ask, of which it is known whether it was granted.
+/// One more ask that is known to be granted or not.
 fn one(granted: bool) -> Asks
     ensures bound { AtMost 1 result }
     ensures put { result.put ≡ 1 }

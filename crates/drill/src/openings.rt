@@ -1,4 +1,4 @@
-//! Under what trustees opened leaves.
+//! What trustees opened leaves under.
 
 ghost use Rattle.std.specs.Prelude.{◌≡◌, ◌≢◌, ◌<◌, ◌≤◌, [], count_by, false, length, All, IfOk, IsSome, IsTrue};
 ghost use Rattle.drill.specs.Openings.{AreSingle, Notes, is_at};
@@ -46,7 +46,7 @@ impl Openings {
         false
     }
 
-    /// Notes an ask where a trustee granted it: in round two it opens the leaf.
+    /// Notes an ask if a trustee granted it: in round two it opens the leaf.
     pub(crate) fn note(&mut self, member: u8, ask: &Ask, granted: bool) -> Result<(), NoMemory>
         ensures notes { IfOk result (λ _. Notes self.old.list.items member ask.now self.new.list.items) }
         ensures some { IsTrue granted → IsSome ask.now.second → IfOk result (λ _. 0 < length self.new.list.items) }

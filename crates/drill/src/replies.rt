@@ -17,7 +17,7 @@ use share_files::Share;
 use std::alloc::Global;
 use trustee_core::{Grant, mask_count, release};
 
-/// Writes the masks of a grant, one behind the other.
+/// Writes the masks of a grant, one after the other.
 fn write_masks(share: &Share, grant: &Grant, out: &mut [u8])
     requires digest { IfSome (ask_of grant.now).second (λ second. length second.digest ≡ share.now.params.n) }
     requires room { length out.old
@@ -32,7 +32,7 @@ fn write_masks(share: &Share, grant: &Grant, out: &mut [u8])
     }
 }
 
-/// The masks of a grant, one behind the other.
+/// The masks of a grant, one after the other.
 pub(crate) fn masks_of(alloc: Global, share: &Share, grant: &Grant) -> Result<Vec<u8>, NoMemory>
     requires { IfSome (ask_of grant.now).second (λ second. length second.digest ≡ share.now.params.n) }
     ensures { IfOk result (λ masks. masks.items ≡ masks_joined share.now (ask_of grant.now)) }

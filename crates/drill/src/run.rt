@@ -70,7 +70,7 @@ fn play_next(
     Ok(played)
 }
 
-/// Plays so many events.
+/// Plays this number of events.
 fn play_all(
     alloc: Global,
     desk: &Desk,
@@ -98,7 +98,7 @@ fn play_all(
     Ok((drill, tally))
 }
 
-/// Plays so many events, and none where there is no session.
+/// Plays this number of events, or none if there is no session.
 fn play_events(
     alloc: Global,
     desk: &Desk,
@@ -202,7 +202,7 @@ fn count_ends(seats: &[Seat]) -> (u32, u32)
     (signed, refused)
 }
 
-/// What a drill leaves that is over.
+/// What a drill leaves once it is over.
 fn drilled_of(alloc: Global, summary: Summary, drill: Drill) -> Result<Drilled, NoMemory>
     ensures summary { IfOk result (λ drilled. drilled.summary ≡ summary) }
     ensures journals { IfOk result (λ drilled. AreJournals drill.trustees drilled.journals.items) }
@@ -221,7 +221,7 @@ fn drilled_of(alloc: Global, summary: Summary, drill: Drill) -> Result<Drilled, 
     })
 }
 
-/// Runs the drill of a key that was dealt, of which the generator has drawn the entropy.
+/// Runs the drill of a dealt key whose entropy the generator has drawn.
 fn run_dealt(
     alloc: Global,
     desk: &Desk,

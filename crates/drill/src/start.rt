@@ -49,7 +49,7 @@ fn new_table(alloc: Global, desk: &Desk) -> Result<Table<MemDisk>, NoMemory>
     }
 }
 
-/// The one fault that loading a file may have that was just made, on a steady disk.
+/// The one fault that loading a file that was just made may have, on a steady disk.
 fn memory_fault(fault: CacheLoad) -> NoMemory
     requires { fault ≡ CacheLoad.NoMemory }
 {
@@ -59,7 +59,7 @@ fn memory_fault(fault: CacheLoad) -> NoMemory
     }
 }
 
-/// So many sessions that wait.
+/// This number of sessions, all waiting.
 fn waiting(alloc: Global, sessions: u32) -> Result<Vec<Seat>, NoMemory>
     ensures count { IfOk result (λ seats. length seats.items ≡ sessions) }
     ensures waiting { IfOk result (λ seats. AreWaiting seats.items) }

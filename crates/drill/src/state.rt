@@ -6,7 +6,7 @@ use disk_trait::MemDisk;
 use drill_trustees::Trustees;
 use leaf_table::Table;
 
-/// The trustees, the leaf table, the sessions, and under what leaves were opened.
+/// The trustees, the leaf table, the sessions, and what leaves were opened under.
 #[derive(Drop)]
 pub(crate) struct Drill {
     pub(crate) trustees: Trustees,

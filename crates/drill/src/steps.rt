@@ -31,8 +31,8 @@ use session_core::{Session, SessionFault};
 use std::alloc::Global;
 use trustee_core::Grant;
 
-/// Leases a leaf of the coalition of session `i` for its message, and starts the session with it. Where there is no
-/// leaf, the session is refused.
+/// Leases a leaf of the coalition of session `i` for its message, and starts the session with it. If there is no leaf,
+/// the session is refused.
 pub(crate) fn lease(
     alloc: Global,
     desk: &Desk,

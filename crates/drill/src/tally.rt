@@ -31,7 +31,7 @@ pub(crate) const NOTHING: Tally = Tally {
 impl Tally {
     ghost use Rattle.drill.specs.Tallies.{IsWithin};
 
-    /// Counts a trustee that is loaded anew, where this is the event.
+    /// Counts a trustee that is loaded anew, if this is the event.
     pub(crate) fn add_restart(&mut self, event: Event)
         requires room { self.old.restarts ≤ 1000000 }
         ensures asks { self.new.asks ≡ self.old.asks }

@@ -6,7 +6,7 @@ use Rattle.drill_schedule.specs.declared.draws.Schedule.{Schedule}
 use Rattle.drill_schedule.specs.declared.event.Event.{Event}
 use Rattle.lms_bytes.specs.Bytes.{u32str}
 
--- the state of a generator after so many draws
+-- the state of a generator after i draws
 unfoldable pub state_at : ℕ → ℕ → ℕ
 state_at number zero = number
 state_at number (suc i) = state_after (state_at number i)
@@ -28,7 +28,7 @@ unfoldable pub bytes_of : ℕ → ℕ → List ℕ
 bytes_of number zero = []
 bytes_of number (suc i) = bytes_of number i ++ (draw_at number i % 256) ∷ []
 
--- this project's profile: 176 bytes, but that the key of trustee t begins with t
+-- this project's profile: 176 bytes, except that the key of trustee t begins with t
 unfoldable pub entropy_of : ℕ → List ℕ
 entropy_of number = slice_set (slice_set (slice_set (bytes_of number 176) 80 1) 112 2) 144 3
 
@@ -36,7 +36,7 @@ entropy_of number = slice_set (slice_set (slice_set (bytes_of number 176) 80 1) 
 abbrev pub message_bytes : ℕ → List ℕ
 message_bytes session = 100 ∷ 114 ∷ 105 ∷ 108 ∷ 108 ∷ u32str session
 
--- how many of the first so many events of a drill are of a kind: their draws follow the 176 of the entropy
+-- how many of the first i events of a drill are of a kind: their draws follow the 176 of the entropy
 unfoldable pub events_of : (Event → Bool) → ℕ → ℕ → ℕ
 events_of kind number zero = 0
 events_of kind number (suc i) =

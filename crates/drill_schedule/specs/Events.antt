@@ -3,7 +3,7 @@ use Rattle.std.specs.Prelude.{ℕ, ◌==◌, ◌%◌, nat_lt, Bool, true, false,
 use Rattle.drill_schedule.specs.declared.event.Event.{Event}
 use Rattle.drill_schedule.specs.declared.event.Event.TheVariants.{Step, Twice, Dropped, Cut, Restart}
 
--- this project's profile: the event that a draw stands for, by its rest modulo 8
+-- this project's profile: the event that a draw stands for, given by its remainder modulo 8
 abbrev pub event_of : ℕ → Event
 event_of draw =
     if nat_lt (draw % 8) 4 then Step else

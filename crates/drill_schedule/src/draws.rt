@@ -6,7 +6,7 @@ ghost use Rattle.drill_schedule.specs.Draws.{entropy_of, event_at, message_bytes
 use crate::event::Event;
 use disk_trait::Generator;
 
-/// How many bytes of entropy deal a key to three trustees.
+/// How many bytes of entropy it takes to deal a key to three trustees.
 pub const ENTROPY: usize = 176;
 
 /// An event, and what is drawn with it.
@@ -38,7 +38,7 @@ impl Schedule {
     }
 }
 
-/// The entropy of a drill: the low byte of each draw, but for the first byte of each trustee's key, which is its
+/// The entropy of a drill: the low byte of each draw, except for the first byte of each trustee's key, which is its
 /// number.
 pub fn draw_entropy(generator: &mut Generator) -> [u8; ENTROPY]
     ensures entropy { result ≡ entropy_of generator.old.state }
@@ -54,7 +54,7 @@ pub fn draw_entropy(generator: &mut Generator) -> [u8; ENTROPY]
     entropy
 }
 
-/// The message of a session: `drill`, and the session's number in four bytes, the highest first.
+/// The message of a session: `drill`, and the session's number in four bytes, highest byte first.
 pub fn message_of(session: u32) -> [u8; 9]
     ensures { result ≡ message_bytes session }
 {

@@ -7,11 +7,11 @@ ghost use Rattle.std.specs.Prelude.{◌≡◌};
 pub enum Event {
     /// The session takes a step.
     Step,
-    /// Its next ask is put twice, and the second answer is taken.
+    /// The session's next ask is put twice, and the second answer is taken.
     Twice,
-    /// Its next ask is put, and the answer is dropped.
+    /// The session's next ask is put, and the answer is dropped.
     Dropped,
-    /// Its next ask is put while the trustee's disk stops, and the answer is dropped.
+    /// The session's next ask is put while the trustee's disk stops, and the answer is dropped.
     Cut,
     /// A trustee is loaded anew from its disk.
     Restart,

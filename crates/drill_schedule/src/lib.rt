@@ -1,4 +1,4 @@
-//! The schedule of a drill, drawn from a number, and what came of it.
+//! The schedule of a drill, drawn from a number, and its outcome.
 #![tactic(auto)]
 
 mod draws;

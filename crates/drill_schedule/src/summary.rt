@@ -2,7 +2,7 @@
 
 use std::fmt;
 
-/// What came of a drill's sessions and asks.
+/// The outcome of a drill's sessions and asks.
 #[derive(Clone, Copy, Debug, PartialEq, Eq)]
 pub struct Summary {
     /// How many sessions there were.

@@ -1,4 +1,4 @@
--- What an ask makes of a trustee whose disk does not stop.
+-- What an ask does to a trustee whose disk does not stop.
 use Rattle.std.proofs.Common.{◌≡◌, ◌≢◌, ◌<◌, ℕ, List, None, Result, Ok, Err, IfOk, IsTrue, refl, sym, ◌∙◌, ap, subst, inl, inr}
 use Rattle.opening_journal.specs.declared.faults.JournalFault.TheVariants as journal
 use Rattle.disk_trait.specs.declared.disk.Pages as pages
@@ -64,7 +64,7 @@ of-granted : (old new : ℕ → LeafState) (ask : Ask) (result : Result Grant Re
 of-granted old new ask (Ok grant) is_ask is sets = (is_ask, sets)
 of-granted old new ask (Err why) is_ask is sets = absurd (cc)
 
--- what an ask that may be put makes of the leaves, where its journal goes on with what this file keeps
+-- what an ask that may be put does to the leaves, if its journal goes on with what this file keeps
 module _ (share : Share) (before after : JournalState) (ask : Ask) (result : Result Grant Refusal) (none : before.doubt ≡ None) (may : MayAsk share (map_of before.entries) ask)
     (does : Decides share before ask 0 (answer_in result) after) (is_ask : IfOk result (λ grant. ask_of grant ≡ ask)) (file : List ℕ) (new : ℕ → LeafState)
     (within : ask.leaf < 32) (stands : StandsFor 32 32 file after) (loaded : (q : ℕ) → q < 32 → new q ≡ state_in_file 32 file q) where
@@ -84,7 +84,7 @@ module _ (share : Share) (before after : JournalState) (ask : Ask) (result : Res
         subst (λ (r : Result Grant Refusal). CutSets (map_of before.entries) new ask (answer_to r)) (sym is) (stopped-sets before after ask file new within stops.1 stands loaded)
   ]
 
--- the same of a trustee of a journal
+-- the same for a trustee of a journal
 module _ {D : Type 0} {p : pages.Ghosts D} {f : faults.Ghosts D} (old new : Trustee D p f) (journal : Journal D p f) (share : Share) (ask : Ask)
     (result : Result Grant Refusal) (own : share_of old ≡ share) (is : journal_of old ≡ journal) (none : (state_of journal).doubt ≡ None)
     (does : Decides (share_of old) (state_of (journal_of old)) ask 0 (answer_in result) (state_of (journal_of new)))

@@ -1,4 +1,4 @@
--- What a journal's file says of its leaves.
+-- What a journal's file says about its leaves.
 use Rattle.std.proofs.Common.{◌≡◌, ◌<◌, ◌^◌, ◌⊎◌, ℕ, List, [], ◌∷◌, ◌++◌, None, Some, IsTrue, inl, inr, refl, sym, ◌∙◌, ap, subst}
 use Rattle.disk_trait.specs.declared.disk.Pages as pages
 use Rattle.disk_trait.specs.declared.faults.Faults as faults
@@ -48,7 +48,7 @@ module _ {D : Type 0} {p : pages.Ghosts D} {f : faults.Ghosts D} where
       has q (subst (λ (s : Params). q < 2 ^ s.h) (sym size) within) in
       sym one ∙ ap (λ (s : Params). state_in_file s.n (p.reads (disk_of journal)) q) size ∙ ap (λ (b : List ℕ). state_in_file params.n b q) (loaded.unwritten.same told)
 
--- a journal's file is refused for want of memory and for a disk that failed alone
+-- a journal's file is refused only for want of memory and for a disk that failed
 refused-well : (header : Header) (count : ℕ) (file : List ℕ) (why : JournalLoad) → IsJournalFile header count file
     → LoadRefused header count file why
     → (why ≡ load.Device → ⊥) → (why ≡ load.NoMemory → ⊥) → ⊥
@@ -85,7 +85,7 @@ module _ (share : Share) (h : share.params.h ≡ 5) (file : List ℕ) (is : IsJo
   pub no-damage : {leaf a b : ℕ} → why ≡ load.Damaged leaf a b → ⊥
   no-damage {leaf} {a} {b} damage = damaged-refused (journal_header share) 32 file why leaf a b is here-refused damage
 
--- what a trustee's file says of its leaves
+-- what a trustee's file says about its leaves
 module _ {D : Type 0} {p : pages.Ghosts D} {f : faults.Ghosts D} (trustee : Trustee D p f) (share : Share) (own : share_of trustee ≡ share)
     (n : share.params.n ≡ 32) (h : share.params.h ≡ 5)
     (header : header_of (journal_of trustee) ≡ journal_header (share_of trustee)) (params : params_of (journal_of trustee) ≡ (share_of trustee).params) where

@@ -1,4 +1,4 @@
--- Three trustees of which one is replaced.
+-- Three trustees, one of which is replaced.
 use Rattle.std.proofs.Common.{◌≡◌, ◌≢◌, ◌<◌, ◌≤◌, ◌-◌, ℕ, zero, suc, List, [], ◌∷◌, length, get_or, refl, sym, ◌∙◌}
 use Rattle.std.proofs.Common.{ap, subst, inl, inr, All, arith}
 use Rattle.std.proofs.lemmas.Bool.{cases_eq}

@@ -1,4 +1,4 @@
--- internal: What trustees of a drill keep of leaves, and what an ask makes of that.
+-- internal: What trustees of a drill keep for leaves, and what an ask does to that.
 use Rattle.std.specs.Prelude.{◌≡◌, ◌≢◌, ◌⊎◌, ◌<◌, ℕ, Some, None, Result, Ok, Err}
 use Rattle.opening_journal.specs.declared.faults.JournalFault.TheVariants as journal
 use Rattle.disk_trait.specs.MemDisk.{MemState}
@@ -20,11 +20,11 @@ use Rattle.drill_trustees.specs.declared.member.Answer.{Answer}
 use Rattle.drill_trustees.specs.declared.member.Answer.TheVariants.{Granted, Refused, Stopped}
 use Rattle.drill_trustees.specs.declared.member.Member.{Member}
 
--- what a trustee keeps of leaf q
+-- what a trustee keeps for leaf q
 abbrev pub leaf_in : Member → ℕ → LeafState
 leaf_in member q = map_of (state_of (journal_of member.trustee)).entries q
 
--- the leaf of an ask before it and after it, where it is the first ask of its round
+-- the leaf of an ask before it and after it, if it is the first ask of its round
 abbrev pub state_before : Ask → LeafState
 state_before ask = elim ask.second [ None ↦ IsFree | Some second ↦ IsBound (message_id_bytes ask.message) ]
 
@@ -49,7 +49,7 @@ pub record Sets (old new : ℕ → LeafState) (q : ℕ) (state : LeafState) : Ty
 abbrev pub SameLeaves : (ℕ → LeafState) → (ℕ → LeafState) → Type 0
 SameLeaves old new = (q : ℕ) → q < 32 → new q ≡ old q
 
--- what an ask that may be put makes of the leaves where the disk may stop: it is not refused
+-- what an ask that may be put does to the leaves if the disk may stop: it is not refused
 abbrev pub CutSets : (ℕ → LeafState) → (ℕ → LeafState) → Ask → Answer → Type 0
 CutSets old new ask (Granted grant) = (ask_of grant ≡ ask) × Sets old new ask.leaf (state_after ask)
 CutSets old new ask Refused = ⊥
@@ -70,7 +70,7 @@ answer_to (Err (Journal journal.NotBound)) = Refused
 answer_to (Err (Journal (journal.Spent kept))) = Refused
 answer_to (Err (Journal (journal.OtherDigest c digest))) = Refused
 
--- the disk holds the file of a trustee's journal, which says of each leaf what the trustee keeps
+-- the disk holds the file of a trustee's journal, which says about each leaf what the trustee keeps
 pub record HasJournal (member : Member) (disk : MemState) : Type 0 where
   pub file : IsJournalFile (journal_header member.share) 32 disk.bytes
   pub leaves : (q : ℕ) → q < 32 → state_in_file 32 disk.bytes q ≡ leaf_in member q

@@ -1,4 +1,4 @@
--- internal: What three trustees of a drill keep of leaves.
+-- internal: What three trustees of a drill keep for leaves.
 use Rattle.std.specs.Prelude.{◌≡◌, ◌≢◌, ◌⊎◌, ◌<◌, ◌≤◌, ◌-◌, ◌==◌, ℕ, List, length, slice_index_or, if◌then◌else◌}
 use Rattle.disk_trait.specs.MemDisk.{MemState}
 use Rattle.lms_bytes.specs.declared.ask.Ask.{Ask}
@@ -19,7 +19,7 @@ member_at trustees t = if t == 1 then trustees.one else (if t == 2 then trustees
 abbrev pub share_at : Trustees → ℕ → Share
 share_at trustees t = (member_at trustees t).share
 
--- what trustee t keeps of leaf q
+-- what trustee t keeps for leaf q
 abbrev pub leaf_at : Trustees → ℕ → ℕ → LeafState
 leaf_at trustees t q = leaf_in (member_at trustees t) q
 
@@ -42,13 +42,13 @@ SameShares old new = (t : ℕ) → IsTrustee t → share_at new t ≡ share_at o
 abbrev pub SameAt : Trustees → Trustees → Type 0
 SameAt old new = (t q : ℕ) → IsTrustee t → q < 32 → leaf_at new t q ≡ leaf_at old t q
 
--- trustee t keeps this of leaf q, and all else is as it was
+-- trustee t keeps this for leaf q, and all else is as it was
 pub record SetsAt (old new : Trustees) (t q : ℕ) (state : LeafState) : Type 0 where
   pub here : leaf_at new t q ≡ state
   pub leaves : (other : ℕ) → other < 32 → other ≢ q → leaf_at new t other ≡ leaf_at old t other
   pub others : (u other : ℕ) → IsTrustee u → u ≢ t → leaf_at new u other ≡ leaf_at old u other
 
--- what an ask that may be put makes of the leaves where the disk may stop: it is not refused
+-- what an ask that may be put does to the leaves if the disk may stop: it is not refused
 abbrev pub CutAt : Trustees → Trustees → ℕ → Ask → Answer → Type 0
 CutAt old new t ask (Granted grant) = (ask_of grant ≡ ask) × SetsAt old new t ask.leaf (state_after ask)
 CutAt old new t ask Refused = ⊥

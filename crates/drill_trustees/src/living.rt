@@ -44,7 +44,7 @@ fn header_of(share: &Share) -> Header
     }
 }
 
-/// The journal of a share on this disk; `None` where the disk failed while it was loaded.
+/// The journal of a share on this disk; `None` if the disk failed while it was loaded.
 fn load_journal(
     alloc: Global,
     share: &Share,
@@ -138,7 +138,7 @@ fn crashed(alloc: Global, disk: MemDisk, pick: u32) -> Result<MemDisk, NoMemory>
     }
 }
 
-/// The disk that a trustee goes on with after an ask: where its disk stopped, what a crash leaves.
+/// The disk that a trustee goes on with after an ask: if its disk stopped, what a crash leaves.
 fn disk_after(alloc: Global, disk: MemDisk, answer: &Answer, pick: u32) -> Result<MemDisk, NoMemory>
     ensures image { IfOk result (λ image. MayLeave disk image.bytes) }
     ensures same { answer.now ≢ Answer.Stopped → IfOk result (λ image. image.bytes ≡ disk.bytes) }
@@ -194,8 +194,8 @@ impl Member {
         load(alloc, &share, trustee.end())
     }
 
-    /// Puts an ask to it while its disk stops at the device call of number `pick` modulo 4 of this ask. Where it
-    /// stopped, the trustee goes on from what a crash of this pick leaves.
+    /// Puts an ask to it while its disk stops at the device call of number `pick` modulo 4 of this ask. If it stopped,
+    /// the trustee goes on from what a crash of this pick leaves.
     pub fn cut(self, alloc: Global, ask: &Ask, pick: u32) -> Result<(Member, Answer), NoMemory>
         requires c { IfSome ask.now.second (λ (second : Second). length second.c ≡ 32) }
         requires digest { IfSome ask.now.second (λ (second : Second). length second.digest ≡ 32) }

@@ -155,7 +155,7 @@ impl Trustees {
         Ok(others.with(loaded.restarted(alloc)?))
     }
 
-    /// Puts an ask to a trustee while its disk stops at the device call of number `pick` modulo 4 of this ask. Where it
+    /// Puts an ask to a trustee while its disk stops at the device call of number `pick` modulo 4 of this ask. If it
     /// stopped, the trustee goes on from what a crash of this pick leaves.
     pub fn cut(
         self,

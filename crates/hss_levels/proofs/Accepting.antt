@@ -1,4 +1,4 @@
--- What is accepted, refused or neither, of a whole signature.
+-- Whole signatures that are accepted, refused or neither.
 use Rattle.std.proofs.Common.{◌≡◌, ◌≢◌, ℕ, suc, zero, ◌+◌, ◌-◌, ◌<◌, ◌≤◌, ◌^◌, List, [], ◌∷◌, ◌++◌, length, take, drop, Option, Some, None, refl, sym, ap, ◌∙◌, append_assoc, append-nil, arith, take_all, take-append-drop, length-drop}
 use Rattle.std.specs.List.{AllByRecursion}
 use Rattle.std.proofs.lemmas.Nat.{from_be_bytes-to_be_bytes_4}
@@ -19,7 +19,7 @@ use Rattle.hss_levels.specs.declared.verification.HssVerdict.TheVariants.{Accept
 use Rattle.hss_levels.proofs.Sets.{key-of-bytes}
 use Rattle.hss_levels.proofs.Verdicts.{all-signed, length-levels, signed-read}
 
--- a number in front of a string, and the string behind it
+-- a number in front of a string, and the string after it
 pub record SameFront (a b : ℕ) (x y : List ℕ) : Type 0 where
   pub number : a ≡ b
   pub rest : x ≡ y
@@ -32,7 +32,7 @@ same-front a b x y fits fits' same =
       rest = ap (drop 4) same;
     }
 
--- what the rest of a slice is
+-- the rest of a slice
 pub rest-of : (s : List ℕ) (n : ℕ) → take (length s - n) (drop n s) ≡ drop n s
 rest-of s n = let size = length-drop n s in take_all (length s - n) (drop n s) (omega arith)
 

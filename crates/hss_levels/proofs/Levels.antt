@@ -31,7 +31,7 @@ pub fault-of-first : (key : PublicKey) (level below : ℕ) (parts : List ℕ) (f
     → SignedKeyFault key level parts fault → PartsFault key level below parts fault
 fault-of-first key level below parts fault some first = rw (← one-more below some) (signed_key key level (below - 1) parts fault first)
 
--- a fault behind the signed key at the front
+-- a fault after the signed key at the front
 pub fault-further : (key : PublicKey) (level below : ℕ) (parts : List ℕ) (fault : HssFault) (signed : SignedKey) (behind : List ℕ)
     → (below ≡ 0 → ⊥) → signature_fault key.params signed.signature ≡ None → parts ≡ signed.signature ++ public_bytes signed.key ++ behind
     → PartsFault signed.key (level + 1) (below - 1) behind fault → PartsFault key level below parts fault
@@ -53,7 +53,7 @@ parts-cons key below parts signed behind keys last some read parts_are rest =
       read = (read, rest.read);
     }
 
--- the signed key at the front of parts, and the parts behind it
+-- the signed key at the front of parts, and the parts after it
 pub record First (key : PublicKey) (below : ℕ) (parts : List ℕ) (keys : List SignedKey) (last : List ℕ) : Type 0 where
   pub signed : SignedKey
   pub more : List SignedKey

@@ -69,7 +69,7 @@ front_by-set : (short : Bool) (lms ots n : ℕ) (parts : List ℕ) → short ≡
 unfolding front_by
 front_by-set short lms ots n parts long accepted size = rw long (rw accepted (ap (λ (k : ℕ). take k parts) size))
 
--- a key is read from its own bytes, whatever lies behind them
+-- a key is read from its own bytes, whatever follows them
 pub key_front-at : (key : PublicKey) (behind : List ℕ) → key_front (public_bytes key ++ behind) ≡ public_bytes key
 unfolding key_front front_by
 key_front-at key behind =
@@ -105,7 +105,7 @@ front key parts signed behind read parts_are =
       message = ap key_front rest_is ∙ key_front-at signed.key behind;
     }
 
--- what a fault says where no key stands below
+-- what a fault says if no key stands below
 pub record LastFault (key : PublicKey) (level : ℕ) (parts : List ℕ) (fault : HssFault) : Type 0 where
   pub of : SigFault
   pub is : fault ≡ Sig level of
@@ -117,7 +117,7 @@ fault-last key level below parts fault (last_signature _ _ _ of found) none = re
 fault-last key level below parts fault (signed_key _ _ _ _ _ _) none = absurd (omega arith)
 fault-last key level below parts fault (further _ _ _ _ _ _ _ _ _ _) none = absurd (omega arith)
 
--- what a fault says behind the signed key at the front
+-- what a fault says after the signed key at the front
 pub record FurtherFault (key : PublicKey) (level below : ℕ) (parts : List ℕ) (fault : HssFault) : Type 0 where
   pub signed : SignedKey
   pub behind : List ℕ
@@ -152,7 +152,7 @@ refused-key key level parts of fault read found (key_behind of' read' found') =
     let equal : of ≡ of' = cc in
     ap (Pub (level + 1)) equal
 
--- no fault where both read
+-- no fault if both read
 pub faultless : (key : PublicKey) (level : ℕ) (parts : List ℕ) (fault : HssFault)
     → signature_fault key.params (signature_front key parts) ≡ None → public_fault (key_front (behind_signature key parts)) ≡ None
     → SignedKeyFault key level parts fault → ⊥

@@ -61,7 +61,7 @@ verdict-cons key level message signed more last (OtherRoot at got want) accepts 
       },
     )
 
--- the verdict where the signature of the key at the front was accepted
+-- the verdict if the signature of the key at the front was accepted
 pub step-signed : (key : PublicKey) (level : ℕ) (message : List ℕ) (keys : List SignedKey) (last : List ℕ) (says : HssVerdict) (signed : SignedKey)
     (more : List SignedKey) (signature text : List ℕ) (low : PublicKey) (q : ℕ) → keys ≡ signed ∷ more → signature ≡ signed.signature → low ≡ signed.key
     → text ≡ public_bytes low → AcceptsAt key text signature q → IsLevelsVerdict (level + 1) (levels_of low more message last) says
@@ -72,7 +72,7 @@ step-signed key level message keys last says signed more signature text low q ke
     let below : IsLevelsVerdict (level + 1) (levels_of signed.key more message last) says = rw low_is at rest in
     rw keys_are (verdict-cons key level message signed more last says (q, accepts) below)
 
--- the verdict where it led to another root
+-- the verdict if it led to another root
 pub step-other : (key : PublicKey) (level : ℕ) (message : List ℕ) (keys : List SignedKey) (last got want : List ℕ) (signed : SignedKey)
     (more : List SignedKey) (signature text : List ℕ) (low : PublicKey) → keys ≡ signed ∷ more → signature ≡ signed.signature → low ≡ signed.key
     → text ≡ public_bytes low → IsVerdict key text signature (lms.OtherRoot got want)

@@ -1,5 +1,5 @@
--- The numbers by which users know the faults of HSS keys: the places of their tests in the order of the tests, from 1
--- on.
+-- The numbers by which users know the faults of HSS keys: the places of their tests in the order of the tests, counted
+-- from 1.
 use Rattle.std.specs.Prelude.{ℕ, ◌+◌}
 use Rattle.lms_bytes.specs.FaultNumbers.{key_fault_number}
 use Rattle.hss_levels.specs.declared.faults.HssKeyFault.{HssKeyFault}

@@ -13,16 +13,16 @@ use Rattle.hss_levels.specs.declared.faults.HssFault.{HssFault}
 use Rattle.hss_levels.specs.declared.faults.HssFault.TheVariants.{Short, Levels, Sig, Pub}
 use Rattle.hss_levels.specs.declared.hss_key.HssKey.{HssKey}
 
--- this project's profile: a signature that a key stands behind is read from as many bytes as its set has, and from all
--- of them where there are fewer
+-- this project's profile: a signature that is followed by a key is read from as many bytes as its set has, or from all
+-- of them if there are fewer
 abbrev pub signature_front : PublicKey → List ℕ → List ℕ
 signature_front key parts = take (signature_length key.params) parts
 
 abbrev pub behind_signature : PublicKey → List ℕ → List ℕ
 behind_signature key parts = drop (signature_length key.params) parts
 
--- this project's profile: a key is read from as many bytes as the set of its typecodes has, and from all of them where
--- there are fewer, or where the typecodes are of no set
+-- this project's profile: a key is read from as many bytes as the set of its typecodes has, or from all of them if
+-- there are fewer, or if the typecodes are of no set
 unfoldable pub key_front : List ℕ → List ℕ
 key_front parts =
     let lms = str_to_u32 (bytes_at parts 0 4) in
@@ -41,8 +41,8 @@ pub data SignedKeyFault (key : PublicKey) (level : ℕ) (parts : List ℕ) : Hss
       → public_fault (key_front (behind_signature key parts)) ≡ Some fault
       → SignedKeyFault key level parts (Pub (level + 1) fault)
 
--- the first part that does not read, in the order of the bytes: the string is to have the signed keys of so many levels
--- below the key, which is of this level, and then the last signature
+-- the first part that does not read, in the order of the bytes: the string should have the signed keys of that many
+-- levels below the key, which is of this level, and then the last signature
 pub data PartsFault : PublicKey → ℕ → ℕ → List ℕ → HssFault → Type 0 where
   last_signature : (key : PublicKey) (level : ℕ) (parts : List ℕ) (fault : SigFault)
       → signature_fault key.params parts ≡ Some fault → PartsFault key level 0 parts (Sig level fault)

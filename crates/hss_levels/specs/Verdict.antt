@@ -39,7 +39,7 @@ IsHssVerdict key message signature (Accepted levels) =
 IsHssVerdict key message signature (Malformed fault) = IsHssFault key signature fault
 IsHssVerdict key message signature (OtherRoot level got want) = IsOtherRoot key message signature level got want
 
--- internal: the verdict is true of these levels, of which the first has this number
+-- internal: the verdict is true of these levels, the first of which has this number
 abbrev pub IsLevelsVerdict : ℕ → List Level → HssVerdict → Type 0
 IsLevelsVerdict level levels (Accepted count) = (count ≡ level + length levels) × AllByRecursion IsSigned levels
 IsLevelsVerdict level levels (Malformed fault) = ⊥

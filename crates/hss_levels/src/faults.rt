@@ -14,7 +14,7 @@ pub enum HssKeyFault {
     /// An HSS key has 1 to 8 levels (RFC 8554 section 6).
     #[error("{got} levels where 1 to 8 are wanted")]
     Levels { got: u32 },
-    /// What stands behind the number of levels is no LMS public key.
+    /// What follows the number of levels is no LMS public key.
     #[error("the key of the top level: {0}")]
     Key(KeyFault),
 }
@@ -22,7 +22,7 @@ pub enum HssKeyFault {
 impl HssKeyFault {
     ghost use Rattle.hss_levels.specs.FaultNumbers.{hss_key_fault_number};
 
-    /// The number that users see: the place of its test in the order of the tests, from 1 on.
+    /// The number that users see: the place of its test in the order of the tests, counted from 1.
     pub fn number(&self) -> u8
         ensures { result ≡ hss_key_fault_number self.now }
     {

@@ -11,10 +11,10 @@ use lms_bytes::{PublicKey, write_public};
 use memory::NoMemory;
 use std::alloc::Global;
 
-/// The longest LMS public key in bytes, that of a hash length of 32.
+/// The length of the longest LMS public key in bytes, which is that for a hash length of 32.
 const LONGEST_KEY: usize = 56;
 
-/// The key and the signature of two levels, of which the upper one signs the lower one's key: `top_sig` is accepted for
+/// The key and the signature of two levels, the upper of which signs the key of the lower: `top_sig` is accepted for
 /// the bytes of `low`.
 pub fn join_two(
     alloc: Global,
@@ -62,7 +62,7 @@ fn signature_of(
     Ok(signature)
 }
 
-/// Writes the bytes of a public key behind `out` (RFC 8554 section 5.3).
+/// Appends the bytes of a public key to `out` (RFC 8554 section 5.3).
 fn append_key(out: &mut Vec<u8>, key: &PublicKey) -> Result<(), NoMemory>
     ensures { OnOk result (out.new.items ≡ out.old.items ++ public_bytes key.now) }
 {

@@ -9,7 +9,7 @@ use crate::hss_key::HssKey;
 use lms_bytes::bytes::u32_at;
 use lms_bytes::read_public;
 
-/// Reads an HSS key that is all of `bytes`.
+/// Reads an HSS key that takes up all of `bytes`.
 #[tactic(auto, unfolding(crate::specs::HssKey::hss_key_fault))]
 pub fn read_hss_key(bytes: &[u8]) -> Result<HssKey, HssKeyFault>
     ensures key { IfOk result (λ key. bytes.now ≡ hss_key_bytes key) }

@@ -1,4 +1,4 @@
-//! What follows from the definitions, for whoever proves something about HSS. No function here does anything.
+//! What follows from the definitions, for proofs about HSS. No function here does anything.
 
 ghost use Rattle.std.specs.Prelude.{◌++◌, ◌↔◌, ℕ, List};
 ghost use Rattle.lms_bytes.specs.Bytes.{u32str};
@@ -7,7 +7,7 @@ ghost use Rattle.lms_bytes.specs.declared.public_key.PublicKey.{PublicKey};
 ghost use Rattle.hss_levels.specs.HssAccepts.{HssAccepts};
 ghost use Rattle.hss_levels.specs.Levels.{Accepts};
 
-/// An HSS key of one level accepts `u32str(0) || signature` exactly where its LMS key accepts the signature.
+/// An HSS key of one level accepts `u32str(0) || signature` exactly if its LMS key accepts the signature.
 pub fn one_level()
     ensures { (key : PublicKey) (message signature : List ℕ)
         → HssAccepts (u32str 1 ++ public_bytes key) message (u32str 0 ++ signature) ↔ Accepts key message signature }

@@ -13,7 +13,7 @@ use crate::faults::HssFault;
 use lms_bytes::bytes::u32_at;
 use lms_bytes::{Params, PublicKey, read_public, read_signature};
 
-/// A public key with the signature that the level above makes of it, where they lie, and what lies behind them
+/// A public key with the signature that the level above makes of it, where they lie, and what follows them
 /// (RFC 8554 section 6.2, `signed_pub_key`).
 #[derive(Clone, Copy)]
 pub(crate) struct SignedKeyView<'a> {
@@ -25,7 +25,7 @@ pub(crate) struct SignedKeyView<'a> {
 }
 
 /// The first part that does not read, in the order of the bytes (RFC 8554 section 6.3). `key` is that of `level`, and
-/// the signed keys of `below` levels and the last signature are all of `parts`.
+/// the signed keys of `below` levels and the last signature make up all of `parts`.
 pub(crate) fn find_fault(key: &PublicKey, level: u8, below: u8, parts: &[u8]) -> Option<HssFault>
     requires { level + below < 8 }
     ensures fault { IfSome result (PartsFault key.now level below parts.now) }
@@ -83,8 +83,8 @@ pub(crate) fn read_signed_key<'a>(
     }
 }
 
-/// The bytes at the front of `parts` that are read as a public key, and those behind them: as many as the set of its
-/// typecodes has, and all where there are fewer or where the typecodes are of no set.
+/// The bytes at the front of `parts` that are read as a public key, and those after them: as many as the set of its
+/// typecodes has, or all if there are fewer or if the typecodes are of no set.
 #[tactic(auto, unfolding(crate::specs::Parts::key_front))]
 fn split_key(parts: &[u8]) -> (&[u8], &[u8])
     ensures front { result.0.now ≡ key_front parts.now }
@@ -107,7 +107,7 @@ fn signature_length(params: &Params) -> usize
     12 + n * (params.p as usize + 1) + n * params.h as usize
 }
 
-/// The first `length` bytes, or all where there are fewer, and those behind them.
+/// The first `length` bytes, or all if there are fewer, and those after them.
 fn split_front(bytes: &[u8], length: usize) -> (&[u8], &[u8])
     ensures front { result.0.now ≡ take length bytes.now }
     ensures behind { result.1.now ≡ drop length bytes.now }

@@ -16,7 +16,7 @@ use lms_bytes::{PublicKey, Val};
 use lms_verify::{Verdict, verify};
 use std::fmt::{self, Display, Formatter, Write};
 
-/// What verification says of a message and an HSS signature. The top level is level 0.
+/// What verification says about a message and an HSS signature. The top level is level 0.
 #[derive(Clone, Copy, Debug, PartialEq, Eq)]
 pub enum HssVerdict {
     /// The signature is accepted, by all levels of the key.
@@ -40,7 +40,7 @@ impl Display for HssVerdict {
     }
 }
 
-/// Verifies an HSS signature that is all of `sig` (RFC 8554 section 6.3). All parts are read before a level is
+/// Verifies an HSS signature that takes up all of `sig` (RFC 8554 section 6.3). All parts are read before a level is
 /// verified, and each level costs what its LMS signature costs. It takes no memory.
 pub fn hss_verify(key: &HssKey, message: &[u8], sig: &[u8]) -> HssVerdict
     ensures verdict { IsHssVerdict key.now message.now sig.now result }
@@ -63,7 +63,7 @@ pub fn hss_verify(key: &HssKey, message: &[u8], sig: &[u8]) -> HssVerdict
     }
 }
 
-/// Verifies the levels from `level` on, whose key is `key`, and of which `below` stand below it.
+/// Verifies the levels from `level` on: its key is `key`, and `below` levels stand below it.
 fn verify_levels(key: &PublicKey, level: u8, below: u8, message: &[u8], parts: &[u8]) -> HssVerdict
     requires { level + below < 8 }
     ensures { (keys : List SignedKey) (last : List ℕ) → ArePartsOf key.now below parts.now keys last

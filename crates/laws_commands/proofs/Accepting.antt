@@ -1,4 +1,4 @@
--- A signature that is accepted is verified so.
+-- A signature that is accepted is also verified as accepted.
 use Rattle.std.proofs.Common.{◌≡◌, ◌≤◌, ◌⊎◌, ℕ, List, None, Some, length, option_map, refl, sym, ap, ◌∙◌, subst, inl, inr, arith}
 use Rattle.lms_bytes.specs.FaultNumbers.{key_fault_number}
 use Rattle.lms_bytes.specs.PublicKey.{public_bytes}
@@ -52,7 +52,7 @@ module _ (a e : StoreState) (key message signature : List ℕ) (leaf : ℕ) (has
   same-file : (name file got : List ℕ) → a.file name ≡ Some file → IsRead (from_to a e) name (Bytes got) → got ≡ file
   same-file name file got is read = let both : Some got ≡ Some file = sym (read.1 has.told) ∙ is in cc
 
-  -- a file that is there and short enough is not read for want of memory alone
+  -- a file that is there and short enough is unread only because memory ran out
   wants-memory : (name file : List ℕ) (end : Ending) → a.file name ≡ Some file → length file ≤ file_limit → FailsToRead (from_to a e) name end → end ≡ ending.NoMemory
   wants-memory name file _ is fits (failed r) = absurd (not-failed name file is r)
   wants-memory name file _ is fits (too_long got r) = absurd (not-long name file got is fits r)

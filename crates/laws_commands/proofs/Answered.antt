@@ -1,4 +1,4 @@
--- A request for which all is well comes to the undivided key's signature, or to want of memory, or the pass is worn.
+-- A request for which all is well comes to the undivided key's signature, or memory ran out, or the pass is worn.
 use Rattle.std.proofs.Common.{◌≡◌, ◌^◌, ◌≤◌, ◌<◌, ◌++◌, ℕ, List, All, None, Result, Ok, Err, IsTrue, IsSomeAnd, length, inl, inr, refl, sym, ap, subst, ◌∙◌, arith}
 use Rattle.aggregator_session.proofs.Telling.{sign-tell}
 use Rattle.aggregator_session.specs.Addresses.{place_of}

@@ -29,7 +29,7 @@ in-one : {A : Type 0} (y x : A) → Contains (y ∷ []) x → x ≡ y
 in-one y x (zero, within, is) = sym is
 in-one y x (suc k, within, is) = absurd (omega arith)
 
--- the outcome is unleased, or this holds of a leaf which is that of the signature, if there is one
+-- the outcome is unleased, or this holds for a leaf which is that of the signature, if there is one
 abbrev ComesTo : Result Signature SignFault → (ℕ → Type 0) → Type 0
 ComesTo outcome Is = IsUnleased outcome ⊎ ((leaf : ℕ) × IfOk outcome (λ signature. signature.leaf ≡ leaf) × Is leaf)
 

@@ -37,7 +37,7 @@ unworn request none is =
     let never : is_status 16 (Err sign.Worn) ≡ 0 = subst (λ (o : Result Signature SignFault). is_status 16 o ≡ 0) is own in
     omega (arith, never)
 
--- none of all requests has status 16, so none of a port
+-- none of all requests has status 16, so no request of a port has it
 port-unworn : (runs : List PortRun) (port : ℕ) (none : PortRun) → port < length runs → with_status 16 (requests_in runs) ≡ 0
     → with_status 16 (requests_of (get_or runs port none).served) ≡ 0
 port-unworn [] port none within fresh = absurd (omega (arith, within))
@@ -45,7 +45,7 @@ port-unworn (run ∷ runs) zero none within fresh = omega (arith, fresh, with_st
 port-unworn (run ∷ runs) (suc port) none within fresh =
     port-unworn runs port none (omega (arith, within)) (omega (arith, fresh, with_status-append 16 (requests_of run.served) (requests_in runs)))
 
--- where the pass is not worn, an outcome that is complete is an answer
+-- if the pass is not worn, a complete outcome is an answer
 is-answer : (d : Dealing) (key : UndividedKey) (message : List ℕ) (pass : Seen Lease TableName) (outcome : Result Signature SignFault) → IsComplete d key message pass outcome
     → (outcome ≡ Err sign.Worn → ⊥) → IsAnswer d key message outcome
 is-answer d key message pass outcome (answer is) fresh = is

@@ -1,4 +1,4 @@
--- What each command has found by the time that it ends, over a store that tells its content.
+-- What each command has found by the time it ends, over a store that tells its content.
 use Rattle.std.proofs.Common.{◌≡◌, ℕ, Bool, List, [], ◌∷◌, Option, Some, Result, Ok, Err, IsTrue, is_some, refl, ap, subst}
 use Rattle.std.proofs.lemmas.List.Elements.{All-cons, All-nil}
 use Rattle.aggregator_session.specs.Desks.{DeskState}

@@ -1,4 +1,4 @@
--- What a command has found by the time that it ends, over a store that tells its content.
+-- What a command has found by the time it ends, over a store that tells its content.
 use Rattle.std.proofs.Common.{◌≡◌, ℕ, Bool, true, false, List, [], ◌∷◌, All, Option, None, Some, Result, Ok, Err, IsSome, IsTrue, is_some, length, option_map, if◌then◌else◌, refl, sym, ap, subst}
 use Rattle.std.proofs.lemmas.List.Elements.{All-cons, All-head, All-nil, All-tail}
 use Rattle.std.proofs.lemmas.Slice.Eq.{bytes_eq-Decides}
@@ -41,7 +41,7 @@ pub mapped : (bytes : Option (List ℕ)) (got : ℕ) → option_map length bytes
 mapped None got is = absurd (cc)
 mapped (Some bytes) got is = refl
 
--- names that others begin with
+-- names with which others begin
 pub data Begins : List (List ℕ) → List (List ℕ) → Type 0 where
   done : {names : List (List ℕ)} → Begins [] names
   more : {name : List ℕ} {some names : List (List ℕ)} → Begins some names → Begins (name ∷ some) (name ∷ names)
@@ -134,7 +134,7 @@ module _ (store : StoreState) where
   up-to-here name names is =
       subst (λ (test : Bool). AreThere (name ∷ (if test then [] else up_to name names))) (sym (same-bytes name)) (list-1 name is)
 
-  -- where all names are there that have to be, so are those of any end
+  -- if all names that have to be there are there, so are those of any end
   pub whole : (row : Row) → AreThere (names_needed row) → (end : Ending) → AreThere (names_found row end)
   whole row all end = begun (names_found row end) (names_needed row) (found-begins row end) all
 
@@ -238,7 +238,7 @@ module _ (run : StoreRun) (told : IsTrue run.before.told) (row : Row) where
     last-found _ _ last (signs.no_port entries idle reads rose never stays) is = absurd (not-some last is)
     last-found _ _ last (signs.signed outcome signed) is = all (ap is_some (signed.table_is.is_read told))
 
-  -- ---- sessions, wherever their message comes from; what is known of a message that was had
+  -- ---- sessions, wherever their message comes from, and what is known about a message that was obtained
   module _ (asked : SessionWords) (source : MessageSource) (Had : Type 0) (had : (message : List ℕ) → source.is message → Had)
       (unheard : There (key_name asked.prefix) → (end : Ending) → source.fails end → Found end)
       (first : There (key_name asked.prefix) → First) (upkey : There (key_name asked.prefix) → UpTo (key_name asked.prefix))

@@ -1,4 +1,4 @@
--- Requests that came to leaves have short messages, and those have ids of their own bytes.
+-- Requests that came to leaves have short messages, and those have ids with bytes of their own.
 use Rattle.std.proofs.Common.{◌≡◌, ◌≤◌, ◌<◌, ◌^◌, ℕ, Bool, true, false, List, length, take, drop, Option, Some, Result, is_some, if◌then◌else◌, inl, inr, refl, sym, ap, ◌∙◌, subst, arith}
 use Rattle.std.proofs.lemmas.List.{drop_at, take_at}
 use Rattle.std.proofs.lemmas.Nat.{from_be_bytes-to_be_bytes_4}

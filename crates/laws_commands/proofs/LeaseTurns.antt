@@ -1,4 +1,4 @@
--- What a turn for a lease comes to, where the table is of the dealing's plan and tells its content.
+-- What a turn for a lease comes to if the table is of the dealing's plan and tells its content.
 use Rattle.std.proofs.Common.{◌≡◌, ◌^◌, ◌≤◌, ℕ, List, [], Option, Some, None, Result, Ok, Err, IsTrue, IsSomeAnd, refl, sym, subst, ◌∙◌}
 use Rattle.std.proofs.lemmas.List.{get_or_default}
 use Rattle.aggregator_session.specs.declared.fault.SignFault.{SignFault}
@@ -49,7 +49,7 @@ module _ (plan : PlanNumbers) (members : List ℕ) (message : MessageId) (c : �
   leases-find before after answer (leasing.unwritten settled other leaf own settles is used) = failed
   leases-find before after answer (leasing.damaged other a b doubted own doubt neither) = damaged _ a b
 
-  -- the same of a turn: or the pass is worn
+  -- the same for a turn: or the pass is worn
   pub data TurnFinds (new : Seen Lease TableName) : Result ℕ SignFault → Type 0 where
     turn_found : (leaf : ℕ) → IsLeafAfter plan c None leaf → TurnFinds new (Ok leaf)
     turn_bare : (number : ℕ) → LeaseOf plan new.log c (message_id_bytes message) None → TurnFinds new (Err (sign.Table (NoLeaf number)))

@@ -34,7 +34,7 @@ module _ (plan : PlanNumbers) (state : TableState) (message : List ℕ) (leaf : 
       subst (λ (e : List Lease). WasLeasedFor message (map_of e leaf)) (append-nil state.entries)
       (stands-leased plan state.entries [] message leaf (subst OneLease (sym (append-nil state.entries)) legal) leased)
 
-  -- in every file that stands for them, with an entry in doubt or without
+  -- in every file that stands for them, with or without an entry in doubt
   pub leased-file : KeepsOneLease state → (file : List ℕ) → StandsFor file state → WasLeasedFor message (use_of_slot (slot_at 1 leaf file))
   leased-file keeps file (inl has) = subst (WasLeasedFor message) (sym (has leaf within)) (leased-entries (keeps _ (inl refl)))
   leased-file keeps file (inr made) =
@@ -57,7 +57,7 @@ module _ (words : AggregateWords) (store : StoreRun) (net : NetRun) (header : Re
       → LeasedIn desk.plan run.serves.new.state.entries (message_id_bytes (message_id request.message)) leaf
   used request leaf uses = used-leased run.serves.over.served request leaf uses
 
-  -- each leaf is for one message by the entries alone
+  -- by the entries alone, each leaf is for one message
   legal : OneLease run.serves.new.state.entries
   legal = run.serves.left.one_lease _ (inl refl)
 

@@ -1,4 +1,4 @@
--- What a command that served came to over objects that do not fail but for their arguments.
+-- What a command that served came to over objects that do not fail except for their arguments.
 use Rattle.aggregator_session.specs.Desks.{DeskState}
 use Rattle.std.proofs.Common.{◌≡◌, ◌∙◌, ℕ, List, Some, IsTrue, ap}
 use Rattle.aggregator_node.specs.Ports.{requests_in}
@@ -28,7 +28,7 @@ module _ (before after : Outside) where
   abbrev net : NetRun
   net = over_net before.net after.net
 
-  -- what the laws on both services say of this run
+  -- what the laws about both services say about this run
   pub record Laws : Type 0 where
     pub grants : (words : TrusteeWords) (end : Ending) (run : ServedTrustee words before after end) → GrantsAll run.share run.ids (turns_in run.net.served.runs)
     pub links : (words : TrusteeWords) (end : Ending) (run : ServedTrustee words before after end) → TakesAll run.share.params before.net.room → NoLinkFails run.net.served.runs

@@ -1,4 +1,4 @@
--- How a call ends over objects that do not fail but for their arguments.
+-- How a call ends over objects that do not fail except for their arguments.
 use Rattle.std.proofs.Common.{◌≡◌, ◌⊎◌, ◌≤◌, Bool, ℕ, suc, List, [], ◌∷◌, All, Contains, IsSome, Option, None, Some, IsTrue, length, inl, inr, refl, sym, ◌∙◌, subst, arith}
 use Rattle.std.proofs.lemmas.List.Elements.{All-nil}
 use Rattle.dealer.specs.declared.faults.DealFault.{DealFault}
@@ -407,7 +407,7 @@ module _ (words : List (List ℕ)) (row : Row) (world : World) (status : ℕ) wh
   abbrev Serves : Ending → Type 0
   Serves came = (place : List ℕ) (connections frames : ℕ) → place_of row ≡ Some place → came ≡ ending.Served connections frames → ServesAll world.before world.after row came
 
-  -- an end that the command came to, or want of memory, whose line was printed
+  -- an end that the command came to, or memory that ran out, whose line was printed
   by_end : (run : ToolRun words world status) (firm : IsSteadyWorld run) (end came : Ending) → (end ≡ ending.NoMemory) ⊎ (end ≡ came) → CommandRun row world.before world.after came
       → IsPrinted world.output (line_of end) × (status ≡ status_of end)
       → Steady world.before world.after firm.store_told firm.store_steady firm.net_told firm.net_steady row end

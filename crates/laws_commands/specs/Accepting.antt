@@ -6,8 +6,9 @@ use Rattle.lms_verify.specs.Accepts.{AcceptsAt}
 use Rattle.stream_io.specs.Store.{StoreState}
 use Rattle.tool_base.specs.World.{file_limit}
 
--- A store that tells its content, and none of whose calls fails but for its arguments, has under these names a public
--- key, a message and a signature of this leaf that is accepted for it. None of them is longer than the tool reads.
+-- A store that tells its content, and none of whose calls fails except for its arguments, has under these names a
+-- public key, a message and a signature of this leaf that is accepted for it. None of them is longer than the tool
+-- reads.
 pub record IsAcceptable (store : StoreState) (key message signature : List ℕ) (leaf : ℕ) : Type 0 where
   pub told : IsTrue store.told
   pub steady : IsTrue store.steady

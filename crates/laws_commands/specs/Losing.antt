@@ -1,4 +1,4 @@
--- A member that a command lost where no call of the net fails but for its arguments.
+-- A member that a command lost when no call of the net fails except for its arguments.
 use Rattle.std.specs.Prelude.{ℕ}
 use Rattle.tool_base.specs.World.{Outside, from_to}
 use Rattle.tool_sign.specs.LostLower.{LosesLowerPeer}
@@ -8,14 +8,14 @@ use Rattle.tool_sign.specs.Sign.{session_words}
 use Rattle.tool_sign.specs.Tasks.{message_in}
 use Rattle.tool_words.specs.Words.{Row, Sign, Blame, HssSign, SignWords}
 
--- the session for the message of these words lost this member in this round by its peer, and by no write or read that
--- failed
+-- the session for the message of these words lost this member in this round because of its peer, and not because a
+-- write or a read failed
 abbrev pub LosesInSession : SignWords → Outside → Outside → ℕ → ℕ → Type 0
 LosesInSession words before after member round =
     let store = from_to before.store after.store in
     LosesPeer (session_words words) store (message_in store words.message) (over_net before.net after.net) member round
 
--- the same of a command: of `sign`, `blame` and `hss sign`, which run a session, and of no other
+-- the same for a command: for `sign`, `blame` and `hss sign`, which run a session; of any other it says nothing
 abbrev pub LosesByPeer : Row → Outside → Outside → ℕ → ℕ → Type 0
 LosesByPeer (Sign words) before after member round = LosesInSession words before after member round
 LosesByPeer (Blame words) before after member round = LosesInSession words before after member round

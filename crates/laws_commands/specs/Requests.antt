@@ -52,7 +52,7 @@ pub record IsDealtDesk (words : AggregateWords) (store : StoreRun) (d : Dealing)
   pub reads : ReadsReference words store header place
 
 -- The message is not too long, the members are a coalition and have places among the words, and by the log that the
--- request left their coalition is not without a leaf for the message.
+-- request left, their coalition is not without a leaf for the message.
 pub record HasLeafLeft (words : AggregateWords) (d : Dealing) (request : Request) (log : List Lease) : Type 0 where
   pub limit : length request.message ≤ message_limit
   pub number : ℕ
@@ -96,7 +96,7 @@ pub record IsWell (words : AggregateWords) (d : Dealing) (key : UndividedKey) {d
   pub failed : NothingFailed reference old new
   pub given : HaveGiven d key signed
 
--- the undivided key's signature with some leaf, the dealer's randomizer and the message; or want of memory
+-- the undivided key's signature with some leaf, the dealer's randomizer and the message; or memory ran out
 pub data IsAnswer (d : Dealing) (key : UndividedKey) (message : List ℕ) : Result Signature SignFault → Type 0 where
   signed : (leaf : ℕ) → IsAnswer d key message
       (Ok (record { leaf = leaf; bytes = rfc_signature key leaf (leaf_randomizer d leaf) message }))

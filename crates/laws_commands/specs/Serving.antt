@@ -1,4 +1,4 @@
--- What a command that served came to where no call of the outside fails but for its arguments.
+-- What a command that served came to if no call of the outside fails except for its arguments.
 use Rattle.aggregator_session.specs.Desks.{DeskState}
 use Rattle.std.specs.Prelude.{◌≡◌, All}
 use Rattle.aggregator_node.specs.Ports.{requests_in}
@@ -19,7 +19,7 @@ use Rattle.trustee_node.specs.Turns.{with_code}
 
 -- A trustee was served. No port failed to accept; no reply has code 6, for a journal's disk that failed, or 7, for a
 -- slot that is damaged; and each ask that is granted on the entries that its turn met was granted, so it is answered
--- with its masks. Where the net's links have room for 65,536 of the longest replies, no connection ended by a link that
+-- with its masks. If the net's links have room for 65,536 of the longest replies, no connection ended because a link
 -- failed.
 pub record ServesAsks (words : TrusteeWords) (before after : Outside) (end : Ending) : Type 0 where
   pub run : ServedTrustee words before after end
@@ -30,7 +30,7 @@ pub record ServesAsks (words : TrusteeWords) (before after : Outside) (end : End
   pub links : TakesAll run.share.params before.net.room → NoLinkFails run.net.served.runs
 
 -- Clients were served. No port failed to accept, and no reply has failure 10, for a table or a reference that failed.
--- Where the net's links have room for 65,536 of the longest replies, no connection ended by a link that failed.
+-- If the net's links have room for 65,536 of the longest replies, no connection ended because a link failed.
 pub record ServesClients (words : AggregateWords) (before after : Outside) (end : Ending) : Type 0 where
   pub header : RefHeader
   pub desk : DeskState
@@ -39,7 +39,7 @@ pub record ServesClients (words : AggregateWords) (before after : Outside) (end 
   pub no_fault : HasNoNetFault run
   pub no_device : with_status 10 (requests_in run.serves.over.served.runs) ≡ 0
 
--- what a command that listens at a place did, where it came to this end by serving
+-- what a command that listens at a place did, if it came to this end by serving
 pub data ServesAll (before after : Outside) : Row → Ending → Type 0 where
   asks : (words : TrusteeWords) (end : Ending) → ServesAsks words before after end
       → ServesAll before after (Trustee words) end

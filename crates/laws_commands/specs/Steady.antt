@@ -1,4 +1,4 @@
--- Calls of the tool over objects that do not fail but for their arguments.
+-- Calls of the tool over objects that do not fail except for their arguments.
 use Rattle.std.specs.Prelude.{◌≡◌, ◌≢◌, ◌⊎◌, ◌≤◌, ℕ, List, [], ◌∷◌, Option, None, Some, Contains, IsTrue, All}
 use Rattle.std.specs.Prelude.{IsSome, true, false, if◌then◌else◌}
 use Rattle.std.specs.Str.{bytes_eq}
@@ -45,24 +45,25 @@ names_read (Aggregate words) = dealing_names words.prefix (words.table ∷ [])
 names_read (Drill number sessions events) = []
 names_read (Show file leaves) = file ∷ []
 
--- Those of them that have to be there, in the order in which they are asked for: `approve` makes a book that is not.
+-- Those of them that have to be there, in the order in which they are asked for: `approve` makes its book if there is
+-- none.
 abbrev pub names_needed : Row → List (List ℕ)
 names_needed (Approve share book message) = share ∷ message ∷ []
 names_needed row = names_read row
 
--- those that a command has found by the time that it finds a name taken that has to be new
+-- those that a command has found by the time it finds that a name is taken which has to be new
 abbrev pub before_outputs : Row → List (List ℕ)
 before_outputs (Deal words) = words.entropy ∷ []
 before_outputs (Enrol file journal) = file ∷ []
 before_outputs (Migrate share journal new) = share ∷ []
 before_outputs row = []
 
--- those that it has found by the time that a file of slots does not load: a trustee loads its journal before its book
+-- those that it has found by the time a file of slots does not load: a trustee loads its journal before its book
 abbrev pub up_to_slots : Row → List (List ℕ)
 up_to_slots (Trustee words) = words.share ∷ words.journal ∷ []
 up_to_slots row = names_needed row
 
--- those that it has found by the time that its members are no coalition: all but the leaf table
+-- those that it has found by the time its members are no coalition: all but the leaf table
 abbrev pub before_table : Row → List (List ℕ)
 before_table (Sign words) = dealing_names words.prefix (words.message ∷ [])
 before_table (Blame words) = dealing_names words.prefix (commits_name words.prefix ∷ words.message ∷ [])
@@ -70,7 +71,7 @@ before_table (HssSign words) =
     words.low_key ∷ words.low_signature ∷ words.message ∷ dealing_names words.prefix []
 before_table row = names_needed row
 
--- those that it has found by the time that it tells of a verdict: `hss sign` begins with the lower signature
+-- those that it has found by the time it tells of a verdict: `hss sign` begins with the lower signature
 abbrev pub up_to_verdict : Row → List (List ℕ)
 up_to_verdict (HssSign words) = words.low_key ∷ words.low_signature ∷ words.message ∷ []
 up_to_verdict row = names_needed row
@@ -85,8 +86,8 @@ abbrev pub up_to : List ℕ → List (List ℕ) → List (List ℕ)
 up_to name [] = []
 up_to name (one ∷ names) = one ∷ (if bytes_eq one name then [] else up_to name names)
 
--- The names that a command has found for sure where it ends so: those that it asks for before the test that this end
--- shows. A call that failed and want of memory show no test. A file that is too long may be the first one.
+-- The names that a command has surely found if it ends like this: those that it asks for before the test that this end
+-- shows. A call that failed and memory that ran out show no test. A file that is too long may be the first one.
 abbrev pub names_found : Row → Ending → List (List ℕ)
 names_found row StoreFailed = []
 names_found row DeviceFailed = []
@@ -99,7 +100,7 @@ names_found row (NotSigned NotACoalition) = before_table row
 names_found row (Verified verdict) = up_to_verdict row
 names_found row end = names_needed row
 
--- the place that a command listens at
+-- the place at which a command listens
 abbrev pub place_of : Row → Option (List ℕ)
 place_of (Verify key message signature) = None
 place_of (Rehearse entropy message key_out signature_out) = None
@@ -116,24 +117,24 @@ place_of (Aggregate words) = Some words.place
 place_of (Drill number sessions events) = None
 place_of (Show file leaves) = None
 
--- Nothing is read under a name that the command reads, takes or views. For a trustee this is so too where its book is
--- to be its journal, whose disk is out by then.
+-- Nothing is read under a name that the command reads, takes or views. For a trustee this is also so if its book is to
+-- be its journal, whose disk is out by then.
 pub data Lacks (store : StoreState) (row : Row) : Type 0 where
   no_file : (name : List ℕ) → Contains (names_read row) name → store.file name ≡ None → Lacks store row
   one_file : (words : TrusteeWords) (name : List ℕ) → row ≡ Trustee words → words.book ≡ Some name
       → bytes_eq name words.journal ≡ true → Lacks store row
 
--- the net does not offer the place that the command listens at
+-- the net does not offer the place at which the command listens
 pub record IsUnoffered (net : NetState) (row : Row) : Type 0 where
   pub place : List ℕ
   pub is : place_of row ≡ Some place
   pub none : net.offers place ≡ false
 
--- What is known of a call with such a command that answers this status, by the end whose line it printed and by the
--- one that it came to, which is another only where there was no memory for the line. Status 3 comes only where nothing
--- is read under one of its names, 17 only where its place is not offered, and 10 never. The names are there that the
--- command asks for before the test that this end shows; where it served, its place is offered, and nothing failed; and
--- where the net's links have room for the asks of the longest message, it lost a member only by the peer.
+-- What is known of a call with this command that answers this status, by the end whose line it printed and by the one
+-- that it came to, which is another one only if there was no memory for the line. Status 3 comes only if nothing is
+-- read under one of its names, 17 only if its place is not offered, and 10 never. The names that the command asks for
+-- before the test that this end shows are there; if it served, its place is offered, and nothing failed; and if the
+-- net's links have room for the asks of the longest message, it lost a member only because of the peer.
 pub record HasCauses (world : World) (row : Row) (status : ℕ) : Type 0 where
   pub end : Ending
   pub came : Ending

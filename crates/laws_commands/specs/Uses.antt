@@ -56,7 +56,7 @@ module _ (request : Request) (leaf : ℕ) {desk : DeskState} {reference : Refere
     pub request_is : request ≡ one
     pub leaf_is : CameTo leaf signed.shows
 
-  -- the same of the request that was read, where one was
+  -- the same for the request that was read, if one was
   abbrev pub AnsweredWith : {old new : Stand} {requests : List Request} {replies : ℕ} {ended : Option ServedEnd}
       → Answers desk reference old requests replies ended new → Type 0
   AnsweredWith (clients.no_request talk fault known none) = ⊥
@@ -65,7 +65,7 @@ module _ (request : Request) (leaf : ℕ) {desk : DeskState} {reference : Refere
   AnsweredWith (clients.answered mid talk one exchange replied) = SignedWith exchange.signed
   AnsweredWith (clients.unanswered mid talk one exchange failed) = SignedWith exchange.signed
 
-  -- the same of one of the requests of a connection
+  -- the same for one of the requests of a connection
   abbrev pub ServedWith : {old new : Stand} {requests : List Request} {replies : ℕ} {end : ServedEnd}
       → Serves desk reference old requests replies end new → Type 0
   ServedWith (clients.ended old new requests replies end answers) = AnsweredWith answers
@@ -73,7 +73,7 @@ module _ (request : Request) (leaf : ℕ) {desk : DeskState} {reference : Refere
       AnsweredWith answers ⊎ ServedWith serves
   ServedWith (clients.full old) = ⊥
 
-  -- the same of one of the requests of all connections of a worker
+  -- the same for one of the requests of all connections of a worker
   abbrev pub WorkedWith : {old new : WorkerParts} {served : List Connection}
       → Works desk reference old served new → Type 0
   WorkedWith (connections.left old port leaves) = ⊥
@@ -94,8 +94,8 @@ abbrev pub Comes : {desk : DeskState} {asked : ℕ} {old new : TableSeen} {place
 Comes all request = IsUnleased request.outcome
     ⊎ ((leaf : ℕ) × IfOk request.outcome (λ signature. signature.leaf ≡ leaf) × Uses all request leaf)
 
--- What is left of a leaf that was leased for a message: it is leased for that, or was and is burnt, by the entries that
--- the table stands for, in the table's file, and in each image that a crash may leave of it.
+-- What is left of a leaf that was leased for a message: it is leased for that message, or was and is now burnt, by the
+-- entries that the table stands for, in the table's file, and in each image that a crash may leave of it.
 pub record LeafIsLeft (store : StoreRun) (table : List ℕ) (now : TableSeen) (message : MessageId) (leaf : ℕ)
     : Type 0 where
   pub stands : WasLeasedFor (message_id_bytes message) (map_of now.state.entries leaf)

@@ -27,8 +27,8 @@ pub fn leases_left<S: Store>(before: &S, after: &S)
 {}
 
 /// A request of a client for which all is well, at desk and table of a dealing, comes to RFC 8554's signature of the
-/// undivided key, for its leaf, the dealer's randomizer and the message; or to want of memory; or the pass of its
-/// worker is worn.
+/// undivided key, for its leaf, the dealer's randomizer and the message; or memory runs out; or the pass of its worker
+/// is worn.
 pub fn answered<S: Store>(before: &S, after: &S)
     ensures { (words : AggregateWords) (header : RefHeader) (desk : DeskState) (d : Dealing) (key : UndividedKey)
         (place : Place) (old new : Stand) (request : Request)
@@ -39,7 +39,7 @@ pub fn answered<S: Store>(before: &S, after: &S)
 
 /// In a run in which clients were served over the files of a dealing, every request of every client at every port for
 /// which all is well comes to RFC 8554's signature of the undivided key, for its leaf, the dealer's randomizer and the
-/// message; or to want of memory.
+/// message; or memory runs out.
 pub fn all_answered<S: Store>(before: &S, after: &S)
     ensures { (words : AggregateWords) (net : NetRun) (header : RefHeader) (desk : DeskState) (end : Ending)
         (d : Dealing) (key : UndividedKey)

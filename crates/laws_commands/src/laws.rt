@@ -16,7 +16,7 @@ use stream_io::Store;
 use tool_aggregate::laws::steady_aggregate;
 use tool_trustee::laws::steady_trustee;
 
-/// Over a store that does not fail, `verify` of a signature that is accepted says so, or ends for want of memory.
+/// Over a store that does not fail, `verify` of a signature that is accepted says so, or ends because memory ran out.
 pub fn accepted_is_said<S: Store>(before: &S, after: &S)
     ensures { (key message signature : List ℕ) (net_old net_new : NetState) (time later : TimeState) (end : Ending)
         (leaf : ℕ) → CommandRun (Verify key message signature)
@@ -26,20 +26,20 @@ pub fn accepted_is_said<S: Store>(before: &S, after: &S)
         → (end ≡ ending.NoMemory) ⊎ (end ≡ ending.Verified (Accepted leaf)) }
 {}
 
-/// What is left of a call with a command's words where nothing outside fails: store and net tell their content and do
-/// not fail but for their arguments, and the output has room for its line.
+/// What is left of a call with a command's words if nothing outside fails: store and net tell their content and do not
+/// fail except for their arguments, and the output has room for its line.
 ///
-/// Status 10 never comes, status 3 only where nothing is read under a name that the command reads, takes or views, and
-/// status 17 only where the net does not offer its place. Every other end is that of a test that the command's rules
-/// tell, or want of memory. The end whose line is printed tells that each name is there which the command asks for
+/// Status 10 never comes, status 3 only if nothing is read under a name that the command reads, takes or views, and
+/// status 17 only if the net does not offer its place. Every other end is that of a test that the command's rules tell,
+/// or means that memory ran out. The end whose line is printed tells that each name is there that the command asks for
 /// before the test that this end shows, with two limits: a file that is too long tells of the first name alone, and no
 /// end tells that a trustee's book is not named as its journal.
 ///
-/// Where a command served, its place is offered, no port failed to accept, and no reply tells of a device that failed.
-/// A trustee granted each ask that is granted on the entries that its turn met. No link failed where all have room for
-/// 65,536 of the longest replies. Where links have room for the asks of the longest message, a session lost a member
-/// only since nobody could be dialled, since its link ended or what it sent is no frame of a reply, or since no address
-/// names it. This holds too where there was no memory for the line.
+/// If a command served, its place is offered, no port failed to accept, and no reply tells of a device that failed. A
+/// trustee granted each ask that is granted on the entries that its turn met. No link failed if all have room for
+/// 65,536 of the longest replies. If links have room for the asks of the longest message, a session lost a member only
+/// because nobody could be dialled, because its link ended or what it sent is no frame of a reply, or because no
+/// address names it. This also holds if there was no memory for the line.
 pub fn steady<S: Store>(before: &S, after: &S)
     ensures { (words : List (List ℕ)) (row : Row) (net_old net_new : NetState) (time later : TimeState)
         (output : OutputRun) (status : ℕ) → command_of words ≡ Some row

@@ -1,4 +1,4 @@
-//! What is left of any command of the tool where nothing outside fails, and what follows from serving clients.
+//! What is left of any command of the tool if nothing outside fails, and what follows from serving clients.
 #![tactic(auto)]
 
 pub mod clients;

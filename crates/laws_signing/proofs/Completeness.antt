@@ -1,4 +1,4 @@
--- Where all is well, `sign` ends with the undivided key's signature, or for want of memory.
+-- If all is well, `sign` ends with the undivided key's signature, or for want of memory.
 use Rattle.std.proofs.Common.{◌≡◌, ◌⊎◌, ℕ, List, [], Result, Ok, Err, refl, sym, ap, subst, ◌∙◌, inl, inr}
 use Rattle.aggregator_session.specs.Signing.{Signature}
 use Rattle.lms_verify.specs.UndividedKey.{UndividedKey, rfc_signature}
@@ -21,7 +21,7 @@ module _ (words : SignWords) (store : StoreRun) (net : NetRun) (d : Dealing) (ke
   abbrev signature : List ℕ
   signature = rfc_signature key leaf (leaf_randomizer d leaf) message
 
-  -- the end of a call where all is well
+  -- the end of a call if all is well
   abbrev Complete : Ending → Type 0
   Complete end = (end ≡ ending.NoMemory) ⊎ ((end ≡ ending.Signed leaf) × IsWritten store words.out signature)
 

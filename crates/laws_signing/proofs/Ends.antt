@@ -1,4 +1,4 @@
--- What signing with the table comes to where all is well: the undivided key's signature, or want of memory.
+-- What signing with the table comes to if all is well: the undivided key's signature, or want of memory.
 use Rattle.std.proofs.Common.{◌≡◌, ◌≢◌, ◌⊎◌, ◌++◌, ◌+◌, ◌-◌, ◌^◌, ◌<◌, ◌≤◌, min, ℕ, zero, suc, true, false, List, All, IsTrue, Some, None, Result, Ok, Err, length, refl, sym, ap, subst, ◌∙◌, inl, inr, arith}
 use Rattle.aggregator_session.proofs.Telling.{sign-tell}
 use Rattle.aggregator_session.specs.Addresses.{place_of}
@@ -263,7 +263,7 @@ module _ (words : SignWords) (store : StoreRun) (net : NetRun) (d : Dealing) (ke
   abbrev unsigned : Ending → Result Signature Ending
   unsigned end = Err end
 
-  -- where there is no signature, it is for want of memory
+  -- if there is no signature, it is for want of memory
   pub table-ends : (answer : Result Signature Ending) (touched : List (List ℕ)) (end : Ending) → TableEnds signing words.table store net answer touched → answer ≡ unsigned end → end ≡ ending.NoMemory
   table-ends answer touched end (signs.no_table idle fails) is =
       absurd (read-not store told well.fails.store_holds file_limit words.table well.leased.file well.leased.file_is fails)
@@ -287,7 +287,7 @@ module _ (words : SignWords) (store : StoreRun) (net : NetRun) (d : Dealing) (ke
   abbrev made_of : Signature → Result Signature Ending
   made_of made = Ok made
 
-  -- where there is a signature, it is the undivided key's
+  -- if there is a signature, it is the undivided key's
   pub table-made : (answer : Result Signature Ending) (touched : List (List ℕ)) (made : Signature) → TableEnds signing words.table store net answer touched → answer ≡ made_of made
       → made ≡ record { leaf = leaf; bytes = signature }
   table-made answer touched made (signs.no_table idle fails) is = absurd (cc)

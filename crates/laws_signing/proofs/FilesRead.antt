@@ -1,4 +1,4 @@
--- Files that are read with no fault, where they are what they are to be and nothing outside fails.
+-- Files that are read with no fault, if they are what they should be and nothing outside fails.
 use Rattle.std.proofs.Common.{◌≡◌, ◌≤◌, ℕ, false, List, Option, Some, None, length, IsTrue, inl, inr, refl, sym, ap, ◌∙◌, arith}
 use Rattle.std.specs.Option.{option_map}
 use Rattle.share_files.specs.Reference.{reference_fault}

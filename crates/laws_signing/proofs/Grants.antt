@@ -61,7 +61,7 @@ grant_head s member = record {
 abbrev grant : State → ℕ → List ℕ → List ℕ
 grant s member masks = reply_front s.key.params (grant_head s member) ++ masks
 
--- the seat of a member, where nothing is kept
+-- the seat of a member, in which nothing is kept
 has-empty : (room : ℕ) (members : List ℕ) (t : ℕ) → Contains members t → has_seat (map (empty_seat room) members) t ≡ true
 has-empty room [] t there = absurd (Contains-nil t there)
 has-empty room (member ∷ members) t there = elim (Contains-cases member members t there) [

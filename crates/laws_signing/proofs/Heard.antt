@@ -6,7 +6,7 @@ use Rattle.stream_io.specs.Talk.{Talk}
 use Rattle.laws_signing.specs.Witness.{AllGaveJust, GaveJust}
 use Rattle.laws_signing.specs.declared.witness.links.Peer.{Peer}
 
--- the link of this number gave just its reply, where there are both
+-- the link of this number gave just its reply, if there are both
 abbrev pub GaveAt : List Talk → List (List ℕ) → ℕ → Type 0
 GaveAt talks replies k = (talk : Talk) (bytes : List ℕ) → slice_get talks k ≡ Some talk → slice_get replies k ≡ Some bytes → GaveJust bytes talk
 

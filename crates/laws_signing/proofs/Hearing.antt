@@ -1,4 +1,4 @@
--- What is heard of a member that has not answered: what the session's start would hear.
+-- What is heard from a member that has not answered: what the session's start would hear.
 use Rattle.std.proofs.Common.{◌≡◌, ◌++◌, ◌≤◌, ℕ, zero, suc, ◌==◌, Bool, true, false, List, drop, IsTrue, Result, Ok, Err, IfOk, if◌then◌else◌, inl, inr, refl, sym, ap, subst, ◌∙◌, arith}
 use Rattle.std.proofs.lemmas.Bool.{eqb-true}
 use Rattle.aggregator_session.specs.Hearing.{Asked, Came, awaited, by_frame, hear, is_answer, is_kept, or_lost, unwritten}
@@ -88,7 +88,7 @@ asked-later s member frame old new answer (awaited mid a only quiet wrote h) = r
 no-fault : (before now : ℕ) → now ≡ 0 → Rose before now → ⊥
 no-fault before now is rose = absurd (omega arith)
 
--- what the bytes of a link say is what is heard of its member, where no call of the link failed
+-- what the bytes of a link say is what is heard from its member, if no call of the link failed
 pub record Came-as (answer : Result Reply SignFault) (new : Talk) (reply : Reply) (rest : List ℕ) : Type 0 where
   pub answer_is : answer ≡ Ok reply
   pub left : new.left ≡ rest

@@ -65,7 +65,7 @@ same-state before settled sure (inr later) =
 abbrev leased-as : ℕ → Result ℕ TableFault
 leased-as leaf = Ok leaf
 
--- what a lease comes to where the table has this leaf for it: the leaf, unless a call of the disk failed
+-- what a lease comes to if the table has this leaf for it: the leaf, unless a call of the disk failed
 pub leases-well : (plan : PlanNumbers) (before after : TableState) (members : List ℕ) (message : MessageId) (result : Result ℕ TableFault) (c leaf : ℕ) → Leases plan before members message result after
     → before.doubt ≡ None → IsCoalition plan members c → LeaseOf plan before.entries c (message_id_bytes message) (Some leaf) → (result ≡ Ok leaf) ⊎ (result ≡ Err Device)
 leases-well plan before after members message result c leaf leases sure coalition is = by leases

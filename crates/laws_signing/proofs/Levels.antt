@@ -1,4 +1,4 @@
--- Where all is well, `hss sign` ends with the key and the signature of two levels, or for want of memory.
+-- If all is well, `hss sign` ends with the key and the signature of two levels, or for want of memory.
 use Rattle.std.proofs.Common.{◌≡◌, ◌⊎◌, ◌++◌, ◌≤◌, ℕ, false, List, [], ◌∷◌, None, Result, Ok, Err, IsTrue, length, option_map, refl, sym, ap, subst, ◌∙◌, inl, inr, arith}
 use Rattle.aggregator_session.specs.Signing.{Signature}
 use Rattle.lms_bytes.specs.FaultNumbers.{key_fault_number}

@@ -1,4 +1,4 @@
--- Scripts of ports whose links are steady and have room, with one link more.
+-- Scripts of ports whose links are steady and have room, with one more link.
 use Rattle.std.proofs.Common.{◌≡◌, ◌≤◌, ◌^◌, ◌-◌, ◌&&◌, min, ℕ, Bool, true, false, List, [], ◌∷◌, ◌++◌, IsTrue, refl, sym, subst, arith}
 use Rattle.std.specs.List.{list_all}
 use Rattle.std.specs.declared.alloc.Global.{Global}
@@ -21,7 +21,7 @@ both-true : (a b : Bool) → a ≡ true → b ≡ true → (a && b) ≡ true
 both-true true b one other = other
 both-true false b one other = one
 
--- where the least room is enough, that of one more link is enough with it
+-- if the least room is enough, that of one more link is enough with it
 least-more : {L : Type 0} (room : L → ℕ) (enough : ℕ) (xs : List L) (x : L) → enough ≤ least room xs → enough ≤ room x → enough ≤ least room (xs ++ x ∷ [])
 least-more room enough [] x all one =
     let most : enough ≤ 2 ^ 64 - 1 = all in

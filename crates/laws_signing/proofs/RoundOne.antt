@@ -1,4 +1,4 @@
--- Round one, where the members' links gave the dealer's masks.
+-- Round one, if the members' links gave the dealer's masks.
 use Rattle.std.proofs.Common.{◌≡◌, ◌++◌, ◌+◌, ℕ, ◌==◌, true, List, [], ◌∷◌, All, IsTrue, None, Result, Ok, Err, map, refl, sym, ap, subst, ◌∙◌, append-nil}
 use Rattle.std.specs.List.{AllZip}
 use Rattle.std.proofs.lemmas.List.Elements.{All-cons, All-head, All-nil, All-tail}

@@ -1,4 +1,4 @@
--- Round two, where the members' links gave the dealer's masks.
+-- Round two, if the members' links gave the dealer's masks.
 use Rattle.std.proofs.Common.{◌≡◌, ◌++◌, ◌+◌, ℕ, ◌==◌, true, List, [], ◌∷◌, All, IsTrue, Some, Result, Ok, Err, map, refl, sym, ap, subst, ◌∙◌, append-nil, arith}
 use Rattle.std.specs.List.{AllZip}
 use Rattle.std.proofs.lemmas.List.Elements.{All-append, All-cons, All-head, All-nil, All-tail}

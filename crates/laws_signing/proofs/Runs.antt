@@ -1,4 +1,4 @@
--- Runs of `sign` of which what they ended with, or what was heard in them, is known.
+-- Runs of `sign` for which it is known what they ended with, or what was heard in them.
 use Rattle.std.proofs.Common.{◌≡◌, ℕ, List, Some, ap, subst, ◌∙◌, slice_get}
 use Rattle.stream_io.specs.Net.{PortState}
 use Rattle.tool_base.specs.Ending.{Ending, NotSigned}
@@ -20,7 +20,7 @@ module _ (words : SignWords) (store : StoreRun) (net : NetRun) (end : Ending) (r
     takes = new.takes;
   }
 
-  -- the first port that was kept is the one port, where there is one
+  -- the first port that was kept is the one port, if there is one
   pub heard-run : (replies : List (List ℕ)) (first : PortState) → net.after.count ≡ 0 → Some first ≡ slice_get net.after.kept 0 → AllGaveJust first.talks replies → HeardRun words replies store net
   heard-run replies first quiet at gave = record {
     end = end;

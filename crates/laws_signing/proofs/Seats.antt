@@ -1,4 +1,4 @@
--- Seats of a round in which the members before one have answered, and that one and those behind it have not.
+-- Seats of a round in which the members before one have answered, and that one and those after it have not.
 use Rattle.std.proofs.Common.{◌≡◌, ℕ, suc, ◌+◌, ◌<◌, ◌≤◌, nat_lt, true, false, List, [], ◌∷◌, ◌++◌, All, Option, None, Some, length, map, get_or, set, refl, sym, ap, ◌∙◌, arith, append_assoc, length-append}
 use Rattle.std.proofs.Math.Seq.{get_or-append_seam, set-append_seam}
 use Rattle.std.proofs.lemmas.Bool.Decides.{nat_tests}

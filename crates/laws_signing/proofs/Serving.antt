@@ -59,7 +59,7 @@ module _ (connections frames : ℕ) where
     pub run-served : (end : Ending) → TrusteeRun words before after end → end ≡ served → ServedTrustee words before after end
     run-served end run is = ends-served end run.touched run.ends is
 
-    -- the same of clocks that no call changed
+    -- the same for clocks that no call changed
     pub steady-served : (asks : List ℕ) (end : Ending) → TrusteeRun words before after end → end ≡ served → IsSteadyStore before.store → IsNewNet 562233344 before.net
         → GaveFirst after.net asks → SteadyTrustee words before.store.file asks before (record { store = after.store; net = after.net; time = before.time })
     steady-served asks end run is store net gave =
@@ -76,7 +76,7 @@ module _ (connections frames : ℕ) where
           gave = gave;
         }
 
--- the same of files of which the store is made
+-- the same for files that the store is made of
 pub over-files : (words : TrusteeWords) (asks : List ℕ) (before after : Outside) (file : List ℕ → Option (List ℕ)) → ((name : List ℕ) → before.store.file name ≡ file name)
     → SteadyTrustee words before.store.file asks before after → SteadyTrustee words file asks before after
 over-files words asks before after file is made = record {

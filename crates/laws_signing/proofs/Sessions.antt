@@ -1,4 +1,4 @@
--- A session over what a dealer made ends with the undivided key's signature, or with want of memory, where the members'
+-- A session over what a dealer made ends with the undivided key's signature, or with want of memory, if the members'
 -- links gave the dealer's masks.
 use Rattle.std.proofs.Common.{◌≡◌, ◌⊎◌, ◌+◌, ◌*◌, ◌%◌, ◌^◌, ◌<◌, ℕ, List, [], All, IsTrue, None, Some, Result, Ok, Err, length, map, inl, inr, refl, sym, ap, subst, ◌∙◌, arith}
 use Rattle.std.specs.List.{AllZip}
@@ -154,7 +154,7 @@ module _ (d : Dealing) (undivided : UndividedKey) (key : PublicKey) (leaf : ℕ)
   two-faultless firsts seats last digest is kept =
       ap (λ (s : State). round_fault s digest) is ∙ kept-faultless (two key d.plan leaf id random firsts seats) digest room_two mask_two seats kept
 
-  -- no other root than the key's
+  -- no root other than the key's
   not-astray : (firsts seats : List Seat) (last : State) (fault : session.SessionFault) → last ≡ two key d.plan leaf id random firsts seats
       → All (Kept room_one mask_one) firsts → map number firsts ≡ all → All (Kept room_two mask_two) seats → map number seats ≡ all
       → Astray last message reads.told (joined_bytes last reads.leaves desk.tree message) fault → ⊥

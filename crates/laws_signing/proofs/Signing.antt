@@ -1,4 +1,4 @@
--- All is well in a run that was heard, for each dealing of which its files and replies are.
+-- All is well in a run that was heard, for each dealing that its files and replies are of.
 use Rattle.std.proofs.Common.{◌≡◌, ◌≤◌, ◌<◌, ◌^◌, ◌++◌, ◌||◌, ℕ, suc, false, List, [], ◌∷◌, length, Contains, Option, None, Some, is_some, inl, refl, sym, ap, subst, ◌∙◌, append-nil, arith}
 use Rattle.coalition_map.specs.Coalitions.{coalition, leaf_members}
 use Rattle.disk_trait.specs.Faults.{Rose}

@@ -1,4 +1,4 @@
--- What is signed is of the dealing, where its files are.
+-- What is signed is of the dealing, if its files are.
 use Rattle.std.proofs.Common.{◌≡◌, ◌+◌, ◌-◌, ◌*◌, ◌^◌, ◌<◌, ◌≤◌, ℕ, zero, List, [], None, length, refl, sym, ap, subst, ◌∙◌, inl, inr, arith, length-append}
 use Rattle.std.specs.Option.{option_map}
 use Rattle.std.proofs.Math.Nat.{pow-le-pow_right}

@@ -43,7 +43,7 @@ StoreHolds store =
 abbrev pub PortsHold : NetRun → Type 0
 PortsHold net = IsTrue net.before.steady ⊎ IsQuiet net.before.port_count net.after.port_count
 
--- Store and net tell their content, and nothing outside fails. No dial failed and no link, up to its end, so that the
+-- Store and net tell their content, and nothing outside fails. No dial failed, and no link up to its end, so that the
 -- net's count of faults did not rise.
 pub record NothingFails (store : StoreRun) (net : NetRun) : Type 0 where
   pub store_told : IsTrue store.before.told
@@ -74,7 +74,7 @@ pub record HasLeaf (words : SignWords) (store : StoreRun) (d : Dealing) (key : U
   pub leaf_is : LeaseOf d.plan entries number (message_id_bytes (message_id message)) (Some leaf)
 
 -- On the links of the one port that was made, in their order, the members gave their own masks for a session of this
--- leaf. Nothing is said of a member that was not dialled.
+-- leaf. Nothing is said about a member that was not dialled.
 abbrev pub HaveAnswered : SignWords → NetRun → Dealing → UndividedKey → List ℕ → ℕ → Type 0
 HaveAnswered words net d key message leaf =
     (port : PortState) → net.after.kept ≡ net.before.kept ++ (port ∷ [])

@@ -1,4 +1,4 @@
--- What the links of a coalition's members gave, where each member answered both asks of a session with its own masks.
+-- What the links of a coalition's members gave, if each member answered both asks of a session with its own masks.
 use Rattle.std.specs.Prelude.{◌≡◌, ◌++◌, ℕ, List, [], ◌∷◌, Ok}
 use Rattle.aggregator_session.specs.Hearing.{hear}
 use Rattle.trustee_core.specs.Approvals.{Decided}
@@ -15,8 +15,8 @@ use Rattle.trustee_core.specs.Decisions.{Granted}
 use Rattle.trustee_node.specs.Replies.{reply_bytes}
 use Rattle.trustee_node.specs.Turns.{InTurn}
 
--- The first reply that a member's bytes have for a session's ask, within eight frames, is these masks. Behind it stand
--- these other bytes.
+-- The first reply that a member's bytes have for a session's ask, within eight frames, is these masks. These other
+-- bytes follow it.
 pub record Answers (s : State) (member : ℕ) (bytes masks rest : List ℕ) : Type 0 where
   pub head : ReplyHead
   pub granted : head.code ≡ 0
@@ -30,7 +30,7 @@ second_round d s = turned s (leaf_randomizer d s.leaf)
 abbrev pub message_masks : Dealing → State → List ℕ → ℕ → List ℕ
 message_masks d s message member = digit_masks d s.leaf (digest_of (second_round d s) message) member
 
--- A member's link gave its mask of the randomizer for the ask of round one, and behind it its masks at the message's
+-- A member's link gave its mask of the randomizer for the ask of round one, and after it its masks at the message's
 -- digits for that of round two. No call of the link failed, and nothing that was written was lost at its end.
 pub record Gave (d : Dealing) (s : State) (message : List ℕ) (member : ℕ) (talk : Talk) : Type 0 where
   pub rest : List ℕ
@@ -39,7 +39,7 @@ pub record Gave (d : Dealing) (s : State) (message : List ℕ) (member : ℕ) (t
   pub second : Answers (second_round d s) member rest (message_masks d s message member) last
   pub faultless : talk.count ≡ 0
 
--- the same of each link of a list, the first of which is that of the first of these members
+-- the same for each link of a list, the first of which is that of the first of these members
 abbrev pub AllGave : Dealing → State → List ℕ → List ℕ → List Talk → Type 0
 AllGave d s message members [] = Unit {0}
 AllGave d s message [] (talk ∷ talks) = Unit {0}

@@ -11,7 +11,7 @@ use Rattle.tool_sign.specs.Ports.{NetRun}
 use Rattle.tool_words.specs.Words.{HssSignWords, SignWords}
 use Rattle.laws_signing.specs.AllIsWell.{AllIsWell}
 
--- the words of `sign` with the same trustees, of which the lower key's file is the message and KEY-OUT the output
+-- the words of `sign` with the same trustees, with the lower key's file as the message and KEY-OUT as the output
 abbrev pub signing_lower : HssSignWords → SignWords
 signing_lower words = record {
   prefix = words.prefix;
@@ -21,8 +21,8 @@ signing_lower words = record {
   places = words.places;
 }
 
--- SIG-OUT is new, and LOW-SIG is a signature that is accepted for what MESSAGE holds. Neither of them is longer than
--- the tool reads.
+-- SIG-OUT is new, and LOW-SIG is a signature that is accepted for what MESSAGE holds. Neither LOW-SIG nor MESSAGE is
+-- longer than the tool reads.
 pub record HasLower (words : HssSignWords) (store : StoreRun) (lower : Lower) : Type 0 where
   pub out_is_new : has_name store.before words.signature_out ≡ false
   pub signature_is : store.before.file words.low_signature ≡ Some lower.signature

@@ -35,24 +35,24 @@ use Rattle.trustee_node.specs.Ports.{TakesAll}
 use Rattle.laws_signing.specs.AllIsWell.{AllIsWell, IsDealing}
 use Rattle.laws_signing.specs.Answering.{IsShareOf, grants}
 
--- a store that tells its content, and whose calls fail for their arguments alone
+-- a store that tells its content, and whose calls fail only because of their arguments
 pub record IsSteadyStore (store : StoreState) : Type 0 where
   pub told : IsTrue store.told
   pub steady : IsTrue store.steady
 
--- the same of a net
+-- the same for a net
 pub record IsSteadyNet (net : NetState) : Type 0 where
   pub told : IsTrue net.told
   pub steady : IsTrue net.steady
 
--- internal: the same of a net that nothing was done with, each link of which takes so many bytes
+-- internal: the same for a net that nothing was done with, each link of which takes `room` bytes
 pub record IsNewNet (room : ℕ) (net : NetState) : Type 0 where
   pub is : IsSteadyNet net
   pub takes : room ≤ net.room
   pub count : net.count ≡ 0
   pub kept : net.kept ≡ []
 
--- internal: a port of this script is steady, and each of its links takes so many bytes
+-- internal: a port of this script is steady, and each of its links takes `room` bytes
 pub record IsRoomyScript (room : ℕ) (script : PortScript) : Type 0 where
   pub steady : IsTrue (is_steady_script script)
   pub takes : room ≤ least_room script.waiting.items script.dialled.items
@@ -98,7 +98,7 @@ pub record SteadyLoss (words : SignWords) (store : StoreRun) (net : NetRun) : Ty
 abbrev pub file_in : List (String Global × Vec ℕ Global) → List ℕ → Option (List ℕ)
 file_in files name = option_map (λ disk. disk.bytes) (first_of (map file_disk files) name)
 
--- what a trustee of the dealing with this number replies, who grants both asks
+-- what the trustee of this number in the dealing replies when it grants both asks
 pub record IsGranted (d : Dealing) (s : State) (message : List ℕ) (member : ℕ) (bytes : List ℕ) : Type 0 where
   pub share : Share
   pub own : IsShareOf d share
@@ -106,7 +106,7 @@ pub record IsGranted (d : Dealing) (s : State) (message : List ℕ) (member : �
   pub tag : List ℕ
   pub bytes_are : bytes ≡ grants d s message share tag
 
--- the same of each of these members, in their order
+-- the same for each of these members, in their order
 abbrev pub AreGranted : Dealing → State → List ℕ → List ℕ → List (List ℕ) → Type 0
 AreGranted d s message [] replies = Unit {0}
 AreGranted d s message (member ∷ members) [] = ⊥
@@ -115,7 +115,7 @@ AreGranted d s message (member ∷ members) (bytes ∷ replies) =
 
 -- These files and replies are of a dealing, by the definitions of their bytes alone: OUT is new, the files of PREFIX
 -- are the dealing's, MESSAGE is not too long, TABLE is a leaf table by whose entries this is the coalition's leaf, and
--- the replies are those of its members, who grant both asks of a session with the leaf.
+-- the replies are those of its members, which grant both asks of a session with the leaf.
 pub record AreDealt (words : SignWords) (file : List ℕ → Option (List ℕ)) (replies : List (List ℕ)) (d : Dealing)
     (key : UndividedKey) (message : List ℕ) (leaf : ℕ) : Type 0 where
   pub dealing : IsDealing d key
@@ -135,7 +135,7 @@ pub record AreDealt (words : SignWords) (file : List ℕ → Option (List ℕ)) 
   pub granted : AreGranted d (started (public_key_of key) d.plan leaf (message_id message)) message
       (members_placed words.places) replies
 
--- A run of `sign` for which the premise of `completeness` holds, for each dealing of which these files and replies are.
+-- A run of `sign` for which the premise of `completeness` holds, for each dealing that these files and replies are of.
 pub record WellRun (words : SignWords) (file : List ℕ → Option (List ℕ)) (replies : List (List ℕ)) (store : StoreRun)
     (net : NetRun) : Type 0 where
   pub end : Ending
@@ -143,7 +143,7 @@ pub record WellRun (words : SignWords) (file : List ℕ → Option (List ℕ)) (
   pub well : (d : Dealing) (key : UndividedKey) (message : List ℕ) (leaf : ℕ)
       → AreDealt words file replies d key message leaf → AllIsWell words store net d key message leaf
 
--- internal: each of these links of which a reply is known gave just that reply
+-- internal: each of these links for which a reply is known gave just that reply
 abbrev pub AllGaveJust : List Talk → List (List ℕ) → Type 0
 AllGaveJust talks replies = (k : ℕ) (talk : Talk) (bytes : List ℕ) → slice_get talks k ≡ Some talk
     → slice_get replies k ≡ Some bytes → GaveJust bytes talk

@@ -25,7 +25,7 @@ ghost use Rattle.tool_words.specs.Words.{HssSignWords, SignWords};
 
 use stream_io::Store;
 
-/// Where all is well, `sign` ends with status 0 and writes RFC 8554's signature of the undivided key, for the leaf of
+/// If all is well, `sign` ends with status 0 and writes RFC 8554's signature of the undivided key, for the leaf of
 /// the coalition and the message, the dealer's randomizer and the message; or it ends for want of memory.
 pub fn completeness<S: Store>(before: &S, after: &S)
     ensures { (words : SignWords) (net : NetRun) (end : Ending) (d : Dealing) (key : UndividedKey) (message : List ℕ)
@@ -36,8 +36,8 @@ pub fn completeness<S: Store>(before: &S, after: &S)
         (rfc_signature key leaf (leaf_randomizer d leaf) message)) }
 {}
 
-/// Where all is well, `hss sign` ends with status 0 and writes the key and the signature of two levels, of which the
-/// upper one is RFC 8554's of the undivided key, for the lower key's bytes; or it ends for want of memory.
+/// If all is well, `hss sign` ends with status 0 and writes the key and the signature of two levels, the upper one
+/// being RFC 8554's signature of the undivided key for the lower key's bytes; or it ends for want of memory.
 pub fn levels_completeness<S: Store>(before: &S, after: &S)
     ensures { (words : HssSignWords) (net : NetRun) (end : Ending) (d : Dealing) (key : UndividedKey) (lower : Lower)
         (leaf : ℕ) → HssSigningRun words (from_to (S.state before.now) (S.state after.now)) net end
@@ -48,7 +48,7 @@ pub fn levels_completeness<S: Store>(before: &S, after: &S)
 {}
 
 /// A link that first gave the replies of a trustee of the dealing that grants both asks gave what [`completeness`] asks
-/// for, whatever came behind them.
+/// for, whatever came after them.
 pub fn granted_links()
     ensures { (d : Dealing) (key : UndividedKey) (message : List ℕ) (leaf : ℕ) (share : Share) (tag more : List ℕ)
         (talk : Talk) → IsDealing d key → IsShareOf d share → length message ≤ message_limit → leaf < 2 ^ d.plan.h

@@ -1,4 +1,4 @@
-//! That a signature comes where all is well, and runs for which premises hold.
+//! That a signature comes if all is well, and runs for which premises hold.
 #![tactic(auto)]
 
 pub mod laws;

@@ -1,5 +1,5 @@
-//! Runs over objects in memory for which the premises of laws hold. Where such a call answers true it has made one, so
-//! the premises can hold together. That it does so is seen where it is called with bytes.
+//! Runs over objects in memory for which the premises of laws hold. If a call here answers true, it has made such a
+//! run, so the premises can hold together. That it does so is seen where it is called with bytes.
 
 mod heard;
 mod links;

@@ -28,7 +28,7 @@ back n hash size =
     from-parts (u32str n ++ hash) (omega (arith, size, length-append (u32str n) hash))
     (λ i. four-small (n / 16777216 % 256) (n / 65536 % 256) (n / 256 % 256) (n % 256) i (omega arith) (omega arith) (omega arith) (omega arith))
 
--- the first byte behind the front is written
+-- the first byte after the front is written
 pub set-seam : (front rest : List ℕ) (x y : ℕ) → set (front ++ x ∷ rest) (length front) y ≡ front ++ y ∷ rest
 set-seam [] rest x y = refl
 set-seam (z ∷ front) rest x y = ap (λ (l : List ℕ). z ∷ l) (set-seam front rest x y)

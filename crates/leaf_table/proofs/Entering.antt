@@ -1,4 +1,4 @@
--- What two calls in turn say of the disk.
+-- What two calls in turn say about the disk.
 use Rattle.std.proofs.Common.{◌≡◌, ◌≢◌, ℕ, Result, Ok, Err, IsTrue, refl, sym, ◌∙◌, ap, subst, arith}
 use Rattle.disk_trait.specs.declared.disk.Pages as pages
 use Rattle.disk_trait.specs.declared.faults.Faults as faults
@@ -15,7 +15,7 @@ use Rattle.std.specs.Prelude.{OnOk}
 pub only-err : {T : Type 0} {fault other : TableFault} → ◌≡◌ {A = Result T TableFault} (Err fault) (Err other) → fault ≡ other
 only-err e = cc
 
--- where the entries stay and the disk has not failed, none was made
+-- if the entries stay and the disk has not failed, none was made
 pub put-none : {T : Type 0} {P : Type 0} (before after : TableState) (lease : Lease) (leaf : ℕ) (slot : Slot) (result : Result T TableFault)
     → Makes before lease leaf slot result after → OnOk result (after.entries ≢ before.entries) → after.entries ≡ before.entries → result ≢ Err Device → P
 put-none before after lease leaf slot (Ok done) makes new same fine = absurd (new same)
@@ -39,7 +39,7 @@ module _ {D : Type 0} {p : pages.Ghosts D} {f : faults.Ghosts D} where
     };
   }
 
-  -- an answer that is handed on
+  -- an answer that is passed on
   pub enters-err : {R S : Type 0} (old new : Table D p f) (fault : TableFault) → Enters {R = R} old new (Err fault) → Enters {R = S} old new (Err fault)
   enters-err old new fault enters = record {
     told = λ told leaf a b is. enters.told told leaf a b (ap Err (only-err is));

@@ -26,7 +26,7 @@ pub taken-set : (slots : List Slot) (leaf : ℕ) (slot : Slot) → leaf < length
     → taken_count (set slots leaf slot) + marks (slot_in slots leaf) ≡ taken_count slots + marks slot
 taken-set slots leaf slot within = omega (arith, sum_by-set marks slots leaf slot Free within)
 
--- where one slot is free, not all are taken
+-- if one slot is free, not all are taken
 pub taken-less : (slots : List Slot) (leaf : ℕ) → leaf < length slots → slot_in slots leaf ≡ Free → taken_count slots < length slots
 taken-less slots leaf within free =
     let sums = taken-set slots leaf (Half []) within in

@@ -1,4 +1,4 @@
--- No leaf stands in two leases.
+-- No leaf is in two leases.
 use Rattle.std.proofs.Common.{◌≡◌, ◌≢◌, ◌<◌, ◌≤◌, ℕ, zero, suc, List, [], ◌∷◌, ◌++◌, length, get_or, take, true, inl, inr, refl, sym, ◌∙◌, ap, arith, add-one}
 use Rattle.std.proofs.lemmas.Bool.{cases_eq, cases_order}
 use Rattle.std.proofs.lemmas.List.{take_more}
@@ -12,7 +12,7 @@ use-taken : (entry : Lease) → use_after entry ≢ IsFree
 use-taken (Leased leaf message) is = absurd (cc)
 use-taken (Burnt leaf) is = absurd (cc)
 
--- a leaf of which there was an entry is not free
+-- a leaf that had an entry is not free
 taken : (entries : List Lease) (none : Lease) (i leaf k : ℕ) → i < k → k ≤ length entries → leaf_of (get_or entries i none) ≡ leaf
     → map_of (take k entries) leaf ≢ IsFree
 taken entries none i leaf zero before within is free = absurd (omega (arith, before))
@@ -30,7 +30,7 @@ taken entries none i leaf (suc k) before within is free =
       ]
     ]
 
--- a lease follows where its leaf is free
+-- a lease may follow only if its leaf is free
 free-before : (leaf : ℕ) (message : MessageId) (found : LeafUse) → may_follow (Leased leaf message) found ≡ true → found ≡ IsFree
 free-before leaf message IsFree may = refl
 free-before leaf message (IsLeased kept) may = absurd (cc)

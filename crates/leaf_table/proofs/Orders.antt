@@ -35,7 +35,7 @@ module _ {K : Type 0} (P : K → K → Ordering) (total : IsTotalOrder P) (exact
       (exact _ _ is, omega (arith, below))
   between Greater found key leaf is reaches less = absurd (cc)
 
-  -- the least item from a key on stands for this key where one does, and then has its least number
+  -- the least item from a key on stands for this key if one does, and then has its least number
   pub from-low : (items : List (K × ℕ)) (key : K) (found : K × ℕ) → IsAscending (pair_cmp P) items → IsLeastFrom (pair_cmp P) items (key, 0) found
       → (leaf : ℕ) → Contains items (key, leaf) → (found.0 ≡ key) × (found.1 ≤ leaf)
   from-low items key found ascending least leaf has =
@@ -103,7 +103,7 @@ module _ {T : Type 0} (cmp : T → T → Ordering) (total : IsTotalOrder cmp) (e
       first-of x xs (cmp x item) refl ascending
       (at-most-one xs (λ i j d before inside. ascending (suc i) (suc j) d (omega (arith, before)) (omega (arith, inside))))
 
-  -- an item that is taken out of ascending ones is there no more
+  -- an item that is taken out of ascending ones is no longer there
   pub gone : (old new : List T) → IsAscending cmp old → IsPermutation old (item ∷ new) → Contains new item → ⊥
   gone old new ascending moved has =
       let at = at_from_Contains new item has in

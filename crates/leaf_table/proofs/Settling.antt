@@ -27,7 +27,7 @@ module _ (version : ℕ) (one : version ≡ 1) (before after : CacheState) (entr
       → Settles (state_with before entries) (Err got) (state_with after entries)
   settle_failed fault got is event = rw is (failed_as fault event)
 
--- what is said of the disk
+-- what is said about the disk
 module _ {D : Type 0} {p : pages.Ghosts D} {f : faults.Ghosts D} (old new : Table D p f) (stays : Stays old new) where
   pub enters_settled : (settled : Settled) → RisesAt (faults_of old) (faults_of new) (Ok settled) (Err settle.Device) → Enters {R = Unit {0}} old new (Ok tt)
   enters_settled settled cause = record {

@@ -127,7 +127,7 @@ module _ (plan : PlanNumbers) (slots : List Slot) (leaf : ℕ) (within : leaf < 
     | inr differs ↦ ap use_of_slot (sym (there other differs)) ∙ used
   ]
 
-  -- another leaf that was the least free one is so still
+  -- another leaf that was the least free one still is
   pub stays-found : (c : ℕ) (found : Option ℕ) → found ≢ Some leaf → IsFound plan slots c IsFree found → IsFound plan made c IsFree found
   stays-found c None differs none = λ other own used. none other own (before other used)
   stays-found c (Some least) differs is = record {
@@ -136,7 +136,7 @@ module _ (plan : PlanNumbers) (slots : List Slot) (leaf : ℕ) (within : leaf < 
     least = λ other own used. is.least other own (before other used);
   }
 
-  -- where the leaf was the least free one, none up to it is free now
+  -- if the leaf was the least free one, none up to it is free now
   pub passes-taken : (c : ℕ) → IsFound plan slots c IsFree (Some leaf) → IsPassed plan made c leaf
   passes-taken c least other own upto free = elim (cases_eq other leaf) [
     | inl same ↦ here (ap (slot_in made) (sym same) ∙ free)
@@ -157,7 +157,7 @@ module _ (plan : PlanNumbers) (slots : List Slot) (leaf : ℕ) (within : leaf < 
           (free-at plan slots (count_of plan) free are c below))
     ])
 
-    -- a leaf that was not free before is free no more
+    -- if the leaf was not free before, the least free leaves stay as they are
     pub free-kept : slot_in slots leaf ≢ Free → AreFree plan made (count_of plan) free
     free-kept other = all-free plan made (count_of plan) free (λ c below.
         stays-found c (get_or free c None)

@@ -16,7 +16,7 @@ use Rattle.std.specs.Option.{MatchOption}
 abbrev pub Listed : Type 0
 Listed = (ℕ × List ℕ) × ℕ
 
--- the lease stands in the slot of its leaf
+-- the lease is in the slot of its leaf
 pub record IsListed (plan : PlanNumbers) (slots : List Slot) (lease : Listed) : Type 0 where
   pub within : lease.1 < length slots
   pub own : lease.1 % count_of plan ≡ lease.0.0
@@ -33,13 +33,13 @@ pub record Lists (plan : PlanNumbers) (slots : List Slot) (leases : List Listed)
       → IsThere leases ((leaf % count_of plan, id), leaf)
   pub few : length leases ≤ taken_count slots
 
--- the least leaf of coalition c whose slot has this use, or none where there is none
+-- the least leaf of coalition c whose slot has this use, or none if there is none
 abbrev pub IsFound : PlanNumbers → List Slot → ℕ → LeafUse → Option ℕ → Type 0
 IsFound plan slots c wanted found =
     MatchOption found (HasNone plan c (λ leaf. use_of_slot (slot_in slots leaf)) wanted)
     (IsLeast plan c (λ leaf. use_of_slot (slot_in slots leaf)) wanted)
 
--- by number, the least free leaf of each of the first coalitions, or none where there is none
+-- by number, the least free leaf of each of the first coalitions, or none if there is none
 pub record AreFree (plan : PlanNumbers) (slots : List Slot) (count : ℕ) (free : List (Option ℕ)) : Type 0 where
   pub least : (c leaf : ℕ) → c < count → slice_index_or free c None ≡ Some leaf
       → IsFound plan slots c IsFree (Some leaf)

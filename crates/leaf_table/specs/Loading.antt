@@ -6,7 +6,7 @@ use Rattle.slot_file.specs.Logs.{IsWhole, entries_in}
 use Rattle.slot_file.specs.declared.header.Header.{Header}
 use Rattle.slot_file.specs.declared.slot.Slot.{Slot}
 
--- the entries of so many slots, leaf by leaf
+-- the entries of `count` slots, leaf by leaf
 abbrev pub entries_of : ℕ → (ℕ → Slot) → List Lease
 entries_of count slots = entries_in entries_of_slot count slots
 

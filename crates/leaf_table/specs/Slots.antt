@@ -37,6 +37,6 @@ may_become Free (Half a) = true
 may_become (Half a) (Full b c moment) = true
 may_become _ _ = false
 
--- the file, of version 1, has just these entries, for so many leaves
+-- the file, of version 1, has just these entries, for `count` leaves
 abbrev pub HasEntries : ℕ → List ℕ → List Lease → Type 0
 HasEntries count file entries = (leaf : ℕ) → leaf < count → use_of_slot (slot_at 1 leaf file) ≡ map_of entries leaf

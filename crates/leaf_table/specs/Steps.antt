@@ -16,7 +16,7 @@ use Rattle.slot_file.specs.declared.doubted.Doubted.{Doubted}
 use Rattle.slot_file.specs.declared.slot.Slot.{Slot}
 use Rattle.slot_file.specs.declared.slot.Slot.TheVariants.{Half}
 
--- the doubt is settled, or stays where the disk failed or the slot is neither as before nor as after
+-- the doubt is settled, or stays if the disk failed or the slot is neither as before nor as after
 abbrev pub Settles : TableState → Result (Unit {0}) TableFault → TableState → Type 0
 Settles before (Ok done) after = (after.doubt ≡ None) × SettlesTo before after
 Settles before (Err Device) after = IsSome before.doubt × (after ≡ before)
@@ -37,7 +37,7 @@ pub data IsLease (before : TableState) (message : MessageId) (leaf : ℕ) : Tabl
   made : map_of before.entries leaf ≡ IsFree → IsLease before message leaf
       (with_lease before (Leased leaf message) leaf (Half (message_id_bytes message)))
 
--- what leasing a leaf of coalition c does where nothing is in doubt
+-- what leasing a leaf of coalition c does if nothing is in doubt
 abbrev pub LeasesIn : PlanNumbers → TableState → ℕ → MessageId → Result ℕ TableFault → TableState → Type 0
 LeasesIn plan before c message (Ok leaf) after =
     LeaseOf plan before.entries c (message_id_bytes message) (Some leaf) × IsLease before message leaf after

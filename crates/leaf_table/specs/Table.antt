@@ -41,8 +41,8 @@ module _ {D : Type 0} {p : pages.Ghosts D} {f : faults.Ghosts D} where
     pub stands : StandsFor file (state_of table)
 
   -- What holds of every table: what a read gives and each image that a crash may leave is a file that loads and stands
-  -- for it, an entry is in doubt only where a call of the disk has failed, and each entry may follow those before it,
-  -- the one in doubt too.
+  -- for it, an entry is in doubt only if a call of the disk has failed, and each entry may follow those before it, the
+  -- one in doubt too.
   pub record Holds (table : Table D p f) : Type 0 where
     pub reads : IsTold table → Keeps table (p.reads (disk_of table))
     pub images : IsTold table → IsTrue (p.honest (disk_of table))
@@ -56,8 +56,8 @@ module _ {D : Type 0} {p : pages.Ghosts D} {f : faults.Ghosts D} where
     pub header : header_of new ≡ header_of old
     pub disk : SameDisk p f (disk_of old) (disk_of new)
 
-  -- What leasing and burning say of the disk: no slot is found damaged where the disk tells its content, a steady disk
-  -- that tells it does not fail, and the count rises where the answer is Device and nowhere else.
+  -- What leasing and burning say about the disk: no slot is found damaged if the disk tells its content, a steady disk
+  -- that tells it does not fail, and the count rises if the answer is Device and not otherwise.
   pub record Enters {R : Type 0} (old new : Table D p f) (result : Result R TableFault) : Type 0 where
     pub told : IsTold old → (leaf a b : ℕ) → result ≢ Err (Damaged leaf a b)
     pub succeeds : IsSteady old → IsTold old → result ≢ Err Device

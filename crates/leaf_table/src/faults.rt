@@ -20,9 +20,9 @@ pub enum TableFault {
     Damaged {
         /// The leaf.
         leaf: u32,
-        /// The byte of gate A, 0 where it is closed and the slot is not damaged.
+        /// The byte of gate A, 0 if it is closed and the slot is not damaged.
         a: u8,
-        /// The byte of gate B, 0 where it is closed.
+        /// The byte of gate B, 0 if it is closed.
         b: u8,
     },
     /// No leaf of the coalition is leased for the message, and none is free.

@@ -49,7 +49,7 @@ fn leases_of<D: Disk>(
 }
 
 /// The least free leaf of coalition `c`, by a walk over its leaves above `after`, up to which none is free. A leaf that
-/// is taken is never free again, and each walk begins behind the leaf where the last one of its coalition ended: so all
+/// is taken is never free again, and each walk begins after the leaf where the last one of its coalition ended: so all
 /// walks of a table's life in memory look at each leaf at most once.
 fn next_free<D: Disk>(
     plan: &Plan,
@@ -91,7 +91,7 @@ fn free_leaves<D: Disk>(
 }
 
 impl LeaseIndex {
-    /// The index of a table's slots, with all the memory that it will want.
+    /// The index of a table's slots, with all the memory that it will need.
     pub(crate) fn of_slots<D: Disk>(
         alloc: Global,
         plan: &Plan,
@@ -126,7 +126,7 @@ impl LeaseIndex {
         self.free[c as usize]
     }
 
-    /// The least free leaf of the coalition of this one, which was leased just now. Where this was the least, the walk
+    /// The least free leaf of the coalition of this one, which was leased just now. If this was the least, the walk
     /// goes on to the next.
     fn free_after<D: Disk>(&self, plan: &Plan, slots: &CachedSlots<D>, leaf: u32) -> Option<u32>
         requires count { count_of slots.now ≡ 2 ^ plan.now.h }
@@ -167,7 +167,7 @@ impl LeaseIndex {
             → WasIndex plan.now self.old leaf (Slot.Half id.now) (Slot.Full a b moment) slots
             → IsIndex plan.now slots self.new }
     {
-        // They ascend, so that no lease stands twice.
+        // They ascend, so that no lease is there twice.
         let _leases = self.leases.items();
         self.leases.remove(&((plan.coalition_of(leaf), *id), leaf));
     }

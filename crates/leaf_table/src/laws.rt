@@ -9,7 +9,7 @@ ghost use Rattle.leaf_table.specs.State.{TableState};
 ghost use Rattle.leaf_table.specs.declared.lease.Lease.{Lease};
 
 /// Whatever is leased and burnt, and however the table is stopped and loaded again: a table in which each leaf is for
-/// one message keeps that, its leaves only go on, and no leaf stands in two leases.
+/// one message keeps that, its leaves only go on, and no leaf is in two leases.
 pub fn one_lease()
     ensures keeps { (plan : PlanNumbers) (before after : TableState) → TableRun plan before after
         → KeepsOneLease before → KeepsOneLease after }

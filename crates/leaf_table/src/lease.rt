@@ -16,7 +16,7 @@ pub enum Lease {
         /// The message's id.
         message: MessageId,
     },
-    /// The leaf is for no message more.
+    /// The leaf is for no message any more.
     Burnt {
         /// The leaf.
         leaf: u32,

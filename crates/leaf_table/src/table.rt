@@ -81,7 +81,7 @@ impl<D: Disk> Table<D> {
     }
 
     /// The leaf of the members' coalition for this message, which is leased now if it was not before. An entry in doubt
-    /// is settled first. A new entry is stable before it is answered. Where none is in doubt, only a new entry makes
+    /// is settled first. A new entry is stable before it is answered. If none is in doubt, only a new entry makes
     /// calls of the disk. It takes no memory.
     pub fn lease(&mut self, members: Members, message: &MessageId) -> Result<u32, TableFault>
         ensures event { Leases (plan_of self.old) (state_of self.old) members message.now result (state_of self.new) }
@@ -101,7 +101,7 @@ impl<D: Disk> Table<D> {
         self.lease_of(c, message)
     }
 
-    // The leaf of coalition `c` for this message, where nothing is in doubt.
+    // The leaf of coalition `c` for this message, if nothing is in doubt.
     fn lease_of(&mut self, c: u32, message: &MessageId) -> Result<u32, TableFault>
         requires coalition { c < coalition_count (plan_of self.old) }
         requires settled { (state_of self.old).doubt ≡ None }
@@ -143,7 +143,7 @@ impl<D: Disk> Table<D> {
         self.index.free(c)
     }
 
-    // Leases a free leaf, where nothing is in doubt.
+    // Leases a free leaf, if nothing is in doubt.
     fn put_lease(&mut self, leaf: u32, message: &MessageId) -> Result<u32, TableFault>
         requires settled { (state_of self.old).doubt ≡ None }
         requires within { leaf < 2 ^ (plan_of self.old).h }
@@ -187,7 +187,7 @@ impl<D: Disk> Table<D> {
         self.put_burnt(leaf, message, by)
     }
 
-    // Burns a leaf that is leased for this message, where nothing is in doubt.
+    // Burns a leaf that is leased for this message, if nothing is in doubt.
     fn put_burnt(&mut self, leaf: u32, message: &MessageId, by: u8) -> Result<(), TableFault>
         requires settled { (state_of self.old).doubt ≡ None }
         requires within { leaf < 2 ^ (plan_of self.old).h }
@@ -266,7 +266,7 @@ pub struct TableName {
     pub told: bool,
     /// Whether the disk keeps the model of crashes.
     pub honest: bool,
-    /// Whether the disk's calls fail for their arguments alone.
+    /// Whether the disk's calls fail only because of their arguments.
     pub steady: bool,
 }
 

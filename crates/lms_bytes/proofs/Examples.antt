@@ -1,4 +1,4 @@
--- Worked examples: RFC 8554's of coef (section 3.1.3), and checksums of digests of zeros.
+-- Worked examples: those of RFC 8554 for coef (section 3.1.3), and checksums of digests of zeros.
 use Rattle.std.proofs.Common.{◌≡◌, ◌*◌, ◌^◌, ◌∷◌, [], replicate, refl}
 use Rattle.lms_bytes.specs.Bytes.{u16str}
 use Rattle.lms_bytes.specs.Digits.{coef, shortfall}

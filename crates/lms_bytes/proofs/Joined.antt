@@ -16,7 +16,7 @@ joined-suc f count = refl
 pub joined-more : (f : ℕ → List ℕ) (count : ℕ) → joined f (count + 1) ≡ joined f count ++ f count
 joined-more f count = rw (add-one count) (joined-suc f count)
 
--- a row of n bytes lies within as many rows
+-- a row of n bytes lies within count rows
 pub row-fits : (n i count : ℕ) → i < count → n * i + n ≤ n * count
 row-fits n i count h = rw (← mul-suc n i) (mul-le-mul_left n h)
 
@@ -31,7 +31,7 @@ length-joined f n (suc count) sized =
     let last = sized count (omega arith) in
     rw (joined-suc f count, length-append (joined f count) (f count), before, last, mul-suc n count) (omega arith)
 
--- strings that are equal one by one are equal joined
+-- strings that are equal one by one are equal when joined
 pub joined-same : (f g : ℕ → List ℕ) (count : ℕ) → ((i : ℕ) → i < count → f i ≡ g i) → joined f count ≡ joined g count
 joined-same f g zero same = joined-none f ∙ sym (joined-none g)
 joined-same f g (suc count) same =
@@ -82,7 +82,7 @@ joined-at f n count i sized inside =
     let front = length-joined f n i (λ k h. sized k (omega arith)) in
     joined-lies f count i (n * i) n inside (sym front) (sym (sized i inside))
 
--- a string is what its parts of n bytes are, joined
+-- a string equals its parts of n bytes, joined
 pub joined-parts : (f : ℕ → List ℕ) (n place count : ℕ) (s : List ℕ)
     → ((i : ℕ) → i < count → bytes_at s (place + n * i) n ≡ f i) → bytes_at s place (n * count) ≡ joined f count
 joined-parts f n place zero s part = rw (mul-zero n, joined-none f) refl
@@ -92,7 +92,7 @@ joined-parts f n place (suc count) s part =
     let next : n * suc count ≡ n * count + n = mul-suc n count in
     rw (next, joined-suc f count, take-add (n * count) n (drop place s), drop-drop (n * count) place s, front, last) refl
 
--- one string more is written behind those that are there
+-- one more string is written after those that are there
 pub front-more : (f : ℕ → List ℕ) (n i : ℕ) (old new v : List ℕ) → v ≡ f i → length v ≡ n → take (n * i) old ≡ joined f i
     → take (n * i + length v) new ≡ take (n * i) old ++ v → take (n * (i + 1)) new ≡ joined f (i + 1)
 front-more f n i old new v is sized before written =

@@ -12,7 +12,7 @@ use Rattle.lms_bytes.specs.declared.params.LmsRow.{LmsRow}
 use Rattle.lms_bytes.specs.declared.params.Params.{Params}
 use Rattle.lms_bytes.specs.declared.public_key.PublicKey.{PublicKey}
 
--- a part that others stand round
+-- a part that stands between others
 middle : (x y z s : List ℕ) (place count : ℕ) → s ≡ x ++ (y ++ z) → place ≡ length x → count ≡ length y → bytes_at s place count ≡ y
 middle x y z s place count e at size = rw (e, at, size, drop-append_seam x (y ++ z)) (take-append_seam y z)
 

@@ -6,7 +6,7 @@ use Rattle.lms_bytes.specs.Hash.{hash}
 use Rattle.lms_bytes.specs.HashLength.{IsHashLength}
 use Rattle.lms_bytes.specs.declared.params.Params.{Params}
 
--- what is cut from 32 bytes to a hash length
+-- the result of cutting 32 bytes to a hash length
 pub length-cut : (n : ℕ) (s : List ℕ) → IsHashLength n → length s ≡ 32 → length (take n s) ≡ n
 length-cut n s (inl e) all = omega (arith, length-take n s)
 length-cut n s (inr e) all = omega (arith, length-take n s)

@@ -1,4 +1,4 @@
--- Parts of a string, one behind the other.
+-- Parts of a string, one after another.
 use Rattle.std.proofs.Common.{◌≡◌, ℕ, ◌+◌, ◌-◌, ◌<◌, ◌≤◌, List, ◌++◌, length, get_or, drop, refl, sym, ap, ◌∙◌, inl, inr, arith, length-take, length-drop, take_all}
 use Rattle.std.proofs.lemmas.Bool.{cases_lt}
 use Rattle.std.proofs.lemmas.List.{get_or-take, get_or-drop, get_or_past, drop-drop}
@@ -30,13 +30,13 @@ front s count more = sym (take-add count more s)
 whole : (s : List ℕ) (count : ℕ) → length s ≡ count → s ≡ bytes_at s 0 count
 whole s count e = sym (take_all count s (omega arith))
 
--- four parts that are all of a string, as those of a public key
+-- four parts that make up a whole string, like those of a public key
 pub four_parts : (s a b c d : List ℕ) (n : ℕ) → length s ≡ 24 + n → a ≡ bytes_at s 0 4 → b ≡ bytes_at s 4 4
     → c ≡ bytes_at s 8 16 → d ≡ bytes_at s 24 n → s ≡ a ++ b ++ c ++ d
 four_parts s a b c d n len is_a is_b is_c is_d =
     rw (is_a, is_b, is_c, is_d, front s 4 4, front s 8 16, front s 24 n) (whole s (24 + n) len)
 
--- six parts that are all of a string, as those of a signature
+-- six parts that make up a whole string, like those of a signature
 pub six_parts : (s a b c d e f : List ℕ) (n m k : ℕ) → length s ≡ 12 + n + m + k → a ≡ bytes_at s 0 4 → b ≡ bytes_at s 4 4
     → c ≡ bytes_at s 8 n → d ≡ bytes_at s (8 + n) m → e ≡ bytes_at s (8 + n + m) 4 → f ≡ bytes_at s (8 + n + m + 4) k
     → s ≡ a ++ b ++ c ++ d ++ e ++ f

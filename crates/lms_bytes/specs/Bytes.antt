@@ -15,11 +15,11 @@ u32str x = to_be_bytes w32 x
 abbrev pub str_to_u32 : List ℕ → ℕ
 str_to_u32 s = from_be_bytes w32 s
 
--- the bytes of s from this place on, as many as count
+-- count bytes of s, from this place on
 abbrev pub bytes_at : List ℕ → ℕ → ℕ → List ℕ
 bytes_at s place count = take count (drop place s)
 
--- the bytes of one string, each XOR the other's byte at its place
+-- the bytes of one string, each XOR the byte of the other at the same place
 abbrev pub xor : List ℕ → List ℕ → List ℕ
 xor (a ∷ rest) (b ∷ others) = bit_xor a b ∷ xor rest others
 xor rest others = []

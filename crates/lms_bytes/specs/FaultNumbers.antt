@@ -1,4 +1,4 @@
--- The numbers by which users know faults: the places of their tests in the order of the tests, from 1 on.
+-- The numbers by which users know faults: the places of their tests in the order of the tests, counted from 1.
 use Rattle.std.specs.Prelude.{ℕ}
 use Rattle.lms_bytes.specs.declared.faults.KeyFault.{KeyFault}
 use Rattle.lms_bytes.specs.declared.faults.KeyFault.TheVariants as key

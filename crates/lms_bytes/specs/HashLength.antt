@@ -1,5 +1,5 @@
 -- The lengths that hash values have, and the widths that digits have. The proofs stand with the definitions, since the
--- toolchain wants what a ghost field names to be among them.
+-- toolchain requires what a ghost field names to be among them.
 use Rattle.std.specs.Prelude.{◌≡◌, ℕ, ◌⊎◌}
 use Rattle.std.proofs.Common.{inl, inr, ap, arith}
 use Rattle.std.specs.Coded.{Coded-set, coded_ℕ}

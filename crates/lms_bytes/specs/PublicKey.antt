@@ -11,7 +11,7 @@ use Rattle.lms_bytes.specs.declared.faults.KeyFault.TheVariants.{Short, Length}
 abbrev pub public_bytes : PublicKey → List ℕ
 public_bytes key = u32str key.params.lms ++ u32str key.params.ots ++ key.id ++ key.root
 
--- two keys have the same typecodes, identifier and root: all else of them follows from the typecodes
+-- two keys have the same typecodes, identifier and root: everything else in them follows from the typecodes
 pub record SameKey (a b : PublicKey) : Type 0 where
   pub lms : b.params.lms ≡ a.params.lms
   pub ots : b.params.ots ≡ a.params.ots

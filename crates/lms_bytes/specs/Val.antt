@@ -1,5 +1,5 @@
 -- Hash values of 24 or 32 bytes, seen as the list of their bytes. The proof stands with the definitions, since the
--- toolchain wants what a type's model names to be among them.
+-- toolchain requires what a type's model names to be among them.
 use Rattle.std.specs.Prelude.{◌≡◌, ℕ, ◌-◌, List, ◌++◌, length, take, drop, replicate}
 use Rattle.std.proofs.Common.{refl, arith, take-append-drop, length-take}
 use Rattle.lms_bytes.specs.HashLength.{IsHashLength}

@@ -1,17 +1,17 @@
-//! What an aggregator asks of a trustee, and the heads of its replies.
+//! What an aggregator asks of a trustee, and the heads of the trustee's replies.
 
 use crate::message::MessageId;
 use crate::public_key::KeyId;
 use crate::val::Val;
 
-/// An ask for the masks of a leaf. Without `second` it is of round one.
+/// An ask for the masks of a leaf. Without `second` it is an ask of round one.
 #[derive(Clone, Copy, Debug, PartialEq, Eq)]
 pub struct Ask {
     /// The key's identifier.
     pub key: KeyId,
     /// The number of the leaf.
     pub leaf: u32,
-    /// The message that is to be signed.
+    /// The message to be signed.
     pub message: MessageId,
     /// What round two adds.
     pub second: Option<Second>,
@@ -37,12 +37,12 @@ pub struct ReplyHead {
     pub leaf: u32,
     /// The trustee that replies.
     pub member: u8,
-    /// The message that is to be signed.
+    /// The message to be signed.
     pub message: MessageId,
     /// 1 or 2.
     pub round: u8,
-    /// The randomizer of the ask, and n zero bytes in round one.
+    /// The randomizer of the ask, or n zero bytes in round one.
     pub c: Val,
-    /// 0 for masks, and else the number of the refusal.
+    /// 0 for masks, and the number of the refusal otherwise.
     pub code: u8,
 }

@@ -7,7 +7,7 @@ ghost use Rattle.lms_bytes.specs.HashLength.{IsDigitWidth};
 use crate::params::Params;
 use crate::val::Val;
 
-/// Digit `i` of the digest with its checksum behind it (RFC 8554 section 4.5).
+/// Digit `i` of the digest followed by its checksum (RFC 8554 section 4.5).
 pub fn digit(params: &Params, digest: &Val, i: u16) -> u8
     requires index { i < params.now.p }
     requires digest { length digest.now ≡ params.now.n }
@@ -49,7 +49,7 @@ fn digit_in(s: &[u8], i: usize, w: u8) -> u8
     }
 }
 
-/// How far the digits of `s` fall short of the greatest digit 2^w - 1, together.
+/// How far the digits of `s` fall short of the greatest digit 2^w - 1, all together.
 #[tactic(auto, unfolding(crate::specs::Digits::shortfall))]
 fn shortfall_of(s: &[u8], w: u8, greatest: u16) -> u16
     requires width { IsDigitWidth w }

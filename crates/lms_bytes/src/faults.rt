@@ -27,7 +27,7 @@ pub enum KeyFault {
 impl KeyFault {
     ghost use Rattle.lms_bytes.specs.FaultNumbers.{key_fault_number};
 
-    /// The number that users see: the place of its test in the order of the tests, from 1 on.
+    /// The number that users see: the place of its test in the order of the tests, counted from 1.
     pub fn number(&self) -> u8
         ensures { result ≡ key_fault_number self.now }
     {
@@ -67,7 +67,7 @@ pub enum SigFault {
 impl SigFault {
     ghost use Rattle.lms_bytes.specs.FaultNumbers.{signature_fault_number};
 
-    /// The number that users see: the place of its test in the order of the tests, from 1 on.
+    /// The number that users see: the place of its test in the order of the tests, counted from 1.
     pub fn number(&self) -> u8
         ensures { result ≡ signature_fault_number self.now }
     {

@@ -10,7 +10,7 @@ use crate::params::Params;
 use crate::public_key::PublicKey;
 use crate::val::Val;
 
-/// Reads a public key that is all of `bytes`.
+/// Reads a public key that takes up all of `bytes`.
 #[tactic(auto, unfolding(crate::specs::PublicKey::public_fault))]
 pub fn read_public(bytes: &[u8]) -> Result<PublicKey, KeyFault>
     ensures key { IfOk result (λ key. bytes.now ≡ public_bytes key) }

@@ -29,7 +29,7 @@ impl MessageId {
         hash.finish()
     }
 
-    /// The 36 bytes in which it lies.
+    /// Its 36 bytes.
     pub fn to_bytes(&self) -> [u8; 36]
         ensures { result ≡ message_id_bytes self.now }
     {
@@ -55,7 +55,7 @@ impl MessageId {
     }
 }
 
-/// A message id in the making: a message that is taken piece by piece.
+/// A message id in the making: the message is taken piece by piece.
 #[derive(Drop)]
 pub struct IdHash {
     hasher: Sha256,
@@ -67,7 +67,7 @@ impl IdHash {
     ghost use Rattle.lms_bytes.specs.IdHash.{HasTaken, taken_length};
     ghost use Rattle.lms_bytes.specs.MessageId.{message_id};
 
-    /// The hash of no message yet.
+    /// The hash before any of a message is taken.
     pub fn new() -> IdHash
         ensures taken { HasTaken result [] }
         ensures length { taken_length result ≡ 0 }

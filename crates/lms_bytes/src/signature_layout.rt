@@ -23,7 +23,7 @@ pub struct SigView<'a> {
     pub path: &'a [u8],
 }
 
-/// Reads a signature that is all of `bytes`. The parts are borrowed from it.
+/// Reads a signature that takes up all of `bytes`. The parts are borrowed from `bytes`.
 pub fn read_signature<'a>(params: &Params, bytes: &'a [u8]) -> Result<SigView<'a>, SigFault>
     ensures layout { IfOk result (λ s. HasLayout params.now bytes.now s.leaf s.c.now s.chains.now s.path.now) }
     ensures read { (q : ℕ) (c y path : List ℕ) → HasLayout params.now bytes.now q c y path

@@ -81,7 +81,7 @@ impl Val {
         &self.bytes[..self.length as usize]
     }
 
-    /// Each byte XOR the other's byte at its place.
+    /// Each byte XOR the other's byte at the same place.
     pub fn xor(&self, other: &Val) -> Val
         requires { length self.now ≡ length other.now }
         ensures { result ≡ xor self.now other.now }
@@ -96,7 +96,7 @@ impl Val {
     }
 }
 
-/// Writes each byte of `left` XOR the byte of `right` at its place.
+/// Writes each byte of `left` XOR the byte of `right` at the same place.
 fn write_xor(left: &[u8], right: &[u8], out: &mut [u8])
     requires others { length left.now ≡ length right.now }
     requires room { length left.now ≡ length out.old }

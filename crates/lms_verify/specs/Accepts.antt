@@ -16,7 +16,7 @@ root_of_digest key digest q y path =
 abbrev pub root_of_parts : PublicKey → List ℕ → ℕ → List ℕ → List ℕ → List ℕ → List ℕ
 root_of_parts key message q c y path = root_of_digest key (message_digest key.params key.id q c message) q y path
 
--- where the string is a signature, this is the digest of the message under its leaf and its randomizer
+-- if the string is a signature, this is the digest of the message under its leaf and its randomizer
 abbrev pub IsDigestOf : PublicKey → (message signature digest : List ℕ) → Type 0
 IsDigestOf key message signature digest = (q : ℕ) (c y path : List ℕ) → HasLayout key.params signature q c y path
     → digest ≡ message_digest key.params key.id q c message

@@ -1,4 +1,4 @@
-//! What follows from the definitions, for whoever proves something about signatures. No function here does anything.
+//! What follows from the definitions, for proofs about signatures. No function here does anything.
 
 ghost use Rattle.std.specs.Prelude.{◌≡◌, ℕ, List, ◌^◌, ◌<◌, length};
 ghost use Rattle.lms_verify.specs.Accepts.{AcceptsAt};

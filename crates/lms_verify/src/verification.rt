@@ -12,7 +12,7 @@ use merkle_path::root_from;
 use ots_chain::{MessageHash, leaf_key_from};
 use std::fmt::{self, Display, Formatter, Write};
 
-/// What verification says of a message and a signature.
+/// What verification says about a message and a signature.
 #[derive(Clone, Copy, Debug, PartialEq, Eq)]
 pub enum Verdict {
     /// The signature is accepted; this leaf signed.
@@ -36,7 +36,7 @@ impl Display for Verdict {
     }
 }
 
-/// Verifies a signature that is all of `sig` (RFC 8554 section 5.4.2, Algorithm 6). It takes no memory.
+/// Verifies a signature that takes up all of `sig` (RFC 8554 section 5.4.2, Algorithm 6). It takes no memory.
 pub fn verify(key: &PublicKey, message: &[u8], sig: &[u8]) -> Verdict
     ensures verdict { IsVerdict key.now message.now sig.now result }
     ensures accepted { (q : ℕ) → AcceptsAt key.now message.now sig.now q → result ≡ Verdict.Accepted q }
@@ -49,8 +49,9 @@ pub fn verify(key: &PublicKey, message: &[u8], sig: &[u8]) -> Verdict
     }
 }
 
-/// Verifies a signature that is all of `sig` by the digest Q of its message, of `n` bytes: what `verify` says of every
-/// message that has this digest under the signature's leaf and randomizer. It takes no memory.
+/// Verifies a signature that takes up all of `sig` from the digest Q of its message, of `n` bytes: it gives what
+/// `verify` says about every message that has this digest under the signature's leaf and randomizer. It takes no
+/// memory.
 pub fn verify_digest(key: &PublicKey, digest: &Val, sig: &[u8]) -> Verdict
     requires digest { length digest.now ≡ key.now.params.n }
     ensures verdict { (message : List ℕ) → IsDigestOf key.now message sig.now digest.now

@@ -1,4 +1,4 @@
--- How long what is derived from a key is.
+-- The lengths of what is derived from a key.
 use Rattle.std.proofs.Common.{◌≡◌, ℕ, List, length, take}
 use Rattle.sha2.proofs.Facts256.{length-sha256}
 use Rattle.lms_bytes.specs.declared.params.Params.{Params}

@@ -3,7 +3,7 @@ use Rattle.std.specs.Prelude.{ℕ, ◌-◌, List, ◌++◌, length, replicate, n
 use Rattle.sha2.specs.Sha256.{sha256}
 use Rattle.lms_bytes.specs.Bytes.{xor}
 
--- zeros behind a string, up to a block (RFC 2104 section 2, step 1)
+-- a string filled up to a block with zeros (RFC 2104 section 2, step 1)
 abbrev pub zero_filled : List ℕ → List ℕ
 zero_filled s = s ++ replicate (64 - length s) 0
 

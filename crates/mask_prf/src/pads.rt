@@ -1,4 +1,4 @@
-//! A key's blocks, and what is hashed behind them.
+//! A key's blocks, and what is hashed after them.
 
 ghost use Rattle.std.specs.Prelude.{◌≡◌, ◌++◌, ◌≤◌, ℕ, List, length};
 ghost use Rattle.mask_prf.specs.Hmac.{padded};
@@ -26,7 +26,7 @@ pub(crate) fn begin(key: &[u8], pad: u8) -> Sha256
     hasher
 }
 
-/// The digest of what the hasher holds, and behind it two parts.
+/// The digest of what the hasher holds, followed by two parts.
 pub(crate) fn finish(hasher: &Sha256, first: &[u8], second: &[u8]) -> [u8; 32]
     ensures { (s : List ℕ) → Holds256 hasher.now s → result ≡ sha256 (s ++ first.now ++ second.now) }
 {

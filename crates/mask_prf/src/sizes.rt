@@ -22,14 +22,14 @@ pub fn chain_bytes(params: &Params) -> usize
     (params.n as usize) << params.w
 }
 
-/// The length of a leaf of the reference, where each leaf has `k` members.
+/// The length of a leaf of the reference, if each leaf has `k` members.
 pub fn leaf_bytes(params: &Params, k: u8) -> usize
     ensures { result ≡ leaf_length params.now k }
 {
     params.n as usize + TAG * k as usize + chain_bytes(params) * params.p as usize
 }
 
-/// The length of the commitments to a chain's masks in a leaf, where each leaf has `k` members.
+/// The length of the commitments to a chain's masks in a leaf, if each leaf has `k` members.
 pub fn chain_commits_bytes(params: &Params, k: u8) -> usize
     ensures length { result ≡ 32 * k * 2 ^ params.now.w }
     ensures small { result ≤ 2 ^ 21 }
@@ -37,7 +37,7 @@ pub fn chain_commits_bytes(params: &Params, k: u8) -> usize
     (COMMITMENT * k as usize) << params.w
 }
 
-/// The length of the commitments of a leaf, where each leaf has `k` members.
+/// The length of the commitments of a leaf, if each leaf has `k` members.
 pub fn leaf_commits_bytes(params: &Params, k: u8) -> usize
     ensures { result ≡ leaf_commits_length params.now k }
 {

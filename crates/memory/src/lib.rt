@@ -1,10 +1,10 @@
-//! Want of memory, as an answer of its own: it is merged with no other.
+//! Lack of memory, as an answer of its own: it is merged with no other.
 #![tactic(auto)]
 
 use std::alloc::{AllocError, AllocFailed};
 use thiserror::Error;
 
-/// Memory was wanted, and there was none.
+/// Memory was needed, and there was none.
 #[derive(Clone, Copy, Debug, PartialEq, Eq, Error)]
 #[error("out of memory")]
 pub struct NoMemory;

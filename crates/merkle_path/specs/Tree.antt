@@ -1,4 +1,4 @@
--- A tree with all its nodes, as they stand one behind the other from node 1 on.
+-- A tree with all its nodes, as they stand one after the other from node 1 on.
 use Rattle.std.specs.Prelude.{◌≡◌, ℕ, ◌+◌, ◌-◌, ◌*◌, ◌^◌, ◌≤◌, List, length}
 use Rattle.lms_bytes.specs.Bytes.{bytes_at, joined}
 use Rattle.lms_bytes.specs.HashLength.{IsHashLength}

@@ -1,4 +1,4 @@
-//! What follows from the definitions, for whoever proves something about trees. No function here does anything.
+//! What follows from the definitions, for anyone who proves something about trees. No function here does anything.
 
 ghost use Rattle.std.specs.Prelude.{◌≡◌, ℕ, List, ◌+◌, ◌-◌, ◌*◌, ◌^◌, ◌<◌, ◌≤◌, length};
 ghost use Rattle.lms_bytes.specs.declared.params.Params.{Params};

@@ -9,8 +9,8 @@ mod tree;
 pub use root::root_from;
 pub use tree::Tree;
 
-/// What is hashed for a leaf of the tree (RFC 8554 section 5.3).
+/// The tag of what is hashed for a leaf of the tree (RFC 8554 section 5.3).
 pub const D_LEAF: u16 = 0x8282;
 
-/// What is hashed for an inner node of the tree (RFC 8554 section 5.3).
+/// The tag of what is hashed for an inner node of the tree (RFC 8554 section 5.3).
 pub const D_INTR: u16 = 0x8383;

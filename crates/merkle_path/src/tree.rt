@@ -58,8 +58,8 @@ impl Tree {
         Ok(Tree::behind(params, Vec::from_slice(alloc, nodes)?, 0))
     }
 
-    /// The tree whose nodes T[1], T[2] and so on, of `n` bytes each, are all that stands behind the first `front`
-    /// bytes. It takes no memory.
+    /// The tree whose nodes T[1], T[2] and so on, of `n` bytes each, are everything after the first `front` bytes. It
+    /// takes no memory.
     pub fn behind(params: &Params, bytes: Vec<u8>, front: usize) -> Tree
         requires height { params.now.h ≤ 10 }
         requires length { length bytes.items ≡ front + params.now.n * (2 ^ (params.now.h + 1) - 1) }
@@ -99,7 +99,7 @@ impl Tree {
         self.node(1)
     }
 
-    /// The node of leaf `q`'s path that is this many levels above the leaves (RFC 8554 section 5.4).
+    /// The node of leaf `q`'s path that is `level` levels above the leaves (RFC 8554 section 5.4).
     pub fn path(&self, q: u32, level: u8) -> Val
         requires leaf { q < 2 ^ self.now.h }
         requires level { level < self.now.h }
@@ -172,7 +172,7 @@ fn node_from(params: &Params, id: &KeyId, keys: &[Val], nodes: &[u8], r: u32) ->
     }
 }
 
-/// Node `r` of nodes of `n` bytes that stand one behind the other from node 1 on.
+/// Node `r` of nodes of `n` bytes that stand one after the other from node 1 on.
 fn node_in(nodes: &[u8], n: u8, r: u32) -> Val
     requires hash_length { IsHashLength n }
     requires first { 1 ≤ r }

@@ -8,13 +8,13 @@ none-of [] is = refl
 none-of (x ∷ xs) is = absurd (omega (arith, is))
 
 module _ {W : Type 0} where
-  -- a list of which a slice was written that is all of it
+  -- a list of which a slice was written, where the slice is all of the list
   pub written-whole : (items slice news : List W) (len : ℕ) → slice ≡ items → length news ≡ length slice → len ≡ length items → take len (news ++ drop (length news) items) ≡ news
   written-whole items slice news len value size count =
       let same : len ≡ length news = omega (arith, count, size, ap length value) in
       ap (λ (k : ℕ). take k (news ++ drop (length news) items)) same ∙ take-append_seam news (drop (length news) items)
 
-  -- of two lists that one worker ends, those before it and the worker agree
+  -- two equal lists that each end with one worker agree in that worker and in those before it
   pub same-front : (xs ys : List W) (x y : W) → xs ++ x ∷ [] ≡ ys ++ y ∷ [] → xs ≡ ys
   same-front xs ys x y is =
       let sizes = ap length is in

@@ -27,7 +27,7 @@ begins-right xs ys one =
       | false ↦ λ is. elim one [ inl p ↦ prefix_all ys xs (sym (prefix_whole xs ys p (let le : length ys ≤ length xs = grind (arith, is) in omega arith))) | inr q ↦ q ]
     ] in all refl
 
--- who drew so few tickets drew no worn one
+-- a pass that drew that few tickets drew no worn one
 pub small-ticket : {E N : Type 0} (lock : Lock E N) (pass : Seen E N) (most : ℕ) → IsWhole lock pass → lock.first_ticket ≡ 0 → pass.draws ≤ most → most ≤ 2 ^ 60
     → pass.greatest < 2 ^ 62
 small-ticket lock pass most whole start few bound =

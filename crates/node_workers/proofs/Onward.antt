@@ -3,7 +3,7 @@ use Rattle.std.proofs.Common.{refl, ◌∙◌, arith}
 use Rattle.stream_io.specs.Net.{PortOnward, PortState}
 use Rattle.turn_lock.specs.Pass.{SamePass, Seen}
 
--- ports after ports
+-- a port after a port
 pub onward-same : (port : PortState) → PortOnward port port
 onward-same port = record { told = refl; steady = refl; place = refl; count = omega arith; accept_count = omega arith; room = omega arith }
 
@@ -17,6 +17,6 @@ onward-then old mid new a b = record {
   room = (let p = a.room in let q = b.room in omega (arith, p, q));
 }
 
--- passes after passes
+-- a pass after a pass
 pub same-then : {E N : Type 0} (old mid new : Seen E N) → SamePass old mid → SamePass mid new → SamePass old new
 same-then old mid new a b = record { lock = b.lock ∙ a.lock; name = b.name ∙ a.name }

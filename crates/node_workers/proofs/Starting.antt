@@ -16,7 +16,7 @@ module _ {P T X L E N : Type 0} (pass : Seen E N) where
   fresh-last (a ∷ ports) (b ∷ owns) port own same =
       ap (λ (l : List (Worker P T X L E N)). l ++ fresh_worker pass a b ∷ []) (fresh-last ports owns port own (omega (arith, same)))
 
-  -- what is true of all that the workers are given is true of what they have
+  -- what is true of everything that the workers are given is true of what they have
   pub fresh-own : (Is : X → Type 0) (ports : List P) (owns : List X) → All Is owns → All (λ worker. Is worker.own) (fresh_workers {P = P} {T = T} {X = X} {L = L} pass ports owns)
   unfolding fresh_workers
   fresh-own Is [] owns each = All-nil _

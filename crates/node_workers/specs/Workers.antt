@@ -10,7 +10,7 @@ use Rattle.turn_lock.specs.Pass.{Seen}
 abbrev pub IsFree : {E N : Type 0} → Lock E N → Seen E N → Type 0
 IsFree lock pass = (pass.lock ≡ lock) × (pass.in_turn ≡ false)
 
--- a worker that has served one more connection, after which its pass is worn where this says so
+-- a worker that has served one more connection, after which its pass is worn if this says so
 abbrev pub counted : {P T C L E N : Type 0} → Worker P T C L E N → Served → Bool → Worker P T C L E N
 counted worker served worn = record worker {
   connections = worker.connections + 1;
@@ -18,7 +18,7 @@ counted worker served worn = record worker {
   worn = worn;
 }
 
--- a port gave no link: no further one is to come, or accepting failed where this says so
+-- a port gave no link: no further one will come, or accepting failed if this says so
 pub record NoLink (old new : PortState) (failed : Bool) : Type 0 where
   pub links : SameLinks old new
   pub none_waits : failed ≡ false → IsTrue new.told → new.waiting ≡ 0

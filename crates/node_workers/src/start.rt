@@ -8,8 +8,8 @@ use crate::Worker;
 use stream_io::Port;
 use turn_lock::{Kept, Pass, TurnLock};
 
-/// Makes a worker of each port, with what it alone uses, at the same place, and a pass of this lock, in the room that
-/// there is. The worker of the first port is the last one.
+/// Makes a worker for each port, with what it alone uses, at the same place, and a pass of this lock, in the room
+/// available. The worker of the first port is the last one.
 pub fn make_workers<P: Port, T: Kept, X>(
     lock: &TurnLock<T>,
     ports: &mut Vec<P>,

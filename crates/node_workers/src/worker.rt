@@ -1,4 +1,4 @@
-//! Workers, which serve one link after the other.
+//! Workers, which serve one link after another.
 
 ghost use Rattle.std.specs.Prelude.{◌≡◌, ◌<◌, ◌-◌, ◌^◌, true, false, None, IfSome};
 ghost use Rattle.node_workers.specs.Starting.{fresh_worker};
@@ -15,7 +15,7 @@ use turn_lock::{Kept, Pass};
 pub struct Worker<P: Port, T: Kept, X> {
     /// Where it accepts links.
     pub port: P,
-    /// By which it takes turns.
+    /// With this pass it takes turns.
     pub pass: Pass<T>,
     /// What it alone uses: a trustee's clock, or an aggregator's cells.
     pub own: X,
@@ -30,7 +30,7 @@ pub struct Worker<P: Port, T: Kept, X> {
 }
 
 impl<P: Port, T: Kept, X> Worker<P, T, X> {
-    /// Begins anew: so far it has served nothing.
+    /// Starts afresh: so far it has served nothing.
     pub fn begin(&mut self)
         ensures { self.new ≡ fresh_worker self.old.pass self.old.port self.old.own }
     {
@@ -40,7 +40,7 @@ impl<P: Port, T: Kept, X> Worker<P, T, X> {
         self.failed = false;
     }
 
-    /// Counts a connection that was served. It says whether the pass has no more turns since, as `worn` does.
+    /// Counts a connection that was served. It tells whether the pass has no more turns since then, as `worn` does.
     pub fn count(&mut self, served: Served) -> bool
         requires { self.old.connections < 2 ^ 32 - 1 }
         ensures counted { self.new ≡ counted self.old served result }

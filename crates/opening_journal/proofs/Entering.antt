@@ -1,4 +1,4 @@
--- What binding and opening make of a journal: it is settled, and then answers or puts an entry.
+-- What binding and opening do to a journal: it is settled, and then answers or puts an entry.
 use Rattle.std.proofs.Common.{◌≡◌, ◌≢◌, ◌<◌, ◌^◌, ℕ, List, Result, Ok, Err, IsTrue, false, refl, sym, ap, ◌∙◌}
 use Rattle.std.proofs.Common.{subst}
 use Rattle.disk_trait.specs.declared.disk.Pages as pages
@@ -83,7 +83,7 @@ module _ {D : Type 0} {p : pages.Ghosts D} {f : faults.Ghosts D} {old mid : Jour
   pub sized-entry : (entry : Entry) → HasSizes (params_of old).n entry → HasSizes (params_of mid).n entry
   sized-entry entry sizes = subst (λ (q : Params). HasSizes q.n entry) (sym stays.params) sizes
 
-  -- what the calls say of the disk
+  -- what the calls say about the disk
   module _ {V : Type 0} {result : Result V JournalFault}
       (told : IsTold old → (leaf a b : ℕ) → result ≢ Err (Damaged leaf a b))
       (succeeds : IsSteady old → IsTold old → result ≢ Err Device)

@@ -100,7 +100,7 @@ pub put-is : (n : ℕ) (cache : CacheState) (entries : List Entry) (doubt : Opti
 put-is n cache entries doubt entry doubted held is is_put =
     let same : Some doubted ≡ Some (put_of entry) = sym is_put ∙ held.some entry is in cc
 
--- no entry is in doubt where no put is
+-- no entry is in doubt if no put is
 pub doubt-none : (n : ℕ) (cache : CacheState) (entries : List Entry) (doubt : Option Entry) → IsHeld n cache entries doubt → cache.doubt ≡ None → doubt ≡ None
 doubt-none n cache entries None held none = refl
 doubt-none n cache entries (Some entry) held none = let some = held.some entry refl in absurd (cc)

@@ -8,7 +8,7 @@ use Rattle.slot_file.specs.declared.faults.CacheLoad.{CacheLoad}
 use Rattle.slot_file.specs.Copies.{IsFirstDamaged}
 use Rattle.slot_file.specs.declared.header.Header.{Header}
 
--- why a journal is not loaded whose slots are not
+-- why a journal is not loaded if its slots are not
 pub refused-load : (header : Header) (count : ℕ) (file : List ℕ) (fault : CacheLoad) → header.version ≡ 2 → CacheRefused header count file fault → LoadRefused header count file (journal_load fault)
 refused-load header count file fault version (cache_refused.other_file why is) = other_file why is
 refused-load header count file fault version (cache_refused.no_memory opens) = no_memory opens

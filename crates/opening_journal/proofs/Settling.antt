@@ -1,4 +1,4 @@
--- What settling the slots makes of a journal with an entry in doubt.
+-- What settling the slots does to a journal with an entry in doubt.
 use Rattle.std.proofs.Common.{◌≡◌, ◌<◌, ℕ, Result, Ok, Err, Some, IsSome, length, refl, sym, ap, ◌∙◌, subst}
 use Rattle.disk_trait.specs.declared.disk.Pages as pages
 use Rattle.disk_trait.specs.declared.faults.Faults as faults
@@ -22,7 +22,7 @@ use Rattle.slot_file.specs.declared.faults.SettleFault.{SettleFault}
 use Rattle.slot_file.specs.declared.faults.SettleFault.TheVariants as settle
 use Rattle.slot_file.specs.declared.slot.Slot.{Slot}
 
--- where the slots are not settled, the journal is as it was
+-- if the slots are not settled, the journal is as it was
 module _ {D : Type 0} {p : pages.Ghosts D} {f : faults.Ghosts D} (journal : Journal D p f) (entry : Entry)
     (doubt : journal.doubt ≡ Some entry) where
   in-doubt : IsSome journal.doubt

@@ -20,7 +20,7 @@ abbrev pub HasSizes : ℕ → Entry → Type 0
 HasSizes n (Bound leaf message) = Unit {0}
 HasSizes n (Opened leaf message c digest moment) = (length c ≡ n) × (length digest ≡ n)
 
--- the doubt is settled, or stays where the disk failed or the slot is neither as before nor as after
+-- the doubt is settled, or stays if the disk failed or the slot is neither as before nor as after
 abbrev pub Settles : JournalState → Result (Unit {0}) JournalFault → JournalState → Type 0
 Settles before (Ok done) after = (after.doubt ≡ None) × SettlesTo before after.entries
 Settles before (Err Device) after = IsSome before.doubt × (after ≡ before)
@@ -36,7 +36,7 @@ Makes entries entry (Ok Old) after = ⊥
 Makes entries entry (Err Device) after = after ≡ record { entries = entries; doubt = Some entry }
 Makes entries entry (Err fault) after = ⊥
 
--- what a leaf answers that is asked to be bound to a message; New where it can be
+-- what a leaf answers when it is asked to be bound to a message; New if it can be
 abbrev pub BindsAs : MessageId → LeafState → Result Entered JournalFault → Type 0
 BindsAs message state (Ok New) = state ≡ IsFree
 BindsAs message state (Ok Old) = AnswersFor (message_id_bytes message) state
@@ -44,7 +44,7 @@ BindsAs message state (Err (Spent other)) =
     AnswersFor (message_id_bytes other) state × (message_id_bytes other ≢ message_id_bytes message)
 BindsAs message state (Err fault) = ⊥
 
--- what a leaf answers that is bound to the message of a body A and is asked to be bound to one
+-- what a leaf that is bound to the message of a body A answers when it is asked to be bound to one
 abbrev pub IsOldOrSpent : List ℕ → MessageId → Result Entered JournalFault → Type 0
 IsOldOrSpent kept message (Ok New) = ⊥
 IsOldOrSpent kept message (Ok Old) = kept ≡ message_id_bytes message
@@ -52,7 +52,7 @@ IsOldOrSpent kept message (Err (Spent other)) =
     (message_id_bytes other ≡ kept) × (message_id_bytes other ≢ message_id_bytes message)
 IsOldOrSpent kept message (Err fault) = ⊥
 
--- what a leaf answers that was opened with the pair of a body B and is asked to be opened with C and Q
+-- what a leaf that was opened with the pair of a body B answers when it is asked to be opened with C and Q
 abbrev pub IsSamePair : ℕ → List ℕ → List ℕ → List ℕ → Result Entered JournalFault → Type 0
 IsSamePair n body c digest (Ok New) = ⊥
 IsSamePair n body c digest (Ok Old) = (take n body ≡ c) × (take n (drop 32 body) ≡ digest)
@@ -60,7 +60,7 @@ IsSamePair n body c digest (Err (OtherDigest x y)) =
     (x ≡ take n body) × (y ≡ take n (drop 32 body)) × ((x ≢ c) ⊎ (y ≢ digest))
 IsSamePair n body c digest (Err fault) = ⊥
 
--- what a leaf answers that is asked to be opened for a message with C and Q
+-- what a leaf answers when it is asked to be opened for a message with C and Q
 abbrev pub OpensAs : MessageId → List ℕ → List ℕ → LeafState → Result Entered JournalFault → Type 0
 OpensAs message c digest state (Ok New) = state ≡ IsBound (message_id_bytes message)
 OpensAs message c digest state (Ok Old) = (then : ℕ) × (state ≡ IsOpened (message_id_bytes message) c digest then)
@@ -72,7 +72,7 @@ OpensAs message c digest state (Err (OtherDigest x y)) =
 OpensAs message c digest state (Err Device) = ⊥
 OpensAs message c digest state (Err (Damaged leaf a b)) = ⊥
 
--- what a leaf answers that is asked for an entry
+-- what a leaf answers when it is asked for an entry
 abbrev pub AnswersAs : Entry → LeafState → Result Entered JournalFault → Type 0
 AnswersAs (Bound leaf message) state result = BindsAs message state result
 AnswersAs (Opened leaf message c digest moment) state result = OpensAs message c digest state result

@@ -1,4 +1,4 @@
--- What a journal keeps of each leaf: by its entries, and by the slots of its file.
+-- What a journal keeps for each leaf: by its entries, and by the slots of its file.
 use Rattle.std.specs.Prelude.{◌≡◌, ◌<◌, ◌⊎◌, ℕ, List, ◌∷◌, ◌++◌, [], take, drop, fold}
 use Rattle.std.specs.Prelude.{Option, Some}
 use Rattle.lms_bytes.specs.MessageId.{message_id_bytes}
@@ -35,7 +35,7 @@ state_after (Opened leaf message c digest moment) = IsOpened (message_id_bytes m
 unfoldable pub map_of : List Entry → ℕ → LeafState
 map_of entries = fold (with_entry leaf_of state_after) (λ leaf. IsFree) entries
 
--- the entry may follow where its leaf is this
+-- the entry may follow if its leaf is this
 abbrev pub Adds : Entry → LeafState → Type 0
 Adds entry state = state ≡ state_before entry
 
@@ -59,7 +59,7 @@ state_of_slot n (Damaged a b) = IsTorn a b
 abbrev pub state_in_file : ℕ → List ℕ → ℕ → LeafState
 state_in_file n file leaf = state_of_slot n (slot_at 2 leaf file)
 
--- the file has just these entries, for so many leaves
+-- the file has just these entries, for `count` leaves
 abbrev pub HasEntries : ℕ → ℕ → List ℕ → List Entry → Type 0
 HasEntries n count file entries = (leaf : ℕ) → leaf < count → state_in_file n file leaf ≡ map_of entries leaf
 

@@ -6,7 +6,7 @@ use Rattle.opening_journal.specs.declared.entry.Entry.TheVariants.{Bound, Opened
 use Rattle.slot_file.specs.declared.slot.Slot.{Slot}
 use Rattle.slot_file.specs.declared.slot.Slot.TheVariants.{Free, Half, Full}
 
--- a value with zeros up to 32 bytes
+-- a value filled up with zeros to 32 bytes
 abbrev pub filled : List ℕ → List ℕ
 filled value = value ++ replicate (32 - length value) 0
 

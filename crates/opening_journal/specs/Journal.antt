@@ -43,8 +43,8 @@ module _ {D : Type 0} {p : pages.Ghosts D} {f : faults.Ghosts D} where
     pub stands : StandsFor (params_of journal).n (2 ^ (params_of journal).h) file (state_of journal)
 
   -- What holds of every journal: what a read gives and each image that a crash may leave is a file that loads and
-  -- stands for it, an entry is in doubt only where a call of the disk has failed, and each entry may follow those
-  -- before it, the one in doubt too.
+  -- stands for it, an entry is in doubt only if a call of the disk has failed, and each entry may follow those before
+  -- it, the one in doubt too.
   pub record Holds (journal : Journal D p f) : Type 0 where
     pub reads : IsTold journal → Keeps journal (p.reads (disk_of journal))
     pub images : IsTold journal → IsTrue (p.honest (disk_of journal))
@@ -58,8 +58,8 @@ module _ {D : Type 0} {p : pages.Ghosts D} {f : faults.Ghosts D} where
     pub header : header_of new ≡ header_of old
     pub disk : SameDisk p f (disk_of old) (disk_of new)
 
-  -- What binding and opening say of the disk: no slot is found damaged where the disk tells its content, a steady disk
-  -- that tells it does not fail, and the count rises where the answer is Device and nowhere else.
+  -- What binding and opening say about the disk: no slot is found damaged if the disk tells its content, a steady disk
+  -- that tells it does not fail, and the count rises if the answer is Device and not otherwise.
   pub record Enters (old new : Journal D p f) (result : Result Entered JournalFault) : Type 0 where
     pub told : IsTold old → (leaf a b : ℕ) → result ≢ Err (Damaged leaf a b)
     pub succeeds : IsSteady old → IsTold old → result ≢ Err Device

@@ -21,7 +21,7 @@ entries_of_slot n leaf (Full a b moment) =
     Bound leaf (message_id_of a) ∷ Opened leaf (message_id_of a) (take n b) (take n (drop 32 b)) moment ∷ []
 entries_of_slot n leaf (Damaged a b) = []
 
--- those of so many slots, leaf by leaf
+-- those of `count` slots, leaf by leaf
 abbrev pub entries_of : ℕ → ℕ → (ℕ → Slot) → List Entry
 entries_of n count slots = entries_in (entries_of_slot n) count slots
 

@@ -6,7 +6,7 @@ ghost use Rattle.opening_journal.specs.EntrySlots.{filled};
 
 use lms_bytes::Val;
 
-// A value with zeros up to 32 bytes.
+// A value filled up with zeros to 32 bytes.
 fn filled(value: &Val) -> [u8; 32]
     ensures { result ≡ filled value.now }
 {
@@ -16,7 +16,7 @@ fn filled(value: &Val) -> [u8; 32]
     out
 }
 
-/// Body B: the randomizer and the digest, each with zeros up to 32 bytes.
+/// Body B: the randomizer and the digest, each filled up with zeros to 32 bytes.
 pub(crate) fn pair_bytes(c: &Val, digest: &Val) -> [u8; 64]
     ensures { result ≡ filled c.now ++ filled digest.now }
 {

@@ -27,9 +27,9 @@ pub enum JournalFault {
     Damaged {
         /// The leaf.
         leaf: u32,
-        /// The byte of gate A, 0 where it is closed and the slot is not damaged.
+        /// The byte of gate A, 0 if it is closed and the slot is not damaged.
         a: u8,
-        /// The byte of gate B, 0 where it is closed.
+        /// The byte of gate B, 0 if it is closed.
         b: u8,
     },
     /// The leaf is free, and so is not opened.
@@ -85,7 +85,7 @@ pub(crate) fn journal_fault(fault: SettleFault) -> JournalFault
     }
 }
 
-/// Why a journal is not loaded whose slots are not.
+/// Why a journal is not loaded if its slots are not.
 pub(crate) fn journal_load(fault: CacheLoad) -> JournalLoad
     ensures { result ≡ journal_load fault }
 {

@@ -76,7 +76,7 @@ impl<D: Disk> Journal<D> {
     }
 
     /// Binds leaf `leaf` to a message. An entry in doubt is settled first. A new entry is stable before it is answered.
-    /// Where none is in doubt, only a new entry makes calls of the disk. It takes no memory.
+    /// If none is in doubt, only a new entry makes calls of the disk. It takes no memory.
     pub fn bind(&mut self, leaf: u32, message: &MessageId) -> Result<Entered, JournalFault>
         requires { leaf < 2 ^ (params_of self.old).h }
         ensures event { Binds (state_of self.old) leaf message.now result (state_of self.new) }
@@ -91,7 +91,7 @@ impl<D: Disk> Journal<D> {
     }
 
     /// Opens leaf `leaf`, which is bound to this message, with C and Q of `n` bytes. An entry in doubt is settled
-    /// first. A new entry is stable before it is answered. Where none is in doubt, only a new entry makes calls of the
+    /// first. A new entry is stable before it is answered. If none is in doubt, only a new entry makes calls of the
     /// disk. It takes no memory.
     pub fn open_leaf(
         &mut self,
@@ -118,7 +118,7 @@ impl<D: Disk> Journal<D> {
         })
     }
 
-    /// Makes an entry where its leaf answers that it can be made. An entry in doubt is settled first.
+    /// Makes an entry if its leaf answers that it can be made. An entry in doubt is settled first.
     fn enter(&mut self, entry: &Entry) -> Result<Entered, JournalFault>
         requires within { leaf_of entry.now < 2 ^ (params_of self.old).h }
         requires sizes { HasSizes (params_of self.old).n entry.now }
@@ -175,7 +175,7 @@ impl<D: Disk> Journal<D> {
         }
     }
 
-    /// Makes an entry, where none is in doubt and its leaf is as before it.
+    /// Makes an entry, if none is in doubt and its leaf is as before it.
     fn put(&mut self, entry: &Entry) -> Result<Entered, JournalFault>
         requires settled { (state_of self.old).doubt ≡ None }
         requires within { leaf_of entry.now < 2 ^ (params_of self.old).h }

@@ -13,7 +13,7 @@ use crate::entry::Entry;
 use disk_trait::{Disk, DiskFault};
 use slot_file::CachedSlots;
 
-/// Puts an entry into its slot, where no put is in doubt.
+/// Puts an entry into its slot, if no put is in doubt.
 pub(crate) fn put_entry<D: Disk>(slots: &mut CachedSlots<D>, entry: &Entry) -> Result<(), DiskFault>
     requires version { (header_of slots.old).version ≡ 2 }
     requires within { leaf_of entry.now < count_of slots.old }

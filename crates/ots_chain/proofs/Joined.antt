@@ -1,4 +1,4 @@
--- A hasher that takes joined values one after the other.
+-- A hasher that takes joined values one after another.
 use Rattle.std.proofs.Common.{◌≡◌, ℕ, ◌+◌, List, ◌++◌, sym, subst, append-nil, append_assoc}
 use Rattle.sha2.specs.Hashers.{Holds256}
 use Rattle.sha2.specs.declared.Sha256.{Sha256}

@@ -8,7 +8,7 @@ use Rattle.lms_bytes.specs.Hash.{hash}
 abbrev pub step : Params → List ℕ → ℕ → ℕ → ℕ → List ℕ → List ℕ
 step params id q i j value = hash params.n (id ++ u32str q ++ u16str i ++ u8str j ++ value)
 
--- a value after the steps from, from + 1, .. of chain i of leaf q, as many as count
+-- a value after count steps from, from + 1, .. of chain i of leaf q
 unfoldable pub steps : Params → List ℕ → ℕ → ℕ → ℕ → ℕ → List ℕ → List ℕ
 steps params id q i from zero value = value
 steps params id q i from (suc count) value = step params id q i (from + count) (steps params id q i from count value)

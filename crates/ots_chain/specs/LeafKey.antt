@@ -6,7 +6,7 @@ use Rattle.lms_bytes.specs.declared.params.Params.{Params}
 use Rattle.lms_bytes.specs.Hash.{hash}
 use Rattle.ots_chain.specs.Chains.{steps, secret_of}
 
--- K from the ends of the p chains, behind D_PBLC (RFC 8554 section 4.3, Algorithm 1, step 5, and section 7.1)
+-- K from the ends of the p chains, after D_PBLC (RFC 8554 section 4.3, Algorithm 1, step 5, and section 7.1)
 abbrev pub leaf_key_of_ends : Params → List ℕ → ℕ → (ℕ → List ℕ) → List ℕ
 leaf_key_of_ends params id q end = hash params.n (id ++ u32str q ++ u16str 0x8080 ++ joined end params.p)
 

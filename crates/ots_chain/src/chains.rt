@@ -9,10 +9,10 @@ use lms_bytes::bytes::{part, put};
 use lms_bytes::{KeyId, Params, Val};
 use sha2::{Digest, Sha256};
 
-/// What a step hashes: I, q, i and j, and behind these the value.
+/// The length of what a step hashes: I, q, i and j, followed by the value.
 const BLOCK: usize = 55;
 
-/// Where the number of the step lies in a block, and the value behind it.
+/// Where the number of the step lies in a block, followed by the value.
 const STEP: usize = 22;
 
 const VALUE: usize = 23;

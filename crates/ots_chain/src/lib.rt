@@ -9,8 +9,8 @@ pub use chains::{chain, secret};
 pub use leaf_key::{leaf_key_from, leaf_key_of};
 pub use message_hash::MessageHash;
 
-/// What is hashed for the public value of a leaf (RFC 8554 section 4.3).
+/// The tag of what is hashed for the public value of a leaf (RFC 8554 section 4.3).
 pub const D_PBLC: u16 = 0x8080;
 
-/// What is hashed for the digest of a message (RFC 8554 section 4.5).
+/// The tag of what is hashed for the digest of a message (RFC 8554 section 4.5).
 pub const D_MESG: u16 = 0x8181;

@@ -31,7 +31,7 @@ impl MessageHash {
         hash.finish()
     }
 
-    /// The hash of no message yet, for leaf `q` and the randomizer `c`.
+    /// The hash before any of a message is taken, for leaf `q` and the randomizer `c`.
     pub fn new(params: &Params, id: &KeyId, q: u32, c: &Val) -> MessageHash
         requires { length c.now ≡ params.now.n }
         ensures { HasTaken result params.now id.now q c.now [] }

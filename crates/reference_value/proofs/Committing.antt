@@ -10,7 +10,7 @@ use Rattle.reference_value.specs.Commitments.{commitments_to, leaf_commitments}
 use Rattle.reference_value.specs.Dealing.{Dealing, cell, cells, chain_mask, chain_value, key_of, leaf_part, leaf_randomizer, masked, masked_randomizer, members_of, random_mask, tags}
 use Rattle.reference_value.proofs.Members.{masked-push}
 
--- what stands for an element that is not there does not matter where it is
+-- what stands for a missing element does not matter if the element is there
 pub key-known : (keys : List (List ℕ)) (i : ℕ) (key : List ℕ) → i < length keys → get_or keys i key ≡ get_or keys i []
 key-known keys i key inside = get_or_default keys i key [] inside
 

@@ -6,7 +6,7 @@ use borrow.Rule.Slice.PartMut.{put_mid}
 use Rattle.lms_bytes.specs.Bytes.{bytes_at, joined}
 use Rattle.lms_bytes.proofs.Joined.{front-more, joined-none, joined-more, row-fits}
 
--- a value is masked where the others before it are, and those behind it are as they were
+-- a value is masked where the others before it are, and those after it are as they were
 pub record IsMasking (f : ℕ → List ℕ) (first : List ℕ) (n i : ℕ) (out : List ℕ) : Type 0 where
   pub front : take (n * i) out ≡ joined f i
   pub rest : drop (n * i) out ≡ drop (n * i) first
@@ -49,13 +49,13 @@ put-part place n old part within sized =
 pub part-within : (size each i count room : ℕ) → size ≡ each → room ≡ each * count → i < count → size * i + size ≤ room
 part-within size each i count room same all inside = rw (all, same) (row-fits each i count inside)
 
--- a part of a list is as long as was asked
+-- a part of a list is as long as was asked for
 pub length_part : {X : Type 0} (place count : ℕ) (xs : List X) → place + count ≤ length xs → length (take (place + count - place) (drop place xs)) ≡ count
 length_part place count xs within =
     let rest = length-drop place xs in
     length-take-le (place + count - place) (drop place xs) (omega (arith, rest, within)) ∙ omega arith
 
--- one part more is written behind those before it
+-- one more part is written after those before it
 pub part-written : (f : ℕ → List ℕ) (size i : ℕ) (old part : List ℕ) → size * i + size ≤ length old
     → length part ≡ length (take (size * i + size - size * i) (drop (size * i) old)) → part ≡ f i → take (size * i) old ≡ joined f i
     → take (size * (i + 1)) (put_mid (size * i) (size * i + size - size * i) old part) ≡ joined f (i + 1)

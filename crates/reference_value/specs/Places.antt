@@ -18,7 +18,7 @@ rank_of plan q t = length (below t (leaf_members plan q))
 abbrev pub rank_place : PlanNumbers → ℕ → ℕ → ℕ
 rank_place plan q t = 32 * rank_of plan q t
 
--- where the tag of trustee t lies, behind those of the members with lesser numbers
+-- where the tag of trustee t lies, after those of the members with lesser numbers
 abbrev pub tag_place : Params → PlanNumbers → ℕ → ℕ → ℕ
 tag_place params plan q t = leaf_place params plan q + params.n + rank_place plan q t
 

@@ -29,7 +29,7 @@ pub trait Cells: Faults {
     /// Whether the content is told.
     ghost told: { Self → Bool };
 
-    /// The leaves, one behind the other, where they are told.
+    /// The leaves, one after the other, if they are told.
     ghost leaves: { Self → List ℕ };
 
     /// The cell of chain `i` of leaf `q` after `j` steps, `n` bytes.

@@ -1,4 +1,4 @@
-//! What follows from the definitions, for whoever proves something about reference values. No function here does
+//! What follows from the definitions, for anyone who proves something about reference values. No function here does
 //! anything.
 
 ghost use Rattle.std.specs.Prelude.{◌≡◌, ℕ, List, ◌∷◌, ◌++◌, ◌<◌, ◌^◌, All, Contains, length, map};
@@ -15,7 +15,7 @@ ghost use Rattle.mask_prf.specs.Lengths.{leaf_length, leaves_length};
 
 /// Whatever the cells, the masks of the other members and the `p` values of `n` bytes, exactly one list of `p` masks of
 /// a member joins the cells to these values. So without a member's masks the cells fit every list of values. This is a
-/// law on lists, and no claim of secrecy.
+/// law on lists, not a claim of secrecy.
 pub fn pads()
     ensures { (n p : ℕ) (cells values : List (List ℕ)) (before after : List (List (List ℕ)))
         → AreValues n p cells → AreValues n p values → All (AreValues n p) before → All (AreValues n p) after

@@ -14,7 +14,7 @@ use disk_trait::{DiskFault, Faults, Pages};
 use lms_bytes::{Params, Val};
 use mask_prf::HEAD;
 
-/// The leaves of a reference on pages, behind a header. Each value is one read.
+/// The leaves of a reference on pages, after a header. Each value is one read.
 #[derive(Drop)]
 pub struct Paged<V: Pages> {
     layout: Layout,
@@ -83,7 +83,7 @@ impl<V: Pages> Cells for Paged<V> {
     }
 }
 
-/// Reads the bytes of the leaves, which stand behind a head of 32 bytes, from a place on, as many as `out` has.
+/// Reads as many bytes of the leaves as `out` has, from a place on. The leaves come after a head of 32 bytes.
 pub fn read_behind_header<V: Pages>(
     pages: &mut V,
     place: usize,

@@ -27,7 +27,7 @@ use Rattle.hss_levels.proofs.Sets.{key-of-bytes}
 use Rattle.rikselbe_c.specs.Answers.{HssAnswer, IsHssVerified, IsLmsVerified, LmsAccepts, LmsAnswer, no_key, verdict}
 use Rattle.rikselbe_c.specs.Numbers.{hss_fault_number, hss_key_number, hss_number, leaf_of, lms_key_number, lms_number}
 
--- an accepted signature is accepted under the key that was read
+-- a signature that is accepted is accepted under the key that was read
 pub under-key : (public : PublicKey) (key message signature : List ℕ) (q : ℕ) → key ≡ public_bytes public → LmsAccepts key message signature q
     → AcceptsAt public message signature q
 under-key public key message signature q is accepts =
@@ -67,7 +67,7 @@ one-verdict public message signature q (lms.Malformed fault) accepts true_of =
 one-verdict public message signature q (lms.OtherRoot got want) accepts true_of =
     absurd (true_of.1 (one-root public message signature true_of.0.0 q _ _ true_of.0.1 accepts).1)
 
--- 0 is the number of acceptance alone
+-- 0 is the number of acceptance and of nothing else
 lms-zero : (public : PublicKey) (key message signature : List ℕ) (says : Verdict) (old : ℕ) → key ≡ public_bytes public
     → IsVerdict public message signature says → lms_number says ≡ 0 → LmsAccepts key message signature (leaf_of says old)
 lms-zero public key message signature (lms.Accepted leaf) old is true_of is_zero = record { public = public; key_is = is; accepted = true_of }

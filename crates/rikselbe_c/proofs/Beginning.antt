@@ -47,7 +47,7 @@ module _ (K : Kind) where
   abbrev R : RattleType
   R = K.row
 
-  -- the code, where this function makes the state
+  -- the code, when this function makes the state
   abbrev pub function : Callee → Fn
   function made = record {
     lifetimes = 2;

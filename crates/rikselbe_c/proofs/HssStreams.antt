@@ -58,7 +58,7 @@ one-parts key below parts (s ∷ ks) (t ∷ ts) last last' a b =
     (record { count = omega arith; parts_are = rest; read = subst (λ (k : PublicKey). AllRead k ts last') (sym same_key) b.read.1 }) in
     (ap (λ (u : SignedKey). u ∷ ks) same ∙ ap (λ (us : List SignedKey). t ∷ us) more.0, more.1)
 
--- where all parts read, none is at fault
+-- if all parts read, none is at fault
 no-fault : (key : PublicKey) (level below : ℕ) (parts : List ℕ) (of : HssFault) (keys : List SignedKey) (last : List ℕ) → ArePartsOf key below parts keys last
     → PartsFault key level below parts of → ⊥
 no-fault key level below parts of [] last a found =
@@ -81,7 +81,7 @@ no-fault key level below parts of (s ∷ ks) last a found =
           (subst (λ (t : List ℕ). PartsFault s.key (level + 1) (length ks) t of) rest (subst (λ (k : PublicKey). PartsFault k (level + 1) (length ks) more.behind of) same_key more.fault_is))
     ]
 
--- what is accepted, for whichever message, is not at fault
+-- what is accepted, for any message, is not at fault
 no-hss-fault : (key : HssKey) (message signature : List ℕ) (of : HssFault) → HssAccepts (hss_key_bytes key) message signature → IsHssFault key signature of → ⊥
 no-hss-fault key message signature of accepts (fault.short few) = let parts = parts-of key message signature accepts in let enough = parts.enough in omega arith
 no-hss-fault key message signature of accepts (fault.levels _ other) = let parts = parts-of key message signature accepts in other parts.number
@@ -94,7 +94,7 @@ pub read-last : (key : PublicKey) (keys : List SignedKey) (last : List ℕ) → 
 read-last key [] last read = read
 read-last key (s ∷ ks) last read = read-last s.key ks last read.1
 
--- the levels above the last, of levels that are all signed
+-- the levels above the last, if all levels are signed
 pub signed-above : (key : PublicKey) (keys : List SignedKey) (message last : List ℕ) → AllByRecursion IsSigned (levels_of key keys message last)
     → AreSigned key keys
 signed-above key [] message last signed = tt
@@ -106,7 +106,7 @@ first-is a b more more' same = ap (λ (l : List Level). elim l [ [] ↦ a | x �
 rest-is : (a b : Level) (more more' : List Level) → a ∷ more ≡ b ∷ more' → more ≡ more'
 rest-is a b more more' same = ap (λ (l : List Level). elim l [ [] ↦ more | x ∷ xs ↦ xs ]) same
 
--- the same, of levels of which only the last is not
+-- the same, if all levels but the last are signed
 pub signed-front : (key : PublicKey) (keys : List SignedKey) (message last : List ℕ) (above : List Level) (at : Level) (below : List Level)
     → levels_of key keys message last ≡ above ++ (at ∷ below) → length above ≡ length keys → AllByRecursion IsSigned above → AreSigned key keys
 signed-front key [] message last above at below are number signed = tt
@@ -116,7 +116,7 @@ signed-front key (s ∷ ks) message last (l ∷ ls) at below are number signed =
     let more = rest-is _ l _ (ls ++ (at ∷ below)) are in
     (subst IsSigned (sym here) signed.0, signed-front s.key ks message last ls at below more (omega (arith, number)) signed.1)
 
--- the verdict on the last level is that on all, where the levels above are signed
+-- the verdict on the last level is the verdict on all, if the levels above are signed
 pub levels-verdict : (key : PublicKey) (keys : List SignedKey) (level : ℕ) (message last : List ℕ) (says : HssVerdict) → AreSigned key keys
     → IsLevelsVerdict (level + length keys) (levels_of (last_key key keys) [] message last) says → IsLevelsVerdict level (levels_of key keys message last) says
 levels-verdict key [] level message last says signed on_last =
@@ -149,7 +149,7 @@ last-verdict key level message last (lms.OtherRoot got want) read true_of = (
   },
 )
 
--- what a verdict says of all levels is what it says of the key and the signature
+-- a verdict says the same of the key and the signature as of all levels
 pub verified : (top : HssKey) (key message signature : List ℕ) (levels : HasLevels top signature) (says : Verdict) (number : ℕ) → key ≡ hss_key_bytes top
     → IsVerdict (last_key top.top levels.keys) message levels.last says → number ≡ hss_number (at_last_level (length levels.keys) says)
     → IsHssVerified key message signature number
@@ -231,7 +231,7 @@ malformed top key message signature of number key_is found number_is = record {
   only = λ zero. absurd (hss-fault-other of (sym number_is ∙ zero));
 }
 
--- what the levels above the last are does not depend on the message
+-- the levels above the last do not depend on the message
 pub record Moved (key : PublicKey) (keys : List SignedKey) (message last : List ℕ) (above : List Level) (at : Level) : Type 0 where
   pub below : List Level
   pub are : levels_of key keys message last ≡ above ++ (at ∷ below)
@@ -250,7 +250,7 @@ moved-levels key (s ∷ ks) message other last (l ∷ ls) at below are few =
       are = ap (λ (f : Level). f ∷ levels_of s.key ks other last) here ∙ ap (λ (t : List Level). l ∷ t) more.are;
     }
 
--- a signature of which a level above the last leads elsewhere, whatever the message is
+-- a signature with a level above the last that leads elsewhere, whatever the message is
 pub other-above : (top : HssKey) (key first message signature : List ℕ) (level : ℕ) (got want : List ℕ) (number : ℕ) → key ≡ hss_key_bytes top
     → level + 1 < top.levels → IsOtherRoot top first signature level got want → number ≡ hss_number (hss.OtherRoot level got want)
     → IsHssVerified key message signature number
@@ -305,7 +305,7 @@ last-fits top signature levels =
     let size = ap length whole ∙ length-append (take 4 signature ++ signed_keys_bytes levels.keys) levels.last in
     omega (arith, size)
 
--- a string whose first levels are signed up to one that leads elsewhere has one such level
+-- a string whose first levels are signed, up to one that leads elsewhere, has only one level of that kind
 one-level : (levels : List Level) (level level' : ℕ) (got want got' want' : List ℕ) (above above' : List Level) (at at' : Level) (below below' : List Level)
     → levels ≡ above ++ (at ∷ below) → levels ≡ above' ++ (at' ∷ below') → length above ≡ level → length above' ≡ level'
     → AllByRecursion IsSigned above → AllByRecursion IsSigned above' → (IsSigned at → ⊥) → (IsSigned at' → ⊥) → level ≡ level'
@@ -327,7 +327,7 @@ not-signed at got want other signed =
     let one = one-verdict at.key at.message at.signature signed.0 (lms.OtherRoot got want) signed.1 other in
     cc
 
--- the parts of a signature of which a level leads elsewhere
+-- the parts of a signature with a level that leads elsewhere
 other-levels : (top : HssKey) (message signature : List ℕ) (level : ℕ) (got want : List ℕ) (other : IsOtherRoot top message signature level got want)
     → ArePartsOf top.top (length other.keys) (drop 4 signature) other.keys other.last
 other-levels top message signature level got want other =
@@ -342,7 +342,7 @@ other-fault top signature below keys last of enough number count parts (fault.pa
     let same : found ≡ below = sym is ∙ number in
     no-fault top.top 0 below (drop 4 signature) of keys last parts (subst (λ (n : ℕ). PartsFault top.top 0 n (drop 4 signature) of) same first)
 
--- where a level leads elsewhere, all parts read
+-- if a level leads elsewhere, all parts read
 no-other-fault : (top : HssKey) (message signature : List ℕ) (level : ℕ) (got want : List ℕ) (of : HssFault) → IsOtherRoot top message signature level got want
     → IsHssFault top signature of → ⊥
 no-other-fault top message signature level got want of other found =
@@ -384,7 +384,7 @@ one-other top message signature level got want (hss.OtherRoot level' got' want')
     (not-signed there.at got want there.other) (not-signed there'.at got' want' there'.other) in
     ap (λ (n : ℕ). 256 * n + 1) one
 
--- the answer under the key that was read is that of its verdict
+-- the answer under the key that was read is the answer of its verdict
 pub one-hss : (top : HssKey) (key message signature : List ℕ) (number : ℕ) (says : HssVerdict) → key ≡ hss_key_bytes top → hss_key_fault key ≡ None
     → ((other : HssKey) → key ≡ hss_key_bytes other → other ≡ top) → IsHssVerdict top message signature says
     → (HssAccepts (hss_key_bytes top) message signature → says ≡ hss.Accepted top.levels) → ((of : HssFault) → IsHssFault top signature of → says ≡ hss.Malformed of)

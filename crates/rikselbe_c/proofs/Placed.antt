@@ -41,11 +41,11 @@ module _ (K : Kind) where
   abbrev pub State : Type 0
   State = K.row.Denot
 
-  -- a state that says so
+  -- a state that says this
   abbrev pub Says : (State → Type 0) → State → Fml
   Says Has state = fex (Has state) (λ _. ftrue)
 
-  -- such a state lies there
+  -- a state of this kind lies there
   abbrev pub LiesAt : Ptr → (State → Type 0) → Fml
   LiesAt place Has = fex State (λ state. fsep (lies_at K.row full_share place state) (Says Has state))
 

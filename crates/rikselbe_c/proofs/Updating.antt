@@ -48,7 +48,7 @@ module _ (K : Kind) where
   abbrev R : RattleType
   R = K.row
 
-  -- the code, where this function makes the next state
+  -- the code, when this function makes the next state
   abbrev pub function : Callee → Fn
   function made = record {
     lifetimes = 1;

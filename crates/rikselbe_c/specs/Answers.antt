@@ -1,4 +1,4 @@
--- What the numbers say of the bytes that C hands in.
+-- What the numbers say about the bytes that C passes in.
 use Rattle.std.specs.Prelude.{◌≡◌, ◌≢◌, ℕ, List, Some}
 use Rattle.lms_bytes.specs.PublicKey.{public_bytes, public_fault}
 use Rattle.lms_bytes.specs.declared.faults.KeyFault.{KeyFault}
@@ -27,23 +27,23 @@ pub data LmsAnswer (key message signature : List ℕ) : ℕ → Type 0 where
   verdict : (public : PublicKey) (says : Verdict) → key ≡ public_bytes public
       → IsVerdict public message signature says → LmsAnswer key message signature (lms_number says)
 
--- a verification that answered this number, and that found and left these numbers of a leaf: 0 exactly where the
--- signature is accepted, and then the leaf that signed; else the fault's number, and the leaf as it was
+-- a verification that answered this number, and that found and left these numbers of a leaf: 0 exactly if the signature
+-- is accepted, and then the leaf that signed; otherwise the fault's number, and the leaf as it was
 pub record IsLmsVerified (key message signature : List ℕ) (old result new : ℕ) : Type 0 where
   pub answer : LmsAnswer key message signature result
   pub accepted : (q : ℕ) → LmsAccepts key message signature q → (result ≡ 0) × (new ≡ q)
   pub only : result ≡ 0 → LmsAccepts key message signature new
   pub refused : result ≢ 0 → new ≡ old
 
--- the same of an HSS key
+-- the same for an HSS key
 pub data HssAnswer (key message signature : List ℕ) : ℕ → Type 0 where
   no_key : (fault : HssKeyFault) → hss_key_fault key ≡ Some fault
       → HssAnswer key message signature (hss_key_number fault)
   verdict : (public : HssKey) (says : HssVerdict) → key ≡ hss_key_bytes public
       → IsHssVerdict public message signature says → HssAnswer key message signature (hss_number says)
 
--- a verification under an HSS key that answered this number: 0 exactly where the signature is accepted, and else the
--- fault's
+-- a verification under an HSS key that answered this number: 0 exactly if the signature is accepted, and the fault's
+-- number otherwise
 pub record IsHssVerified (key message signature : List ℕ) (result : ℕ) : Type 0 where
   pub answer : HssAnswer key message signature result
   pub accepted : HssAccepts key message signature → result ≡ 0

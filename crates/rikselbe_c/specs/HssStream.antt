@@ -53,7 +53,7 @@ pub record IsHashing (level place : ℕ) (public : PublicKey) (hash : MessageHas
   pub taken : HasTaken hash public.params public.id q c message
 
 -- the state was begun with this key and this signature, and has taken this much of the message; or the two are refused,
--- by this number, whatever the message is
+-- with this number, whatever the message is
 abbrev pub HasTakenPart : HssStream → List ℕ → List ℕ → List ℕ → Type 0
 HasTakenPart (Refused number) key signature message = (whole : List ℕ) → IsHssVerified key whole signature number
 HasTakenPart (Hashing level place public hash) key signature message =

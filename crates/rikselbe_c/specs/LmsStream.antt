@@ -20,7 +20,7 @@ pub record IsHashing (public : PublicKey) (hash : MessageHash) (key signature me
   pub taken : HasTaken hash public.params public.id q c message
 
 -- the state was begun with this key and this signature, and has taken this much of the message; or the two are refused,
--- by this number, whatever the message is
+-- with this number, whatever the message is
 abbrev pub HasTakenPart : LmsStream → List ℕ → List ℕ → List ℕ → Type 0
 HasTakenPart (Refused number) key signature message =
     (whole : List ℕ) (leaf : ℕ) → IsLmsVerified key whole signature leaf number leaf

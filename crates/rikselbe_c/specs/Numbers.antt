@@ -55,7 +55,7 @@ hss_number (hss.Accepted levels) = 0
 hss_number (hss.Malformed fault) = hss_fault_number fault
 hss_number (hss.OtherRoot level got want) = 256 * level + 1
 
--- the verdict under an HSS key whose last level has this verdict, and above it nothing to refuse
+-- the verdict under an HSS key whose last level has this verdict, with nothing to refuse above it
 abbrev pub at_last_level : ℕ → Verdict → HssVerdict
 at_last_level level (lms.Accepted leaf) = hss.Accepted (level + 1)
 at_last_level level (lms.Malformed of) = hss.Malformed (fault.Sig level of)

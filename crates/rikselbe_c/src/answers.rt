@@ -28,7 +28,7 @@ const HSS_SIGNATURE_SHORT: u32 = 0x33;
 
 const HSS_SIGNATURE_LEVELS: u32 = 0x34;
 
-/// What is added for each level above the one that is spoken of.
+/// What is added for each level above the one in question.
 const LEVEL: u32 = 0x100;
 
 /// The number of an LMS key's fault.
@@ -45,7 +45,7 @@ pub(crate) fn of_lms_signature(fault: &SigFault) -> u32
     of_signature(0, fault)
 }
 
-/// The number of a verdict under an LMS key. Where it is that of acceptance, `leaf` is then the leaf that signed.
+/// The number of a verdict under an LMS key. If it is the number of acceptance, `leaf` is then the leaf that signed.
 pub(crate) fn of_lms(verdict: &Verdict, leaf: &mut u32) -> u32
     ensures number { result ≡ lms_number verdict.now }
     ensures leaf { leaf.new ≡ leaf_of verdict.now leaf.old }
@@ -82,7 +82,7 @@ pub(crate) fn of_hss(verdict: &HssVerdict) -> u32
     }
 }
 
-/// The number of a verdict under the key of the last level, which is this one, where all levels above are signed.
+/// The number of a verdict under the key of the last level, which is this one, if all levels above are signed.
 pub(crate) fn of_last_level(level: u8, verdict: &Verdict) -> u32
     ensures { result ≡ hss_number (at_last_level level verdict.now) }
 {

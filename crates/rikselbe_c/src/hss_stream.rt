@@ -22,8 +22,8 @@ pub enum HssStream {
     Refused {
         number: u32,
     },
-    /// The digest of the message, as far as it came, under the key of the last level and its signature's leaf and
-    /// randomizer. That signature lies at `place` of the whole one.
+    /// The digest of the message so far, under the key of the last level and its signature's leaf and randomizer. That
+    /// signature lies at `place` in the whole one.
     Hashing {
         level: u8,
         place: usize,
@@ -43,7 +43,7 @@ pub(crate) fn begun(key: &[u8], signature: &[u8]) -> HssStream
             return HssStream::Refused { number };
         }
     };
-    // No part of the verdict on the levels above the last is the message's, so any message does.
+    // No part of the verdict on the levels above the last depends on the message, so any message does.
     let verdict = hss_verify(&key, &[], signature);
     match verdict {
         HssVerdict::Accepted { .. } => hashing(&key, signature),
@@ -61,7 +61,7 @@ pub(crate) fn begun(key: &[u8], signature: &[u8]) -> HssStream
     }
 }
 
-/// The state before the first piece, where all levels above the last are signed.
+/// The state before the first piece, if all levels above the last are signed.
 fn hashing(key: &HssKey, signature: &[u8]) -> HssStream
     requires { HasLevels key.now signature.now }
     ensures { (bytes : List ℕ) → bytes ≡ hss_key_bytes key.now → HasTakenPart result bytes signature.now [] }
@@ -117,8 +117,8 @@ fn last_part<'a>(key: &PublicKey, below: u8, parts: &'a [u8]) -> LastPart<'a>
     }
 }
 
-/// The bytes at the front that are a public key, and those behind it: as many as the set of its typecodes has, and all
-/// where there are fewer or where the typecodes are of no set.
+/// The bytes at the front that are a public key, and those after it: as many as the set of its typecodes has, or all of
+/// them if there are fewer or if the typecodes are of no set.
 #[tactic(auto, unfolding(hss_levels::specs::Parts::key_front))]
 fn split_key(parts: &[u8]) -> (&[u8], &[u8])
     ensures front { result.0.now ≡ key_front parts.now }
@@ -140,7 +140,7 @@ fn split_key(parts: &[u8]) -> (&[u8], &[u8])
     }
 }
 
-/// The bytes behind the first `length`.
+/// The bytes after the first `length`.
 fn behind(bytes: &[u8], length: usize) -> &[u8]
     ensures bytes { result.now ≡ drop length bytes.now }
 {

@@ -19,7 +19,7 @@ use ots_chain::{MessageHash, leaf_key_from};
 pub enum LmsStream {
     /// The key or the signature does not read: the answer, whatever the message is.
     Refused { number: u32 },
-    /// The digest of the message, as far as it came, under the key and the signature's leaf and randomizer.
+    /// The digest of the message so far, under the key and the signature's leaf and randomizer.
     Hashing { key: PublicKey, hash: MessageHash },
 }
 
@@ -61,7 +61,7 @@ pub(crate) fn updated(state: LmsStream, piece: &[u8]) -> LmsStream
     }
 }
 
-/// The answer after the last piece, and the leaf that signed where it is acceptance.
+/// The answer after the last piece, and the leaf that signed if the answer is acceptance.
 pub(crate) fn finished(state: LmsStream, signature: &[u8], leaf: &mut u32) -> u32
     requires { (key : List ℕ) × (message : List ℕ) × HasTakenPart state key signature.now message }
     ensures { (key message : List ℕ) → HasTakenPart state key signature.now message

@@ -10,7 +10,7 @@ use crate::lms_stream::LmsStream;
 use crate::{hss_stream, lms_stream};
 use std::mem::{align_of, size_of};
 
-/// The room that `rikselbe_state` of the header has, in bytes, and how it is aligned.
+/// The size of `rikselbe_state` in the header, in bytes, and its alignment.
 const STATE_SIZE: usize = 256;
 
 const STATE_ALIGN: usize = 8;
@@ -23,7 +23,7 @@ const _: () = prove!(align_of::<HssStream>() <= STATE_ALIGN);
 
 const _: () = prove!(align_of::<LmsStream>() <= STATE_ALIGN);
 
-/// Begins a verification under an LMS key. `state` is room for one state, which the caller has.
+/// Begins a verification under an LMS key. `state` is room for one state, which the caller provides.
 #[unsafe(no_mangle)]
 pub unsafe extern "C" fn rikselbe_lms_begin(state: *mut LmsStream, key: &[u8], signature: &[u8])
     requires* { sem 𝓛 (lms_room state) }
@@ -42,8 +42,8 @@ pub unsafe extern "C" fn rikselbe_lms_update(state: *mut LmsStream, piece: &[u8]
     state.write(lms_stream::updated(state.read(), piece));
 }
 
-/// Ends a verification, and answers as `rikselbe_lms_verify` does of the key, the message and the signature. The
-/// signature is the one that it was begun with. The state is then room again.
+/// Ends a verification, and answers as `rikselbe_lms_verify` does for the key, the message and the signature. The
+/// signature is the one with which it was begun. The state is then room again.
 #[unsafe(no_mangle)]
 pub unsafe extern "C" fn rikselbe_lms_finish(
     state: *mut LmsStream,
@@ -59,7 +59,7 @@ pub unsafe extern "C" fn rikselbe_lms_finish(
 }
 
 /// Begins a verification under an HSS key. All levels above the last are verified here. `state` is room for one state,
-/// which the caller has.
+/// which the caller provides.
 #[unsafe(no_mangle)]
 pub unsafe extern "C" fn rikselbe_hss_begin(state: *mut HssStream, key: &[u8], signature: &[u8])
     requires* { sem 𝓛 (hss_room state) }
@@ -78,8 +78,8 @@ pub unsafe extern "C" fn rikselbe_hss_update(state: *mut HssStream, piece: &[u8]
     state.write(hss_stream::updated(state.read(), piece));
 }
 
-/// Ends a verification, and answers as `rikselbe_hss_verify` does of the key, the message and the signature. The
-/// signature is the one that it was begun with. The state is then room again.
+/// Ends a verification, and answers as `rikselbe_hss_verify` does for the key, the message and the signature. The
+/// signature is the one with which it was begun. The state is then room again.
 #[unsafe(no_mangle)]
 pub unsafe extern "C" fn rikselbe_hss_finish(state: *mut HssStream, signature: &[u8]) -> u32
     ghost had: { Taken }

@@ -8,7 +8,7 @@ use hss_levels::{hss_verify, read_hss_key};
 use lms_bytes::read_public;
 use lms_verify::verify;
 
-/// Verifies an LMS signature (RFC 8554 section 5.4.2, Algorithm 6): 0 where it is accepted, and then `leaf` is the leaf
+/// Verifies an LMS signature (RFC 8554 section 5.4.2, Algorithm 6): 0 if it is accepted, and then `leaf` is the leaf
 /// that signed.
 #[unsafe(no_mangle)]
 pub extern "C" fn rikselbe_lms_verify(
@@ -27,7 +27,7 @@ pub extern "C" fn rikselbe_lms_verify(
     }
 }
 
-/// Verifies an HSS signature (RFC 8554 section 6.3): 0 where it is accepted.
+/// Verifies an HSS signature (RFC 8554 section 6.3): 0 if it is accepted.
 #[unsafe(no_mangle)]
 pub extern "C" fn rikselbe_hss_verify(key: &[u8], message: &[u8], signature: &[u8]) -> u32
     ensures verified { IsHssVerified key.now message.now signature.now result }

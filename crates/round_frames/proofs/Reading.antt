@@ -41,14 +41,14 @@ took-then m n a b c x y = record {
   left = y.left ∙ ap (drop n) x.left ∙ drop-drop n m a.left;
 }
 
--- a read failed behind bytes that were taken
+-- a read failed after bytes that were taken
 pub broke-then : {V : Type 0} (k : ℕ) (a b c : Talk) (result : Result V FrameFault) → Took a b k → Broke b c result → Broke a c result
 broke-then k a b c result x y = record { is = y.is; size = k + y.size; took = took-then k y.size a b c x y.took }
 
 pub broke-as : {V W : Type 0} (old new : Talk) (fault : FrameFault) → Broke {V = V} old new (Err fault) → Broke {V = W} old new (Err fault)
 broke-as {V = V} {W = W} old new fault b = record { is = (let e = b.is in let same : fault ≡ ReadFault = cc in ap (λ f. Err f) same); size = b.size; took = b.took }
 
--- what stands behind bytes that were taken
+-- what follows bytes that were taken
 pub reads-behind : {V : Type 0} (k : ℕ) (old mid new : Talk) (result : Result V FrameFault) (says : Says V) → Took old mid k
     → Reads mid new result says → Reads old new result (behind k says)
 reads-behind k old mid new result says took (inl gave) = inl (record { is = gave.is; took = took-then k says.size old mid new took gave.took })
@@ -206,7 +206,7 @@ not-err value fault (inr t) = t
 abbrev failed : {R : Type 0} → FrameFault → Result R FrameFault
 failed fault = Err fault
 
--- the rest of a payload was not there, behind a part that was
+-- the rest of a payload was not there, after a part that was
 pub rest-missing : {A R V : Type 0} (reader : Reader V) (header : Header) (old mid new : Talk) (fault : FrameFault) (k m : ℕ) → None ≡ header_fault reader header
     → k + m ≡ header.length → Took old mid k → (failed {R = A} fault ≡ failed NoMemory) ⊎ Passed {V = A} mid new (Err fault) m
     → (failed {R = R} fault ≡ failed NoMemory) ⊎ Reads {V = V} old new (Err fault) (payload_in reader header old.left)

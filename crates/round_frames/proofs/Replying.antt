@@ -14,7 +14,7 @@ use Rattle.round_frames.specs.Replies.{HasParts, IsHead, Reply, body_length, hea
 use Rattle.round_frames.proofs.Reading.{reply-split}
 use Rattle.round_frames.proofs.Writing.{again-as, mid, number-again, reads-back, small-hash}
 
--- a byte behind bytes
+-- a byte after bytes
 byte-at : (xs ys : List ℕ) (y n : ℕ) → length xs ≡ n → slice_index (xs ++ (y ∷ ys)) n ≡ y
 byte-at xs ys y n e = ap (λ k. slice_index (xs ++ (y ∷ ys)) k) (sym e) ∙ get_or-append_seam xs y ys 0
 
@@ -71,7 +71,7 @@ reply-back : (params : Params) (kind : ℕ) (head body : List ℕ) (reply : Repl
 reply-back params kind head body reply reads long le fits is =
     reads-back (replies params) kind (head ++ body) reply (omega (arith, le)) reads (omega (arith, le)) fits (reply-split params.n kind head body long ∙ is)
 
--- the front is written in one, and the body behind it
+-- the front is written in one, and the body after it
 front-then : (params : Params) (kind size : ℕ) (head body : List ℕ) (reply : Reply) → length (head ++ body) ≡ size
     → ReadsBack (replies params) (frame kind (head ++ body)) reply → ReadsBack (replies params) ((header_bytes kind size ++ head) ++ body) reply
 front-then params kind size head body reply e reads =

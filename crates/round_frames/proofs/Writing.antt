@@ -24,7 +24,7 @@ use Rattle.round_frames.specs.declared.fault.FrameFault.{FrameFault}
 use Rattle.round_frames.specs.declared.header.Header.{Header}
 use Rattle.round_frames.proofs.Reading.{ask-is, ask-split, payload-whole, whole-there}
 
--- what was written behind bytes that were written
+-- what was written after bytes that were written
 pub wrote-behind : {A E : Type 0} (old mid new : Talk) (a b : List ℕ) (r : Result A E) → mid.written ≡ old.written ++ a
     → MatchResult r (λ _. new.written ≡ mid.written ++ b) (λ _. WrotePart mid new b)
     → MatchResult r (λ _. new.written ≡ old.written ++ (a ++ b)) (λ _. WrotePart old new (a ++ b))

@@ -54,12 +54,12 @@ asks params = record {
   value = λ header payload. Ok (if header.kind == 1 then first_ask payload else second_ask params payload);
 }
 
--- what stands before the message of an ask of round two
+-- what comes before the message of an ask of round two
 abbrev pub second_front : Ask → Second → List ℕ → List ℕ
 second_front ask second message =
     header_bytes 2 (52 + length second.c + length message) ++ ask.key ++ u32str ask.leaf ++ second.c ++ second.tag
 
--- the frame of an ask, which is of round two where it has what round two adds
+-- the frame of an ask, which is of round two if it has what round two adds
 abbrev pub ask_frame : Ask → List ℕ → List ℕ
 ask_frame ask message = elim ask.second [
   | None ↦ frame 1 (first_payload ask)

@@ -15,7 +15,7 @@ magic = 84 ∷ 76 ∷ 1 ∷ []
 abbrev pub limit : ℕ
 limit = 16777216
 
--- a frame of this kind with this payload begins so
+-- how a frame of this kind begins, with the length of its payload
 abbrev pub header_bytes : ℕ → ℕ → List ℕ
 header_bytes kind size = magic ++ kind ∷ u32str size
 
@@ -53,7 +53,7 @@ abbrev pub magic_fault : List ℕ → Option FrameFault
 magic_fault [] = Some End
 magic_fault (b ∷ bytes) = disagrees magic (b ∷ bytes)
 
--- the header that eight bytes are, or as many as there are; test 3: the end within it
+-- the header in eight bytes, or in as many as there are; test 3: the end within it
 unfoldable pub header_in : List ℕ → Result Header FrameFault
 header_in bytes = elim (magic_fault bytes) [
   | Some fault ↦ Err fault
@@ -76,7 +76,7 @@ whole size value bytes =
     if nat_lt (length bytes) size then record { result = Err Cut; size = length bytes } else
     record { result = value (take size bytes); size = size }
 
--- what stands behind a header: nothing more is needed where one of its tests fails
+-- what follows a header: nothing more is needed if one of its tests fails
 abbrev pub after_tests : {V : Type 0} → Reader V → Header → List ℕ → Option FrameFault → Says V
 after_tests reader header bytes (Some fault) = record { result = Err fault; size = 0 }
 after_tests reader header bytes None = whole header.length (reader.value header) bytes
@@ -84,7 +84,7 @@ after_tests reader header bytes None = whole header.length (reader.value header)
 unfoldable pub payload_in : {V : Type 0} → Reader V → Header → List ℕ → Says V
 payload_in reader header bytes = after_tests reader header bytes (header_fault reader header)
 
--- the same, said of so many bytes more
+-- the same, said of `k` more bytes
 abbrev pub behind : {V : Type 0} → ℕ → Says V → Says V
 behind k says = record { result = says.result; size = k + says.size }
 

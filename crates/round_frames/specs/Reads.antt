@@ -25,14 +25,14 @@ pub record Gave {V : Type 0} (old new : Talk) (result : Result V FrameFault) (sa
 abbrev pub Reads : {V : Type 0} → Talk → Talk → Result V FrameFault → Says V → Type 0
 Reads old new result says = Gave old new result says ⊎ Broke old new result
 
--- So many bytes were there, and just these were read; or all that were there, and they were fewer; or a read failed.
+-- `size` bytes were there, and just these were read; or all that were there, and they were fewer; or a read failed.
 abbrev pub Passed : {V : Type 0} → Talk → Talk → Result V FrameFault → ℕ → Type 0
 Passed old new (Ok value) size = Took old new size
 Passed {V = V} old new (Err fault) size =
     ((fault ≡ Cut) × (length old.left < size) × Took old new (length old.left))
     ⊎ Broke {V = V} old new (Err fault)
 
--- A source was only read. Its count rose where a read failed and nowhere else, and none fails of a steady source.
+-- A source was only read. Its count rose if a read failed and not otherwise, and no read of a steady source fails.
 pub record OnlyTakes {V : Type 0} (was_steady is_steady : Bool) (old new : Talk) (result : Result V FrameFault)
     : Type 0 where
   pub only : OnlyRead old new

@@ -18,7 +18,7 @@ use Rattle.round_frames.specs.declared.header.Header.{Header}
 abbrev pub Reply : Type 0
 Reply = ReplyHead × List ℕ
 
--- how long a head is: kind 3 is a mask, 4 are masks behind C, 5 is a refusal with C, round and code
+-- how long a head is: kind 3 is a mask, 4 are masks after C, 5 is a refusal with C, round and code
 abbrev pub head_length : ℕ → ℕ → ℕ
 head_length n kind = if kind == 3 then 57 else if kind == 4 then 57 + n else 59 + n
 
@@ -95,7 +95,7 @@ kind_of head = if head.code == 0 then (if head.round == 1 then 3 else 4) else 5
 abbrev pub head_parts : ReplyHead → List ℕ
 head_parts head = head.key ++ u32str head.leaf ++ head.member ∷ message_id_bytes head.message
 
--- what stands in front of the body
+-- what comes before the body
 abbrev pub head_bytes : ReplyHead → List ℕ
 head_bytes head =
     head_parts head

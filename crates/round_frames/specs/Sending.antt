@@ -3,7 +3,7 @@ use Rattle.std.specs.Prelude.{◌≡◌, ◌≤◌, ◌+◌, ◌++◌, ℕ, Bool
 use Rattle.disk_trait.specs.Faults.{HasCause}
 use Rattle.stream_io.specs.Talk.{OnlyWrote, Talk, WrotePart}
 
--- these bytes were written, or a proper beginning of them where the call failed
+-- these bytes were written, or a proper beginning of them if the call failed
 abbrev pub Wrote : {V E : Type 0} → Talk → Talk → List ℕ → Result V E → Type 0
 Wrote old new bytes result = IsTrue old.told → MatchResult result
     (λ _. new.written ≡ old.written ++ bytes) (λ _. WrotePart old new bytes)
@@ -18,8 +18,8 @@ pub record SinkState : Type 0 where
 abbrev pub sink_state : {K : Type 0} → (K → Talk) → (K → Bool) → (K → ℕ) → K → SinkState
 sink_state talk steady room sink = record { talk = talk sink; steady = steady sink; room = room sink }
 
--- internal: These bytes were to be written, and they were, or a beginning of them where a write failed. A steady sink
--- that has room for them takes them.
+-- internal: These bytes were to be written, and they were, or a beginning of them if a write failed. A steady sink that
+-- has room for them takes them.
 pub record Sends {V E : Type 0} (bytes : List ℕ) (old new : SinkState) (result : Result V E) : Type 0 where
   pub wrote : Wrote old.talk new.talk bytes result
   pub only : OnlyWrote old.talk new.talk

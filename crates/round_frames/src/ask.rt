@@ -33,7 +33,7 @@ pub fn next_ask<S: Source>(params: &Params, source: &mut S) -> Result<Ask, Frame
     next_payload(params, source, &header)
 }
 
-/// Reads what stands behind a header.
+/// Reads what follows a header.
 fn next_payload<S: Source>(
     params: &Params,
     source: &mut S,
@@ -130,7 +130,7 @@ fn next_second<S: Source>(params: &Params, source: &mut S, length: u32) -> Resul
     finish_second(params, source, head, length - size as u32)
 }
 
-/// Reads the message of an ask of round two, of this size, behind its head.
+/// Reads the message of an ask of round two, of this size, after its head.
 fn finish_second<S: Source>(
     params: &Params,
     source: &mut S,

@@ -11,7 +11,7 @@ pub enum FrameFault {
     /// The stream ends within a frame.
     #[error("the stream ends within a frame")]
     Cut,
-    /// A frame begins with other bytes than the magic.
+    /// A frame begins with bytes other than the magic.
     #[error("the bytes do not begin with the magic of a frame")]
     Magic,
     /// The frame is of a kind that is not read here.

@@ -1,4 +1,4 @@
-//! Rooms that are filled from a source, and bytes that are taken of it as they come.
+//! Rooms that are filled from a source, and bytes that are taken from it as they come.
 
 ghost use Rattle.std.specs.Prelude.{◌≡◌, ◌≢◌, ◌⊎◌, ◌+◌, ◌-◌, ◌<◌, ◌^◌, ◌++◌, length, take, min, max, IsTrue};
 ghost use Rattle.std.specs.Prelude.{IfErr, IfOk, OnOk};
@@ -34,7 +34,7 @@ pub(crate) fn fill<S: Source>(source: &mut S, out: &mut [u8]) -> Result<(), Fram
 /// How many bytes are asked for at first.
 const PIECE: usize = 4096;
 
-/// Takes bytes of this number from the source. Memory is taken for at most twice what was read, and a piece.
+/// Takes `size` bytes from the source. Memory is taken for at most twice what was read, and a piece.
 pub(crate) fn take_bytes<S: Source>(
     alloc: Global,
     source: &mut S,
@@ -58,7 +58,7 @@ pub(crate) fn take_bytes<S: Source>(
     Ok(bytes)
 }
 
-/// How many bytes of this size memory is taken for, where this many were read: at most as many again, or a piece.
+/// How many more bytes of `size` memory is taken for, if `read` were read: at most as many again, or a piece.
 fn count_behind(read: usize, size: usize) -> usize
     requires { read < size }
     ensures { result ≡ min (size - read) (max read 4096) }
@@ -66,7 +66,7 @@ fn count_behind(read: usize, size: usize) -> usize
     (size - read).min(read.max(PIECE))
 }
 
-/// Takes so many bytes more from the source.
+/// Takes `more` more bytes from the source.
 fn take_more<S: Source>(source: &mut S, bytes: &mut Vec<u8>, more: usize) -> Result<(), FrameFault>
     requires { length bytes.old.items + more < 2 ^ 32 }
     ensures bytes { IsTrue (S.talk source.old).told

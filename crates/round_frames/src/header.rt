@@ -44,7 +44,7 @@ pub(crate) fn next_header<S: Source>(source: &mut S) -> Result<Header, FrameFaul
     header_of(&bytes[..there])
 }
 
-/// The header that at most eight bytes are. Fewer are a header that was cut.
+/// The header in at most eight bytes, or the first test that they fail. Fewer than eight are no header.
 #[tactic(auto, unfolding(crate::specs::Frames::header_in))]
 fn header_of(bytes: &[u8]) -> Result<Header, FrameFault>
     requires { length bytes.now ≤ 8 }

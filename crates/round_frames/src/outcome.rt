@@ -56,7 +56,7 @@ pub fn next_result<S: Source>(
     next_payload(alloc, params, source, &header)
 }
 
-/// Reads what stands behind a header.
+/// Reads what follows a header.
 fn next_payload<S: Source>(
     alloc: Global,
     params: &Params,

@@ -40,7 +40,7 @@ pub fn next_reply<S: Source>(
     next_payload(params, source, &header, body)
 }
 
-/// Reads what stands behind a header.
+/// Reads what follows a header.
 fn next_payload<S: Source>(
     params: &Params,
     source: &mut S,
@@ -114,7 +114,7 @@ fn is_reply_length(params: &Params, header: &Header) -> bool
     }
 }
 
-/// Reads the body of a reply, which fills the room, behind its head.
+/// Reads the body of a reply, which fills the room, after its head.
 fn next_body<S: Source>(
     params: &Params,
     source: &mut S,

@@ -33,7 +33,7 @@ pub fn next_request<S: Source>(
     next_payload(alloc, source, &header)
 }
 
-/// Reads what stands behind a header.
+/// Reads what follows a header.
 fn next_payload<S: Source>(
     alloc: Global,
     source: &mut S,

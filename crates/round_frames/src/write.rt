@@ -29,10 +29,10 @@ fn put_header(out: &mut [u8], kind: u8, size: u32)
     put(out, 4, &size.to_be_bytes());
 }
 
-/// Up to how many bytes a head and what follows it are written together.
+/// The most bytes of a head and what follows it that are written together.
 const ROOM: usize = 4096;
 
-/// Writes a head, and then what follows it: by one call of the sink where both are short.
+/// Writes a head, and then what follows it: by one call of the sink if both are short.
 fn write_both<K: Sink>(head: &[u8], rest: &[u8], sink: &mut K) -> Result<(), Failed>
     ensures wrote { Wrote (K.talk sink.old) (K.talk sink.new) (head.now ++ rest.now) result }
     ensures only { OnlyWrote (K.talk sink.old) (K.talk sink.new) }
@@ -145,7 +145,7 @@ fn write_second<K: Sink>(
     write_both(&room[..60 + params.n as usize], message, sink)
 }
 
-/// Puts what stands before the message of an ask of round two to the front of the room.
+/// Puts what comes before the message of an ask of round two to the front of the room.
 fn put_second(out: &mut [u8; 92], ask: &Ask, second: &Second, message: &[u8])
     requires { length message.now ≤ 16777216 }
     ensures { take (60 + length second.now.c) out.new ≡ second_front ask.now second.now message.now }
@@ -178,8 +178,8 @@ pub fn write_reply_head<K: Sink>(
     write_whole(sink, &room[..size])
 }
 
-/// Puts the header and the head of a reply to the front of the room, and answers how long they are. Whoever has the
-/// body beside it writes both at once.
+/// Puts the header and the head of a reply to the front of the room, and answers how long they are. A caller that has
+/// the body beside it writes both at once.
 pub fn put_reply_head(params: &Params, head: &ReplyHead, out: &mut [u8]) -> usize
     requires head { IsHead params.now head.now }
     requires room { 99 ≤ length out.old }
@@ -227,7 +227,7 @@ fn reply_length(params: &Params, head: &ReplyHead) -> u32
     length as u32
 }
 
-/// Puts what all heads of replies have behind the header.
+/// Puts what all heads of replies have after the header.
 fn put_parts(out: &mut [u8], head: &ReplyHead)
     requires { 65 ≤ length out.old }
     ensures { take 65 out.new ≡ take 8 out.old ++ head_parts head.now }

@@ -1,10 +1,10 @@
--- A string that another is added to, byte by byte.
+-- A string to which another is added, byte by byte.
 use Rattle.std.proofs.Common.{◌≡◌, ℕ, ◌+◌, ◌<◌, List, length, take, drop, set, get_or, bit_xor, refl, sym, ◌∙◌, arith, length-set}
 use Rattle.std.proofs.lemmas.List.{take_more_set, drop-set-lt, drop_more}
 use Rattle.lms_bytes.specs.Bytes.{xor}
 use Rattle.lms_bytes.proofs.Xor.{xor_take_more}
 
--- the first i bytes are added, and those behind are as they were
+-- the first i bytes are added, and those after them are as they were
 pub record IsAdding (old body out : List ℕ) (i : ℕ) : Type 0 where
   pub size : length out ≡ length old
   pub done : take i out ≡ xor (take i old) (take i body)

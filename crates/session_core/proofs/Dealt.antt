@@ -111,7 +111,7 @@ signature-is d key s leaves tree message session a =
     (path key.params key.id (leaf_key key) s.leaf) (joined_values s leaves) (chain_values key s.leaf)
     params (of.id ∙ sym of.key_id) (asked-c s _ a.c) (key-path key tree s.leaf a.tree_is leaf) values
 
--- a signature that is accepted under one key is so under a key with the same set, identifier and root
+-- a signature that is accepted under one key is also accepted under a key with the same set, identifier and root
 carried : (key other : PublicKey) (message signature same : List ℕ) (q : ℕ) → other.params ≡ key.params → other.id ≡ key.id → other.root ≡ key.root → same ≡ signature
     → AcceptsAt key message signature q → AcceptsAt other message same q
 carried key other message signature same q params id root e a = record {

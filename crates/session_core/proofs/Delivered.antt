@@ -1,4 +1,4 @@
--- What a list of deliveries makes of the state.
+-- What a list of deliveries does to the state.
 use Rattle.std.proofs.Common.{◌≡◌, ℕ, suc, ◌+◌, Bool, true, false, List, [], ◌∷◌, Option, None, Some, length, map, refl, sym, ◌∙◌, ap, if◌then◌else◌}
 use Rattle.std.proofs.lemmas.List.Elements.{All-head, All-tail}
 use Rattle.coalition_map.specs.Members.{IsAscendingIn}
@@ -12,7 +12,7 @@ use Rattle.session_core.proofs.Delivering.{after, after-each, after-empty, after
 abbrev pub numbers : List Seat → List ℕ
 numbers seats = map (λ (seat : Seat). seat.member) seats
 
--- where a member stands depends on the members alone
+-- the place of a member depends on the members alone
 place-cons : (x y : Seat) (xs ys : List Seat) (t : ℕ) → x.member ≡ y.member → place_of xs t ≡ place_of ys t → place_of (x ∷ xs) t ≡ place_of (y ∷ ys) t
 unfolding place_of
 place-cons x y xs ys t same rest = rw (same, rest) refl
@@ -85,7 +85,7 @@ delivered-cons : (s : State) (d : Delivery) (ds : List Delivery) → delivered s
 unfolding delivered
 delivered-cons s d ds = refl
 
--- the deliveries leave the ask
+-- the deliveries leave the ask as it was
 pub delivered-ask : (s : State) (ds : List Delivery) → SameAsk s (delivered s ds)
 delivered-ask s [] = rw (delivered-nil s) (record { key = refl; plan = refl; leaf = refl; message = refl; c = refl })
 delivered-ask s (d ∷ ds) =

@@ -7,11 +7,11 @@ use Rattle.session_core.specs.Replies.{answers}
 use Rattle.session_core.specs.State.{State}
 use Rattle.session_core.specs.Seats.{Seat, filled_seat, is_filled, place_of, seat_of, with_reply}
 
--- what a reply of member t makes of a seat
+-- what a reply of member t does to a seat
 abbrev pub first_at : ℕ → ℕ → List ℕ → Seat → Seat
 first_at t code body seat = if seat.member == t then (if is_filled seat then seat else filled_seat seat code body) else seat
 
--- what it makes of all seats
+-- what it does to all seats
 abbrev pub kept_first : List Seat → ℕ → ℕ → List ℕ → List Seat
 kept_first seats t code body = if is_filled (seat_of seats t) then seats else with_reply seats t code body
 
@@ -60,12 +60,12 @@ kept-first-map [] a e t code body ascending = refl
 kept-first-map (seat ∷ seats) a e t code body ascending =
     by-member seat seats a e t code body (seat.member == t) refl ascending (kept-first-map seats (seat.member + 1) e t code body ascending.2)
 
--- what a delivery makes of a seat, by whether it answers
+-- what a delivery does to a seat, by whether it answers
 pub step_if : Bool → Delivery → Seat → Seat
 step_if true d seat = first_at d.head.member d.head.code d.body seat
 step_if false d seat = seat
 
--- what deliveries make of a seat, by which of them answer
+-- what deliveries do to a seat, by which of them answer
 pub after : (Delivery → Bool) → List Delivery → Seat → Seat
 after answering [] seat = seat
 after answering (d ∷ ds) seat = after answering ds (step_if (answering d) d seat)
@@ -95,7 +95,7 @@ unfolding step_if
 step-first d [] = refl
 step-first d (seat ∷ seats) = ap (λ (l : List Seat). first_at d.head.member d.head.code d.body seat ∷ l) (step-first d seats)
 
--- a delivery leaves the members
+-- a delivery leaves the members as they were
 first-member : (t code : ℕ) (body : List ℕ) (seat : Seat) (test filled : Bool)
     → (if test then (if filled then seat else filled_seat seat code body) else seat).member ≡ seat.member
 first-member t code body seat true true = refl

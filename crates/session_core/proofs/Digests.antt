@@ -54,7 +54,7 @@ joined-is s leaves tree message c values bytes digest laid is_c are is =
     laid ∙ ap (λ (r : List ℕ). signature_bytes s.key.params s.leaf r values path) is_c
     ∙ ap (λ (v : List ℕ). signature_bytes s.key.params s.leaf (asked_c s) v path) (are ∙ ap (joined_values s leaves) is)
 
--- why a signature is not given that was joined
+-- why a signature that was joined is not given
 pub astray-fails : (s : State) (message : List ℕ) (told : Bool) (bytes joined : List ℕ) (before now : ℕ) (fault : SessionFault)
     → round_fault s (digest_of s message) ≡ None → (IsTrue told → bytes ≡ joined) → LeadsAstray s message bytes fault
     → FinishFails s message told joined before now fault

@@ -53,7 +53,7 @@ masks-code s digest seat (Some code) is e =
     let here : seat_fault s digest seat ≡ (if code == 0 then None else Some fault) = rw is refl in
     ap Some (zero-code code fault (code == 0) refl (sym here ∙ e))
 
--- where there is no fault all replies are masks
+-- if there is no fault, all replies are masks
 pub faultless-masks : (s : State) (digest : List ℕ) (seats : List Seat) → first_fault (map (seat_fault s digest) seats) ≡ None → AreMasks seats
 faultless-masks s digest [] e = All-nil (λ (seat : Seat). seat.code ≡ Some 0)
 faultless-masks s digest (seat ∷ seats) e =

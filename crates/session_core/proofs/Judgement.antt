@@ -65,7 +65,7 @@ bodies-of-replies s digest ds (seat ∷ seats) e =
     let both = first-cons (judged s digest ds (numbers seats)) (reply_fault s digest seat.member o) e in
     rw (body-of-reply s digest seat o both.0, bodies-of-replies s digest ds seats both.1) refl
 
--- without a fault the seats keep the first masks
+-- if there is no fault, the seats keep the first masks
 pub delivered-masks : (s : State) (digest : List ℕ) (ds : List Delivery) → IsSession s → AreEmpty (seats_of s)
     → deliveries_fault s digest ds ≡ None → bodies_of (seats_of (delivered s ds)) ≡ first_masks s ds
 delivered-masks s digest ds session empty none =

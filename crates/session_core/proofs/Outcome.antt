@@ -1,4 +1,4 @@
--- How a session ends whose members answered with their own masks.
+-- How a session ends if its members answered with their own masks.
 use Rattle.std.proofs.Common.{◌≡◌, ℕ, Bool, IsTrue, List, Result, Ok, Err, IfOk, IfErr, MatchResult, None, inl, inr, refl, sym, ◌∙◌}
 use Rattle.std.specs.declared.alloc.Global.{Global}
 use Rattle.std.specs.declared.vec.Vec.{Vec}
@@ -36,7 +36,7 @@ outcome items (Err fault) s message joined signature told before now ok (inr (in
 outcome items (Err fault) s message joined signature told before now ok (inr (inr (inr astray))) is none accepts shown =
     absurd (astray.other (leads-once s.key message joined s.leaf astray.got s.key.root (astray.leads shown) accepts))
 
--- what a verdict says of bytes that were laid out in a round without a fault
+-- what a verdict says about bytes that were laid out in a round without a fault
 pub judged-joins : {C : Type 0} (c : cells.Ghosts C) (f : faults.Ghosts C) (old new : C) (s : State) (tree : TreeNodes) (message : List ℕ)
     (r : Result (Vec ℕ Global) SessionFault) (bytes : List ℕ) → round_fault s (digest_of s message) ≡ None
     → (IsTrue (c.told old) → bytes ≡ joined_bytes s (c.leaves old) tree message)

@@ -63,7 +63,7 @@ kept-seats params members round seats new t code body false are inside size is =
       each = All-set (IsSeat params round) seats (place_of seats t) (filled_seat (seat_of seats t) code body) (record { room = at.room; body = size }) are.each;
     })
 
--- what a reply that is whole says of its own round's seats
+-- what a whole reply says about its own round's seats
 pub first-whole : (s : State) (head : ReplyHead) (body : List ℕ) → s.c ≡ None → IsWhole s head body
     → (place_of s.first head.member < length s.first) × (length body ≡ body_length s.key.params 1 head.code)
 first-whole s head body none whole = (rw (first-round s none) at whole.member, rw (round-one s none) at whole.size)

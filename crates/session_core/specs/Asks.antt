@@ -1,4 +1,4 @@
--- What a session asks, and what it tells of what it keeps.
+-- What a session asks, and what it tells about what it keeps.
 use Rattle.std.specs.Prelude.{◌≡◌, ℕ, ◌==◌, List, [], Option, Some, None, if◌then◌else◌}
 use Rattle.lms_bytes.specs.declared.ask.Ask.{Ask}
 use Rattle.session_core.specs.Seats.{Seat, seat_of}
@@ -31,6 +31,6 @@ masks_at seat = elim seat.code [
   | Some code ↦ if code == 0 then Some seat.body else None
 ]
 
--- the masks that are kept of a member in a round
+-- the masks that are kept for a member in a round
 abbrev pub kept_masks : State → ℕ → ℕ → Option (List ℕ)
 kept_masks s round member = masks_at (seat_of (seats_in s round) member)

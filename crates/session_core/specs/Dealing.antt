@@ -21,7 +21,7 @@ pub record IsOfDealing (d : Dealing) (key : UndividedKey) (s : State) : Type 0 w
   pub key_id : key.id ≡ d.id
   pub key_seed : key.seed ≡ d.seed
 
--- the masks that trustee t has for the values of all chains of leaf q at the digest's digits
+-- the masks that trustee t has for the values of all chains of leaf q at the digits of the digest
 abbrev pub digit_masks : Dealing → ℕ → List ℕ → ℕ → List ℕ
 digit_masks d q digest t = joined (λ i. chain_mask d q i (digit_of d.params digest i) t) d.params.p
 
@@ -34,8 +34,8 @@ abbrev pub SecondMasks : Dealing → State → List ℕ → Type 0
 SecondMasks d s digest =
     All (λ (seat : Seat). (seat.code ≡ Some 0) × (seat.body ≡ digit_masks d s.leaf digest seat.member)) s.second
 
--- all that a signature of the undivided key needs: the dealer's reference and tree, and in round two its randomizer and
--- the members' masks for this digest
+-- all that a signature of the undivided key needs: the dealer's reference and tree, and in round two the dealer's
+-- randomizer and the members' masks for this digest
 pub record IsAnswered
     (d : Dealing) (key : UndividedKey) (s : State) (digest leaves : List ℕ) (tree : TreeNodes) : Type 0 where
   pub dealing : IsOfDealing d key s

@@ -1,4 +1,4 @@
--- What a list of deliveries makes of a session, and what is wrong with its round.
+-- What a list of deliveries does to a session, and what is wrong with its round.
 use Rattle.std.specs.Prelude.{ℕ, ◌==◌, ◌&&◌, List, [], ◌∷◌, map, Option, Some, None, if◌then◌else◌}
 use Rattle.coalition_map.specs.Coalitions.{leaf_members}
 use Rattle.lms_bytes.specs.declared.ask.ReplyHead.{ReplyHead}
@@ -39,7 +39,7 @@ reply_fault s digest t None = Some (Missing t (round_of s))
 reply_fault s digest t (Some d) =
     if d.head.code == 0 then None else Some (refusal_fault s digest t d.head.code d.body)
 
--- the body of a first reply, and none where there is none
+-- the body of a first reply, or none if there is none
 abbrev pub reply_body : Option Delivery → List ℕ
 reply_body None = []
 reply_body (Some d) = d.body

@@ -25,7 +25,7 @@ spent_fault s member body =
     if same_message (kept_message body) s.message then MemberRefused member 9
     else SpentLeaf s.leaf member (Message (kept_message body))
 
--- a leaf that was opened under another randomizer or digest is spent: those of a refusal of code 10, of n bytes each
+-- a leaf that was opened under another randomizer or digest is spent: a refusal of code 10 has both, n bytes each
 abbrev pub opened_fault : State → List ℕ → List ℕ → ℕ → List ℕ → SessionFault
 opened_fault s c digest member body =
     let n = s.key.params.n in
@@ -45,7 +45,7 @@ refusal_fault s digest member code body =
           if code == 10 then opened_fault s c digest member body else MemberRefused member code
     ]
 
--- what is wrong with what is kept of a member, if something is
+-- what is wrong with what is kept for a member, if something is
 abbrev pub seat_fault : State → List ℕ → Seat → Option SessionFault
 seat_fault s digest seat = elim seat.code [
   | None ↦ Some (Missing seat.member (round_of s))

@@ -17,7 +17,7 @@ names_ask s head =
     bytes_eq head.key s.key.id && (head.leaf == s.leaf) && same_message head.message s.message
     && (head.round == round_of s) && bytes_eq head.c (asked_c s)
 
--- it is of a member, and its body has the length of its code, of which there are those from 0 to 12
+-- it is from a member, and its body has the length of its code, which is one of 0 to 12
 abbrev pub is_whole : State → ReplyHead → List ℕ → Bool
 is_whole s head body =
     has_seat (seats_of s) head.member && nat_le head.code 12
@@ -32,12 +32,12 @@ pub record IsWhole (s : State) (head : ReplyHead) (body : List ℕ) : Type 0 whe
 abbrev pub answers : State → ReplyHead → List ℕ → Bool
 answers s head body = names_ask s head && is_whole s head body
 
--- what a session says of a reply
+-- what a session says about a reply
 abbrev pub step_of : State → ReplyHead → List ℕ → Step
 step_of s head body =
     if answers s head body then (if is_filled (seat_of (seats_of s) head.member) then Repeat else Kept) else NotMine
 
--- what it makes of the session: the first reply of each member is kept
+-- what it does to the session: the first reply of each member is kept
 abbrev pub with_delivery : State → ReplyHead → List ℕ → State
 with_delivery s head body =
     if answers s head body then

@@ -16,14 +16,14 @@ use Rattle.session_core.specs.declared.faults.SessionFault.{SessionFault}
 use Rattle.session_core.specs.declared.faults.SessionFault.TheVariants.{Reference}
 use Rattle.mask_prf.specs.Lengths.{leaves_length}
 
--- cells that give a session what they have whenever they are asked: steady ones that tell all leaves of its plan
+-- cells that give a session what they have whenever they are asked: they are steady and tell all leaves of its plan
 pub record GiveAll {C : Type 0} (c : cells.Ghosts C) (f : faults.Ghosts C) (own : C) (s : State) : Type 0 where
   pub steady : IsTrue (f.steady own)
   pub told : IsTrue (c.told own)
   pub whole : length (c.leaves own) ≡ leaves_length s.key.params s.plan
 
--- What a session in round one became where it went on: all replies were masks, and the randomizer is that of the cells,
--- where they tell it, XOR the masks; over a dealer's reference, with each member's own mask, it is the dealer's.
+-- What a session in round one became if it went on: all replies were masks, and the randomizer is that of the cells, if
+-- they tell it, XOR the masks; over a dealer's reference, with each member's own mask, it is the dealer's.
 pub record TurnsTo {C : Type 0} (c : cells.Ghosts C) (old : C) (before after : State) : Type 0 where
   pub joined : IsTrue (c.told old) → after ≡ turned before (joined_c before (c.leaves old))
   pub dealt : (d : Dealing) (key : UndividedKey) → IsTrue (c.told old) → c.leaves old ≡ reference d
@@ -31,8 +31,8 @@ pub record TurnsTo {C : Type 0} (c : cells.Ghosts C) (old : C) (before after : S
   pub turned : Turned before after
 
 -- How joining round two ends for a message: with bytes that are accepted under the key for the session's leaf, which
--- are the layout of what was joined where the cells tell it; with the first fault of the round; or for another cause,
--- of which cells that give all that they have are none.
+-- are the layout of what was joined if the cells tell it; with the first fault of the round; or for another cause, of
+-- which cells that give all that they have are none.
 pub record Joins {C : Type 0} (c : cells.Ghosts C) (f : faults.Ghosts C) (old new : C) (s : State) (tree : TreeNodes)
     (message : List ℕ) (result : Result (Vec ℕ Global) SessionFault) : Type 0 where
   pub accepted : IfOk result (λ bytes. AcceptsAt s.key message bytes.items s.leaf)
@@ -43,9 +43,9 @@ pub record Joins {C : Type 0} (c : cells.Ghosts C) (f : faults.Ghosts C) (old ne
   pub read : GiveAll c f old s → round_fault s (digest_of s message) ≡ None
       → IfErr result (λ fault. fault ≢ Reference)
 
--- The same where the session may be of a dealing: over the dealer's reference and tree, and with the members' own
--- masks, the bytes are RFC 8554's signature of the undivided key (section 5.4.1), or there was no memory or the
--- reference was not read.
+-- The same if the session may be of a dealing: over the dealer's reference and tree, and with the members' own masks,
+-- the bytes are RFC 8554's signature of the undivided key (section 5.4.1), or memory ran out or the reference was not
+-- read.
 pub record Finishes {C : Type 0} (c : cells.Ghosts C) (f : faults.Ghosts C) (old new : C) (s : State)
     (tree : TreeNodes) (message : List ℕ) (result : Result (Vec ℕ Global) SessionFault) : Type 0 where
   pub joins : Joins c f old new s tree message result

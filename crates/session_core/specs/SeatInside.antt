@@ -1,4 +1,4 @@
--- How a seat is kept: its reply stands at the front of a buffer.
+-- How a seat is kept: its reply is at the front of a buffer.
 use Rattle.std.specs.Prelude.{◌≤◌, length, take}
 use Rattle.session_core.specs.Seats.{Seat}
 use Rattle.session_core.specs.declared.seat.Seat.TheInside.{Inside}

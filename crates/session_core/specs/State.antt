@@ -13,7 +13,7 @@ pub record State : Type 0 where
   pub plan : PlanNumbers
   pub leaf : ℕ
   pub message : MessageId
-  -- the randomizer C once it is joined: the session is in round two from then on
+  -- the randomizer C once it is joined: from then on the session is in round two
   pub c : Option (List ℕ)
   -- a seat for each member of the leaf's coalition, in ascending order, for each round
   pub first : List Seat
@@ -26,7 +26,7 @@ round_of s = elim s.c [ None ↦ 1 | Some c ↦ 2 ]
 abbrev pub seats_of : State → List Seat
 seats_of s = elim s.c [ None ↦ s.first | Some c ↦ s.second ]
 
--- the randomizer that the asks of the present round have
+-- the randomizer in the asks of the present round
 abbrev pub asked_c : State → List ℕ
 asked_c s = elim s.c [ None ↦ replicate s.key.params.n 0 | Some c ↦ c ]
 
@@ -48,7 +48,8 @@ pub record SameAsk (old new : State) : Type 0 where
 abbrev pub turned : State → List ℕ → State
 turned s c = record s { c = Some c }
 
--- this project's profile: the bytes of a round's masks: the randomizer's in round one, those of all chains in round two
+-- this project's profile: the bytes of a round's masks: those of the randomizer in round one, those of all chains in
+-- round two
 abbrev pub masks_length : Params → ℕ → ℕ
 masks_length params round = if round == 1 then params.n else params.n * params.p
 

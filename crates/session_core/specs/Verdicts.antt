@@ -16,7 +16,7 @@ use Rattle.session_core.specs.State.{State, asked_c, turned}
 use Rattle.session_core.specs.declared.faults.SessionFault.{SessionFault}
 use Rattle.session_core.specs.declared.faults.SessionFault.TheVariants.{NoMemory, Reference, WrongRoot}
 
--- every member's kept reply is masks
+-- the kept reply of every member is masks
 abbrev pub AreMasks : List Seat → Type 0
 AreMasks seats = All (λ (seat : Seat). seat.code ≡ Some 0) seats
 
@@ -58,7 +58,7 @@ pub record Turned (old new : State) : Type 0 where
   pub c_length : length c ≡ old.key.params.n
   pub same : new ≡ turned old c
 
--- a round without a fault that the reference could not end: the count of the cells rose
+-- a round without a fault that could not end because of the reference: the count of the cells rose
 pub record Unread (s : State) (digest : List ℕ) (before now : ℕ) (fault : SessionFault) : Type 0 where
   pub faultless : round_fault s digest ≡ None
   pub reference : fault ≡ Reference
@@ -71,7 +71,7 @@ pub record LeadsAstray (s : State) (message bytes : List ℕ) (fault : SessionFa
   pub leads : LeadsTo s.key message bytes s.leaf got
   pub other : got ≢ s.key.root
 
--- a round without a fault, whose bytes, where these are told, lead to another root than the key's
+-- a round without a fault, whose bytes, if these are told, lead to another root than the key's
 pub record Astray (s : State) (message : List ℕ) (told : Bool) (bytes : List ℕ) (fault : SessionFault) : Type 0 where
   pub faultless : round_fault s (digest_of s message) ≡ None
   pub got : List ℕ
@@ -89,8 +89,8 @@ pub record LaysOut (params : Params) (bytes : List ℕ) (q : ℕ) (c : List ℕ)
 abbrev pub JoinFails : ℕ → ℕ → SessionFault → Type 0
 JoinFails before now fault = (fault ≡ NoMemory) ⊎ ((fault ≡ Reference) × Rose before now)
 
--- why round two gives no signature: want of memory, the first fault of the round, a reference that was not read, or a
--- signature of which it was told what it is, and which leads to another root
+-- why round two gives no signature: memory ran out, the first fault of the round, a reference that was not read, or a
+-- signature that leads to another root, if it was told what it is
 abbrev pub FinishFails : State → List ℕ → Bool → List ℕ → ℕ → ℕ → SessionFault → Type 0
 FinishFails s message told bytes before now fault =
     (fault ≡ NoMemory) ⊎ (round_fault s (digest_of s message) ≡ Some fault)

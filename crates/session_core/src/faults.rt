@@ -8,7 +8,7 @@ use reference_value::RefFault;
 use std::alloc::AllocError;
 use thiserror::Error;
 
-/// What a member has kept of a leaf that is spent.
+/// What a member has kept for a leaf that is spent.
 #[derive(Clone, Copy, Debug, PartialEq, Eq)]
 pub enum KeptValue {
     /// The message that the leaf is bound to.
@@ -20,7 +20,7 @@ pub enum KeptValue {
 /// Why a session does not go on.
 #[derive(Clone, Copy, Debug, PartialEq, Eq, Error)]
 pub enum SessionFault {
-    /// No reply of a member is kept.
+    /// No reply from a member is kept.
     #[error("round {round} has no reply of trustee {member}")]
     Missing {
         member: u8,
@@ -39,7 +39,7 @@ pub enum SessionFault {
         leaf: u32,
         member: u8,
     },
-    /// What was joined is no signature under the key.
+    /// What was joined is not a signature under the key.
     #[error("the signature of leaf {leaf} leads to another root than the key's")]
     WrongRoot {
         leaf: u32,
@@ -55,7 +55,7 @@ pub enum SessionFault {
     /// The reference could not be read.
     #[error("the reference could not be read")]
     Reference,
-    /// There was no memory.
+    /// Memory ran out.
     #[error("out of memory")]
     NoMemory,
 }

@@ -1,4 +1,4 @@
-//! Masks that are joined.
+//! The joining of masks.
 
 ghost use Rattle.std.specs.Prelude.{◌≡◌, length};
 ghost use Rattle.lms_bytes.specs.Bytes.{xor};

@@ -34,7 +34,7 @@ impl Session {
         None
     }
 
-    /// What is wrong with what is kept of a member.
+    /// What is wrong with what is kept for a member.
     fn seat_fault(&self, seat: &Seat, digest: &Val) -> Option<SessionFault>
         requires digest { length digest.now ≡ self.now.key.params.n }
         requires seat { IsSeat self.now.key.params (round_of self.now) seat.now }
@@ -72,7 +72,7 @@ impl Session {
         }
     }
 
-    /// A leaf that is bound to another message is spent. The body has the id of the message.
+    /// A leaf that is bound to another message is spent. The body has the id of that message.
     fn spent_fault(&self, member: u8, body: &[u8]) -> SessionFault
         requires { length body.now ≡ 36 }
         ensures { result ≡ spent_fault self.now member body.now }

@@ -26,8 +26,8 @@ use reference_value::{Cells, join_chains, join_randomizer};
 use std::alloc::Global;
 
 impl Session {
-    /// Goes from round one to round two, where every member's masks are kept. The randomizer is the reference's, XOR
-    /// the masks. After a refusal the session is as before.
+    /// Goes from round one to round two, if every member's masks are kept. The randomizer is the reference's, XOR the
+    /// masks. After a refusal the session is as before.
     pub fn turn<R: Cells>(&mut self, cells: &mut R) -> Result<(), SessionFault>
         requires round { self.old.c ≡ None }
         requires set { R.set cells.old ≡ self.old.key.params }
@@ -50,7 +50,7 @@ impl Session {
         Ok(())
     }
 
-    /// The randomizer that the masks of round one lay open.
+    /// The randomizer that the masks of round one reveal.
     fn join_c<R: Cells>(&self, cells: &mut R) -> Result<Val, SessionFault>
         requires masks { AreMasks self.now.first }
         requires set { R.set cells.old ≡ self.now.key.params }
@@ -66,7 +66,7 @@ impl Session {
         Ok(join_randomizer(cells, self.leaf, &sum)?)
     }
 
-    /// Joins round two to a signature (RFC 8554 section 5.4.1), and gives it only where it is accepted under the key.
+    /// Joins round two into a signature (RFC 8554 section 5.4.1), and gives it only if it is accepted under the key.
     /// Over the dealer's reference and tree, and with the members' own masks, it is the undivided key's.
     pub fn finish<R: Cells>(
         &self,
@@ -94,7 +94,7 @@ impl Session {
         MessageHash::of(&self.key.params, &self.key.id, self.leaf, &c, message)
     }
 
-    /// Joins round two to a signature by the digest of its message, which is not hashed again: what `finish` does for
+    /// Joins round two into a signature by the digest of its message, which is not hashed again: what `finish` does for
     /// each message that has this digest under the session's randomizer.
     pub fn finish_with<R: Cells>(
         &self,
@@ -140,7 +140,7 @@ impl Session {
         self.if_accepted(digest, bytes)
     }
 
-    /// The values of the chains that the masks of round two lay open, `p` values of `n` bytes.
+    /// The values of the chains that the masks of round two reveal, `p` values of `n` bytes.
     fn join_values<R: Cells>(
         &self,
         alloc: Global,
@@ -167,7 +167,7 @@ impl Session {
         Ok(values)
     }
 
-    /// The signature with this randomizer and these values of the chains, and with the path of the tree.
+    /// The signature with this randomizer, these values of the chains and the path of the tree.
     fn lay_out(
         &self,
         alloc: Global,
@@ -191,7 +191,7 @@ impl Session {
         Ok(bytes)
     }
 
-    /// The bytes of a signature where it is accepted under the key, for each message with this digest.
+    /// The bytes of a signature if it is accepted under the key, for each message with this digest.
     fn if_accepted(&self, digest: &Val, bytes: Vec<u8>) -> Result<Vec<u8>, SessionFault>
         requires digest { IsDigest self.now digest.now }
         requires laid { LaysOut self.now.key.params bytes.items self.now.leaf (asked_c self.now) }

@@ -1,4 +1,4 @@
-//! What is kept of the members of a coalition.
+//! What is kept for the members of a coalition.
 
 ghost use Rattle.std.specs.Prelude.{◌≡◌, ◌<◌, ◌≤◌, ◌+◌, Some, length, map, IfOk, if◌then◌else◌};
 ghost use Rattle.coalition_map.specs.Coalitions.{IsSubset};
@@ -32,7 +32,7 @@ impl Model for Seat {
 }
 
 impl Seat {
-    /// A seat that keeps nothing, with room for a body of so many bytes.
+    /// A seat that keeps nothing, with room for a body of `room` bytes.
     fn new(alloc: Global, member: u8, room: usize) -> Result<Seat, NoMemory>
         ensures { IfOk result (λ seat. seat ≡ empty_seat room member) }
     {
@@ -76,7 +76,7 @@ impl Seat {
     }
 }
 
-/// Seats of these members of a plan that keep nothing, each with room for a body of so many bytes.
+/// Seats for these members of a plan, which keep nothing, each with room for a body of `room` bytes.
 pub(crate) fn empty_seats(
     alloc: Global,
     plan: &Plan,
@@ -95,7 +95,7 @@ pub(crate) fn empty_seats(
     Ok(seats)
 }
 
-/// The place of member `t` among the seats, and their number where it has none.
+/// The place of member `t` among the seats, or the number of seats if it has none.
 pub(crate) fn place_of(seats: &[Seat], t: u8) -> usize
     ensures { result ≡ place_of seats.now t }
 {
@@ -107,7 +107,7 @@ pub(crate) fn place_of(seats: &[Seat], t: u8) -> usize
     seats.len()
 }
 
-/// Keeps a reply of member `t` where none is kept.
+/// Keeps a reply of member `t` if none is kept.
 pub(crate) fn keep_first(seats: &mut [Seat], t: u8, code: u8, body: &[u8]) -> Step
     requires member { place_of seats.old t < length seats.old }
     requires room { length body.now ≤ (seat_of seats.old t).room }

@@ -136,7 +136,7 @@ impl Session {
         })
     }
 
-    /// The masks that are kept of a member in a round.
+    /// The masks that are kept for a member in a round.
     pub fn kept_reply(&self, round: u8, member: u8) -> Option<&[u8]>
         ensures some { IfSome result (λ masks. kept_masks self.now round member ≡ Some masks.now) }
         ensures none { IfNone result (kept_masks self.now round member ≡ None) }
@@ -150,7 +150,7 @@ impl Session {
         }
     }
 
-    /// The seats of a round, and none where there is no such round.
+    /// The seats of a round, or none if there is no such round.
     fn seats_in(&self, round: u8) -> &[Seat]
         ensures { result.now ≡ seats_in self.now round }
     {
@@ -161,7 +161,7 @@ impl Session {
         }
     }
 
-    /// Takes a reply: the first of each member that answers the present round's ask is kept.
+    /// Takes a reply: each member's first reply that answers the present round's ask is kept.
     pub fn take(&mut self, head: &ReplyHead, body: &[u8]) -> Step
         ensures step { result ≡ step_of self.old head.now body.now }
         ensures state { self.new ≡ with_delivery self.old head.now body.now }
@@ -177,7 +177,7 @@ impl Session {
         }
     }
 
-    /// Whether a reply answers the ask of the present round to a member.
+    /// Whether a reply answers the present round's ask to a member.
     fn answers(&self, head: &ReplyHead, body: &[u8]) -> bool
         ensures answers { result ≡ answers self.now head.now body.now }
         ensures whole { IsTrue result → IsWhole self.now head.now body.now }
@@ -196,7 +196,7 @@ impl Session {
             && head.c == self.asked_c()
     }
 
-    /// Whether a reply is of a member, and its body has the length of its code.
+    /// Whether a reply is from a member, and its body has the length of its code.
     fn is_whole(&self, head: &ReplyHead, body: &[u8]) -> bool
         ensures test { result ≡ is_whole self.now head.now body.now }
         ensures whole { IsTrue result → IsWhole self.now head.now body.now }
@@ -207,7 +207,7 @@ impl Session {
             && body.len() == body_length(&self.key.params, self.round(), head.code)
     }
 
-    /// The randomizer that the asks of the present round have, zeros in round one.
+    /// The randomizer in the asks of the present round, zeros in round one.
     pub(crate) fn asked_c(&self) -> Val
         ensures c { result ≡ asked_c self.now }
         ensures length { length result ≡ self.now.key.params.n }
@@ -231,14 +231,14 @@ impl Session {
     }
 }
 
-/// Whether two messages have one length and one hash.
+/// Whether two messages have the same length and the same hash.
 pub(crate) fn is_same_message(a: &MessageId, b: &MessageId) -> bool
     ensures { result ≡ same_message a.now b.now }
 {
     a.length == b.length && a.hash.as_slice() == b.hash.as_slice()
 }
 
-/// The number of bytes of a body under a code.
+/// The number of bytes in a body under a code.
 fn body_length(params: &Params, round: u8, code: u8) -> usize
     ensures { result ≡ body_length params.now round code }
 {

@@ -1,4 +1,4 @@
--- Commitments fit into the numbers that their places are.
+-- The places of commitments fit into the numbers used for them.
 use Rattle.std.proofs.Common.{ℕ, ◌+◌, ◌*◌, ◌^◌, ◌≤◌, ◌<◌, inl, inr, arith}
 use Rattle.lms_bytes.specs.HashLength.{IsDigitWidth, IsHashLength}
 use Rattle.lms_bytes.specs.declared.params.Params.{Params}

@@ -1,4 +1,4 @@
--- The head of a commitment file, beside the header of a reference.
+-- The head of a commitment file, compared with the header of a reference.
 use Rattle.std.proofs.Common.{◌≡◌, ◌==◌, ◌&&◌, true, ◌<◌, ◌≤◌, ◌∙◌, ◌*◌, ◌^◌, ◌+◌, ℕ, List, length, take, Some, None, refl, sym}
 use Rattle.std.proofs.lemmas.Bool.{and_parts, eq-eqb, eqb-true, false_from_ne_true, le-ltb, lt-ltb}
 use Rattle.std.proofs.lemmas.Slice.Eq.{bytes_eq-Decides}

@@ -68,7 +68,7 @@ kept-among params round (seat ∷ seats) t masks all e =
           }
     ]
 
--- what is kept of trustee t in round one, and in round two
+-- what is kept for trustee t in round one, and in round two
 pub record IsKept (s : State) (t : ℕ) (masks : List ℕ) (size : ℕ) : Type 0 where
   pub member : Contains (leaf_members s.plan s.leaf) t
   pub size_is : length masks ≡ size

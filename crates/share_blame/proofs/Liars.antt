@@ -1,4 +1,4 @@
--- Whoever gave other masks than those of the dealing is named.
+-- A member that gave masks other than those of the dealing is named.
 use Rattle.std.proofs.Common.{All, ◌≡◌, ◌≢◌, ◌⊎◌, ℕ, zero, suc, ◌+◌, ◌*◌, ◌<◌, ◌≤◌, ◌^◌, List, [], ◌∷◌, Some, inl, inr, ap, arith, length, map, take_all, zero-add, refl, sym, ◌∙◌}
 use Rattle.std.proofs.lemmas.Bool.{cases_eq}
 use Rattle.std.proofs.lemmas.List.Elements.{All-contains, All-cons, All-head, All-nil, All-tail}
@@ -38,7 +38,7 @@ same_or_other a b = decided (bytes_eq a b) refl
     decided true e = inl ((bytes_eq-Decides a b).0 e)
     decided false e = inr (λ same. let yes = (bytes_eq-Decides a b).1 same in absurd (cc))
 
--- masks of n bytes each are those of f, or one of them is another
+-- masks of n bytes each are those of f, or one of them differs
 record IsOtherAt (f : ℕ → List ℕ) (n count : ℕ) (s : List ℕ) : Type 0 where
   i : ℕ
   inside : i < count
@@ -67,13 +67,13 @@ other-at f n count s size other = elim (first-other f n count s) [
       absurd (other same)
 ]
 
--- the masks at the digits of a digest lie one behind the other
+-- the masks at the digits of a digest lie one after another
 digit-mask : (d : Dealing) (s : State) (digest : List ℕ) (t i : ℕ) → i < d.params.p
     → bytes_at (digit_masks d s.leaf digest t) (d.params.n * i) d.params.n ≡ mask_at d s digest i t
 digit-mask d s digest t i inside =
     joined-at (λ i. mask_at d s digest i t) d.params.n d.params.p i (λ k _. length-chain_mask_of d.params (key_of d t) d.id s.leaf k (digit_of d.params digest k)) inside
 
--- what the commitments of a session's dealing are
+-- the commitments of a session's dealing
 random-of : (d : Dealing) (s : State) (digest mask : List ℕ) (t : ℕ) → IsOver d s digest → kept_masks s 1 t ≡ Some mask
     → random_commitment_in s.key.params s.plan (commitments d) s.leaf t ≡ sha256 (random_mask d s.leaf t)
 random-of d s digest mask t over kept =
@@ -132,7 +132,7 @@ named-alone d s digest t over lied = record {
   alone = λ u is. lied.alone u (accused d s digest u over is);
 }
 
--- a seat that keeps another mask than its member's
+-- a seat that keeps a mask other than its member's
 record IsOtherAmong (mask : ℕ → List ℕ) (seats : List Seat) : Type 0 where
   t : ℕ
   body : List ℕ
@@ -142,7 +142,7 @@ record IsOtherAmong (mask : ℕ → List ℕ) (seats : List Seat) : Type 0 where
 masks-kept : (seat : Seat) → seat.code ≡ Some 0 → masks_at seat ≡ Some seat.body
 masks-kept seat is = rw is refl
 
--- all seats keep their members' masks, or one keeps another
+-- all seats keep their members' masks, or one keeps a different one
 found-among : (a e : ℕ) (params : _) (round : ℕ) (mask : ℕ → List ℕ) (seats : List Seat) → IsAscendingIn a e (map (λ (seat : Seat). seat.member) seats)
     → All (IsSeat params round) seats → AreMasks seats → All (Keeps mask) seats ⊎ IsOtherAmong mask seats
 found-among a e params round mask [] ascending each masks = inl (All-nil (Keeps mask))

@@ -1,4 +1,4 @@
--- The bits of the trustees that are blamed, one trustee after the other.
+-- The bits of the trustees that are blamed, one trustee after another.
 use Rattle.std.proofs.Common.{Contains, ◌≡◌, ◌<◌, ◌≤◌, ◌+◌, ◌-◌, ◌*◌, ◌%◌, ◌^◌, ℕ, suc, List, [], ◌∷◌, ◌++◌, inl, inr, ap, arith, pow-suc, ◌∙◌}
 use Rattle.std.specs.Prelude.{◌↔◌, Bool, IfOk, IsTrue, Result, Ok, Err}
 use Rattle.std.proofs.Math.Nat.{pow-le-pow_right}
@@ -16,7 +16,7 @@ pub record IsBelow (t bits : ℕ) : Type 0 where
   pub one : 1 ≤ t
   pub small : bits < 2 ^ (t - 1)
 
--- they are those of the trustees before it of whom P holds
+-- they are those of the trustees before it for which P holds
 abbrev pub AreNamed : (ℕ → Type 0) → ℕ → ℕ → Type 0
 AreNamed P t bits = (x : ℕ) → Contains (member_numbers bits) x ↔ ((1 ≤ x) × (x < t) × P x)
 
@@ -26,7 +26,7 @@ below-none = record { one = omega arith; small = omega arith }
 pub named-none : (P : ℕ → Type 0) → AreNamed P 1 0
 named-none P x = ((λ member. absurd (Contains-nil x (rw member_numbers-zero at member))), (λ h. absurd (omega (arith, h.0, h.1))))
 
--- one bit more
+-- one more bit
 record IsMore (t bits now : ℕ) : Type 0 where
   now_is : now ≡ bits + 2 ^ (t - 1)
   twice : 2 ^ t ≡ 2 * 2 ^ (t - 1)
@@ -76,7 +76,7 @@ named-other P t bits not before x = (
   ]),
 )
 
--- whoever is blamed is a trustee of the plan
+-- any trustee that is blamed is a trustee of the plan
 record IsTrustee (s : State) (t : ℕ) : Type 0 where
   first : 1 ≤ t
   last : t < s.plan.n + 1
@@ -97,7 +97,7 @@ named-all leaves s digest t bits session end named x = (
   (λ blamed. let of = trustee-of leaves s digest x session blamed in (named x).1 (of.first, rw end of.last, blamed)),
 )
 
--- where the mask of round one does not differ, round two decides
+-- if the mask of round one does not differ, round two decides
 pub second-decides : {E : Type 0} (leaves : List ℕ) (s : State) (digest : List ℕ) (t : ℕ) (r : Result Bool E) → (FirstDiffers leaves s t → ⊥)
     → IfOk r (λ b. IsTrue b ↔ SecondDiffers leaves s digest t) → IfOk r (λ b. IsTrue b ↔ IsBlamed leaves s digest t)
 second-decides leaves s digest t (Err e) not second = tt

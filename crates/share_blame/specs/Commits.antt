@@ -1,4 +1,4 @@
--- Commitments on pages, and what reads leave of the pages.
+-- Commitments on pages, and the state in which reads leave the pages.
 use Rattle.std.specs.Prelude.{◌≡◌, ℕ, List, IsTrue, IsOk, Result, drop, length}
 use Rattle.coalition_map.specs.Coalitions.{PlanNumbers}
 use Rattle.disk_trait.specs.Disks.{SameKind}
@@ -32,7 +32,7 @@ pub record AreOfSession {V : Type 0} (s : State) (q : ℕ) (commits : Commits V)
   pub session : IsSession s
   pub leaf : q ≡ s.leaf
 
--- what the pages give, where they are told, and their kind are as they were
+-- what the pages give, if they are told, and their kind are as they were
 pub record PagesStay {V : Type 0} (p : pages.Ghosts V) (f : faults.Ghosts V) (old new : V) : Type 0 where
   pub same : IsTrue (p.told old) → p.reads new ≡ p.reads old
   pub kind : SameKind p.told p.honest f.steady p.room old new
@@ -41,8 +41,9 @@ pub record PagesStay {V : Type 0} (p : pages.Ghosts V) (f : faults.Ghosts V) (ol
 abbrev pub leaves_on : {V : Type 0} → pages.Ghosts V → V → List ℕ
 leaves_on p pages = drop 32 (p.reads pages)
 
--- Commitments of this set and plan were read: they are so still, and their pages are as they were. The call fails only
--- where the count of faults rose, and not where the pages are steady and tell all commitments of the plan.
+-- Commitments of this set and plan were read: they are still of that set and plan, and their pages are as they were.
+-- The call fails only if the count of faults rose, and not if the pages are steady and tell all commitments of the
+-- plan.
 pub record Looks {V X E : Type 0} (p : pages.Ghosts V) (f : faults.Ghosts V) (params : Params)
     (numbers : PlanNumbers) (old new : Commits V) (result : Result X E) : Type 0 where
   pub succeeds : IsTrue (f.steady (pages_of old)) → IsTrue (p.told (pages_of old))

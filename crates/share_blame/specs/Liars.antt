@@ -1,4 +1,4 @@
--- What members gave, beside the masks that a dealing gives them.
+-- What members gave, compared with the masks that a dealing gives them.
 use Rattle.std.specs.Prelude.{◌≡◌, ◌≢◌, ◌⊎◌, ℕ, ◌*◌, ◌<◌, List, Some, length}
 use Rattle.sha2.specs.Sha256.{sha256}
 use Rattle.coalition_map.specs.Coalitions.{IsPlan}
@@ -27,7 +27,7 @@ pub record IsOver (d : Dealing) (s : State) (digest : List ℕ) : Type 0 where
 abbrev pub mask_at : Dealing → State → List ℕ → ℕ → ℕ → List ℕ
 mask_at d s digest i t = chain_mask d s.leaf i (digit_of d.params digest i) t
 
--- what is kept of trustee t are not the masks that the dealing gives it, at the digits of the digest
+-- what is kept for trustee t is not the masks that the dealing gives it, at the digits of the digest
 pub data GaveOther (d : Dealing) (s : State) (digest : List ℕ) (t : ℕ) : Type 0 where
   gave_first : (mask : List ℕ) → kept_masks s 1 t ≡ Some mask → mask ≢ random_mask d s.leaf t → GaveOther d s digest t
   gave_second : (masks : List ℕ) → kept_masks s 2 t ≡ Some masks → masks ≢ digit_masks d s.leaf digest t
@@ -38,7 +38,7 @@ pub record Collide (a b : List ℕ) : Type 0 where
   pub differ : a ≢ b
   pub hash : sha256 a ≡ sha256 b
 
--- a mask that is kept of trustee t differs from the dealing's, and both have one SHA-256
+-- a mask that is kept for trustee t differs from the dealing's, and both have one SHA-256
 pub data Passes (d : Dealing) (s : State) (digest : List ℕ) (t : ℕ) : Type 0 where
   passes_first : (mask : List ℕ) → kept_masks s 1 t ≡ Some mask → Collide mask (random_mask d s.leaf t)
       → Passes d s digest t

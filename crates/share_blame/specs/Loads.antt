@@ -34,7 +34,7 @@ plan_fault header k n = if (k == header.plan.k) && (n == header.plan.n) then Non
 unfoldable pub difference : RefHeader → List ℕ → ℕ → ℕ → ℕ → ℕ → Option FileFault
 difference header id lms ots k n = first_fault (key_fault header id lms ots ∷ plan_fault header k n ∷ [])
 
--- the same of a head of 32 bytes
+-- the same for a head of 32 bytes
 abbrev pub head_difference : RefHeader → List ℕ → Option FileFault
 head_difference header head =
     difference header (bytes_at head 16 16) (lms_at head) (ots_at head) (slice_index head 6) (slice_index head 7)

@@ -20,7 +20,7 @@ use reference_value::RefFault;
 use session_core::Session;
 
 /// The members whose kept masks are not those that the dealer committed to: of round one, and of round two at the
-/// digits of the digest, of `n` bytes. Of each mask that is kept its commitment alone is read. It takes no memory.
+/// digits of the digest, of `n` bytes. For each mask that is kept, only its commitment is read. It takes no memory.
 pub fn blamed<V: Pages>(
     commits: &mut Commits<V>,
     params: &Params,
@@ -64,7 +64,7 @@ fn is_blamed<V: Pages>(
     second_differs(commits, session, q, digest, t)
 }
 
-/// Whether the mask that is kept of trustee `t` in round one is not the one that the dealer committed to.
+/// Whether the mask that is kept for trustee `t` in round one is not the one that the dealer committed to.
 #[tactic(auto, unfolding(reference_value::specs::Commitments::random_commitment_in))]
 fn first_differs<V: Pages>(
     commits: &mut Commits<V>,
@@ -86,7 +86,7 @@ fn first_differs<V: Pages>(
     }
 }
 
-/// Whether a mask that is kept of trustee `t` in round two is not the one that the dealer committed to.
+/// Whether a mask that is kept for trustee `t` in round two is not the one that the dealer committed to.
 fn second_differs<V: Pages>(
     commits: &mut Commits<V>,
     session: &Session,

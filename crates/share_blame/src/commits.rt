@@ -18,7 +18,7 @@ use reference_value::{RefFault, read_behind_header};
 use sha2::{Digest, Sha256};
 use share_files::{FileFault, HEAD, RefHeader, read_commits_header};
 
-/// The commitments of a dealing on pages, behind a head of 32 bytes. Each is one read, at the place that is wanted.
+/// The commitments of a dealing on pages, after a head of 32 bytes. Each takes one read, at the place wanted.
 #[derive(Drop)]
 pub struct Commits<V: Pages> {
     pub(crate) places: Places,
@@ -26,7 +26,7 @@ pub struct Commits<V: Pages> {
 }
 
 impl<V: Pages> Commits<V> {
-    /// The commitments on these pages, which go with the reference of this header. Their head alone is read.
+    /// The commitments on these pages, which go with the reference of this header. Only their head is read.
     pub fn load(pages: V, header: &RefHeader) -> Result<Commits<V>, (V, CommitsFault)>
         ensures loaded { IfOk result (λ commits. AreOf header.now.params header.now.plan commits
             × PagesStay V.Pages.own V.Faults pages (pages_of commits)

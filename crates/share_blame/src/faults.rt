@@ -6,7 +6,7 @@ use thiserror::Error;
 /// Why commitments are not read.
 #[derive(Clone, Copy, Debug, PartialEq, Eq, Error)]
 pub enum CommitsFault {
-    /// The pages are no commitment file, or that of another dealing than the reference.
+    /// The pages are no commitment file, or one of a dealing other than the reference's.
     #[error("no commitments of this dealing: {0}")]
     File(FileFault),
     /// A call of the pages failed.

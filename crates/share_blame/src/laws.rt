@@ -1,4 +1,4 @@
-//! What follows from the definitions, for whoever proves something about blame. No function here does anything.
+//! What follows from the definitions, for proofs about blame. No function here does anything.
 
 ghost use Rattle.std.specs.Prelude.{◌≡◌, ℕ, List, ◌<◌, ◌^◌, Contains, length};
 ghost use Rattle.coalition_map.specs.Coalitions.{IsPlan};
@@ -23,10 +23,10 @@ pub fn commitments_at_places()
         → cell_commitment_in d.params d.plan (commitments d) q i j t ≡ sha256 (chain_mask d q i j t) }
 {}
 
-/// Where the commitments are the dealer's, whoever is blamed gave other masks than the dealing gives it; and whoever
-/// gave other masks is blamed, but for a string with the SHA-256 of a mask that it had to give. So where one member
-/// alone gave other masks it alone is named, and after a signature that is not accepted over the dealer's reference and
-/// tree somebody is named.
+/// If the commitments are the dealer's, each member that is blamed gave masks other than those the dealing gives it;
+/// and each member that gave other masks is blamed, unless it found a string with the SHA-256 of a mask that it had to
+/// give. So if one member alone gave other masks, it alone is named, and if a signature over the dealer's reference and
+/// tree is not accepted, some member is named.
 pub fn liar_named()
     ensures accused { (d : Dealing) (s : State) (digest : List ℕ) (t : ℕ) → IsOver d s digest
         → IsBlamed (commitments d) s digest t → GaveOther d s digest t }

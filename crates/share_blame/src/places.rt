@@ -11,7 +11,7 @@ use lms_bytes::Params;
 use reference_value::rank;
 use share_files::{COMMITMENT, chain_commits_bytes, leaf_commits_bytes};
 
-/// The parameter set and the plan of commitments, which say where each of them lies among the leaves.
+/// The parameter set and the plan of commitments, which tell where each commitment lies among the leaves.
 #[derive(Clone, Copy, Debug)]
 pub(crate) struct Places {
     pub(crate) params: Params,
@@ -32,7 +32,7 @@ impl Places {
         leaf_commits_bytes(&self.params, self.plan.k()) * q as usize
     }
 
-    /// Where the commitment to the mask lies that member `t` has for the randomizer of leaf `q`.
+    /// Where the commitment to the mask of member `t` for the randomizer of leaf `q` lies.
     pub(crate) fn randomizer(&self, q: u32, t: u8) -> usize
         requires leaf { q < 2 ^ self.now.params.h }
         requires member { Contains (leaf_members self.now.plan q) t }
@@ -44,8 +44,7 @@ impl Places {
         self.leaf(q) + COMMITMENT * rank(&self.plan, q, t)
     }
 
-    /// Where the commitment to the mask lies that member `t` has for the value of chain `i` of leaf `q` after `j`
-    /// steps.
+    /// Where the commitment to the mask of member `t` for the value of chain `i` of leaf `q` after `j` steps lies.
     pub(crate) fn cell(&self, q: u32, i: u16, j: u8, t: u8) -> usize
         requires leaf { q < 2 ^ self.now.params.h }
         requires chain { i < self.now.params.p }

@@ -15,6 +15,6 @@ pub first_fault-failed : (test : Option FileFault) (tests : List (Option FileFau
 unfolding first_fault
 first_fault-failed test tests fault e = rw e refl
 
--- no test fails and one does
+-- no test fails, and yet one does
 pub contradiction : {A : Type 0} (test : Option FileFault) (fault : FileFault) → test ≡ None → test ≡ Some fault → A
 contradiction test fault passed failed = absurd (cc)

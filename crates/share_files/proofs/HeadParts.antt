@@ -73,7 +73,7 @@ head_passes magic own5 own6 own7 params id rest bytes l dealt =
     first_fault-passed (magic_fault magic bytes) _ (rw magic_same refl)
     ∙ (first_fault-passed (version_fault bytes) _ (rw version_same refl) ∙ (first_fault-passed (code_fault bytes) _ (rw codes refl) ∙ first_fault-end))
 
--- bytes are their head and the rest
+-- bytes are their head followed by the rest
 pub head_and_rest : (bytes head rest : List ℕ) (size : ℕ) → length bytes ≡ 32 + size → take 32 bytes ≡ head → rest ≡ bytes_at bytes 32 size
     → bytes ≡ head ++ rest
 head_and_rest bytes head rest size len front back =

@@ -16,7 +16,7 @@ pub reference_lies : (header : RefHeader) (leaves bytes : List ℕ) → bytes �
     → HeadLies (codes "TLRF") 0 header.plan.k header.plan.n header.params header.id leaves bytes
 reference_lies header leaves bytes parts = head_lies _ _ _ _ 0 header.plan.k header.plan.n header.params header.id leaves bytes header.id_length parts
 
--- a head with a plan, and nothing behind it
+-- a head with a plan, and nothing after it
 pub plan_lies : (magic : List ℕ) (header : RefHeader) (head : List ℕ) → length magic ≡ 4 → head ≡ plan_head magic header
     → HeadLies magic 0 header.plan.k header.plan.n header.params header.id [] head
 plan_lies magic header head four parts =
@@ -26,7 +26,7 @@ plan_lies magic header head four parts =
 pub length_of-codes : (params : Params) (k : ℕ) → length_of params.lms params.ots k ≡ 32 + leaf_length params k * 2 ^ params.h
 length_of-codes params k = rw (node_length-lms params, height_of-lms params, chain_count-ots params, width_of-ots params) refl
 
--- the length that the reader asks for
+-- the length that the reader requires
 pub want_is : (params : Params) (head : List ℕ) (k want : ℕ) → params.lms ≡ lms_at head → params.ots ≡ ots_at head → k ≡ slice_index head 6
     → want ≡ 32 + leaf_length params k * 2 ^ params.h → want ≡ length_of (lms_at head) (ots_at head) (slice_index head 6)
 want_is params head k want lms ots threshold size = size ∙ (sym (length_of-codes params k) ∙ rw (lms, ots, threshold) refl)

@@ -28,7 +28,7 @@ pub tree_length_passes : (params : Params) (bytes id nodes : List ℕ) → HasTr
 tree_length_passes params bytes id nodes l =
     length_passes (length bytes) (tree_length params.lms) ((tree_lies params bytes id nodes l).size ∙ (ap (λ k. 32 + k) l.nodes_length ∙ sym (tree_length-lms params)))
 
--- the length that the reader asks for
+-- the length that the reader requires
 pub want_is : (params : Params) (bytes : List ℕ) (want : ℕ) → params.lms ≡ lms_at bytes → want ≡ 32 + params.n * (2 ^ (params.h + 1) - 1)
     → want ≡ tree_length (lms_at bytes)
 want_is params bytes want lms size = size ∙ (sym (tree_length-lms params) ∙ ap tree_length lms)

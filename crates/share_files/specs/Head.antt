@@ -29,7 +29,7 @@ magic_fault magic bytes = if bytes_eq (bytes_at bytes 0 4) magic then None else 
 abbrev pub version_fault : List ℕ → Option FileFault
 version_fault bytes = if slice_index bytes 4 == 1 then None else Some (Version (slice_index bytes 4))
 
--- the typecodes that a head has
+-- the typecodes in a head
 abbrev pub lms_at : List ℕ → ℕ
 lms_at bytes = str_to_u32 (bytes_at bytes 8 4)
 

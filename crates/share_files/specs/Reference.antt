@@ -30,14 +30,14 @@ reference_head header = plan_head reference_magic header
 abbrev pub reference_length : RefHeader → ℕ
 reference_length header = 32 + leaves_length header.params header.plan
 
--- two headers have the same typecodes, plan and identifier: all else of them follows from these
+-- two headers have the same typecodes, plan and identifier: everything else in them follows from these
 pub record SameHeader (a b : RefHeader) : Type 0 where
   pub lms : b.params.lms ≡ a.params.lms
   pub ots : b.params.ots ≡ a.params.ots
   pub plan : b.plan ≡ a.plan
   pub id : b.id ≡ a.id
 
--- internal: what a head says of the set and of the threshold is what the header has
+-- internal: what a head says about the set and the threshold is what the header has
 pub record HasCodes (head : List ℕ) (header : RefHeader) : Type 0 where
   pub lms : lms_at head ≡ header.params.lms
   pub ots : ots_at head ≡ header.params.ots

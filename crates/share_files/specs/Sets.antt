@@ -18,7 +18,7 @@ width_of ots = elim (lmots_row ots) [ None ↦ 0 | Some chains ↦ chains.w ]
 abbrev pub chain_count : ℕ → ℕ
 chain_count ots = elim (lmots_row ots) [ None ↦ 0 | Some chains ↦ chains.p ]
 
--- this project's profile: trees up to height 10 are dealt, and those of height 10 not with digits of 8 bits
+-- this project's profile: trees up to height 10 are dealt, but not those of height 10 with digits of 8 bits
 pub record CanBeDealt (params : Params) : Type 0 where
   pub height : params.h ≤ 10
   pub width : params.h ≡ 10 → params.w < 8

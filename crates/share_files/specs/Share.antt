@@ -19,7 +19,7 @@ share_file_of params plan id t key = head_bytes share_magic (t ∷ plan.k ∷ pl
 abbrev pub share_bytes : Share → List ℕ
 share_bytes share = share_file_of share.params share.plan share.id share.member share.key
 
--- two shares have the same typecodes, plan, member, identifier and key: all else of them follows from these
+-- two shares have the same typecodes, plan, member, identifier and key: everything else in them follows from these
 pub record SameShare (a b : Share) : Type 0 where
   pub lms : b.params.lms ≡ a.params.lms
   pub ots : b.params.ots ≡ a.params.ots

@@ -13,7 +13,7 @@ tree_magic = codes "TLTR"
 abbrev pub tree_head : Params → List ℕ → List ℕ
 tree_head params id = head_bytes tree_magic (0 ∷ 0 ∷ 0 ∷ []) params id
 
--- two files have the same typecodes, identifier and nodes: all else of them follows from these
+-- two files have the same typecodes, identifier and nodes: everything else in them follows from these
 pub record SameTree (params params' : Params) (id id' nodes nodes' : List ℕ) : Type 0 where
   pub lms : params'.lms ≡ params.lms
   pub ots : params'.ots ≡ params.ots

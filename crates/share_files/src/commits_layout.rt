@@ -17,7 +17,7 @@ use mask_prf::{HEAD, leaf_commits_bytes};
 /// What a commitment file begins with.
 const COMMITS_MAGIC: &[u8; 4] = b"TLCM";
 
-/// Reads the head of a commitment file of this length in bytes. It says what the head of a reference file says.
+/// Reads the head of a commitment file of this length in bytes. It says the same as the head of a reference file.
 #[tactic(auto, unfolding(crate::specs::Commits::commits_head_fault, crate::specs::Head::first_fault))]
 pub fn read_commits_header(head: &[u8; 32], file_length: u64) -> Result<RefHeader, FileFault>
     ensures header { IfOk result (λ header. head.now ≡ commits_head header) }

@@ -1,4 +1,4 @@
-//! The 32 bytes that each file of a dealing begins with.
+//! The 32 bytes with which each file of a dealing begins.
 
 ghost use Rattle.std.specs.Prelude.{◌≡◌, ◌↔◌, ◌<◌, ◌≤◌, [], ◌∷◌, length, slice_index, take, drop, None};
 ghost use Rattle.std.specs.Prelude.{Some, OnOk, IfOk, IfErr, IsTrue};

@@ -34,7 +34,7 @@ pub fn read_ref_header(head: &[u8; 32], file_length: u64) -> Result<RefHeader, F
     Ok(header)
 }
 
-/// Reads a reference file that is all of `bytes`. The leaves are borrowed from it.
+/// Reads a reference file that is all of `bytes`. The leaves are borrowed from `bytes`.
 pub fn read_reference<'a>(bytes: &'a [u8]) -> Result<RefView<'a>, FileFault>
     ensures layout { IfOk result (λ view. HasReferenceLayout view.header bytes.now view.leaves.now) }
     ensures read { (header : RefHeader) (leaves : List ℕ) → HasReferenceLayout header bytes.now leaves

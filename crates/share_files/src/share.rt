@@ -6,7 +6,7 @@ ghost use Rattle.coalition_map.specs.Coalitions.{IsPlan};
 use coalition_map::Plan;
 use lms_bytes::{KeyId, Params};
 
-/// What a trustee is given. It is not printed: the key is secret.
+/// What a trustee gets. It is not printed: the key is secret.
 #[derive(Clone, Copy, PartialEq, Eq)]
 pub struct Share {
     /// The number of the trustee, from 1 on.

@@ -23,7 +23,7 @@ pub struct TreeView<'a> {
     pub nodes: &'a [u8],
 }
 
-/// Reads a tree file that is all of `bytes`. The nodes are borrowed from it.
+/// Reads a tree file that is all of `bytes`. The nodes are borrowed from `bytes`.
 pub fn read_tree<'a>(bytes: &'a [u8]) -> Result<TreeView<'a>, FileFault>
     ensures layout { IfOk result (λ view. HasTreeLayout view.params bytes.now view.id view.nodes.now) }
     ensures read { (params : Params) (id nodes : List ℕ) → HasTreeLayout params bytes.now id nodes

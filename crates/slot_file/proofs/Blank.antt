@@ -92,7 +92,7 @@ closed-shut : (header : Header) (slots : List ℕ) → get_or (header_block 0 he
 unfolding header_block
 closed-shut header slots = refl
 
--- a file whose gate is closed yet
+-- a file whose gate is still closed
 pub closed_unready : (header : Header) (slots file : List ℕ) → file ≡ header_block 0 header ++ slots → IsUnready file
 closed_unready header slots file is = shut_unready file (ap (λ (l : List ℕ). get_or l 0 0) is ∙ closed-shut header slots)
 
@@ -100,7 +100,7 @@ closed_unready header slots file is = shut_unready file (ap (λ (l : List ℕ). 
 pub is_new : (header : Header) → HasFields header → (count : ℕ) (file : List ℕ) → file ≡ blank_file header count → IsNew header count file
 is_new header fields count file is = (is, subst (IsBlank header count) (sym is) (is_blank header fields count))
 
--- A file that is whole but for its gate, whose gate is opened last: a crash or a read never shows half of it.
+-- A file that is whole except for its gate, which is opened last: a crash or a read never shows half of it.
 pub never-half : {D : Type 0} (p : pages.Ghosts D) (header : Header) (rest : List ℕ) (whole : List ℕ → Type 0) (old mid new : D)
     → p.told mid ≡ p.told old → p.honest mid ≡ p.honest old
     → (IsTrue (p.told old) → p.reads mid ≡ header_block 0 header ++ rest) → whole (header_block 0xA7 header ++ rest)

@@ -50,7 +50,7 @@ module _ {D : Type 0} {p : pages.Ghosts D} {f : faults.Ghosts D} where
         ap (λ (s : Slot). with_b s body moment) (has.shows place within) ∙ sym is) put;
   }
 
-  -- what a cache holds of its file beside these slots, with this put in doubt or none
+  -- what a cache holds of its file besides these slots, with this put in doubt or none
   pub record HoldsPut (new : Slots D p f) (slots : List Slot) (doubt : Option Doubted) : Type 0 where
     pub count : count_of new ≡ length slots
     pub whole : IsWhole slots

@@ -1,4 +1,4 @@
--- What calls of two disks do, one after the other, where one file is copied to another disk.
+-- What calls of two disks do, one after the other, when one file is copied to another disk.
 use Rattle.std.proofs.Common.{◌≡◌, ◌≢◌, ◌⊎◌, ◌<◌, ◌≤◌, ◌↔◌, if◌then◌else◌, Bool, true, false, ℕ, [], List, length, ◌∷◌, Err, Ok, Result, IfErr, IsErrAnd, IfOk, IsTrue, inl, inr, refl, sym, ◌∙◌, ap, subst, arith}
 use Rattle.std.proofs.lemmas.Result.{err_from_is_err_and}
 use Rattle.disk_trait.specs.Disks.{SameKind}
@@ -18,7 +18,7 @@ use Rattle.slot_file.specs.declared.slots.Doubt.TheVariants.{Nowhere}
 use Rattle.slot_file.specs.declared.slots.Slots.{Slots}
 use Rattle.slot_file.proofs.Unwritten.{same-none, same-then}
 
--- an error that is handed on
+-- an error that is passed on
 pub device-answer : {T X : Type 0} {device : X} (answer : Result T X) → IsErrAnd answer (λ fault. fault ≡ device) → answer ≡ Err device
 device-answer answer is = (let fault = err_from_is_err_and answer is in fault.1 ∙ ap Err fault.2)
 
@@ -27,7 +27,7 @@ pub device-says : {T X : Type 0} {device : X} (P : X → Type 0) (answer : Resul
 device-says P (Ok value) is holds = tt
 device-says P (Err fault) is holds = subst P (sym is) holds
 
--- that error, and a value, are no others
+-- that error, and a value, are not other errors
 pub device-not-held : {T : Type 0} (answer : Result T CopyFault) → IsErrAnd answer (λ fault. fault ≡ Device) → (held : ℕ) → answer ≢ Err (NotEmpty held)
 device-not-held (Ok value) is held same = absurd (cc)
 device-not-held (Err fault) is held same = absurd (cc)
@@ -129,7 +129,7 @@ module _ {D : Type 0} (p : pages.Ghosts D) (f : faults.Ghosts D) where
       others = λ differs. calls.others (λ is. differs (there is));
     }
 
-  -- the length of a disk is asked before a file is made there
+  -- the length of a disk is asked for before a file is made there
   module _ (old mid : D) (kind : SameKind p.told p.honest f.steady p.room old mid) where
     pub half-after : (whole : List ℕ → Type 0) (new : D) → NeverHalf p whole mid new → NeverHalf p whole old new
     half-after whole new half = record {

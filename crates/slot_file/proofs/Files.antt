@@ -74,7 +74,7 @@ module _ (header : Header) (slots : List Slot) (old : List ℕ) (has : HasSlots 
           subst (λ (d : Doubted). slot_at header.version d.slot new ≡ d.after) same there;
     }
 
--- a file with these slots, where no put is in doubt
+-- a file with these slots, if no put is in doubt
 pub all-shown : (header : Header) (slots : List Slot) (file : List ℕ) → HasSlots header slots file → Shows header slots None file
 all-shown header slots file has = record {
   opens = has.opens;

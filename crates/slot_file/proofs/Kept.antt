@@ -9,7 +9,7 @@ use Rattle.slot_file.specs.Gated.{Gated}
 use Rattle.slot_file.proofs.Parts.{Outside, outside_torn, outside_written, outside_both, outside_wider}
 use Rattle.slot_file.proofs.Puts.{header-outside, opens-outside}
 
--- so many slots end within the file
+-- that many slots end within the file
 pub run-within : (version first n count : ℕ) → first + n ≤ count → slot_start version first + slot_size version * n ≤ file_size version count
 run-within version first n count below =
     omega (arith, mul-add (slot_size version) first n, mul-le-mul_left (slot_size version) below)

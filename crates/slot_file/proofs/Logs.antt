@@ -106,8 +106,8 @@ module _ {E : Type 0} (of_slot : ℕ → Slot → List E) where
 
   -- what the entries of a log make of each slot, and what a slot itself says
   module _ {U : Type 0} (map_of : List E → ℕ → U) (use_of : Slot → U) (free : U) (legal : List E → Type 0) where
-    -- A log has the entries of the first slots, which make of each what it says, and it is legal. Of the first slots so
-    -- many entries may still be made.
+    -- A log has the entries of the first slots, which make of each what it says, and it is legal. That many entries may
+    -- still be made of the first slots.
     pub record HasFirst (slots : List Slot) (count : ℕ) (entries : List E) : Type 0 where
       pub items : entries ≡ entries_in of_slot count (slot_in slots)
       pub have : (slot : ℕ) → slot < count → use_of (slot_in slots slot) ≡ map_of entries slot

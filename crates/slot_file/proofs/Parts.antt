@@ -5,7 +5,7 @@ use Rattle.std.proofs.lemmas.List.{places, same_lists, get_or_past, get_or_defau
 use Rattle.disk_trait.specs.Images.{written, Torn}
 use Rattle.slot_file.specs.Layout.{part}
 
--- no byte differs but in a range
+-- no byte differs except in a range
 pub record Outside (at n : ℕ) (old new : List ℕ) : Type 0 where
   pub size : length new ≡ length old
   pub same : (k : ℕ) → (k < at) ⊎ (at + n ≤ k) → get_or new k 0 ≡ get_or old k 0
@@ -41,7 +41,7 @@ outside_wider at n from m old new low high out = record {
 pub outside_both : (at n : ℕ) (old mid new : List ℕ) → Outside at n old mid → Outside at n mid new → Outside at n old new
 outside_both at n old mid new one two = record { size = two.size ∙ one.size; same = λ k place. two.same k place ∙ one.same k place }
 
--- a part that lies before or behind the range
+-- a part that lies before or after the range
 pub part-outside : (at n from m : ℕ) (old new : List ℕ) → Outside at n old new → (from + m ≤ at) ⊎ (at + n ≤ from) → part from m new ≡ part from m old
 part-outside at n from m old new out place =
     same_lists _ _ (omega (arith, out.size, length-take m (drop from new), length-take m (drop from old), length-drop from new, length-drop from old))

@@ -81,7 +81,7 @@ module _ (version slot : ℕ) (body old : List ℕ) (is_36 : length body ≡ 36)
     | inr torn ↦ gate_torn new torn
   ]
 
-  -- and the one that it leaves where it succeeds
+  -- and the one that it leaves if it succeeds
   has : slot_at version slot (gated (slot_start version slot + 4) body (slot_start version slot) 0xB1 old) ≡ Half body
   unfolding mid
   has =

@@ -1,4 +1,4 @@
--- A put of body B and of the moment behind it.
+-- A put of body B and of the moment after it.
 use Rattle.std.proofs.Common.{◌≡◌, ◌≢◌, ◌⊎◌, ◌==◌, ℕ, ◌+◌, ◌^◌, ◌<◌, ◌≤◌, List, [], ◌∷◌, ◌++◌, length, length-append, get_or, take, if◌then◌else◌, refl, sym, ◌∙◌, ap, arith, inl, inr, add-zero}
 use Rattle.std.proofs.lemmas.Bool.{cases_eq}
 use Rattle.std.proofs.lemmas.List.{append-nil, take_at, take_all, drop_at}
@@ -84,7 +84,7 @@ module _ (version start size n : ℕ) (least : 44 + n ≤ size) (some : 64 ≤ n
       | inr b_shut ↦ inl (half_is version (part start size new) a_open b_shut ∙ ap Half body_a)
     ]
 
--- the second body: its length, its front, and the moment behind it
+-- the second body: its length, its front, and the moment after it
 pub record Second (version : ℕ) (body : List ℕ) (moment : ℕ) (ys : List ℕ) : Type 0 where
   pub some : 64 ≤ length ys
   pub least : 44 + length ys ≤ slot_size version
@@ -165,7 +165,7 @@ module _ (version slot : ℕ) (body : List ℕ) (moment : ℕ) (ys old a : List 
   unfolding mid
   puts_b new leaves = elim leaves [ inl torn ↦ body_torn new torn | inr torn ↦ gate_torn new torn ]
 
-  -- and the one that it leaves where it succeeds
+  -- and the one that it leaves if it succeeds
   has : slot_at version slot (gated (slot_start version slot + 44) ys (slot_start version slot + 40) 0xC2 old) ≡ Full a body moment
   unfolding mid
   has =

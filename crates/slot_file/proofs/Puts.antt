@@ -26,7 +26,7 @@ header-made file = refl
 header-same : (old new : List ℕ) → get_or new 4 0 ≡ get_or old 4 0 → get_or new 5 0 ≡ get_or old 5 0 → part 8 4 new ≡ part 8 4 old → part 12 4 new ≡ part 12 4 old → part 16 16 new ≡ part 16 16 old → header_in new ≡ header_in old
 header-same old new version number lms ots id = cc (header-made old, header-made new)
 
--- a write behind the header leaves it
+-- a write after the header leaves it as it is
 pub header-outside : (at n : ℕ) (old new : List ℕ) → 32 ≤ at → Outside at n old new → header_in new ≡ header_in old
 header-outside at n old new behind out =
     header-same old new (out.same 4 (inl (omega arith))) (out.same 5 (inl (omega arith)))
@@ -53,7 +53,7 @@ header_fault-front header file =
     let version = get_or-take 32 file 4 0 (omega arith) in
     rw (gate, version, header-front file) refl
 
--- a file opens as before where its header and its length are as before
+-- a file opens as before if its header and its length are as before
 pub opens-outside : (at n : ℕ) (old new : List ℕ) → 32 ≤ at → Outside at n old new → (header : Header) (count : ℕ) → load_fault header count new ≡ load_fault header count old
 unfolding load_fault
 opens-outside at n old new behind out header count = rw (out.size, header_fault-outside at n old new behind out header) refl

@@ -93,7 +93,7 @@ all-read {p} header count disk slots list read opened is size whole shows =
           (λ k below. ap is_damaged (same k below) ∙ sound k (omega (arith, below, long)));
     }
 
--- the same, where the slots were read into memory that was taken for so many
+-- the same, if the slots were read into memory that was taken for that many
 pub all-cached : {D : Type 0} {p : pages.Ghosts D} {f : faults.Ghosts D} (header : Header) (count : ℕ) (disk : D) (slots : Slots D p f) (cached : Vec Slot Global) (free read : List Slot)
     → IsOpened p f header count disk slots → cached.items ≡ replicate count Free → free ≡ cached.items → length read ≡ length free → IsWhole read
     → (IsTold slots → (k : ℕ) → k < length free → slot_now slots k ≡ slot_in read k) → AllRead header count (IsTold slots) (file_of slots) (with_items cached read).items

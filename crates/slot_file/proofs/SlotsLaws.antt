@@ -1,4 +1,4 @@
--- What holds of each file of slots that is open.
+-- What holds of each open file of slots.
 use Rattle.std.specs.Prelude.{◌≡◌, List, ℕ, None}
 use Rattle.disk_trait.specs.declared.disk.Pages as pages
 use Rattle.disk_trait.specs.declared.faults.Faults as faults

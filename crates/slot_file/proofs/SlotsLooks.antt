@@ -69,12 +69,12 @@ looks-then {q} {h} old mid new first next = record {
   };
 }
 
--- what holds where no put was refused, after a settle
+-- what holds after a settle if no put was refused
 pub sure-settled : {T X : Type 0} (done : Result T X) (was doubt : Doubt) (S : Type 0) → doubt ≡ (if is_ok done then settled was else was) → (IsSure was → S) → OnOk done S → IsSure doubt → S
 sure-settled (Ok value) was doubt S is before after sure = after
 sure-settled (Err fault) was doubt S is before after sure = before (subst IsSure is sure)
 
--- a look settles no put that was refused, and brings none in doubt
+-- a look settles no put that was refused, and puts none in doubt
 still-sure : (done : Bool) (first count : ℕ) (doubt : Doubt) → IsSure (if done then looked_run first count doubt else doubt) → IsSure doubt
 still-sure true first count Nowhere sure = tt
 still-sure true first count (Refused slot) sure = absurd sure

@@ -1,4 +1,4 @@
--- What a cache shows where no put is in doubt.
+-- What a cache shows if no put is in doubt.
 use Rattle.std.proofs.Common.{◌≡◌, ℕ, List, Option, None, refl, sym, subst}
 use Rattle.disk_trait.specs.declared.disk.Pages as pages
 use Rattle.disk_trait.specs.declared.faults.Faults as faults

@@ -42,7 +42,7 @@ module _ {D : Type 0} {p : pages.Ghosts D} {f : faults.Ghosts D} where
   MayLeave cache image = p.may_leave (disk_of cache) image
 
   -- What holds of every cache: what a read gives, and each image that a crash may leave, stands for its state, no slot
-  -- is damaged, and a put is in doubt only where a call of the disk has failed.
+  -- is damaged, and a put is in doubt only if a call of the disk has failed.
   pub record Holds (cache : CachedSlots D p f) : Type 0 where
     pub reads : IsTold cache → StandsFor (header_of cache) (state_of cache) (file_of cache)
     pub images : IsTold cache → IsHonest cache → (image : List ℕ) → MayLeave cache image

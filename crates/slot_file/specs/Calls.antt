@@ -18,7 +18,7 @@ pub record IsNeither (version : ℕ) (before after : Slot) (a b : ℕ) : Type 0 
   pub not_after : found ≢ after
   pub gates : gates_of found ≡ (a, b)
 
--- what settling does: the put in doubt was made or was not, and is in doubt no more
+-- what settling does: the put in doubt was made or was not, and is no longer in doubt
 abbrev pub Settles : ℕ → CacheState → Result Settled SettleFault → CacheState → Type 0
 Settles version before (Ok Nothing) after = (before.doubt ≡ None) × (after ≡ before)
 Settles version before (Ok Made) after =

@@ -20,13 +20,13 @@ abbrev pub IsDamaged : CopyFault → Type 0
 IsDamaged (Damaged slot a b) = Unit {0}
 IsDamaged fault = ⊥
 
--- a slot that is refused is damaged, where the slots are told
+-- a slot that is refused is damaged, if the slots are told
 abbrev pub FindsSlot : Type 0 → ℕ → Slot → CopyFault → Type 0
 FindsSlot told place found (Damaged held a b) = told → (held ≡ place) × (found ≡ slot.Damaged a b)
 FindsSlot told place found fault = Unit {0}
 
 module _ {D E : Type 0} (p : pages.Ghosts D) (f : faults.Ghosts D) {q : pages.Ghosts E} {h : faults.Ghosts E} where
-  -- the other file is only looked at, and Device comes where the count of one of the disks rose and nowhere else
+  -- the other file is only looked at, and Device comes if the count of one of the disks rose and not otherwise
   pub record CopyCalls {R : Type 0} (old new : D) (from now : Slots E q h) (answer device : R) : Type 0 where
     pub disk : SameDisk p f old new
     pub looked : OnlyLooked from now
@@ -38,13 +38,13 @@ module _ {E : Type 0} {q : pages.Ghosts E} {h : faults.Ghosts E} (from : Slots E
   abbrev pub slots_of : ℕ → List Slot
   slots_of count = slots_in (header_of from).version count (file_of from)
 
-  -- of all its slots a damaged one is the first
+  -- the damaged slot is the first such of all its slots
   abbrev pub FindsDamaged : ℕ → CopyFault → Type 0
   FindsDamaged count (Damaged slot a b) =
       IsTold from → IsFirstDamaged (header_of from).version count (file_of from) slot a b
   FindsDamaged count fault = Unit {0}
 
-  -- it has so many slots that are not free, and none is damaged
+  -- `taken` of its slots are not free, and none is damaged
   pub record AreTaken (count taken : ℕ) : Type 0 where
     pub taken_are : IsTold from → taken ≡ taken_count (slots_of count)
     pub sound : IsTold from → (slot : ℕ) → slot < count → is_damaged (slot_now from slot) ≡ false
@@ -63,7 +63,7 @@ module _ {E : Type 0} {q : pages.Ghosts E} {h : faults.Ghosts E} (from : Slots E
           → p.reads new ≡ p.reads old ++ flat_map slot_block (slots_of count)
       pub are : AreTaken count taken
 
-    -- the copy but for its gate, which is closed
+    -- the copy except for its gate, which is closed
     pub record IsClosedCopy (header : Header) (count : ℕ) (old new : D) (taken : ℕ) : Type 0 where
       pub closed : IsTrue (p.told old) → IsTold from
           → p.reads new ≡ header_block 0 header ++ flat_map slot_block (slots_of count)

@@ -4,7 +4,7 @@ use Rattle.disk_trait.specs.Faults.{Rose}
 use Rattle.disk_trait.specs.declared.disk.Pages as pages
 use Rattle.disk_trait.specs.declared.faults.Faults as faults
 
--- a count never falls, and rises where the answer is this one and nowhere else
+-- a count never falls, and rises if the answer is this one and not otherwise
 pub record RisesAt {R : Type 0} (before now : ℕ) (answer device : R) : Type 0 where
   pub later : before ≤ now
   pub failed : answer ≡ device → Rose before now

@@ -17,7 +17,7 @@ abbrev pub looked : ℕ → Doubt → Doubt
 looked slot (Settled doubted) = if doubted == slot then Nowhere else Settled doubted
 looked slot doubt = doubt
 
--- the doubt after a look at so many slots from one on
+-- the doubt after a look at that many slots from one on
 abbrev pub looked_run : ℕ → ℕ → Doubt → Doubt
 looked_run first count (Settled doubted) =
     if nat_le first doubted && nat_lt doubted (first + count) then Nowhere else Settled doubted

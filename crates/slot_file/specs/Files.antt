@@ -5,7 +5,7 @@ use Rattle.slot_file.specs.declared.slot.Slot.{Slot}
 use Rattle.slot_file.specs.declared.slot.Slot.TheVariants.{Damaged, Free, Half, Full}
 use Rattle.slot_file.specs.Layout.{header_in, file_size, slot_at, load_fault}
 
--- the file opens: it has this header, its gate is open, and it has this many slots
+-- the file opens: it has this header, its gate is open, and it has `count` slots
 pub record IsFile (header : Header) (count : ℕ) (file : List ℕ) : Type 0 where
   pub opens : load_fault header count file ≡ None
   pub size : length file ≡ file_size header.version count
@@ -32,7 +32,7 @@ abbrev pub without_moment : Slot → Slot
 without_moment (Full a b moment) = Full a b 0
 without_moment slot = slot
 
--- the bytes of a slot's two gates: a closed one counts as 0, but in a damaged slot
+-- the bytes of a slot's two gates: a closed one counts as 0, except in a damaged slot
 abbrev pub gates_of : Slot → ℕ × ℕ
 gates_of Free = (0, 0)
 gates_of (Half a) = (0xB1, 0)

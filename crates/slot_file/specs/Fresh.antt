@@ -27,7 +27,7 @@ module _ {D : Type 0} (p : pages.Ghosts D) where
     pub images : IsTrue (p.told old) → IsTrue (p.honest old) → (image : List ℕ) → p.may_leave new image
         → IsUnready image
 
-  -- A crash leaves what doesn't open, or a whole file. A read shows an open gate only where all else is stable.
+  -- A crash leaves what doesn't open, or a whole file. A read shows an open gate only if all else is stable.
   pub record NeverHalf (whole : List ℕ → Type 0) (old new : D) : Type 0 where
     pub images : IsTrue (p.told old) → IsTrue (p.honest old) → (image : List ℕ) → p.may_leave new image
         → IsUnready image ⊎ whole image
@@ -44,12 +44,12 @@ module _ {D : Type 0} (p : pages.Ghosts D) where
     pub images : IsTrue (p.told old) → IsTrue (p.honest old) → 0 < length (p.reads old)
         → (image : List ℕ) → p.may_leave new image ↔ p.may_leave old image
 
--- each image has all of a file but for its first byte
+-- each image has all of a file except its first byte
 abbrev pub AllBut : List ℕ → (List ℕ → Type 0) → Type 0
 AllBut file images = (image : List ℕ) → images image → Torn 0 1 file image
 
 -- internal: A gate is opened last. A crash leaves what it could leave before, or the file with any gate; a read shows
--- another gate only where all else is stable.
+-- another gate only if all else is stable.
 pub record OpensLast {D : Type 0} (p : pages.Ghosts D) (old new : D) : Type 0 where
   pub images : IsTrue (p.told old) → IsTrue (p.honest old) → (image : List ℕ) → p.may_leave new image
       → p.may_leave old image ⊎ Torn 0 1 (p.reads old) image
@@ -67,6 +67,6 @@ pub record IsBlank (header : Header) (count : ℕ) (file : List ℕ) : Type 0 wh
   pub opens : load_fault header count file ≡ None
   pub free : (slot : ℕ) → slot < count → slot_at header.version slot file ≡ Free
 
--- the file of this header and so many free slots
+-- the file of this header and that many free slots
 abbrev pub IsNew : Header → ℕ → List ℕ → Type 0
 IsNew header count file = (file ≡ blank_file header count) × IsBlank header count file

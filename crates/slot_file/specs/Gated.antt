@@ -11,6 +11,6 @@ Gated at body gate_at old new = Torn at (length body) old new ⊎ Torn gate_at 1
 abbrev pub gated : ℕ → List ℕ → ℕ → ℕ → List ℕ → List ℕ
 gated at body gate_at gate old = written (written old at body) gate_at (gate ∷ [])
 
--- the second body of a slot: the moment stands behind body B in slots of 160 bytes
+-- the second body of a slot: the moment comes after body B in slots of 160 bytes
 unfoldable pub second_body : ℕ → List ℕ → ℕ → List ℕ
 second_body version body moment = if version == 2 then body ++ moment_bytes moment else body

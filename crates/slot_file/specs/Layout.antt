@@ -14,7 +14,7 @@ use Rattle.slot_file.specs.declared.slot.Slot.TheVariants.{Free, Half, Full, Dam
 abbrev pub part : ℕ → ℕ → List ℕ → List ℕ
 part at n bytes = take n (drop at bytes)
 
--- Slots have 160 bytes exactly where the header's version is 2, and 128 bytes otherwise.
+-- Slots have 160 bytes exactly if the header's version is 2, and 128 bytes otherwise.
 abbrev pub slot_size : ℕ → ℕ
 slot_size version = if version == 2 then 160 else 128
 
@@ -22,7 +22,7 @@ slot_size version = if version == 2 then 160 else 128
 abbrev pub slot_start : ℕ → ℕ → ℕ
 slot_start version slot = 128 + slot_size version * slot
 
--- the length of a file of so many slots
+-- the length of a file of that many slots
 abbrev pub file_size : ℕ → ℕ → ℕ
 file_size version count = 128 + slot_size version * count
 
@@ -54,8 +54,7 @@ header_fault header file =
     else (if not (slice_index file 4 == header.version) then Some (Version (slice_index file 4))
     else (if not (same_header (header_in file) header) then Some (Foreign (header_in file)) else None))
 
--- The first test that fails where a file is opened: too few bytes for a header, the tests of the header, another
--- length.
+-- The first test that fails when a file is opened: too few bytes for a header, the tests of the header, another length.
 unfoldable pub load_fault : Header → ℕ → List ℕ → Option LoadFault
 load_fault header count file =
     let other_length = Some (Length (length file) (file_size header.version count)) in

@@ -17,7 +17,7 @@ module _ {E : Type 0} where
   IsLegal may_follow entries = (place : ℕ) (none : E) → place < length entries
       → may_follow (take place entries) (slice_index_or entries place none)
 
-  -- the entries of so many slots, one slot after the other, where this says which entries a slot has
+  -- the entries of that many slots, one slot after the other, given a function for the entries that a slot has
   unfoldable pub entries_in : (ℕ → Slot → List E) → ℕ → (ℕ → Slot) → List E
   entries_in of_slot count slots = flat_map (λ slot. of_slot slot (slots slot)) (range_with_len 0 count)
 

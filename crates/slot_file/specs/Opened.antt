@@ -9,7 +9,7 @@ use Rattle.slot_file.specs.declared.header.Header.{Header}
 use Rattle.slot_file.specs.declared.slots.Doubt.TheVariants.{Nowhere}
 use Rattle.slot_file.specs.declared.slots.Slots.{Slots}
 
--- the file of a disk with this header and so many slots, with no slot in doubt
+-- the file of a disk with this header and `count` slots, with no slot in doubt
 pub record IsOpened {D : Type 0} (p : pages.Ghosts D) (f : faults.Ghosts D) (header : Header) (count : ℕ) (disk : D)
     (slots : Slots D p f) : Type 0 where
   pub opens : IsTrue (p.told disk) → load_fault header count (p.reads disk) ≡ None

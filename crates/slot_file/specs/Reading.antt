@@ -21,7 +21,7 @@ abbrev pub refused_by : LoadFault → CacheLoad
 refused_by Device = load.Device
 refused_by fault = load.Slots fault
 
--- the first damaged slot of a run, whose slots are those from this one on
+-- the first damaged slot of a run, which begins at slot `first`
 pub record IsFirstInRun (first : ℕ) (run : List Slot) (slot a b : ℕ) : Type 0 where
   pub place : ℕ
   pub within : place < length run
@@ -29,7 +29,7 @@ pub record IsFirstInRun (first : ℕ) (run : List Slot) (slot a b : ℕ) : Type 
   pub here : slot_in run place ≡ Damaged a b
   pub before : (earlier : ℕ) → earlier < place → is_damaged (slot_in run earlier) ≡ false
 
--- the first damaged slot of so many of a file, from this one on
+-- the first damaged slot among `count` slots of a file, from `first` on
 pub record IsFirstFrom (version first count : ℕ) (file : List ℕ) (slot a b : ℕ) : Type 0 where
   pub behind : first ≤ slot
   pub within : slot < first + count
@@ -43,14 +43,14 @@ IsRunRefused first run load.Device = ⊥
 IsRunRefused first run (load.Slots fault) = ⊥
 IsRunRefused first run load.NoMemory = ⊥
 
--- so many slots of a file are not read: one is damaged, the first one, or the disk failed
+-- that many slots of a file are not read: one is damaged and is the first such, or the disk failed
 abbrev pub IsReadRefused : ℕ → ℕ → ℕ → List ℕ → CacheLoad → Type 0
 IsReadRefused version first count file (load.Damaged slot a b) = IsFirstFrom version first count file slot a b
 IsReadRefused version first count file load.Device = Unit {0}
 IsReadRefused version first count file (load.Slots fault) = ⊥
 IsReadRefused version first count file load.NoMemory = ⊥
 
--- Slots were looked at: nothing is written, and where nothing was in doubt nothing is now.
+-- Slots were looked at: nothing is written, and if nothing was in doubt nothing is now.
 pub record LooksOnly {D : Type 0} {p : pages.Ghosts D} {f : faults.Ghosts D} (old new : Slots D p f) : Type 0 where
   pub unwritten : Unwritten p f (disk_of old) (disk_of new)
   pub doubt : doubt_of old ≡ Nowhere → doubt_of new ≡ Nowhere

@@ -1,4 +1,4 @@
--- The parts of a file of slots that is open, and what its calls leave.
+-- The parts of an open file of slots, and what its calls leave.
 use Rattle.std.specs.Prelude.{◌≡◌, ◌↔◌, ℕ, List, IsTrue, OnOk, Result, if◌then◌else◌, is_ok}
 use Rattle.disk_trait.specs.Images.{Follows, Only}
 use Rattle.disk_trait.specs.declared.disk.Pages as pages

@@ -50,8 +50,8 @@ impl<D: Disk> CachedSlots<D> {
     ghost use Rattle.slot_file.specs.Cache.{Holds, IsSteady, IsTold, Stays, count_of, disk_of};
     ghost use Rattle.slot_file.specs.Cache.{faults_of, header_of, state_of};
 
-    /// Loads a file of `count` slots: reads the slots, 32 by each read of the disk, and takes all the memory that is
-    /// wanted. A refusal gives the disk back.
+    /// Loads a file of `count` slots: reads the slots, 32 with each read of the disk, and takes all the memory that it
+    /// needs. A refusal gives the disk back.
     pub fn load(
         alloc: Global,
         disk: D,
@@ -83,7 +83,7 @@ impl<D: Disk> CachedSlots<D> {
         }
     }
 
-    /// A slot. A put in doubt is left aside.
+    /// A slot, disregarding a put in doubt.
     pub fn slot(&self, slot: u32) -> &Slot
         requires { slot < count_of self.now }
         ensures { result.now ≡ slot_in (state_of self.now).slots slot }
@@ -91,7 +91,7 @@ impl<D: Disk> CachedSlots<D> {
         &self.cached[slot as usize]
     }
 
-    /// All slots. A put in doubt is left aside.
+    /// All slots, disregarding a put in doubt.
     pub fn slots(&self) -> &[Slot]
         ensures { result.now ≡ (state_of self.now).slots }
     {
@@ -112,8 +112,8 @@ impl<D: Disk> CachedSlots<D> {
         self.doubt
     }
 
-    /// Finds out whether the put in doubt was made: syncs, and looks at its slot. It makes no call of the disk where no
-    /// put is in doubt.
+    /// Finds out whether the put in doubt was made: syncs, and looks at its slot. If no put is in doubt, it makes no
+    /// call of the disk.
     pub fn settle(&mut self) -> Result<Settled, SettleFault>
         ensures event { Settles (header_of self.old).version (state_of self.old) result (state_of self.new) }
         ensures idle { (state_of self.old).doubt ≡ None → self.new ≡ self.old }

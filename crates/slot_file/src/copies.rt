@@ -25,7 +25,7 @@ pub enum CopyFault {
         /// How many.
         length: u64,
     },
-    /// A slot has gate B open and gate A closed. It is the first.
+    /// The first slot that has gate B open and gate A closed.
     #[error(fmt = show_damaged)]
     Damaged {
         /// The slot.
@@ -57,8 +57,8 @@ impl From<DiskFault> for CopyFault {
     }
 }
 
-/// Makes a file of the slots of another, with moment 0, on an empty disk, and answers how many are
-/// not free. Its header's gate is opened last, as `prepare` does.
+/// Makes a file from the slots of another, with moment 0, on an empty disk, and answers how many
+/// are not free. Its header's gate is opened last, as in `prepare`.
 pub fn copy_slots<D: Disk, E: Disk>(
     disk: &mut D,
     header: &Header,
@@ -86,7 +86,7 @@ pub fn copy_slots<D: Disk, E: Disk>(
     make_copy(disk, header, count, from)
 }
 
-// Copies one slot to the end of the new file, and says whether it is taken.
+// Copies one slot to the end of the new file, and answers whether it is taken.
 fn copy_slot<D: Disk, E: Disk>(
     disk: &mut D,
     slot: u32,
@@ -145,7 +145,7 @@ fn write_copies<D: Disk, E: Disk>(
     Ok(taken)
 }
 
-// Writes the whole file but for its gate, which is closed, onto an empty disk.
+// Writes the whole file onto an empty disk, except for its gate, which is closed.
 fn write_closed<D: Disk, E: Disk>(
     disk: &mut D,
     header: &Header,

@@ -39,9 +39,9 @@ pub enum SettleFault {
     Damaged {
         /// The slot.
         slot: u32,
-        /// The byte of gate A, 0 where it is closed and the slot is not damaged.
+        /// The byte of gate A, 0 if it is closed and the slot is not damaged.
         a: u8,
-        /// The byte of gate B, 0 where it is closed.
+        /// The byte of gate B, 0 if it is closed.
         b: u8,
     },
 }
@@ -56,10 +56,10 @@ impl fmt::Debug for SettleFault {
 /// Why a file of slots was not loaded, in the order of the tests.
 #[derive(Clone, Copy, PartialEq, Eq, Error)]
 pub enum CacheLoad {
-    /// The file is no file of this header and these slots. The fault is not `LoadFault::Device`.
+    /// The file is not one of this header and these slots. The fault is not `LoadFault::Device`.
     #[error("the file of slots does not open: {0}")]
     Slots(LoadFault),
-    /// Want of memory.
+    /// Memory ran out.
     #[error("out of memory")]
     NoMemory,
     /// The first slot whose gate B is open and whose gate A is closed.

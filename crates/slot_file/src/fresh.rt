@@ -28,7 +28,7 @@ pub(crate) fn write_shut<D: Disk>(disk: &mut D, block: &[u8; 128]) -> Result<(),
     append(disk, 1, &block[1..])
 }
 
-/// Writes behind the end of a file whose gate is closed.
+/// Writes at the end of a file whose gate is closed.
 pub(crate) fn append<D: Disk>(disk: &mut D, at: u64, bytes: &[u8]) -> Result<(), DiskFault>
     requires end { IsTrue (D.told disk.old) → length (D.reads disk.old) ≡ at }
     requires behind { 1 ≤ at }
@@ -44,8 +44,9 @@ pub(crate) fn append<D: Disk>(disk: &mut D, at: u64, bytes: &[u8]) -> Result<(),
     disk.write_at(at, bytes)
 }
 
-/// Opens the gate of a file that is written but for it. The first sync makes the rest stable before the gate is
-/// written, and the second the gate, so neither a crash nor a read shows an open gate before a file that is not whole.
+/// Opens the gate of a file that is otherwise written. The first sync makes the rest stable before the gate is written,
+/// and the second makes the gate stable, so neither a crash nor a read shows an open gate before a file that is not
+/// whole.
 pub(crate) fn open_gate<D: Disk>(disk: &mut D) -> Result<(), DiskFault>
     ensures bytes { IsTrue (D.told disk.old)
         → OnOk result (D.reads disk.new ≡ written (D.reads disk.old) 0 (0xA7 ∷ [])) }

@@ -10,13 +10,13 @@ use thiserror::Error;
 /// The byte of an open gate.
 pub(crate) const OPEN: u8 = 0xA7;
 
-/// The bytes of the header block.
+/// The length of the header block in bytes.
 pub(crate) const BLOCK: usize = 128;
 
 /// What a file's header block names.
 #[derive(Clone, Copy, PartialEq, Eq)]
 pub struct Header {
-    /// 2 for a journal, whose slots have 160 bytes; else slots have 128 bytes.
+    /// 2 for a journal, whose slots have 160 bytes; otherwise slots have 128 bytes.
     pub version: u8,
     /// The trustee, or 0 for a leaf table.
     pub number: u8,
@@ -31,7 +31,7 @@ pub struct Header {
 /// Why a file could not be opened, in the order of the tests.
 #[derive(Clone, Copy, PartialEq, Eq, Error)]
 pub enum LoadFault {
-    /// There are fewer bytes than the header has, or not those of the header and the slots.
+    /// There are fewer bytes than the header has, or not as many as the header and the slots have.
     #[error("the file has {got} bytes, and the header and the slots have {want}")]
     Length {
         /// The length.
@@ -45,13 +45,13 @@ pub enum LoadFault {
         /// The gate's byte.
         gate: u8,
     },
-    /// The version is another.
+    /// The version differs.
     #[error("the file has version {got}, and another was wanted")]
     Version {
         /// The file's.
         got: u8,
     },
-    /// The header is another.
+    /// The header differs.
     #[error("the file is of another key or trustee: its number is {}, its LMS code {}", kept.number, kept.lms)]
     Foreign {
         /// The file's.
@@ -83,7 +83,7 @@ impl Header {
     ghost use Rattle.slot_file.specs.Layout.{header_in, header_block, header_fault, same_header};
     ghost use Rattle.slot_file.specs.Fresh.{HasFields};
 
-    /// Reads the header of a block's first bytes.
+    /// Reads the header from a block's first bytes.
     #[tactic(auto, unfolding(crate::specs::Layout::header_in))]
     fn of_bytes(block: &[u8; 32]) -> Header
         ensures { result ≡ header_in block.now }
@@ -107,7 +107,7 @@ impl Header {
         *self == *other
     }
 
-    /// Tests the header of a block's first bytes.
+    /// Tests the header in a block's first bytes.
     #[tactic(auto, unfolding(crate::specs::Layout::header_fault))]
     pub(crate) fn check(&self, block: &[u8; 32]) -> Result<(), LoadFault>
         ensures fault { MatchResult result (λ _. header_fault self.now block.now ≡ None)

@@ -87,7 +87,7 @@ fn make_blank<D: Disk>(disk: &mut D, header: &Header, count: u32) -> Result<(), 
     open_gate(disk)
 }
 
-// Writes free slots behind the header's block.
+// Writes free slots after the header's block.
 fn write_free<D: Disk>(disk: &mut D, version: u8, count: u32) -> Result<(), DiskFault>
     requires { IsTrue (D.told disk.old) → length (D.reads disk.old) ≡ 128 }
     ensures bytes { IsTrue (D.told disk.old)

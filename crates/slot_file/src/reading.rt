@@ -17,7 +17,7 @@ use disk_trait::{Disk, DiskFault};
 use memory::NoMemory;
 use std::alloc::Global;
 
-/// Why slots are not loaded whose file is refused.
+/// Why slots are not loaded if their file is refused.
 pub(crate) fn refused_by(fault: LoadFault) -> CacheLoad
     ensures { result ≡ refused_by fault }
 {
@@ -30,14 +30,14 @@ pub(crate) fn refused_by(fault: LoadFault) -> CacheLoad
     }
 }
 
-/// So many free slots.
+/// `count` free slots.
 pub(crate) fn free_slots(alloc: Global, count: u32) -> Result<Vec<Slot>, NoMemory>
     ensures { IfOk result (λ slots. slots.items ≡ replicate count Slot.Free) }
 {
     Ok(vec![in alloc; Slot::Free; count as usize]?)
 }
 
-/// Refuses the first damaged slot of a run, whose slots are those from one on.
+/// Refuses the first damaged slot of a run, which begins at slot `first`.
 fn check_run(first: u32, run: &[Slot]) -> Result<(), CacheLoad>
     requires { first + length run.now < 2 ^ 32 }
     ensures whole { OnOk result (IsWhole run.now) }
@@ -55,7 +55,7 @@ fn check_run(first: u32, run: &[Slot]) -> Result<(), CacheLoad>
     Ok(())
 }
 
-/// Reads the slots from one on by one read, at most 32 of them. The first that is damaged is refused.
+/// Reads the slots from `first` on with one read, at most 32 of them. The first that is damaged is refused.
 fn read_run<D: Disk>(slots: &mut Slots<D>, first: u32, out: &mut [Slot]) -> Result<(), CacheLoad>
     requires within { first + length out.old ≤ count_of slots.old }
     requires few { length out.old ≤ MOST_IN_RUN }
@@ -75,7 +75,7 @@ fn read_run<D: Disk>(slots: &mut Slots<D>, first: u32, out: &mut [Slot]) -> Resu
     }
 }
 
-/// Reads all slots, a run of them by each read.
+/// Reads all slots, a run of them with each read.
 pub(crate) fn read_slots<D: Disk>(slots: &mut Slots<D>, out: &mut [Slot]) -> Result<(), CacheLoad>
     requires count { count_of slots.old ≡ length out.old }
     requires small { length out.old < 2 ^ 32 }

@@ -80,7 +80,7 @@ impl Slot {
         }
     }
 
-    /// The bytes of the two gates: an open one is known, and a closed one is 0 but in a damaged slot.
+    /// The bytes of the two gates: an open one is known, and a closed one is 0 except in a damaged slot.
     pub fn gates(&self) -> (u8, u8)
         ensures { result ≡ gates_of self.now }
     {
@@ -109,7 +109,7 @@ impl Slot {
         block
     }
 
-    /// Reads the gates, and the bodies behind those that are open.
+    /// Reads the gates, and the bodies after those that are open.
     #[tactic(auto, unfolding(crate::specs::Layout::slot_of, crate::specs::Layout::moment_of))]
     pub(crate) fn of_bytes(version: u8, bytes: &[u8]) -> Slot
         requires { length bytes.now ≡ slot_size version }
@@ -152,7 +152,7 @@ pub(crate) fn read_block(version: u8, block: &[u8], out: &mut [Slot])
     }
 }
 
-/// The bytes of a slot.
+/// The length of a slot in bytes.
 pub(crate) fn slot_len(version: u8) -> usize
     ensures { result ≡ slot_size version }
 {
@@ -167,7 +167,7 @@ pub(crate) fn slot_start(version: u8, slot: u32) -> u64
     128 + slot_len(version) as u64 * u64::from(slot)
 }
 
-/// The length of a file of so many slots.
+/// The length of a file of `count` slots.
 pub(crate) fn file_len(version: u8, count: u32) -> u64
     ensures value { result ≡ file_size version count }
     ensures small { result < 2 ^ 40 }

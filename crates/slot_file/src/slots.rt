@@ -1,4 +1,4 @@
-//! A file of slots that is open.
+//! An open file of slots.
 
 ghost use Rattle.std.specs.Prelude.{◌≡◌, ◌≢◌, ◌⊎◌, ◌≤◌, ◌<◌, ◌↔◌, ◌+◌, ◌*◌, ℕ, List, length, take, drop, None, Some};
 ghost use Rattle.std.specs.Prelude.{IsTrue, IsOk, IfOk, IfErr, OnOk, OnErr, Ok, Err, if◌then◌else◌, is_ok};
@@ -16,7 +16,7 @@ use crate::slot::{A_OPEN, B_OPEN, file_len, moment_bytes, read_block, slot_len, 
 use crate::{Header, LoadFault, Slot};
 use disk_trait::{Disk, DiskFault};
 
-/// The most slots that are looked at by one read.
+/// The most slots that are looked at with one read.
 pub const MOST_IN_RUN: usize = 32;
 
 /// A slot whose put was refused: it may be as before or have what was put.
@@ -41,7 +41,7 @@ impl Doubt {
         }
     }
 
-    /// The doubt after a look at so many slots from one on, which was done or failed.
+    /// The doubt after a look at `count` slots from `first` on, which was done or failed.
     fn after_look(self, first: u32, count: usize, done: Result<(), DiskFault>) -> Doubt
         ensures { result ≡ (if is_ok done then looked_run first count self else self) }
     {
@@ -79,7 +79,7 @@ pub struct Slots<D: Disk> {
         → Only (D.reads disk) (D.may_leave disk) },
 }
 
-// The bytes of body B and of the moment behind it, and how many they are.
+// The bytes of body B and of the moment after it, and how many there are.
 fn second_block(version: u8, body: &[u8; 64], moment: u64) -> ([u8; 72], usize)
     ensures bytes { take result.1 result.0 ≡ second_body version body.now moment }
     ensures len { result.1 ≤ 72 }
@@ -188,7 +188,7 @@ impl<D: Disk> Slots<D> {
         Ok(Slot::of_bytes(version, bytes))
     }
 
-    /// The slots from one on, as many as `out` has, as one read gives them. After a refusal `out` is as it was.
+    /// The slots from `first` on, as many as `out` has, as one read gives them. After a refusal `out` is as it was.
     pub fn look_run(&mut self, first: u32, out: &mut [Slot]) -> Result<(), DiskFault>
         requires within { first + length out.old ≤ count_of self.old }
         requires few { length out.old ≤ MOST_IN_RUN }
@@ -210,7 +210,7 @@ impl<D: Disk> Slots<D> {
         Ok(())
     }
 
-    /// Reads the bytes of so many slots from one on, and so looks at them. After a refusal `out` holds any bytes.
+    /// Reads the bytes of `count` slots from `first` on, and so looks at them. After a refusal `out` holds any bytes.
     fn read(&mut self, first: u32, count: usize, out: &mut [u8]) -> Result<(), DiskFault>
         requires within { first + count ≤ count_of self.old }
         requires size { length out.old ≡ slot_size (header_of self.old).version * count }

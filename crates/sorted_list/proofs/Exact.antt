@@ -1,4 +1,4 @@
--- Items of which the order tells all apart: one is equal to this one where this one is among them.
+-- Items that the order tells all apart: one is equal to this one if this one is among them.
 use Rattle.std.proofs.Common.{◌≡◌, ◌⊎◌, ◌↔◌, zero, suc, Bool, true, false, IsTrue, List, ◌∷◌, inl, inr, refl, sym, arith}
 use Rattle.std.specs.Cmp.{IsTotalOrder, tied_itself}
 use Rattle.std.specs.List.{Contains}

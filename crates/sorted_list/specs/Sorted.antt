@@ -10,7 +10,7 @@ pub record SortedItems (T : Type 0) : Type 0 where
   pub items : List T
   pub room : ℕ
 
--- each item is below all behind it, so no two are equal
+-- each item is below all that follow it, so no two are equal
 abbrev pub IsAscending : {T : Type 0} → (T → T → Ordering) → List T → Type 0
 IsAscending {T} cmp items = (i j : ℕ) (d : T) → i < j → j < length items
     → cmp (slice_index_or items i d) (slice_index_or items j d) ≡ Less
@@ -19,7 +19,7 @@ IsAscending {T} cmp items = (i j : ℕ) (d : T) → i < j → j < length items
 abbrev pub Holds : {T : Type 0} → (T → T → Ordering) → List T → T → Type 0
 Holds cmp items item = (k : ℕ) × (k < length items) × HoldsAt (λ other. cmp other item ≡ Equal) items k
 
--- of the items that are not below this one, the least
+-- the least of the items that are not below this one
 pub record IsLeastFrom {T : Type 0} (cmp : T → T → Ordering) (items : List T) (low found : T) : Type 0 where
   pub place : ℕ
   pub inside : place < length items

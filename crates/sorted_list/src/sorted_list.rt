@@ -11,7 +11,7 @@ use std::alloc::Global;
 use std::cmp::Ordering;
 use std::marker::Model;
 
-/// Items in ascending order, of which no two are equal. It takes memory only when it is made.
+/// Items in ascending order, no two of which are equal. It takes memory only when it is made.
 #[derive(Drop)]
 pub struct SortedList<T: Ord + Copy> {
     items: Vec<T>,
@@ -29,7 +29,7 @@ impl<T: Ord + Copy> Model for SortedList<T> {
 }
 
 impl<T: Ord + Copy> SortedList<T> {
-    /// A list with no item, and with room for so many.
+    /// A list with no item, and with room for `room` items.
     pub fn with_room(alloc: Global, room: usize) -> Result<SortedList<T>, NoMemory>
         ensures empty { IfOk result (λ list. list.items ≡ []) }
         ensures room { IfOk result (λ list. room ≤ list.room) }
@@ -47,14 +47,14 @@ impl<T: Ord + Copy> SortedList<T> {
         self.items.as_slice()
     }
 
-    /// Whether an item is there. It looks at as many items as the number of items has binary digits.
+    /// Whether an item is there, by a binary search.
     pub fn holds(&self, item: &T) -> bool
         ensures { IsTrue result ↔ Holds T.cmp self.now.items item.now }
     {
         self.search(item).is_ok()
     }
 
-    /// Adds an item where no equal one is there, and says whether it did.
+    /// Adds an item if no equal one is there, and tells whether it did.
     pub fn insert(&mut self, item: T) -> bool
         requires { length self.old.items < self.old.room }
         ensures added { IsTrue result → (Holds T.cmp self.old.items item → ⊥)
@@ -98,7 +98,7 @@ impl<T: Ord + Copy> SortedList<T> {
         }
     }
 
-    /// Takes out the item that is equal to this one, where one is there.
+    /// Takes out the item that is equal to this one, if there is one.
     pub fn remove(&mut self, item: &T)
         ensures absent { (Holds T.cmp self.old.items item.now → ⊥) → self.new ≡ self.old }
         ensures removed { Holds T.cmp self.old.items item.now → Takes T.cmp self.old.items item.now self.new.items }

@@ -87,7 +87,7 @@ accepts old new inner steady room is a = record {
   talks = a.talks;
 }
 
--- a link over another, as it is handed on and as a clause has it
+-- a link over another, as it is passed on and as a clause has it
 module _ {L : Type 0} (talk : L → Talk) (old new : PortState) where
   abbrev AcceptsOver : L → List ℕ → List ℕ → Type 0
   AcceptsOver link ahead behind =

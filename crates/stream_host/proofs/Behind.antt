@@ -14,7 +14,7 @@ pub refused-written : (a b : Talk) (bytes : List ℕ) (r : Result ℕ Failed) �
 refused-written a b bytes (Ok n) err s = absurd (false≢true err)
 refused-written a b bytes (Err e) err s = record { size = tt; progress = tt; wrote = λ told. s.written }
 
--- what comes behind a change that leaves all bytes as they were
+-- what comes after a change that leaves all bytes as they were
 module _ (a b c : Talk) (s : SameBytes a b) where
   written-after : (bytes : List ℕ) (r : Result ℕ Failed) → HasWritten b c bytes r → HasWritten a c bytes r
   written-after bytes (Ok n) h = record {
@@ -52,7 +52,7 @@ module _ {L : Type 0} (talk : L → Talk) (old new mid : WithAhead L) (link : ne
     pub only-before : OnlyWrote (buffered_talk (talk old.link) old.ahead old.behind) (buffered_talk (talk mid.link) mid.ahead mid.behind)
     only-before = same-wrote _ _ as-before
 
--- a piece is held back behind what was
+-- a piece is held back after what was
 behind : (told : Bool) (w held piece : List ℕ) → IsTrue told
     → (if told then w ++ (held ++ piece) else []) ≡ (if told then w ++ held else []) ++ take (length piece) piece
 behind true w held piece is = sym (append_assoc w held piece) ∙ ap (λ x. (w ++ held) ++ x) (sym (take-length piece))
@@ -84,7 +84,7 @@ module _ {L : Type 0} (talk : L → Talk) (old new : WithAhead L) (piece : List 
         as-held (λ t. OnlyWrote (buffered_talk (talk old.link) old.ahead old.behind) t)
         (record { told = refl; place = refl; taken = refl; left = refl; count = omega arith })
 
-    -- the same behind a change that leaves all bytes as they were
+    -- the same after a change that leaves all bytes as they were
     pub written-behind : (first : Talk) → SameBytes first (buffered_talk (talk old.link) old.ahead old.behind)
         → HasWritten first (buffered_talk (talk new.link) new.ahead new.behind) piece (Ok (length piece))
     written-behind first s = written-after first _ _ s piece (Ok (length piece)) held-written
@@ -93,7 +93,7 @@ module _ {L : Type 0} (talk : L → Talk) (old new : WithAhead L) (piece : List 
         → OnlyWrote first (buffered_talk (talk new.link) new.ahead new.behind)
     only-behind first s = wrote-after first _ _ s held-only
 
--- where nothing is held back
+-- if nothing is held back
 shown : (told : Bool) (w : List ℕ) → IsTrue told → (if told then w ++ [] else []) ≡ w
 shown true w is = append-nil w
 shown false w is = absurd (false≢true is)

@@ -7,7 +7,7 @@ use Rattle.stream_io.specs.declared.failed.Failed.{Failed}
 use Rattle.stream_io.specs.Talk.{HasRead, OnlyRead, Talk, Took}
 use Rattle.stream_host.specs.Buffered.{ReadsAhead, SameBytes, WithAhead, buffered_talk}
 
--- what comes behind a change that leaves all bytes as they were
+-- what comes after a change that leaves all bytes as they were
 module _ (a b c : Talk) (s : SameBytes a b) where
   took-after : (n : ℕ) → Took b c n → Took a c n
   took-after n t = record {
@@ -75,7 +75,7 @@ same-only a b s = record { told = s.told; place = s.place; written = s.written; 
 whole : (xs : List ℕ) → take (length xs - 0) xs ≡ xs
 whole xs = same_lists _ _ (grind (arith, places)) (λ k d below. grind (arith, places))
 
--- where nothing is ahead and nothing is held back
+-- if nothing is ahead and nothing is held back
 module _ (t u : Talk) where
   took-below : (n : ℕ) → Took t u n → Took (buffered_talk t [] []) (buffered_talk u [] []) n
   took-below n k = record {

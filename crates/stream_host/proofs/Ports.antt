@@ -13,7 +13,7 @@ All-unmap : {X Y : Type 0} (P : Y → Type 0) (f : X → Y) (xs : List X) → Al
 All-unmap P f xs all k d below =
     subst P (get_or-map f xs k d (f d) below) (all k (f d) (subst (λ n. k < n) (sym (length-map xs f)) below))
 
--- a count that rises where a test says so rises where one of the values has not P
+-- a count that rises if a test says so rises if one of the values does not have P
 rises_where : {X Y : Type 0} (P : Y → Type 0) (f : X → Y) (xs : List X) (test : Bool) (before now : ℕ)
     → (IsTrue test → All (λ x. P (f x)) xs → ⊥) → (IsFalse test → All (λ x. P (f x)) xs)
     → RisesWhere (IsTrue test) before now → RisesWhere (All P (map f xs) → ⊥) before now

@@ -18,18 +18,18 @@ buffered_talk inner ahead held = record {
   count = inner.count;
 }
 
--- the bytes that were read ahead are the last that were taken of the link
+-- the bytes that were read ahead are the last that were taken from the link
 abbrev pub IsAhead : Talk → List ℕ → Type 0
 IsAhead inner ahead =
     IsTrue inner.told → inner.taken ≡ take (length inner.taken - length ahead) inner.taken ++ ahead
 
--- a link below, the bytes that were read ahead of it, and those that are held back
+-- a link below, the bytes that were read ahead from it, and those that are held back
 pub record WithAhead (L : Type 0) : Type 0 where
   pub link : L
   pub ahead : List ℕ
   pub behind : List ℕ
 
--- all of it is as it was, but that there may be more room, and that the count may have risen
+-- all of it is as it was, except that there may be more room, and that the count may have risen
 pub record SameBytes (old new : Talk) : Type 0 where
   pub told : new.told ≡ old.told
   pub place : new.place ≡ old.place
@@ -53,7 +53,7 @@ pub record Passes (old new : Talk) (held rest : List ℕ) : Type 0 where
   pub only : OnlyWrote old new
   pub room : old.room + length rest ≤ new.room + length held
 
--- What the link below has when all is over: the bytes that nobody has read were taken of it, and all that was written
+-- What the link below has when all is over: the bytes that nobody has read were taken from it, and all that was written
 -- reached it, or a beginning of that, and then the count has risen.
 pub record Ends (talk last : Talk) (unread : List ℕ) (result : Result (Unit {0}) Failed) : Type 0 where
   pub told : last.told ≡ talk.told

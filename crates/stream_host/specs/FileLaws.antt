@@ -1,4 +1,4 @@
--- What is honest and tells is honest. The proof stands with the definitions, since the toolchain wants what an
+-- What is honest and tells is honest. The proof stands with the definitions, since the toolchain requires what an
 -- implementation names to be among them.
 use Rattle.std.specs.Prelude.{◌&&◌, Bool, true, false, IsTrue, refl}
 

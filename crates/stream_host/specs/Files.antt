@@ -11,8 +11,8 @@ pub record OnFile (F : Type 0) : Type 0 where
   pub known_length : ℕ
   pub next_sync : NextSync
 
--- What the disk knows of the file is true of it: it is no shorter than that length, it has not grown where the next
--- sync is one of the data alone, and a failed sync is not forgotten. Where the file is steady none has failed.
+-- What the disk knows of the file is true of it: it is no shorter than that length, it has not grown if the next sync
+-- is one of the data alone, and a failed sync is not forgotten. If the file is steady none has failed.
 pub record KnowsFile {F : Type 0} (is_told is_steady : F → Bool) (reads_of : F → List ℕ)
     (has_grown has_failed : F → Bool) (file : F) (known_length : ℕ) (next_sync : NextSync) : Type 0 where
   pub known : IsTrue (is_told file) → known_length ≤ length (reads_of file)

@@ -11,7 +11,7 @@ use disk_trait::Faults;
 use std::marker::Model;
 use stream_io::{Failed, Sink, Source, Stream};
 
-/// From how many bytes on a read goes past what is read ahead, so that the pieces of a long message are not copied.
+/// A read of this length or more goes past what is read ahead, so that the pieces of a long message are not copied.
 const LONG: usize = 4096;
 
 /// A link over another one. What it reads ahead of its reads is read later, so that a frame takes one call of the link
@@ -53,8 +53,8 @@ impl<L: Source + Sink> Buffered<L> {
         }
     }
 
-    /// Ends it: what is held back is written to the link below, which is given back. What was read ahead was taken of
-    /// that.
+    /// Ends it: what is held back is written to the link below, which is given back. What was read ahead was taken from
+    /// that link.
     pub(crate) fn end(self) -> (L, Result<(), Failed>)
         ensures { Ends (buffered_talk (L.talk self.link) self.ahead self.behind) (L.talk result.0) self.ahead result.1 }
     {
@@ -69,7 +69,7 @@ impl<L: Source + Sink> Buffered<L> {
         (link, flushed)
     }
 
-    /// Writes what is held back to the link below. After a refusal it holds what that did not take.
+    /// Writes what is held back to the link below. After a refusal it holds what that link did not take.
     fn flush(&mut self) -> Result<(), Failed>
         ensures sent { IfOk result (λ _. self.new.behind ≡ []) }
         ensures same { SameBytes (buffered_talk (L.talk self.old.link) self.old.ahead self.old.behind)
@@ -82,8 +82,8 @@ impl<L: Source + Sink> Buffered<L> {
         self.behind.flush(&mut self.link)
     }
 
-    /// Holds a whole piece back, if bytes that were read ahead are left and there is room for it, and says whether it
-    /// did.
+    /// Holds a whole piece back, if bytes that were read ahead are left and there is room for it, and answers whether
+    /// it did.
     fn hold(&mut self, piece: &[u8]) -> bool
         ensures held { MatchBool result (self.new.behind ≡ self.old.behind ++ piece.now)
             (self.new.behind ≡ self.old.behind) }
@@ -94,7 +94,7 @@ impl<L: Source + Sink> Buffered<L> {
         !self.ahead.is_empty() && self.behind.hold(piece)
     }
 
-    /// Reads ahead from the link below, for which nothing is held back.
+    /// Reads ahead from the link below, with nothing held back.
     fn receive(&mut self) -> Result<(), Failed>
         requires nothing_held { self.old.behind ≡ [] }
         requires nothing_ahead { self.old.ahead ≡ [] }
@@ -107,7 +107,7 @@ impl<L: Source + Sink> Buffered<L> {
         self.ahead.fill(&mut self.link)
     }
 
-    /// Where nothing is left of what was read ahead, reads ahead from the link below, once nothing is held back.
+    /// If nothing is left of what was read ahead, reads ahead from the link below, once nothing is held back.
     fn ready(&mut self) -> Result<(), Failed>
         ensures same { IsTrue (L.talk self.old.link).told
             → SameBytes (buffered_talk (L.talk self.old.link) self.old.ahead self.old.behind)
@@ -129,7 +129,7 @@ impl<L: Source + Sink> Buffered<L> {
         Ok(())
     }
 
-    /// Takes as many bytes as were read ahead, and as the room has place for.
+    /// Takes as many of the bytes that were read ahead as the room has place for.
     fn serve(&mut self, out: &mut [u8]) -> usize
         ensures size { result ≡ min (length out.old) (length self.old.ahead) }
         ensures bytes { take result out.new ≡ take result self.old.ahead }
@@ -162,7 +162,7 @@ impl<L: Source + Sink> Buffered<L> {
 impl<L: Source + Sink> Faults for Buffered<L> {
     ghost count = { λ s. (L.talk s.link).count };
 
-    // a read may write what is held back, and fails where that fails
+    // a read may write what is held back, and fails if that fails
     ghost steady = { λ _. false };
 
     fn faults(&self) -> u64 {

@@ -8,7 +8,7 @@ use disk_trait::Faults;
 use stream_io::{Accepted, Failed, Port};
 
 /// A port over another, each of whose links is buffered. What a link holds back when it is hung up goes out before the
-/// port below hangs up, and where that fails the port counts a fault.
+/// port below hangs up, and if that fails the port counts a fault.
 #[derive(Drop)]
 pub struct BufferedPort<P> {
     port: P,
@@ -62,7 +62,7 @@ impl<P: Port> Port for BufferedPort<P> {
         Ok(Buffered::new(link))
     }
 
-    /// Ends a link, behind what it still holds back.
+    /// Ends a link, after what it still holds back.
     fn hang_up(&mut self, link: Self::Link) {
         let (below, _flushed) = link.end();
         self.port.hang_up(below);

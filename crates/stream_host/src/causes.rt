@@ -1,4 +1,4 @@
-//! What errors of the system are to the code above: want of memory, a name that is taken, or a fault.
+//! What errors of the system mean to the code above: memory ran out, a name is taken, or a fault.
 
 ghost use Rattle.std.specs.Prelude.{◌≢◌, ℕ};
 ghost use Rattle.stream_io.specs.declared.store.ReadAllFault.{ReadAllFault};

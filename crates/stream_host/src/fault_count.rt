@@ -25,7 +25,7 @@ impl Model for FaultCount {
 }
 
 impl FaultCount {
-    /// A count of no fault.
+    /// A count of no faults.
     pub fn new() -> FaultCount
         ensures { result ≡ 0 }
     {
@@ -57,7 +57,7 @@ impl FaultCount {
         Failed
     }
 
-    /// Counts a fault where that is so.
+    /// Counts a fault if that is so.
     pub fn add_where(&mut self, failed: bool)
         ensures rises { RisesWhere (IsTrue failed) self.old self.new }
         ensures once { self.new ≤ self.old + 1 }
@@ -67,8 +67,7 @@ impl FaultCount {
         }
     }
 
-    /// Counts a fault where a call failed, and not where it was refused for anything else, and answers what it
-    /// answered.
+    /// Counts a fault if a call failed, and not if it was refused for anything else, and answers what it answered.
     pub fn noted<T, E: Refusal>(&mut self, done: Result<T, E>) -> Result<T, E>
         ensures same { result ≡ done }
         ensures rises { RisesWhere (done ≡ Err E.failed) self.old self.new }
@@ -77,7 +76,7 @@ impl FaultCount {
         done
     }
 
-    /// Counts a fault where a call failed, and not where it was refused for anything else.
+    /// Counts a fault if a call failed, and not if it was refused for anything else.
     pub fn note<T, E: Refusal>(&mut self, done: &Result<T, E>)
         ensures { RisesWhere (done.now ≡ Err E.failed) self.old self.new }
     {

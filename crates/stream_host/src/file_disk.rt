@@ -19,18 +19,18 @@ use std::marker::Model;
 use std::os::unix::fs::FileExt;
 use stream_io::RawFile;
 
-/// A file of the system as a disk, or as pages that are read. It tells what the file tells, and where it tells that it
-/// keeps the model of crashes if the file keeps its own. A call of the disk is one of the file where the file does it
+/// A file of the system as a disk, or as pages that are read. It tells what the file tells, and it keeps the model of
+/// crashes if it tells that and the file keeps its own. A call of the disk is one call of the file if the file does it
 /// whole.
 ///
 /// A failed sync is never forgotten: from then on each sync of this disk fails, and the file is not asked again.
 /// Another disk over the same file knows nothing of it.
 ///
-/// Its calls fail for their arguments alone where the file is steady, tells, and has room for fewer than 2^64 bytes. In
-/// more room the end of a write may be no `u64`.
+/// Its calls fail for their arguments alone if the file is steady, tells, and has room for fewer than 2^64 bytes. With
+/// more room the end of a write may not fit in a `u64`.
 ///
-/// A sync is `sync_all` where the file may have become longer since the last one that succeeded, and where none has;
-/// elsewhere `sync_data`, which need not write the file's length and times.
+/// A sync is `sync_all` if the file may have become longer since the last one that succeeded, or if none has. Otherwise
+/// it is `sync_data`, which need not write the file's length and times.
 ///
 /// An advisory lock keeps others out only if they ask for it.
 #[derive(Drop)]
@@ -59,8 +59,8 @@ impl<F: RawFile + Drop> Model for FileDisk<F> {
 }
 
 impl FileDisk<HostFile<File>> {
-    /// A disk over an open file, for which it takes the file's advisory lock. It fails where another holds that lock,
-    /// or where there can be none.
+    /// A disk over an open file, for which it takes the file's advisory lock. It fails if another holds that lock, or
+    /// if there can be none.
     pub fn locked(file: File) -> io::Result<FileDisk<HostFile<File>>>
         ensures { IfOk result (λ disk. ⟦<FileDisk<HostFile<File>> as Faults>⟧.count disk ≡ 0) }
     {
@@ -122,7 +122,7 @@ impl<F: RawFile + Drop> FileDisk<F> {
         Ok(length)
     }
 
-    /// Fails where a place lies past the end. The file is asked only where nobody knows.
+    /// Fails if a place lies past the end. The file is asked only if that is not known yet.
     fn reach(&mut self, place: u64) -> Result<(), DiskFault>
         ensures known { OnOk result (place ≤ self.new.known_length) }
         ensures within { IsTrue (F.told self.old.file) → OnOk result (place ≤ length (F.reads self.old.file)) }
@@ -139,7 +139,7 @@ impl<F: RawFile + Drop> FileDisk<F> {
         Ok(())
     }
 
-    /// Reads to the whole room. To an empty one nothing is read, but the place may lie past the end.
+    /// Reads into the whole room. Nothing is read into an empty one, which fails only if the place lies past the end.
     fn read_within(&mut self, at: u64, out: &mut [u8]) -> Result<(), DiskFault>
         ensures bytes { IsTrue (F.told self.old.file)
             → OnOk result (out.new ≡ take (length out.old) (drop at (F.reads self.old.file))) }

@@ -21,8 +21,8 @@ use stream_io::{CallFault, NewFault, ReadAllFault, Readers, Store};
 
 /// The store of a runtime's files. It tells nothing but its counts of faults.
 ///
-/// An error of the system that says that memory was wanted is want of memory, and any other is a fault. What stands at
-/// a name takes it, a folder or a dangling link too.
+/// An error of the system that says that memory ran out counts as that, and any other is a fault, except that a name
+/// which must be new may be taken. Anything that stands at a name takes it, even a folder or a dangling link.
 ///
 /// A disk is a file that is open for reading and writing and whose advisory lock is held, so no other store hands the
 /// same file out as a disk meanwhile. That lock is a method of `std::fs::File` alone, so files say by `Lockable` that
@@ -78,7 +78,7 @@ fn read_file<R: Files>(
     Ok(bytes)
 }
 
-/// Closes a file that was handed out, and says how many faults it has counted.
+/// Closes a file that was handed out, and answers how many faults it has counted.
 fn close<F: FileExt + OpenFile + Drop>(disk: FileDisk<HostFile<F>>) -> u64
     ensures { result ≡ ⟦<FileDisk<HostFile<F>> as Faults>⟧.count disk }
 {
@@ -118,17 +118,17 @@ where
             .noted(is_taken(&self.rt, name).map_err(call_fault))
     }
 
-    /// Writes a file so that it appears under its name whole or not at all, also where the program is killed or the
-    /// power fails: it is written as `name` with `.new` behind it and made stable, gets its name by a hard link, which
-    /// is refused where something stands there, loses the other name, and then its folder is made stable. It is made
-    /// with the permissions that its readers are to have, within those that the umask leaves. After a refusal what it
-    /// wrote is removed, as far as that can be done.
+    /// Writes a file so that it appears under its name whole or not at all, even if the program is killed or the power
+    /// fails: it is written as `name` with `.new` after it and made stable, gets its name by a hard link, which is
+    /// refused if something stands there, loses the other name, and then its folder is made stable. It is made with the
+    /// permissions that its readers are to have, within those that the umask leaves. After a refusal what it wrote is
+    /// removed, if possible.
     ///
-    /// Where something stands under the name with `.new`, the call fails and leaves it alone: a program that was killed
-    /// may have left it, and nobody can tell that no other is at work on it. Whoever runs the program removes it.
+    /// If something stands under the name with `.new`, the call fails and leaves it alone: a program that was killed
+    /// may have left it, and nobody can tell that no other is at work on it. The user who runs the program removes it.
     ///
-    /// Where the file system has no hard links, the file is written under its name at once, and a program that is
-    /// killed meanwhile leaves a part of it there.
+    /// If the file system has no hard links, the file is written directly under its name, and a program that is killed
+    /// meanwhile leaves a part of it there.
     fn write_new(
         &mut self,
         alloc: Global,
@@ -152,8 +152,8 @@ where
             .noted(make_disk(&self.rt, name).map_err(new_fault))
     }
 
-    /// Opens a file for reading and writing, and locks it. It fails at what is no regular file, and where another has
-    /// the lock.
+    /// Opens a file for reading and writing, and locks it. It fails on anything that is not a regular file, and if
+    /// another has the lock.
     fn take_disk(&mut self, name: &str) -> Result<Self::Disk, CallFault> {
         self.faults
             .noted(open_disk(&self.rt, name).map_err(call_fault))
@@ -164,8 +164,8 @@ where
         self.disk_faults.add(close(disk));
     }
 
-    /// Opens a file for reading, and fails at what is no regular file. It takes no lock: many view a file at once, and
-    /// a file that is viewed was made by `write_new`, which no lock keeps out.
+    /// Opens a file for reading, and fails on anything that is not a regular file. It takes no lock: many view a file
+    /// at once, and a file that is viewed was made by `write_new`, which no lock keeps out.
     fn view(&mut self, _alloc: Global, name: &str) -> Result<Self::View, CallFault> {
         self.faults
             .noted(open_view(&self.rt, name).map_err(call_fault))

@@ -34,7 +34,7 @@ fn disk_fault(_: io::Error) -> DiskFault {
     DiskFault
 }
 
-/// Reads once, and again where a signal interrupted it.
+/// Reads once, and again if a signal interrupted it.
 fn read_again<F: FileExt>(file: &F, at: u64, out: &mut [u8]) -> io::Result<usize>
     ensures { ReadsAtMost result out.new }
 {
@@ -47,7 +47,7 @@ fn read_again<F: FileExt>(file: &F, at: u64, out: &mut [u8]) -> io::Result<usize
     Err(io::Error::from(ErrorKind::Interrupted))
 }
 
-/// Writes once, and again where a signal interrupted it. A file that takes nothing of some bytes has failed.
+/// Writes once, and again if a signal interrupted it. A file that takes none of a piece that is not empty has failed.
 fn write_again<F: FileExt>(file: &F, at: u64, bytes: &[u8]) -> io::Result<usize>
     ensures size { WritesAtMost result bytes.now }
     ensures some { IfOk result (λ n. 0 < length bytes.now → 0 < n) }

@@ -8,8 +8,8 @@ use std::rt::Files;
 use std::{fs, io};
 use stream_io::Readers;
 
-/// Writes a file whole under a name at which nothing stands, as `FileStore` says it of `write_new`.
-/// `AlreadyExists` says that something stands there.
+/// Writes a file whole under a name at which nothing stands, as described at `write_new` of
+/// `FileStore`. `AlreadyExists` means that something stands there.
 pub fn write_new<R: Files>(
     rt: &R,
     alloc: Global,
@@ -28,7 +28,7 @@ pub fn write_new<R: Files>(
     keep_name(rt, name, removed)
 }
 
-/// Whether anything stands at a name, a folder or a dangling link too.
+/// Whether anything stands at a name, even a folder or a dangling link.
 pub fn is_taken<R: Files>(rt: &R, name: &str) -> io::Result<bool> {
     match fs::symlink_metadata(rt, name) {
         Ok(_) => Ok(true),
@@ -37,8 +37,8 @@ pub fn is_taken<R: Files>(rt: &R, name: &str) -> io::Result<bool> {
     }
 }
 
-/// Writes a file under the name that it has until it is whole. Where something stands there, an earlier call may have
-/// been cut off, or another may be at work: so it is left alone, and the error is no `AlreadyExists`.
+/// Writes a file under the name that it has until it is whole. If something stands there, an earlier call may have been
+/// cut off, or another may be at work: so it is left alone, and the error is not `AlreadyExists`.
 fn write_part<R: Files>(rt: &R, part: &str, bytes: &[u8], readers: Readers) -> io::Result<()> {
     match write_under(rt, part, bytes, readers) {
         Err(error) if error.kind() == ErrorKind::AlreadyExists => {
@@ -48,7 +48,7 @@ fn write_part<R: Files>(rt: &R, part: &str, bytes: &[u8], readers: Readers) -> i
     }
 }
 
-/// Gives a file that is whole its name, unless something stands there. Where the file system has no hard links, it is
+/// Gives a file that is whole its name, unless something stands there. If the file system has no hard links, it is
 /// written anew under that name.
 fn give_name<R: Files>(
     rt: &R,
@@ -63,13 +63,14 @@ fn give_name<R: Files>(
     }
 }
 
-/// Whether a file system says by such an error that it has no hard links.
+/// Whether an error of this kind may say that a file system has no hard links. `PermissionDenied` is `EPERM`, which
+/// says so (link(2)), or `EACCES`, after which a file cannot be made under the name either.
 fn has_no_links(kind: ErrorKind) -> bool {
     matches!(kind, ErrorKind::Unsupported | ErrorKind::PermissionDenied)
 }
 
-/// Makes a file, writes all bytes to it and makes them stable. Where that fails, what stands of it is removed as far as
-/// that can be done.
+/// Makes a file, writes all bytes to it and makes them stable. If that fails, what stands of it is removed, if
+/// possible.
 fn write_under<R: Files>(rt: &R, name: &str, bytes: &[u8], readers: Readers) -> io::Result<()> {
     let file = make(rt, name, readers)?;
     let filled = fill(file, bytes);
@@ -79,7 +80,7 @@ fn write_under<R: Files>(rt: &R, name: &str, bytes: &[u8], readers: Readers) -> 
     filled
 }
 
-/// Writes all bytes to a file, and has them on the disk.
+/// Writes all bytes to a file, and makes sure that they are on the disk.
 fn fill<F: Write + OpenFile + Drop>(mut file: F, bytes: &[u8]) -> io::Result<()> {
     file.write_all(bytes)?;
     file.sync_all()
@@ -96,8 +97,8 @@ pub fn make<R: Files>(rt: &R, name: &str, readers: Readers) -> io::Result<R::Fil
     how.open(rt, name)
 }
 
-/// Makes the name of a new file stable, where all before it was done. Else, and where that fails, the name is removed
-/// as far as that can be done.
+/// Makes the name of a new file stable, if all before it was done. Otherwise, and if that fails, the name is removed,
+/// if possible.
 pub fn keep_name<R: Files>(rt: &R, name: &str, done: io::Result<()>) -> io::Result<()> {
     let kept = match done {
         Ok(()) => sync_folder(rt, name),

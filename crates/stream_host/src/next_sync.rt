@@ -11,7 +11,7 @@ use stream_io::RawFile;
 /// What the next sync of a file asks of the system.
 #[derive(Clone, Copy)]
 pub(crate) enum NextSync {
-    /// The bytes and all that the system knows of the file, its length too.
+    /// The bytes and all that the system knows of the file, including its length.
     All,
     /// The bytes: the file is as long as at the last sync.
     Data,

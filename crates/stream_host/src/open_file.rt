@@ -15,7 +15,7 @@ use std::{fs, io};
 use stream_io::Readers;
 
 /// Makes an empty file under a name at which nothing stands, which its owner alone may read, as a disk that holds its
-/// lock. Where that fails, the file is removed as far as that can be done.
+/// lock. If that fails, the file is removed, if possible.
 pub fn make_disk<R: Files>(rt: &R, name: &str) -> io::Result<FileDisk<HostFile<R::File>>>
 where
     R::File: FileExt + Lockable,
@@ -51,8 +51,8 @@ where
     Ok(FileDisk::unlocked(open_regular(rt, &how, name)?))
 }
 
-/// Opens a file that is there, and refuses what is no regular file: by its name, since to open a pipe is to wait for
-/// its other end, and once it is open, since the name may stand for something else by then.
+/// Opens a file that is there, and refuses anything that is not a regular file: by its name, since opening a pipe means
+/// waiting for its other end, and once it is open, since the name may stand for something else by then.
 fn open_regular<R: Files>(rt: &R, how: &OpenOptions, name: &str) -> io::Result<R::File> {
     refuse_irregular(fs::metadata(rt, name)?)?;
     let file = how.open(rt, name)?;
@@ -60,7 +60,7 @@ fn open_regular<R: Files>(rt: &R, how: &OpenOptions, name: &str) -> io::Result<R
     Ok(file)
 }
 
-/// Refuses what is no regular file.
+/// Refuses anything that is not a regular file.
 fn refuse_irregular(found: Metadata) -> io::Result<()> {
     if found.is_file() {
         Ok(())

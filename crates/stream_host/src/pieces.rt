@@ -9,7 +9,7 @@ ghost use Rattle.stream_io.specs.RawFiles.{SyncsAfterWrite, Untouched};
 use disk_trait::{DiskFault, Faults};
 use stream_io::RawFile;
 
-/// Reads from a place on until the room is full. It fails where the file comes to its end before.
+/// Reads from a place on until the room is full. It fails if the file comes to its end before that.
 pub(crate) fn read_pieces<F: RawFile>(
     file: &mut F,
     at: u64,
@@ -38,7 +38,7 @@ pub(crate) fn read_pieces<F: RawFile>(
     Ok(())
 }
 
-/// Reads once, to the room behind what is done.
+/// Reads once, into the room after what is done.
 fn read_behind<F: RawFile>(
     file: &mut F,
     place: u64,
@@ -83,7 +83,7 @@ pub(crate) fn write_pieces<F: RawFile>(file: &mut F, at: u64, bytes: &[u8]) -> R
     Ok(())
 }
 
-/// The bytes behind what is done.
+/// The bytes after what is done.
 fn after(bytes: &[u8], done: usize) -> &[u8]
     requires { done ≤ length bytes.now }
     ensures { result.now ≡ drop done bytes.now }

@@ -3,8 +3,8 @@
 use std::io::{IsTerminal, Stderr, Write};
 use stream_io::Progress;
 
-/// Shows on standard error how many leaves are built, on one line that is written again at each call and ended behind
-/// the last leaf. Where standard error is no terminal nothing is shown.
+/// Shows on standard error how many leaves are built, on one line that is written again at each call and ended after
+/// the last leaf. If standard error is not a terminal, nothing is shown.
 #[derive(Drop)]
 pub struct ProgressLine {
     rt: HostRuntime,
@@ -20,7 +20,7 @@ impl ProgressLine {
         }
     }
 
-    /// Writes the line again, with what ends it. Whoever cannot be shown it goes without.
+    /// Writes the line again, followed by `end`. If it cannot be shown, that is ignored.
     fn show(&self, leaves: u32, all: u32, end: &str) {
         if let Ok(line) = format!(in self.rt.alloc(); "\r{leaves} of {all} leaves{end}") {
             let _ = self.rt.stderr().write_all(line.as_bytes());

@@ -12,7 +12,7 @@ use std::net::OpenStream;
 use stream_io::{Failed, Sink, Source, Stream};
 
 /// A link over a socket, whose reads and writes are one call of the system each. It tells nothing but its count of
-/// faults. Where the peer breaks it off, its reads and writes fail, and no other link notices.
+/// faults. If the peer breaks it off, its reads and writes fail, and no other link notices.
 #[derive(Drop)]
 pub struct TcpLink<S: Read + Write + OpenStream + Drop> {
     stream: S,
@@ -20,7 +20,7 @@ pub struct TcpLink<S: Read + Write + OpenStream + Drop> {
 }
 
 impl<S: Read + Write + OpenStream + Drop> TcpLink<S> {
-    /// A link over a socket that is connected. Its small pieces are not held back for larger ones; where the system
+    /// A link over a socket that is connected. Its small pieces are not held back for larger ones; if the system
     /// refuses that, they only come later.
     pub(crate) fn new(stream: S) -> TcpLink<S>
         ensures { result.faults ≡ 0 }
@@ -72,7 +72,7 @@ impl<S: Read + Write + OpenStream + Drop> Sink for TcpLink<S> {
     }
 }
 
-/// Reads once, and again where a signal interrupted it.
+/// Reads once, and again if a signal interrupted it.
 fn read_again<S: Read>(stream: &mut S, out: &mut [u8]) -> io::Result<usize>
     ensures { ReadsAtMost result out.new }
 {
@@ -85,7 +85,7 @@ fn read_again<S: Read>(stream: &mut S, out: &mut [u8]) -> io::Result<usize>
     Err(io::Error::from(ErrorKind::Interrupted))
 }
 
-/// Writes once, and again where a signal interrupted it.
+/// Writes once, and again if a signal interrupted it.
 fn write_again<S: Write>(stream: &mut S, bytes: &[u8]) -> io::Result<usize>
     ensures { WritesAtMost result bytes.now }
 {

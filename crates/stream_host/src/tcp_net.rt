@@ -89,7 +89,7 @@ fn new_port<R: Sockets + Copy>(
     BufferedPort::new(TcpPort::new(rt, place))
 }
 
-/// Makes that many ports, which listen at one place by one socket, or only dial.
+/// Makes `count` ports, which listen at one place by one socket, or only dial.
 fn make_ports<R: Sockets + Copy>(
     rt: R,
     alloc: Global,

@@ -41,7 +41,7 @@ impl<L: Drop> Place<L> {
 }
 
 /// What links over sockets are accepted at, and dialled from. It tells nothing but its place and its counts of faults.
-/// Where it listens it never comes to an end: it waits where no link is there yet.
+/// If it listens it never comes to an end: it waits if no link is there yet.
 #[derive(Drop)]
 pub struct TcpPort<R: Sockets + Copy> {
     rt: R,
@@ -70,7 +70,7 @@ impl<R: Sockets + Copy> TcpPort<R> {
         self.accept_faults.get() != 0
     }
 
-    /// Counts a fault where a link that is hung up has counted some.
+    /// Counts a fault if a link that is hung up has counted some.
     fn count_link(&mut self, faults: u64)
         ensures kept { KeepsTalk (port_state self.old) (untold_talk faults) (port_state self.new) }
         ensures onward { PortOnward (port_state self.old) (port_state self.new) }
@@ -82,8 +82,8 @@ impl<R: Sockets + Copy> TcpPort<R> {
 /// How many connections in a row that broke off are passed over: an error that lasts ends the port, and does not spin.
 const MOST_BROKEN: u32 = 65_536;
 
-/// The next connection at a socket. One that broke off before it was accepted is passed over: it is not the fault of
-/// the socket, and nobody else's.
+/// The next connection at a socket. One that broke off before it was accepted is passed over: that is not the fault of
+/// the socket, nor of anyone else.
 pub fn next_stream<L: OpenListener>(socket: &L) -> io::Result<L::Stream> {
     for _ in 0..MOST_BROKEN {
         match socket.accept() {
@@ -95,7 +95,7 @@ pub fn next_stream<L: OpenListener>(socket: &L) -> io::Result<L::Stream> {
     Err(io::Error::from(ErrorKind::Other))
 }
 
-/// Whether an error of `accept` says something of the connection that waited, as accept(2) has it, or of a signal.
+/// Whether an error of `accept` is about the connection that waited, as accept(2) describes it, or about a signal.
 fn is_of_connection(kind: ErrorKind) -> bool {
     matches!(
         kind,

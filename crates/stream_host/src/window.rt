@@ -64,7 +64,7 @@ impl Window {
         Ok(())
     }
 
-    /// Takes as many bytes as there are, and as the room has place for.
+    /// Takes as many of the bytes as the room has place for.
     pub(crate) fn copy(&mut self, out: &mut [u8]) -> usize
         ensures size { result ≡ min (length out.old) (length self.old) }
         ensures bytes { take result out.new ≡ take result self.old }
@@ -76,7 +76,7 @@ impl Window {
         count
     }
 
-    /// Takes a whole piece behind the others, if there is room for it, and says whether it did.
+    /// Takes a whole piece after the others, if there is room for it, and answers whether it did.
     pub(crate) fn hold(&mut self, piece: &[u8]) -> bool
         ensures { MatchBool result (self.new ≡ self.old ++ piece.now) (self.new ≡ self.old) }
     {
@@ -116,7 +116,7 @@ impl Window {
         Ok(())
     }
 
-    /// Where nothing is held, all of the room is free again.
+    /// If nothing is held, all of the room is free again.
     fn begin(&mut self)
         ensures { self.new ≡ self.old }
     {

@@ -52,7 +52,7 @@ pub if-both : {A E : Type 0} (r : Result A E) (P Q R : A → Type 0) → ((a : A
 if-both (Ok a) P Q R f p q = f a p q
 if-both (Err e) P Q R f p q = tt
 
--- the front of a room behind a place was written
+-- the front of a room that was written after a place
 pub part-front : (a k n : ℕ) (xs ys : List ℕ) → a + k ≤ length xs → length ys ≡ k → n ≤ k → take (a + n) (put_mid a k xs ys) ≡ take a xs ++ take n ys
 part-front a k n xs ys fits long few =
     let front : take (a + length ys) (put_mid a k xs ys) ≡ take a xs ++ ys = take-put_mid a k xs ys (a + length ys) refl (omega arith) in

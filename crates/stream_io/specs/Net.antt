@@ -6,12 +6,12 @@ use Rattle.stream_io.specs.Store.{RisesWhere}
 use Rattle.stream_io.specs.Talk.{Ended, Talk}
 
 -- A port in one state. What is said of links, of who is there to be dialled and of conversations means something only
--- where the port tells its content.
+-- if the port tells its content.
 pub record PortState : Type 0 where
   -- whether it tells its content, and whether its calls fail for their arguments alone
   pub told : Bool
   pub steady : Bool
-  -- the place that it listens at, and none where it only dials
+  -- the place that it listens at, and none if it only dials
   pub place : Option (List ℕ)
   -- its count of faults, and how often accepting failed
   pub count : ℕ
@@ -20,7 +20,7 @@ pub record PortState : Type 0 where
   pub waiting : ℕ
   -- at which places somebody is there to be dialled
   pub reaches : List ℕ → Bool
-  -- how many bytes each link that it makes takes for sure, where that link is steady
+  -- how many bytes each link that it makes takes for sure, if that link is steady
   pub room : ℕ
   -- the conversations that were hung up, each as it had ended then, the oldest first
   pub talks : List Talk
@@ -69,7 +69,7 @@ pub record Dials (old : PortState) (place : List ℕ) (talk : Talk) (steady : Bo
       → new.reaches other ≡ old.reaches other
   pub talks : new.talks ≡ old.talks
 
--- A conversation is kept. The count rises where its count is not 0, by one.
+-- A conversation is kept. The count rises by one if its count is not 0.
 pub record KeepsTalk (old : PortState) (last : Talk) (new : PortState) : Type 0 where
   pub count : RisesWhere (last.count ≢ 0) old.count new.count
   pub once : new.count ≤ old.count + min last.count 1
@@ -84,7 +84,7 @@ pub record HangsUp (old : PortState) (talk : Talk) (new : PortState) : Type 0 wh
   pub ended : Ended talk last
   pub kept : KeepsTalk old last new
 
--- A net in one state. What is said of places and of ports means something only where the net tells its content.
+-- A net in one state. What is said of places and of ports means something only if the net tells its content.
 pub record NetState : Type 0 where
   -- whether it tells its content, and whether its calls fail for their arguments alone
   pub told : Bool
@@ -94,7 +94,7 @@ pub record NetState : Type 0 where
   pub port_count : ℕ
   -- at which places ports may listen
   pub offers : List ℕ → Bool
-  -- how many bytes each link of its ports takes for sure, where that link is steady
+  -- how many bytes each link of its ports takes for sure, if that link is steady
   pub room : ℕ
   -- how many ports are out
   pub out : ℕ
@@ -130,7 +130,7 @@ pub record IsNewPort (net : NetState) (listens : Option (List ℕ)) (port : Port
   pub talks : port.talks ≡ []
   pub room : net.room ≤ port.room
 
--- so many ports were made
+-- `count` ports were made
 pub record MakesPorts (old : NetState) (place : Option (List ℕ)) (count : ℕ) (ports : List PortState) (new : NetState)
     : Type 0 where
   pub many : length ports ≡ count

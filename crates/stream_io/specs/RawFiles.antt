@@ -15,8 +15,8 @@ pub record Untouched {F : Type 0} (is_told is_honest : F → Bool) (reads_of : F
   pub images : IsTrue (is_honest old) → (image : List ℕ) → leaves new image ↔ leaves old image
   pub syncs : IsTrue (is_told old) → SameSyncs has_grown has_failed old new
 
--- How many bytes of a piece a write has written, at least one where there is one, and what a read gives then. What that
--- is after a write that begins past the end is not said.
+-- How many bytes of a piece a write has written, at least one if there is one, and what a read gives then. What that is
+-- after a write that begins past the end is not said.
 pub record HasWrittenAt {F : Type 0} (is_told : F → Bool) (reads_of : F → List ℕ) (at : ℕ) (piece : List ℕ)
     (result : Result ℕ DiskFault) (old new : F) : Type 0 where
   pub size : IfOk result (λ n. n ≤ length piece)

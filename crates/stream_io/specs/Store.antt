@@ -39,7 +39,7 @@ pages_state told honest steady count room reads may_leave pages = record {
 abbrev pub handed : PagesState → Handed
 handed pages = record { told = pages.told; honest = pages.honest; steady = pages.steady }
 
--- A store in one state. What is said of names means something only where the store tells its content.
+-- A store in one state. What is said of names means something only if the store tells its content.
 pub record StoreState : Type 1 where
   -- whether it tells its content, and whether its calls fail for their arguments alone
   pub told : Bool
@@ -49,7 +49,7 @@ pub record StoreState : Type 1 where
   pub disk_count : ℕ
   -- how many views are out
   pub views : ℕ
-  -- the bytes that a name is read with: none where it is not in the store, or while its disk is out
+  -- the bytes that a name is read with: none if it is not in the store, or while its disk is out
   pub file : List ℕ → Option (List ℕ)
   -- what a crash now may leave under a name
   pub leaves : List ℕ → List ℕ → Type 0
@@ -57,7 +57,7 @@ pub record StoreState : Type 1 where
   pub disks : List ℕ → Handed
   -- the disks that are out, as they were handed out
   pub out : List ℕ → Option Handed
-  -- who may read the file of a name: none where it is not in the store
+  -- who may read the file of a name: none if it is not in the store
   pub readers : List ℕ → Option Readers
 
 -- the name is in the store, or its disk is out
@@ -72,7 +72,7 @@ added names name it other = if bytes_eq other name then Some it else names other
 abbrev pub without : {A : Type 0} → (List ℕ → Option A) → List ℕ → List ℕ → Option A
 without names name other = if bytes_eq other name then None else names other
 
--- what a call makes of a count: it never falls, and rises where the call failed and nowhere else
+-- what a call makes of a count: it never falls, and rises if the call failed and not otherwise
 pub record RisesWhere (failed : Type 0) (before now : ℕ) : Type 0 where
   pub later : before ≤ now
   pub rose : failed → Rose before now
@@ -119,13 +119,13 @@ pub record Written (old : StoreState) (name bytes : List ℕ) (who : Readers) (n
   pub others : IsTrue old.told → OthersLeave name old new
   pub loans : SameLoans old new
 
--- pages that a store hands out begin with no fault, tell their content where it does, and are steady where it is
+-- pages that a store hands out begin with no fault, tell their content if it does, and are steady if it is
 pub record HandsOut (store : StoreState) (pages : PagesState) : Type 0 where
   pub fresh : pages.count ≡ 0
   pub told : IsTrue store.told → IsTrue pages.told
   pub steady : IsTrue store.steady → IsTrue pages.steady
 
--- an empty disk with room for so many bytes was made under a name that was not there, and is out; its owner alone may
+-- an empty disk with room for `size` bytes was made under a name that was not there, and is out; its owner alone may
 -- read it
 pub record Made (old : StoreState) (name : List ℕ) (size : ℕ) (disk : PagesState) (new : StoreState) : Type 0 where
   pub absent : IsTrue old.told → has_name old name ≡ false

@@ -3,10 +3,10 @@ use Rattle.std.specs.Prelude.{◌≡◌, ◌+◌, ◌<◌, ◌≤◌, ◌++◌, 
 use Rattle.std.specs.Prelude.{length, take, drop}
 use Rattle.stream_io.specs.declared.failed.Failed.{Failed}
 
--- A stream in one state: whether it tells its bytes, the place that was dialled or none, the bytes that were read of it
--- and those that a peer has given and nobody has read, the bytes that were written to it, the oldest byte first each,
--- how many more bytes it takes for sure where it is steady, and its count of faults. The bytes mean something only
--- where they are told.
+-- A stream in one state: whether it tells its bytes, the place that was dialled or none, the bytes that were read from
+-- it and those that a peer has given and nobody has read, the bytes that were written to it, the oldest byte first
+-- each, how many more bytes it takes for sure if it is steady, and its count of faults. The bytes mean something only
+-- if they are told.
 pub record Talk : Type 0 where
   pub told : Bool
   pub place : Option (List ℕ)
@@ -32,7 +32,7 @@ pub record OnlyWrote (old new : Talk) : Type 0 where
   pub left : new.left ≡ old.left
   pub count : old.count ≤ new.count
 
--- so many bytes were left, and just these were read
+-- `size` bytes were left, and just these were read
 pub record Took (old new : Talk) (size : ℕ) : Type 0 where
   pub there : size ≤ length old.left
   pub taken : new.taken ≡ old.taken ++ take size old.left
@@ -46,13 +46,13 @@ pub record HasRead (old new : Talk) (room : ℕ) (out : List ℕ) (result : Resu
   pub took : IsTrue old.told → MatchResult result (λ n. Took old new n) (λ _. Took old new 0)
   pub end : IsTrue old.told → IfOk result (λ n. n ≡ 0 → 0 < room → old.left ≡ [])
 
--- some bytes were read, fewer than were asked for
+-- bytes were read, or none, but fewer than were asked for
 pub record TookPart (old new : Talk) (asked : ℕ) : Type 0 where
   pub size : ℕ
   pub short : size < asked
   pub took : Took old new size
 
--- What a write of these bytes answers: how many of them were written, at least one where there is one.
+-- What a write of these bytes answers: how many of them were written, at least one if there is one.
 pub record HasWritten (old new : Talk) (bytes : List ℕ) (result : Result ℕ Failed) : Type 0 where
   pub size : IfOk result (λ n. n ≤ length bytes)
   pub progress : IfOk result (λ n. 0 < length bytes → 0 < n)
@@ -63,7 +63,7 @@ pub record HasWritten (old new : Talk) (bytes : List ℕ) (result : Result ℕ F
 abbrev pub TakesRoom : ℕ → ℕ → Result ℕ Failed → Type 0
 TakesRoom old new result = MatchResult result (λ n. old ≤ new + n) (λ _. old ≤ new)
 
--- a beginning of the bytes was written, and not all of them
+-- a beginning of the bytes was written, which may be empty, and not all of them
 pub record WrotePart (old new : Talk) (bytes : List ℕ) : Type 0 where
   pub size : ℕ
   pub short : size < length bytes

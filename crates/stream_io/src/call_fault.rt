@@ -1,4 +1,4 @@
-//! The refusal of a call that may also want memory.
+//! The refusal of a call that may also run out of memory.
 
 ghost use Rattle.std.specs.Prelude.{◌≡◌};
 ghost use Rattle.stream_io.specs.declared.call_fault.CallFault.{CallFault};
@@ -14,7 +14,7 @@ pub enum CallFault {
     /// The call failed, and the count of faults of its object has risen.
     #[error("a call to the outside failed")]
     Failed,
-    /// Want of memory.
+    /// Memory ran out.
     #[error("out of memory")]
     NoMemory,
 }

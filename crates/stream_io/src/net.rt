@@ -1,4 +1,4 @@
-//! Nets, from which ports are had.
+//! Nets, which make ports.
 
 ghost use Rattle.std.specs.Prelude.{◌≡◌, Err, map, option_copied, IsTrue, IfOk, OnErr};
 ghost use Rattle.stream_io.specs.Net.{Gathers, IsOffered, MakesPorts, NetOnward, NetState, SameNet};
@@ -10,7 +10,7 @@ use crate::port::Port;
 use disk_trait::Faults;
 use std::alloc::Global;
 
-/// What ports are had from. A port that it made is owed back to `gather`.
+/// What makes ports. A port that it made is owed back to `gather`.
 pub trait Net: Faults {
     /// What links are accepted at, and dialled from.
     type Port: Port + Send;
@@ -23,8 +23,8 @@ pub trait Net: Faults {
     fn port_faults(&self) -> u64
         ensures { result ≡ (state self.now).port_count };
 
-    /// Makes that many ports, which listen at one place together, or only dial where no place is given. It fails at a
-    /// place that the net does not offer.
+    /// Makes `count` ports, which listen at one place together, or only dial if no place is given. It fails at a place
+    /// that the net does not offer.
     fn ports(
         &mut self,
         alloc: Global,
@@ -48,7 +48,7 @@ pub trait Net: Faults {
         ensures offers { (state self.new).offers ≡ (state self.old).offers }
         ensures onward { NetOnward (state self.old) (state self.new) };
 
-    /// The count of the state is the net's count of faults, and the net is steady where its state is.
+    /// The count of the state is the net's count of faults, and the net is steady if its state is.
     ghost counts: { (net : Self) → (state net).count ≡ Self.count net };
 
     ghost steadies: { (net : Self) → (state net).steady ≡ Self.steady net };

@@ -34,8 +34,8 @@ pub trait Port: Faults {
     fn accept_faults(&self) -> u64
         ensures { result ≡ (state self.now).accept_count };
 
-    /// Accepts the next link. A port that only dials has none, and one that listens has none exactly where no further
-    /// link is to come.
+    /// Accepts the next link. A port that only dials has none, and one that listens has none exactly if no further link
+    /// is to come.
     fn accept(&mut self) -> Accepted<Self::Link>
         ensures link { (link : Self.Link) → result ≡ Accepted.Link link
             → Accepts (state self.old) (Self.Link.talk link) (Self.Link.steady link) (Self.Link.room link)
@@ -50,7 +50,7 @@ pub trait Port: Faults {
         ensures succeeds { IsTrue (state self.old).steady → result ≢ Accepted.Failed }
         ensures onward { PortOnward (state self.old) (state self.new) };
 
-    /// Dials a place. It fails where nobody is there to be dialled, and counts that once.
+    /// Dials a place. It fails if nobody is there to be dialled, and counts that once.
     fn dial(&mut self, place: &str) -> Result<Self::Link, Failed>
         ensures link { IfOk result (λ link. Dials (state self.old) place.now (Self.Link.talk link)
             (Self.Link.steady link) (Self.Link.room link) (state self.new)) }
@@ -67,7 +67,7 @@ pub trait Port: Faults {
         ensures kept { HangsUp (state self.old) (Self.Link.talk link) (state self.new) }
         ensures onward { PortOnward (state self.old) (state self.new) };
 
-    /// The count of the state is the port's count of faults, and the port is steady where its state is.
+    /// The count of the state is the port's count of faults, and the port is steady if its state is.
     ghost counts: { (port : Self) → (state port).count ≡ Self.count port };
 
     ghost steadies: { (port : Self) → (state port).steady ≡ Self.steady port };

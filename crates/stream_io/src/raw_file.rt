@@ -9,17 +9,18 @@ ghost use Rattle.stream_io.specs.RawFiles.{HasWrittenAt, SyncsAfterWrite, Untouc
 
 use disk_trait::{DiskFault, Faults};
 
-/// A file as a system gives it. A write that succeeds or fails leaves in a crash what that of a disk leaves. What a
-/// sync makes stable is less than one hopes: `sync_data` need not write the file's length, and after a sync that failed
-/// the system may mark as clean what it could not write, so that a later one succeeds and has written nothing of it.
+/// A file as a system gives it. A crash leaves of a write that succeeds or fails what it leaves of a write to a disk.
+/// What a sync makes stable is less than one hopes: `sync_data` need not write the file's length, and after a sync that
+/// failed the system may mark as clean what it could not write, so that a later one succeeds and has written nothing of
+/// it.
 pub trait RawFile: Faults {
     /// Whether the content is told.
     ghost told: { Self → Bool };
 
-    /// What a read gives, where the content is told.
+    /// What a read gives, if the content is told.
     ghost reads: { Self → List ℕ };
 
-    /// How many bytes there is room for, where the content is told.
+    /// How many bytes there is room for, if the content is told.
     ghost room: { Self → ℕ };
 
     /// Whether it keeps the model of crashes.
@@ -28,8 +29,8 @@ pub trait RawFile: Faults {
     /// What a crash now may leave.
     ghost may_leave: { Self → List ℕ → Type 0 };
 
-    /// Whether it may have become longer since the last `sync_all` that succeeded. Nobody knows when that was of a file
-    /// that was just opened, so it may have.
+    /// Whether it may have become longer since the last `sync_all` that succeeded. For a file that was just opened
+    /// nobody knows when that was, so it may have.
     ghost grown: { Self → Bool };
 
     /// Whether a sync may have failed.
@@ -45,8 +46,7 @@ pub trait RawFile: Faults {
         ensures stays { SameKind told honest Self.steady room self.old self.new };
 
     /// Reads bytes from a place on to the front of the room, and answers how many: 0 for a room that is not empty
-    /// exactly at the end or past it. What stands behind them in the room is any bytes, and so is all of it after a
-    /// refusal.
+    /// exactly at the end or past it. After these bytes the room holds any bytes, and after a refusal all of it does.
     fn read_at(&mut self, at: u64, out: &mut [u8]) -> Result<usize, DiskFault>
         ensures size { IfOk result (λ n. n ≤ length out.old) }
         ensures bytes { IsTrue (told self.old) → IfOk result (λ n. take n out.new ≡ take n (drop at (reads self.old))) }
@@ -61,7 +61,7 @@ pub trait RawFile: Faults {
 
     /// Writes a beginning of the bytes over what is there and past the end, and answers how many: at least one of a
     /// piece that is not empty. After a refusal a read may give any bytes in the range of all of them. What a write
-    /// does that begins past the end is not said: it leaves a hole before it.
+    /// that begins past the end does is not said: it leaves a hole before it.
     fn write_at(&mut self, at: u64, bytes: &[u8]) -> Result<usize, DiskFault>
         ensures written { HasWrittenAt told reads at bytes.now result self.old self.new }
         ensures images { IsTrue (honest self.old) → IsTrue (told self.old) → at ≤ length (reads self.old)
@@ -88,8 +88,8 @@ pub trait RawFile: Faults {
         ensures cause { HasCause (Self.count self.old) (Self.count self.new) result }
         ensures stays { SameKind told honest Self.steady room self.old self.new };
 
-    /// Makes the bytes that were written stable where the file has not grown, unless a sync has failed before. It need
-    /// not write the length.
+    /// Makes the bytes that were written stable if the file has not grown, unless a sync has failed before. It need not
+    /// write the length.
     fn sync_data(&mut self) -> Result<(), DiskFault>
         ensures stable { IsTrue (honest self.old) → IsTrue (told self.old) → IsFalse (grown self.old)
             → IsFalse (sync_failed self.old) → OnOk result (Only (reads self.old) (may_leave self.new)) }

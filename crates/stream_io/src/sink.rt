@@ -10,7 +10,7 @@ use disk_trait::Faults;
 
 /// What bytes are written to.
 pub trait Sink: Stream {
-    /// How many more bytes it takes for sure, where it is steady.
+    /// How many more bytes it takes for sure, if it is steady.
     ghost room: { Self → ℕ };
 
     /// Writes a beginning of the piece, which is not empty unless the piece is, and answers its length.

@@ -47,7 +47,7 @@ pub fn read_whole<S: Source>(source: &mut S, out: &mut [u8]) -> Result<usize, Fa
     Ok(at)
 }
 
-/// Reads once to the room behind a place.
+/// Reads once into the room from a place on.
 fn read_behind<S: Source>(source: &mut S, out: &mut [u8], at: usize) -> Result<usize, Failed>
     requires { at < length out.old }
     ensures size { IfOk result (λ n. at + n ≤ length out.old) }

@@ -26,7 +26,7 @@ pub enum ReadAllFault {
         /// Its length.
         got: u64,
     },
-    /// Want of memory.
+    /// Memory ran out.
     #[error("out of memory")]
     NoMemory,
 }
@@ -56,7 +56,7 @@ pub enum NewFault {
     /// A call of the store failed.
     #[error("the file could not be written")]
     Failed,
-    /// Want of memory.
+    /// Memory ran out.
     #[error("out of memory")]
     NoMemory,
 }
@@ -90,7 +90,7 @@ impl<T: Drop> From<AllocFailed<T>> for NewFault {
 pub enum Readers {
     /// Its owner alone, as befits a secret.
     OwnerAlone,
-    /// Whoever the system lets by its defaults.
+    /// Anyone the system allows by default.
     Anyone,
 }
 
@@ -124,7 +124,7 @@ pub trait Store: Faults {
         ensures cause { RisesWhere (result ≡ Err ReadAllFault.Failed) (state self.old).count (state self.new).count }
         ensures onward { StoreOnward (state self.old) (state self.new) };
 
-    /// Whether the name is in the store, its disk being out included.
+    /// Whether the name is in the store, even if its disk is out.
     fn has(&mut self, name: &str) -> Result<bool, CallFault>
         ensures found { IsTrue (state self.old).told
             → IfOk result (λ found. found ≡ has_name (state self.old) name.now) }
@@ -205,7 +205,7 @@ pub trait Store: Faults {
             (state self.new) }
         ensures onward { StoreOnward (state self.old) (state self.new) };
 
-    /// The count of the state is the store's count of faults, and the store is steady where its state is.
+    /// The count of the state is the store's count of faults, and the store is steady if its state is.
     ghost counts: { (store : Self) → (state store).count ≡ Self.count store };
 
     ghost steadies: { (store : Self) → (state store).steady ≡ Self.steady store };

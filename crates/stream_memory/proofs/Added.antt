@@ -1,4 +1,4 @@
--- The entries of a store in memory: what is found of a name, and what stands there after a change.
+-- The entries of a store in memory: what is found for a name, and what stands there after a change.
 use Rattle.std.proofs.Common.{◌≡◌, ◌<◌, ◌++◌, ◌∷◌, ◌&&◌, [], ℕ, zero, suc, Bool, true, false, List, Option, Some, None, cond, set, length, get_or, map, option_map, is_some, string_bytes, find, IfSome, ap, refl, subst, sym, ◌∙◌, arith, nat_lt, inl, inr}
 use Rattle.std.proofs.lemmas.Bool.Decides.{nat_tests, same_from_decides}
 use Rattle.std.proofs.lemmas.List.Folds.{find-append, find-set, find_at, find_past, list_all-map}
@@ -26,7 +26,7 @@ record First {X : Type 0} (p : X → Bool) (xs : List X) (place : ℕ) : Type 0 
 first : {X : Type 0} (p : X → Bool) (xs : List X) (place : ℕ) → Some place ≡ position p xs → First p xs place
 first p xs place found = record { within = grind (arith, nat_tests); is_first = grind (arith, nat_tests) }
 
--- where no place is found no name is
+-- if no place is found, the name is not there
 past : (entries : List Entry) (place : ℕ) → nat_lt place (length entries) ≡ false → slice_get entries place ≡ None
 past entries place none = elim (slice_get_cases entries place).1 [ inl there ↦ absurd (grind (arith, nat_tests, there.1)) | inr gone ↦ gone.1 ]
 
@@ -42,7 +42,7 @@ slot_at entries name place old found is =
     let at = first (has_that_name name) entries place found in
     rw (find_at (has_that_name name) entries, ← at.is_first, slice_get-get_or entries place old at.within, ← is) refl
 
--- and its readers, or none where no place is found
+-- and its readers, or none if no place is found
 pub none_read : (entries : List Entry) (name : List ℕ) → None ≡ position (has_that_name name) entries → readers_of entries name ≡ None
 none_read entries name none =
     let outside : nat_lt (position_or_len (has_that_name name) entries) (length entries) ≡ false = grind (arith, nat_tests) in
@@ -54,7 +54,7 @@ read_at entries name place old found is =
     let at = first (has_that_name name) entries place found in
     rw (find_at (has_that_name name) entries, ← at.is_first, slice_get-get_or entries place old at.within, ← is) refl
 
--- a place is found where the name is
+-- a place is found if the name is there
 pub is_placed : (entries : List Entry) (name : List ℕ) → is_some (position (has_that_name name) entries) ≡ is_some (slot_of entries name)
 is_placed entries name =
     rw (find_at (has_that_name name) entries)
@@ -74,7 +74,7 @@ if_here : (slot : Slot) (Q : Slot → Slot → Type 0) → ((out : Slot) → Q o
 if_here (Here disk) Q same = same (Out (is_steady disk))
 if_here (Out steady) Q same = tt
 
--- as many disks are steady where one as steady takes the place of another
+-- as many disks are steady if one that is as steady takes the place of another
 still_steady : (entries : List Entry) (place : ℕ) (new d : Entry) → steady_in new.slot ≡ steady_in (get_or entries place d).slot
     → are_steady (set entries place new) ≡ are_steady entries
 still_steady [] place new d same = refl
@@ -129,11 +129,11 @@ module _ (entries : List Entry) (name : List ℕ) (place : ℕ) (old : Entry) (f
       ap (option_map (λ entry. entry.slot))
       (find_past (has_that_name other) entries place (with_slot slot) old (subst (λ entry. has_that_name other entry ≡ false) is fails) fails)
 
-  -- another slot at the place of a name: the name stands for it, and each other for what it stood for
+  -- another slot at the place of a name: the name stands for that slot, and each other name for what it stood for
   pub changed : (slot : Slot) (other : List ℕ) → slot_of (set entries place (with_slot slot)) other ≡ added (slot_of entries) name slot other
   changed slot other = by_name slot other (bytes_eq other name) refl
 
-  -- and who may read each name stays
+  -- and the readers of each name stay
   pub same_readers : (slot : Slot) (other : List ℕ) → readers_of (set entries place (with_slot slot)) other ≡ readers_of entries other
   same_readers slot other = still_read entries place (with_slot slot) old other (ap (λ entry. entry.name) is) (ap (λ entry. entry.readers) is)
 
@@ -153,7 +153,7 @@ module _ (entries : List Entry) (name : List ℕ) (place : ℕ) (old : Entry) (f
       let same : old.slot ≡ Out (is_steady disk) = cc in
       as_steady (Here disk) (rw same refl)
 
--- what is found, and else the last, if that has the name
+-- what is found, or else the last, if that has the name
 or_last : (found : Option Entry) (last : Entry) (test : Bool) → (test ≡ true → option_map (λ entry. entry.slot) found ≡ None)
     → option_map (λ entry. entry.slot) (option_or found (cond test (Some last) None)) ≡ cond test (Some last.slot) (option_map (λ entry. entry.slot) found)
 or_last None last true none = refl
@@ -161,7 +161,7 @@ or_last None last false none = refl
 or_last (Some x) last true none = let no : Some x.slot ≡ None = none refl in cc
 or_last (Some x) last false none = refl
 
--- an entry of a name that was not there, behind all others
+-- an entry of a name that was not there, after all others
 pub pushed : (entries : List Entry) (entry : Entry) (name other : List ℕ) → string_bytes entry.name ≡ name → slot_of entries name ≡ None
     → slot_of (entries ++ entry ∷ []) other ≡ added (slot_of entries) name entry.slot other
 pushed entries entry name other is absent =
@@ -169,7 +169,7 @@ pushed entries entry name other is absent =
     let none : bytes_eq other name ≡ true → slot_of entries other ≡ None = λ e. rw ((bytes_eq-Decides other name).0 e) absent in
     rw (find-append (has_that_name other) entries (entry ∷ []), test) (or_last (find (has_that_name other) entries) entry (bytes_eq other name) none)
 
--- the readers that are found, and else those of the last, if that has the name
+-- the readers that are found, or else those of the last, if that has the name
 or_last_read : (found : Option Entry) (last : Entry) (test : Bool) → (test ≡ true → option_map (λ entry. entry.slot) found ≡ None)
     → option_map (λ entry. entry.readers) (option_or found (cond test (Some last) None)) ≡ cond test (Some last.readers) (option_map (λ entry. entry.readers) found)
 or_last_read None last true none = refl
@@ -201,7 +201,7 @@ either_readers : (disk : String Global × MemState) (test : Bool) (entry : Optio
 either_readers disk true entry later same = refl
 either_readers disk false entry later same = same
 
--- whoever wants may read them
+-- anyone may read them
 pub read_among : (disks : List (String Global × MemState)) (name : List ℕ) → readers_of (map entry_of disks) name ≡ option_map (λ _. Anyone) (first_of disks name)
 read_among [] name = refl
 read_among (disk ∷ disks) name = either_readers disk (bytes_eq (string_bytes disk.0) name) _ _ (read_among disks name)
@@ -217,7 +217,7 @@ and_true : (b : Bool) → (b && true) ≡ b
 and_true true = refl
 and_true false = refl
 
--- one entry more
+-- one more entry
 pub steady_pushed : (entries : List Entry) (entry : Entry) → are_steady (entries ++ entry ∷ []) ≡ (are_steady entries && steady_in entry.slot)
 steady_pushed [] entry = and_true (steady_in entry.slot)
 steady_pushed (first ∷ entries) entry =

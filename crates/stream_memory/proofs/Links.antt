@@ -1,4 +1,4 @@
--- The links of a port that wait: each is what the link is that it is made of.
+-- The links of a port that wait: each is what the link that it wraps is.
 use Rattle.std.proofs.Common.{◌≡◌, ◌≤◌, ◌+◌, ◌-◌, ◌^◌, ◌&&◌, ℕ, Bool, true, false, List, Option, Result, Ok, Err, IsErr}
 use Rattle.std.proofs.Common.{min, ap, refl, sym, subst, ◌∙◌, arith}
 use Rattle.disk_trait.specs.Faults.{HasCause}
@@ -65,7 +65,7 @@ module _ (old new : PortState) (talk talk' : Talk) (steady steady' nothing : Boo
     talks = it.talks;
   }
 
--- what a port leaves as it was, it leaves so where its links wait
+-- what a port leaves as it was, it also leaves so if its links wait
 module _ (old new : PortState) (nothing : Bool) where
   pub same_links : SameLinks old new → SameLinks (with_waits old nothing) (with_waits new nothing)
   same_links it = record { waiting = it.waiting; reaches = it.reaches; talks = it.talks }

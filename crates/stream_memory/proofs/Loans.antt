@@ -1,4 +1,4 @@
--- What a store in memory says of its names after a change of one of them.
+-- What a store in memory says about its names after a change of one of them.
 use Rattle.std.proofs.Common.{◌≡◌, ◌↔◌, ◌≤◌, ◌+◌, ◌-◌, ◌^◌, min, arith, is_none, is_some, ◌&&◌, ◌||◌, ◌∷◌, [], ℕ, Bool, true, false, List, Option, Some, None, cond, length, map, option_map, option_and_then, unwrap_or, find, ap, refl, subst, sym, ◌∙◌}
 use Rattle.std.proofs.lemmas.Slice.Eq.{bytes_eq-Decides}
 use Rattle.std.specs.Str.{bytes_eq}
@@ -82,7 +82,7 @@ steady_of : (entry : Entry) (later : Option Entry) (test : Bool) (slot : Slot) �
 steady_of entry later true slot steady rest is = let same : entry.slot ≡ slot = (let e : Some entry.slot ≡ Some slot = is in cc) in subst (λ it. steady_in it ≡ true) same steady
 steady_of entry later false slot steady rest is = rest is
 
--- where all disks are steady, the one that is found is
+-- if all disks are steady, the one that is found is
 pub steady_found : (entries : List Entry) (name : List ℕ) (slot : Slot) → are_steady entries ≡ true → slot_of entries name ≡ Some slot → steady_in slot ≡ true
 steady_found [] name slot all is = let no : None ≡ Some slot = is in cc
 steady_found (entry ∷ entries) name slot all is =
@@ -123,12 +123,12 @@ module _ (old new : List Entry) (name : List ℕ) (stops : Option ℕ) (steady s
         others = λ told other image. others old new name (Here disk) slots other image;
       }
 
--- a name of which no slot is found
+-- a name for which no slot is found
 pub absent : (slot : Option Slot) → is_some slot ≡ false → slot ≡ None
 absent None not = refl
 absent (Some slot) not = let no : true ≡ false = not in cc
 
--- the disk of a new name is steady where it is not set to stop
+-- the disk of a new name is steady if it is not set to stop
 pub new_steady : (bytes : List ℕ) (room : ℕ) (stops : Option ℕ) → is_steady (new_disk bytes room stops) ≡ is_none stops
 new_steady bytes room None = refl
 new_steady bytes room (Some call) = refl
@@ -156,7 +156,7 @@ module _ (old new : List Entry) (name : List ℕ) (stops : Option ℕ) (steady s
         loans = record { disk_count = refl; views = refl };
       }
 
--- what stands under a name that is taken away, where it was just put there
+-- what stands under a name that is removed just after it was put there
 gone_again : {A : Type 0} (names : List ℕ → Option A) (name : List ℕ) (it : A) (other : List ℕ) → names name ≡ None
     → without (added names name it) name other ≡ names other
 gone_again names name it other none = here (bytes_eq other name) refl
@@ -230,7 +230,7 @@ pub with_true : (b : Bool) → (b && true) ≡ b
 with_true true = refl
 with_true false = refl
 
--- a store is as steady as it was where a name is new
+-- a store stays as steady as it was if a name is new
 still_steady : (calls all : Bool) (stops : Option ℕ) → (calls && is_none stops && (all && is_none stops)) ≡ (calls && is_none stops && all)
 still_steady calls all None = rw (with_true all) refl
 still_steady true all (Some call) = refl
@@ -241,7 +241,7 @@ module _ (old new : List Entry) (name : List ℕ) (stops : Option ℕ) (slot : S
   pub as_steady : (calls : Bool) → are_steady new ≡ (are_steady old && steady_in slot) → (calls && is_none stops && are_steady new) ≡ (calls && is_none stops && are_steady old)
   as_steady calls all = rw (all, is_new) (still_steady calls (are_steady old) stops)
 
-  -- the disk of a new name is what it was to be
+  -- the disk of a new name is what it was meant to be
   pub as_said : ((other : List ℕ) → slot_of new other ≡ added (slot_of old) name slot other) → (other : List ℕ) → kind_of stops (slot_of new other) ≡ kind_of stops (slot_of old other)
   as_said slots = same_for_all old new name slot slots (kind_of stops) (ap kind is_new ∙ sym (ap (kind_of stops) gone))
 
@@ -249,7 +249,7 @@ unread : (entry : Option Entry) → option_map (λ it. it.slot) entry ≡ None �
 unread None none = refl
 unread (Some entry) none = let no : Some entry.slot ≡ None = none in cc
 
--- who may read a file stays where a name is new
+-- the readers of a file stay if a name is new
 pub read_still : (old new : List Entry) (name : List ℕ) (who : Readers) → slot_of old name ≡ None
     → ((other : List ℕ) → readers_of new other ≡ added (readers_of old) name who other)
     → (other : List ℕ) (was : Readers) → readers_of old other ≡ Some was → readers_of new other ≡ Some was

@@ -90,11 +90,11 @@ follows-more at m n old new few follows image is =
     let x = follows image is in
     (x.0, x.1, torn-more at m n x.0 image few x.2)
 
--- what is as it was is torn nowhere
+-- what is unchanged is torn nowhere
 pub torn_nowhere : {T : Type 0} (result : Result T DiskFault) (at n : ℕ) (x y : List ℕ) → OnErr result (y ≡ x) → OnErr result (Torn at n x y)
 torn_nowhere (Ok value) at n x y same = tt
 torn_nowhere (Err fault) at n x y same = rw same (record { before = refl; after = refl; no_shorter = omega arith; no_longer = omega arith })
 
--- as many bytes and as much capacity are as much room
+-- the same number of bytes and the same capacity make the same room
 pub same_room : (old new : MemState) → new.capacity ≡ old.capacity → new.bytes ≡ old.bytes → room_of new ≡ room_of old
 same_room old new capacity bytes = rw (capacity, bytes) refl

@@ -1,4 +1,4 @@
--- What a call makes of a count of faults, by what it answers, and when it cannot answer that it failed.
+-- What a call does to a count of faults, by what it answers, and when it cannot answer that it failed.
 use Rattle.std.proofs.Common.{◌≡◌, ◌≤◌, ◌+◌, ◌-◌, ◌^◌, ◌&&◌, ◌||◌, ℕ, Bool, true, false, Option, Some, None, Result, Ok, Err}
 use Rattle.std.proofs.Common.{min, is_some, option_map, option_and_then, IfOk, IsErr, OnOk, OnErr, ap, refl, ◌∙◌, arith}
 use Rattle.std.specs.Result.{IsErrAnd}
@@ -41,7 +41,7 @@ not_steady calls views stops all fails is =
     let never : false ≡ true = fails (first_true calls views (first_true (calls && views) stops (first_true (calls && views && stops) all is))) in
     cc
 
--- and none of a port that is steady
+-- and none of a steady port
 pub not_calm : (calls gave links : Bool) → (calls ≡ true → false ≡ true) → (calls && gave && links) ≡ true → ⊥
 not_calm calls gave links fails is =
     let never : false ≡ true = fails (first_true calls gave (first_true (calls && gave) links is)) in
@@ -73,7 +73,7 @@ rises-as result fault other before now is rises = record {
   same = λ not. rises.same (λ was. not (is ∙ same_fault (Err fault) fault other refl was));
 }
 
--- what is said of a value says nothing of a refusal, and the other way round
+-- what is said about a value says nothing about a refusal, and the other way round
 pub if_refused : {T E : Type 0} (P : T → Type 0) (result : Result T E) (fault : E) → result ≡ Err fault → IfOk result P
 if_refused P (Ok value) fault is = absurd (ok_no (Ok value) value fault refl is)
 if_refused P (Err other) fault is = tt
@@ -131,7 +131,7 @@ failed_long got is = cc
 pub memory_long : (got : ℕ) → read.NoMemory ≡ read.TooLong got → ⊥
 memory_long got is = cc
 
--- a name is there where its slot is found
+-- a name is there if its slot is found
 pub named : (slot : Option Slot)
     → is_some slot ≡ (is_some (option_map (λ (disk : MemState). disk.bytes) (option_and_then disk_in slot)) || is_some (option_and_then out_in slot))
 named None = refl

@@ -14,14 +14,14 @@ any-mapped : {P : Type 0} (st : P → PortState) (count : PortState → ℕ) (po
 any-mapped st count [] = refl
 any-mapped st count (port ∷ ports) = rw (any-mapped st count ports) refl
 
--- where none has counted, each count is 0
+-- if none has counted, each count is 0
 none-counted : (count : PortState → ℕ) (ports : List PortState) → list_any (λ port. nat_lt 0 (count port)) ports ≡ false → All (λ port. count port ≡ 0) ports
 none-counted count ports none k d lt = go (nat_lt 0 (count (get_or ports k d))) refl where
   go : (b : Bool) → nat_lt 0 (count (get_or ports k d)) ≡ b → count (get_or ports k d) ≡ 0
   go false e = let h = ltb-false _ _ e in omega arith
   go true e = let some = list_any_at (λ port. nat_lt 0 (count port)) ports k d lt e in cc
 
--- where one has, not all counts are 0
+-- if one has, not all counts are 0
 some-counted : (count : PortState → ℕ) (ports : List PortState) → list_any (λ port. nat_lt 0 (count port)) ports ≡ true → All (λ port. count port ≡ 0) ports → ⊥
 some-counted count ports some all =
     let found = Any-from_list_any (λ port. nat_lt 0 (count port)) ports some in
@@ -30,7 +30,7 @@ some-counted count ports some all =
     let more = ltb-true _ _ found.4 in
     omega arith
 
--- a count that rises where one of the ports has counted
+-- a count that rises if one of the ports has counted
 pub rises : {P : Type 0} (st : P → PortState) (count : PortState → ℕ) (ports : List P) (before now : ℕ) → list_any (λ port. nat_lt 0 (count (st port))) ports ≡ true
     → before ≤ now → Rose before now → RisesWhere (All (λ port. count port ≡ 0) (map st ports) → ⊥) before now
 rises st count ports before now some later rose = record {
@@ -47,12 +47,12 @@ stays st count ports now none = record {
   same = λ _. refl;
 }
 
--- the net has the place where it admits it
+-- the net has the place if it admits it
 pub admitted : (net : MemNet) (place : Option (List ℕ)) → is_admitted (is_listed net.places.items) place ≡ true → IsOffered (net_state net) place
 admitted net None there = tt
 admitted net (Some place) there = there
 
--- a port that is new for a net is so for one that is as steady
+-- a port that is new for a net is also new for a net that is as steady
 pub new-one : (a b : NetState) (place : Option (List ℕ)) (port : PortState) → a.told ≡ b.told → a.steady ≡ b.steady → b.room ≤ a.room → IsNewPort a place port → IsNewPort b place port
 new-one a b place port told steady room new = record {
   told = λ t. new.told (told ∙ t);

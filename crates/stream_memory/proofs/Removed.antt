@@ -36,7 +36,7 @@ none-from : {X : Type 0} (p : X → Bool) (xs : List X) (i : ℕ) → position_f
 none-from p [] i e = refl
 none-from p (x ∷ xs) i e = none-step (p x) (list_any p xs) i (position_from p (i + 1) xs) e (none-from p xs (i + 1))
 
--- where no place is found, no element passes
+-- if no place is found, no element passes
 pub none-passes : {X : Type 0} (p : X → Bool) (xs : List X) → position p xs ≡ None → list_any p xs ≡ false
 none-passes p xs e = none-from p xs 0 (sym (position_from-zero p xs) ∙ e)
 

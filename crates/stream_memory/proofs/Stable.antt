@@ -1,4 +1,4 @@
--- Disks in memory that are all stable, and what writes and syncs leave as it was.
+-- Disks in memory that are all stable, and what writes and syncs leave unchanged.
 use Rattle.std.proofs.Common.{◌≡◌, ℕ, Bool, true, false, Result, Ok, Err, OnOk, List, length, replicate, if◌then◌else◌}
 use Rattle.std.proofs.Common.{refl, sym, subst, arith}
 use Rattle.std.proofs.lemmas.List.{ext_get_or, get_or-replicate}
@@ -7,7 +7,7 @@ use Rattle.disk_trait.specs.MemDisk.{MemState, IsImage, MayLeave, changed, is_st
 use Rattle.disk_trait.specs.declared.disk.DiskFault.{DiskFault}
 use Rattle.disk_trait.specs.MemDiskLaws.{leaves_bytes}
 
--- bytes of which none is pending are all that a crash leaves
+-- bytes none of which is pending are all that a crash leaves
 pub only_stable : (bytes : List ℕ) → Only bytes (IsImage bytes bytes (replicate (length bytes) false))
 only_stable bytes image is =
     let size : length image ≡ length bytes = omega (arith, is.no_shorter, is.no_longer) in

@@ -37,7 +37,7 @@ has_written a b c d bytes result told written written' it = record {
   wrote = λ t. rw (written, written') (it.wrote (sym told ∙ t));
 }
 
--- what a call leaves of a talk, it leaves where waits in vain are counted beside
+-- what a call leaves of a talk, it also leaves if waits in vain are counted as well
 module _ (a b : Talk) (vain : ℕ) where
   pub vain_read : OnlyRead a b → OnlyRead (with_vain a vain) (with_vain b vain)
   vain_read it =

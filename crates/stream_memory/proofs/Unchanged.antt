@@ -1,4 +1,4 @@
--- What a store in memory says after a call that left its names as they were.
+-- What a store in memory says after a call that left its names unchanged.
 use Rattle.std.proofs.Common.{◌≡◌, ◌≤◌, ◌+◌, ◌&&◌, ℕ, Bool, true, false, List, Option, Some, None, Result, Ok, Err}
 use Rattle.std.proofs.Common.{OnErr, is_none, refl, arith}
 use Rattle.std.specs.declared.alloc.Global.{Global}
@@ -43,7 +43,7 @@ onward old new stops fails failing failing' count count' disk_count views views'
       disk_count = omega arith;
     })
 
--- a store that is steady lets no call of a view fail
+-- a steady store lets no call of a view fail
 view_steady : (bytes : List ℕ) (calls : Bool) (fails : Option ℕ) → (calls && is_none fails) ≡ true
     → is_steady (record (full_disk bytes) { fails = fails }) ≡ true
 view_steady bytes calls None is = refl

@@ -27,7 +27,7 @@ talk_of link = record {
   count = link.calls.faults;
 }
 
--- what a new link tells that was made of a source and a sink: what has gone over these, and no fault
+-- what a new link tells that was made from a source and a sink: what has gone over these, and no fault
 abbrev pub joined_talk : Talk → Talk → Talk
 joined_talk source sink = record {
   told = true;

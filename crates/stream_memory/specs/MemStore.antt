@@ -16,7 +16,7 @@ use Rattle.stream_memory.specs.declared.entries.Slot.{Slot}
 use Rattle.stream_memory.specs.declared.entries.Slot.TheVariants.{Here, Out}
 use Rattle.stream_memory.specs.declared.mem_store.MemStore.{MemStore}
 
--- the disk, where it is in the store
+-- the disk, if it is in the store
 abbrev pub disk_in : Slot → Option MemState
 disk_in (Here disk) = Some disk
 disk_in (Out steady) = None
@@ -55,7 +55,7 @@ file_of entries name = option_map (λ disk. disk.bytes) (disk_of entries name)
 abbrev pub are_steady : List Entry → Bool
 are_steady entries = list_all (λ entry. steady_in entry.slot) entries
 
--- a store is steady where no call is listed to fail, none of views or of the disks of new names is set to, and all its
+-- a store is steady if no call is listed to fail, none of views or of the disks of new names is set to, and all its
 -- disks are steady
 abbrev pub is_steady_store : List ℕ → Option ℕ → Option ℕ → List Entry → Bool
 is_steady_store failing view_fails new_stops entries =
@@ -65,17 +65,17 @@ is_steady_store failing view_fails new_stops entries =
 abbrev pub entry_of : String Global × MemState → Entry
 entry_of disk = record { name = disk.0; slot = Here disk.1; readers = Anyone }
 
--- what a crash may leave of a disk, where it is in the store
+-- what a crash may leave of a disk, if it is in the store
 abbrev pub leaves_in : Option MemState → List ℕ → Type 0
 leaves_in None image = ⊥
 leaves_in (Some disk) image = MayLeave disk image
 
--- what the disk of a name says of itself: that of a new name is steady where none is set to stop
+-- what the disk of a name says of itself: that of a new name is steady if none is set to stop
 abbrev pub kind_of : Option ℕ → Option Slot → Handed
 kind_of new_stops None = kind (is_none new_stops)
 kind_of new_stops (Some slot) = kind (steady_in slot)
 
--- a store of these entries, with its counts, where the disks of new names stop there
+-- a store of these entries, with its counts, in which the disks of new names stop there
 abbrev pub state_of : List Entry → Option ℕ → Bool → ℕ → ℕ → ℕ → StoreState
 state_of entries new_stops steady count disk_count views = record {
   told = true;

@@ -14,7 +14,7 @@ use Rattle.stream_io.specs.Net.{NetState}
 abbrev pub is_listed : List (String Global) → List ℕ → Bool
 is_listed places name = list_any (λ place. bytes_eq (string_bytes place) name) places
 
--- ports may be made here, at a place of these or without one
+-- ports may be made here, at a place among these or without one
 abbrev pub is_admitted : (List ℕ → Bool) → Option (List ℕ) → Bool
 is_admitted offers None = true
 is_admitted offers (Some place) = offers place

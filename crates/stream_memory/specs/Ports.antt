@@ -37,7 +37,7 @@ room_of_waiting link = vec_capacity (conversation_of link).sink.written
 abbrev pub room_of_entry : String Global × MemLink → ℕ
 room_of_entry entry = room_of_waiting entry.1
 
--- the least room of these, and 2^64 - 1 where there is none
+-- the least room of these, and 2^64 - 1 if there is none
 abbrev pub least : {L : Type 0} → (L → ℕ) → List L → ℕ
 least room [] = 2 ^ 64 - 1
 least room (link ∷ links) = min (room link) (least room links)

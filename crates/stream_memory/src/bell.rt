@@ -2,7 +2,7 @@
 
 use std::sync::atomic::{AtomicU64, Ordering};
 
-/// A bell that links in several threads share, with how often it was rung.
+/// A bell that links in several threads share, with a count of its rings.
 #[derive(Drop)]
 pub struct Bell {
     rings: AtomicU64,
@@ -10,7 +10,7 @@ pub struct Bell {
 }
 
 impl Bell {
-    /// A bell that nobody has rung. Who waits for it looks so often, and then gives up: no wait is without end.
+    /// A bell that nobody has rung. A waiter looks at it `looks` times, and then gives up: no wait is endless.
     pub fn new(looks: u64) -> Bell {
         Bell {
             rings: AtomicU64::new(0),
@@ -23,7 +23,7 @@ impl Bell {
         self.rings.fetch_add(1, Ordering::SeqCst);
     }
 
-    /// Waits until it was rung so often, and says whether it was.
+    /// Waits until it has been rung `rings` times, and returns whether it was.
     pub fn hears(&self, rings: u64) -> bool {
         for _ in 0..self.looks {
             if self.rings.load(Ordering::SeqCst) >= rings {

@@ -47,7 +47,7 @@ impl Calls {
         self.faults = 0;
     }
 
-    /// Makes the next call. It fails where its number is listed; the first call has the number 0.
+    /// Makes the next call. It fails if its number is listed; the first call has the number 0.
     pub fn make(&mut self) -> Result<(), Failed>
         ensures listed { IsErr result ↔ Contains self.old.failing.items self.old.made }
         ensures steady { IsTrue (is_empty self.old.failing.items) → IsOk result }
@@ -62,7 +62,7 @@ impl Calls {
         if listed { Err(self.fail()) } else { Ok(()) }
     }
 
-    /// Counts a fault where this failed, and answers it.
+    /// Counts a fault if this failed, and returns it.
     pub(crate) fn count(&mut self, answer: Result<usize, Failed>) -> Result<usize, Failed>
         ensures same { result ≡ answer }
         ensures cause { HasCause self.old.faults self.new.faults result }

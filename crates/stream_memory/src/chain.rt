@@ -8,7 +8,7 @@ use memory::NoMemory;
 use std::alloc::Global;
 use std::marker::Model;
 
-/// A value in the memory in which a chain takes it, and what the chain took before.
+/// A value in the memory in which a chain takes it, and the values that the chain took before.
 #[derive(Drop)]
 pub(crate) struct Node<T> {
     pub(crate) value: T,
@@ -71,7 +71,7 @@ impl<T: Drop> Chain<T> {
     }
 }
 
-/// The value of this number among those up to a node, or what is left of the number behind them.
+/// The value of this number among those up to a node, or what is left of the number after them.
 fn find<T>(node: &Node<T>, index: usize) -> Result<&T, usize>
     ensures found { IfOk result (λ value. slice_get (node_values node.now) index ≡ Some value.now) }
     ensures passed { IfErr result (λ left. index ≡ length (node_values node.now) + left) }

@@ -11,7 +11,7 @@ use crate::mem_sink::MemSink;
 use crate::mem_source::MemSource;
 use stream_io::{Failed, Sink, Source};
 
-/// A hold on what a link gives: a read that would begin at or behind the place fails while fewer bytes than these were
+/// A hold on what a link gives: a read that would begin at or after `place` fails while fewer than `written` bytes were
 /// written to the link.
 #[derive(Clone, Copy)]
 pub struct Gate {
@@ -46,7 +46,7 @@ impl Conversation {
         self.source.taken()
     }
 
-    /// The bytes that nobody has read.
+    /// The bytes that have not been read.
     pub fn left(&self) -> &[u8]
         ensures { result.now ≡ (talk_of self.now).left }
     {
@@ -67,7 +67,7 @@ impl Conversation {
         self.calls.faults
     }
 
-    /// Begins anew, as that of a link to a place that was dialled or to none.
+    /// Begins anew, as the conversation of a link to a place that was dialled or to none.
     pub(crate) fn begin(&mut self, place: Option<String>)
         ensures place { (talk_of self.new).place ≡ option_map string_bytes place }
         ensures taken { (talk_of self.new).taken ≡ [] }
@@ -110,7 +110,7 @@ impl Conversation {
         self.calls.count(answer)
     }
 
-    /// Makes the call of a read. It fails where that is listed, and where the read is held.
+    /// Makes the call of a read. It fails if that is listed, and if the read is held.
     fn begin_read(&mut self) -> Result<(), Failed>
         ensures succeeds { IsTrue (is_steady_link self.old) → IsOk result }
         ensures cause { HasCause self.old.calls.faults self.new.calls.faults result }

@@ -1,4 +1,4 @@
-//! The names of a store in memory, each with its disk or what is known of the disk that is out.
+//! The names of a store in memory, each with its disk or with what is known of it while it is out.
 
 ghost use Rattle.std.specs.Prelude.{◌≡◌, ◌&&◌, ℕ, List, None, Some, IfOk, IfSome, IfNone, IfErr, OnOk};
 ghost use Rattle.std.specs.Prelude.{OnErr};
@@ -67,7 +67,7 @@ impl Slot {
 }
 
 impl Entries {
-    /// Those of these disks, each with its name, all of them here, for anyone to read.
+    /// The entries of these disks, each with its name, all of them here, for anyone to read.
     pub(crate) fn new(alloc: Global, disks: Vec<(String, MemDisk)>) -> Result<Entries, NoMemory>
         ensures { IfOk result (λ entries. entries.list.items ≡ map entry_of disks.items) }
     {
@@ -91,7 +91,7 @@ impl Entries {
             .position(|entry| entry.name.as_str() == name)
     }
 
-    /// Whether a name is there, its disk being out included.
+    /// Whether a name is there, even if its disk is out.
     #[tactic(auto, using(crate::proofs::Added::is_placed))]
     pub(crate) fn has(&self, name: &str) -> bool
         ensures { result ≡ is_some (slot_of self.now.list.items name.now) }
@@ -132,7 +132,7 @@ impl Entries {
         self.list[place].slot.take()
     }
 
-    /// Takes the disk of a name back, which is out and was as steady.
+    /// Takes back the disk of a name, which is out and was as steady.
     pub(crate) fn take_back(&mut self, name: &str, disk: MemDisk)
         requires { slot_of self.old.list.items name.now ≡ Some (Slot.Out (is_steady disk)) }
         ensures slots { (other : List ℕ) → slot_of self.new.list.items other
@@ -145,7 +145,7 @@ impl Entries {
         self.list[place].slot = Slot::Here(disk);
     }
 
-    /// Puts a name that is not there behind the others.
+    /// Adds a name that is not there, after the others.
     pub(crate) fn add(
         &mut self,
         alloc: Global,

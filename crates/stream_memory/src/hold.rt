@@ -5,13 +5,13 @@ use crate::bell::Bell;
 /// Before which of its calls a link waits.
 #[derive(Clone, Copy)]
 pub enum Before {
-    /// Before it gives more than so many bytes.
+    /// Before it gives more than this many bytes.
     Reading(usize),
     /// Before it takes a byte.
     Writing,
 }
 
-/// What a link waits for: a bell that was rung so often.
+/// What a link waits for: a bell that has been rung `rings` times.
 #[derive(Clone, Copy)]
 pub struct Hold<'a> {
     /// Before which of its calls it waits.
@@ -22,7 +22,7 @@ pub struct Hold<'a> {
     pub rings: u64,
 }
 
-/// When a link rings a bell: once so many bytes were written to it, one at least.
+/// When a link rings a bell: once `written` bytes, and one at least, were written to it.
 #[derive(Clone, Copy)]
 pub struct Ring<'a> {
     /// The bell.

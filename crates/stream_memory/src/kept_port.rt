@@ -112,7 +112,7 @@ impl KeptPort {
         Ok(link)
     }
 
-    /// Ends a link of which this was said, as `Port` says. Nothing was read ahead, and nothing held back.
+    /// Ends a link over which this conversation went, as `Port` says. Nothing was read ahead, and nothing held back.
     pub(crate) fn hang_up(&mut self, node: Box<Node<Conversation>>)
         ensures kept { HangsUp (port_state self.old) (talk_of (own node.value)) (port_state self.new) }
         ensures onward { PortOnward (port_state self.old) (port_state self.new) }
@@ -120,7 +120,7 @@ impl KeptPort {
         self.keep(node);
     }
 
-    /// Keeps a conversation, and counts a fault where it has some.
+    /// Keeps a conversation, and counts a fault if it has some.
     fn keep(&mut self, node: Box<Node<Conversation>>)
         ensures kept { KeepsTalk (port_state self.old) (talk_of (own node.value)) (port_state self.new) }
         ensures onward { PortOnward (port_state self.old) (port_state self.new) }

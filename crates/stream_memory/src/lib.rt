@@ -1,5 +1,4 @@
-//! The forms in memory of the traits of the outside: links, ports, nets and stores, and links that wait for
-//! each other.
+//! In-memory forms of the traits of the outside: links, ports, nets and stores, and links that wait for each other.
 #![tactic(auto)]
 
 mod bell;

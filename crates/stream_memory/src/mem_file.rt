@@ -12,8 +12,8 @@ use disk_trait::{Disk, DiskFault, Faults, MemDisk, Pages};
 use stream_io::RawFile;
 
 /// A file in memory, over a disk in memory. It tells its content and keeps the model of crashes of `RawFile`, and does
-/// no more than that asks for: a call reads and writes no more than so many bytes, `sync_data` makes nothing stable
-/// where the file has grown, and after a sync that failed none does. Those that do nothing succeed.
+/// no more than the model asks for: a call reads and writes at most `most` bytes, `sync_data` makes nothing stable if
+/// the file has grown, and after a sync that failed no sync does. Those that do nothing succeed.
 #[derive(Drop)]
 pub struct MemFile {
     disk: MemDisk,
@@ -24,7 +24,7 @@ pub struct MemFile {
 }
 
 impl MemFile {
-    /// A file that was just opened, of which a call reads and writes no more than `most` bytes, and at least one.
+    /// A file that was just opened, each call of which reads and writes no more than `most` bytes, and at least one.
     pub fn new(disk: MemDisk, most: usize) -> MemFile
         ensures count { ⟦<MemFile as Faults>⟧.count result ≡ 0 }
         ensures steady { ⟦<MemFile as Faults>⟧.steady result ≡ is_steady disk }
@@ -41,7 +41,7 @@ impl MemFile {
         }
     }
 
-    /// The disk in memory, which a crash may be tried on.
+    /// The disk in memory, on which a crash may be tried.
     pub fn into_disk(self) -> MemDisk
         ensures bytes { result.bytes ≡ ⟦<MemFile as RawFile>⟧.reads self }
         ensures images { (image : List ℕ) → MayLeave result image ↔ ⟦<MemFile as RawFile>⟧.may_leave self image }
@@ -50,7 +50,7 @@ impl MemFile {
     }
 }
 
-/// How many bytes of so many a call reads or writes that does no more than `most`.
+/// How many of `size` bytes a call reads or writes that does no more than `most`.
 fn part(most: usize, size: usize) -> usize
     ensures few { result ≤ size }
     ensures some { 0 < size → 0 < result }
@@ -58,7 +58,8 @@ fn part(most: usize, size: usize) -> usize
     size.min(most.max(1))
 }
 
-/// Whether a disk may have grown once so many bytes are written from a place on, where it had or had not before.
+/// Whether a disk may have grown once `size` bytes are written from `at` on, if it had or had not before, as `grown`
+/// says.
 fn may_grow(disk: &MemDisk, grown: bool, at: u64, size: usize) -> bool
     ensures { at + size ≤ length disk.now.bytes → result ≡ grown }
 {
@@ -115,7 +116,7 @@ fn write_part(disk: &mut MemDisk, most: usize, at: u64, bytes: &[u8]) -> Result<
     Ok(count)
 }
 
-/// Makes a disk stable, or does nothing where that is so.
+/// Makes a disk stable, or does nothing if `idle` is set.
 fn sync_unless(disk: &mut MemDisk, idle: bool) -> Result<(), DiskFault>
     ensures stable { IsFalse idle → OnOk result (Only disk.old.bytes (MayLeave disk.new)) }
     ensures images { (image : List ℕ) → MayLeave disk.new image → MayLeave disk.old image }

@@ -22,8 +22,8 @@ pub struct MemLink {
 }
 
 impl MemLink {
-    /// A link. The calls whose numbers are listed fail; the first call has the number 0, and reads and writes are
-    /// counted together. So do the reads that the gate holds, and the calls at which the source or the sink fails.
+    /// A link. The calls whose numbers are listed fail, and so do the reads that the gate holds, and the calls at which
+    /// the source or the sink fails. The first call has the number 0, and reads and writes are counted together.
     pub fn new(
         alloc: Global,
         source: MemSource,
@@ -56,7 +56,7 @@ impl MemLink {
         &self.node.value
     }
 
-    /// Counts so many faults that were met around it.
+    /// Counts this many faults that were met around it.
     pub fn add_faults(&mut self, faults: u64)
         ensures talk { ⟦<MemLink as Stream>⟧.talk self.new ≡ record (⟦<MemLink as Stream>⟧.talk self.old)
             { count = min ((⟦<MemLink as Stream>⟧.talk self.old).count + faults) (2 ^ 64 - 1) } }

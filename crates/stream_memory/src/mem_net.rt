@@ -35,9 +35,9 @@ pub struct MemNet {
 }
 
 impl MemNet {
-    /// A net that offers these places. Its ports are made of the scripts, in their order, and without links where no
-    /// script is left; a call that wants memory may have used some up. The calls whose numbers are listed fail; the
-    /// first call has the number 0.
+    /// A net that offers these places. Its ports are made of the scripts, in their order, and without links if no
+    /// script is left; a call that runs out of memory may have used some up. The calls whose numbers are listed fail;
+    /// the first call has the number 0.
     pub fn new(places: Vec<String>, scripts: Vec<PortScript>, failing: Vec<u64>) -> MemNet
         ensures { ⟦<MemNet as Net>⟧.state result ≡ record {
           told = true;
@@ -115,7 +115,7 @@ fn name_of(alloc: Global, place: Option<&str>) -> Result<Option<String>, NoMemor
     }
 }
 
-/// Takes the first script, or makes one without links where none is left.
+/// Takes the first script, or makes one without links if none is left.
 fn next_script(alloc: Global, scripts: &mut Vec<PortScript>) -> PortScript
     ensures steady { list_all is_steady_script scripts.old.items
         ≡ (is_steady_script result && list_all is_steady_script scripts.new.items) }
@@ -136,7 +136,7 @@ fn is_listed(places: &[String], name: &str) -> bool
     places.iter().any(|place| place.as_str() == name)
 }
 
-/// Whether ports may be made at a place of these, or without one.
+/// Whether ports may be made at a place among these, or without a place.
 fn is_admitted(places: &[String], place: Option<&str>) -> bool
     ensures { result ≡ is_admitted (is_listed places.now) (option_copied place.entry) }
 {
@@ -146,7 +146,7 @@ fn is_admitted(places: &[String], place: Option<&str>) -> bool
     }
 }
 
-/// Makes the next call, and fails where ports may not be made at the place.
+/// Makes the next call, and fails if ports may not be made at the place.
 fn admit(calls: &mut Calls, places: &[String], place: Option<&str>) -> Result<(), Failed>
     ensures offered { OnOk result (IsTrue (is_admitted (is_listed places.now) (option_copied place.entry))) }
     ensures unoffered { IsTrue (is_empty calls.old.failing.items)
@@ -176,7 +176,7 @@ fn some_unaccepted(ports: &[MemPort]) -> bool
     ports.iter().any(|port| port.accept_faults() > 0)
 }
 
-/// Counts a fault where a port has counted one.
+/// Counts a fault if a port has counted one.
 fn count_failed(calls: &mut Calls, ports: &[MemPort])
     ensures rises { RisesWhere (SomeFailed (map (λ port. port_state (kept_of port)) ports.now))
         calls.old.faults calls.new.faults }
@@ -187,7 +187,7 @@ fn count_failed(calls: &mut Calls, ports: &[MemPort])
     }
 }
 
-/// Counts a fault of ports where one failed to accept.
+/// Counts a fault of ports if one failed to accept.
 fn count_unaccepted(port_faults: &mut u64, ports: &[MemPort])
     ensures { RisesWhere (SomeUnaccepted (map (λ port. port_state (kept_of port)) ports.now))
         port_faults.old port_faults.new }

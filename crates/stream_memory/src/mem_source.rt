@@ -18,9 +18,9 @@ pub struct MemSource {
 }
 
 impl MemSource {
-    /// A source of these bytes. A read gives at most as many as stands for its number in `pieces`, though one at least,
-    /// and as many as there are where nothing stands for it; the reads whose numbers are in `failing` fail. The first
-    /// read has the number 0.
+    /// A source of these bytes. A read gives at most the number of bytes that `pieces` has at the number of the read,
+    /// though one at least, and as many as there are if `pieces` has nothing there; the reads whose numbers are in
+    /// `failing` fail. The first read has the number 0.
     pub fn new(bytes: Vec<u8>, pieces: Vec<usize>, failing: Vec<u64>) -> MemSource
         ensures told { IsTrue (⟦<MemSource as Stream>⟧.talk result).told }
         ensures place { (⟦<MemSource as Stream>⟧.talk result).place ≡ None }
@@ -45,7 +45,7 @@ impl MemSource {
         &self.bytes[..self.at]
     }
 
-    /// The bytes that nobody has read.
+    /// The bytes that have not been read.
     pub(crate) fn left(&self) -> &[u8]
         ensures { result.now ≡ drop self.now.at self.now.bytes.items }
     {
@@ -70,7 +70,7 @@ impl MemSource {
         self.calls.begin();
     }
 
-    /// How many bytes the read that is to come gives at most.
+    /// How many bytes the next read gives at most.
     fn most(&self) -> usize
         ensures { 0 < result }
     {
@@ -79,7 +79,7 @@ impl MemSource {
     }
 }
 
-/// Copies so many of the bytes at a place to the front of the room.
+/// Copies `count` of the bytes, from `at` on, to the front of the room.
 fn copy_part(bytes: &[u8], at: usize, count: usize, out: &mut [u8])
     requires there { at + count ≤ length bytes.now }
     requires room { count ≤ length out.old }

@@ -17,25 +17,25 @@ use memory::NoMemory;
 use std::alloc::Global;
 use stream_io::{CallFault, NewFault, ReadAllFault, Readers, Store};
 
-/// A store that holds its disks in memory. It tells its content, and is steady where no call is listed to fail, no call
-/// of views or of the disks of new names is set to, and all its disks are steady.
+/// A store that holds its disks in memory. It tells its content, and is steady if no call is listed to fail, no call of
+/// views or of the disks of new names is set to fail, and all its disks are steady.
 #[derive(Drop)]
 pub struct MemStore {
     entries: Entries,
     calls: Calls,
     // how many views are out
     views: u64,
-    // the number of the call that fails in each view
+    // the number of the call that fails, in each view
     view_fails: Option<u64>,
-    // the number of the first call of those that fail in the disk of each new name
+    // the number of the first call that fails, in the disk of each new name
     new_stops: Option<u64>,
     // the faults of the disks and views that were given back
     disk_faults: u64,
 }
 
 impl MemStore {
-    /// A store of these disks, each with its name and for anyone to read; of two with one name the first counts. The
-    /// calls whose numbers are listed fail; the first call has the number 0.
+    /// A store of these disks, each with its name and for anyone to read; if two have the same name, the first counts.
+    /// The calls whose numbers are listed fail; the first call has the number 0.
     pub fn new(
         alloc: Global,
         disks: Vec<(String, MemDisk)>,
@@ -55,7 +55,7 @@ impl MemStore {
         })
     }
 
-    /// As `new`, of files: each is a disk whose bytes are all stable, and that has no room for more.
+    /// As `new`, of files: each is a disk whose bytes are all stable and which has no room for more.
     pub fn of_files(
         alloc: Global,
         files: Vec<(String, Vec<u8>)>,
@@ -98,14 +98,14 @@ impl MemStore {
         self.new_stops = Some(call);
     }
 
-    /// What is read under a name.
+    /// What reading a name gives.
     pub fn bytes(&self, name: &str) -> Option<&[u8]>
         ensures { option_copied result ≡ (⟦<MemStore as Store>⟧.state self.now).file name.now }
     {
         self.entries.bytes(name)
     }
 
-    /// Who may read the file of a name.
+    /// Who may read the file of this name.
     pub fn readers(&self, name: &str) -> Option<Readers>
         ensures { result ≡ (⟦<MemStore as Store>⟧.state self.now).readers name.now }
     {

@@ -34,7 +34,7 @@ impl PortScript {
         }
     }
 
-    /// Whether no call is listed to fail, of the port or of a link.
+    /// Whether no call is listed to fail, neither of the port nor of a link.
     pub(crate) fn is_steady(&self) -> bool
         ensures { result ≡ is_steady_script self.now }
     {

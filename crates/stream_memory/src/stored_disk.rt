@@ -8,7 +8,7 @@ ghost use Rattle.disk_trait.specs.MemDiskLaws.{leaves_bytes};
 use disk_trait::{Disk, DiskFault, Faults, MemDisk, Pages};
 
 /// A disk that a store in memory hands out, or a view. It counts the faults from then on, while its disk in memory
-/// keeps those of its life.
+/// keeps the count of its whole life.
 #[derive(Drop)]
 pub struct StoredDisk {
     pub(crate) disk: MemDisk,
@@ -36,7 +36,7 @@ impl StoredDisk {
         StoredDisk { disk, faults: 0 }
     }
 
-    /// The disk in memory, which a crash may be tried on.
+    /// The disk in memory, on which a crash may be tried.
     pub fn into_disk(self) -> MemDisk
         ensures bytes { result.bytes ≡ ⟦<StoredDisk as Pages>⟧.reads self }
         ensures capacity { result.capacity ≡ ⟦<StoredDisk as Pages>⟧.room self }

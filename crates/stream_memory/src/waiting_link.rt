@@ -8,8 +8,8 @@ use crate::hold::{Before, Hold, Ring};
 use disk_trait::Faults;
 use stream_io::{Failed, Sink, Source, Stream};
 
-/// A link that may wait until a bell was rung, and may ring one. What goes over it goes over the link that it is made
-/// of. A wait in vain is a fault, at which nothing was read or written.
+/// A link that may wait until a bell was rung, and may ring one. What goes over it goes over the link that it wraps. A
+/// wait in vain is a fault, at which nothing was read or written.
 #[derive(Drop)]
 pub struct WaitingLink<'a, L> {
     link: L,
@@ -23,7 +23,7 @@ pub struct WaitingLink<'a, L> {
 }
 
 impl<'a, L: Source + Sink> WaitingLink<'a, L> {
-    /// A link that waits for this, if for anything, and rings then, if at all.
+    /// A link that waits for `hold`, if there is one, and then rings `ring`, if there is one.
     pub fn new(link: L, hold: Option<Hold<'a>>, ring: Option<Ring<'a>>) -> WaitingLink<'a, L>
         ensures talk { ⟦<WaitingLink<'a, L> as Stream>⟧.talk result ≡ L.talk link }
         ensures room { ⟦<WaitingLink<'a, L> as Sink>⟧.room result ≡ L.room link }
@@ -40,14 +40,14 @@ impl<'a, L: Source + Sink> WaitingLink<'a, L> {
         }
     }
 
-    /// The link that it is made of, and how many waits were in vain.
+    /// The link that it wraps, and how many waits were in vain.
     pub fn end(self) -> (L, u64)
         ensures { ⟦<WaitingLink<'a, L> as Stream>⟧.talk self.entry ≡ with_vain (L.talk result.0) result.1 }
     {
         (self.link, self.vain)
     }
 
-    /// How many of so many bytes the link may give, after a wait where there is one, or none where that was in vain.
+    /// How many of `asked` bytes the link may give, after a wait if there is one, or none if that was in vain.
     fn readable(&self, asked: usize) -> Option<usize>
         ensures size { IfSome result (λ most. most ≤ asked) }
         ensures progress { IfSome result (λ most. 0 < asked → 0 < most) }
@@ -63,7 +63,7 @@ impl<'a, L: Source + Sink> WaitingLink<'a, L> {
         }
     }
 
-    /// Whether the link may take bytes, after a wait where there is one.
+    /// Whether the link may take bytes, after a wait if there is one.
     fn is_writable(&self) -> bool
         ensures { IsTrue (is_none self.now.hold) → IsTrue result }
     {
@@ -76,7 +76,7 @@ impl<'a, L: Source + Sink> WaitingLink<'a, L> {
         }
     }
 
-    /// Counts bytes that were written, and rings where they are enough.
+    /// Counts bytes that were written, and rings if they are enough.
     fn count_written(&mut self, count: usize)
         ensures link { self.new.link ≡ self.old.link }
         ensures hold { self.new.hold ≡ self.old.hold }

@@ -19,7 +19,7 @@ pub struct WaitingPort<'a> {
 }
 
 impl<'a> WaitingPort<'a> {
-    /// A port whose links wait for this, if for anything, and ring then, if at all.
+    /// A port whose links wait for `hold`, if there is one, and then ring `ring`, if there is one.
     pub fn new(port: MemPort, hold: Option<Hold<'a>>, ring: Option<Ring<'a>>) -> WaitingPort<'a>
         ensures { ⟦<WaitingPort<'a> as Port>⟧.state result
             ≡ with_waits (⟦<MemPort as Port>⟧.state port) (is_none hold.entry) }

@@ -76,7 +76,7 @@ pub fn deal_count(
     deal_to(rt, alloc, codes, trustees, &count_up()[..length.min(240)])
 }
 
-/// The same, where it is dealt.
+/// The same, if it is dealt.
 pub fn dealt(rt: &impl Abort, alloc: Global, codes: (u32, u32), trustees: (u8, u8)) -> Dealt {
     deal_count(rt, alloc, codes, trustees).expect(rt, "a dealing")
 }

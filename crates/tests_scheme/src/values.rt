@@ -26,7 +26,7 @@ pub fn reads_as<T: Display>(alloc: Global, value: &T, want: &str) -> bool {
     }
 }
 
-/// The first so many of these bytes, or all where there are no more.
+/// The first `count` of these bytes, or all if there are no more.
 pub fn first(bytes: &[u8], count: usize) -> &[u8] {
     &bytes[..count.min(bytes.len())]
 }

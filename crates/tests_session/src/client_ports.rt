@@ -1,4 +1,4 @@
-//! Tests of what no clause says: that ports are served and come back in their order, and what a client is answered.
+//! Tests of what no clause says: that ports are served and come back in their order, and what answer a client gets.
 
 ghost use Rattle.std.specs.Prelude.{◌≡◌, [], false, All, vec_len, IfOk, IfSome};
 ghost use Rattle.leaf_table.specs.Table.{plan_of};
@@ -32,7 +32,7 @@ const FAILURE: [u8; 15] = [0x54, 0x4c, 1, 8, 0, 0, 0, 7, 6, 1, 1, 0, 0, 0, 0];
 /// How many leaves the key has.
 const LEAVES: u32 = 32;
 
-/// A reference of which nothing can be read.
+/// A reference from which nothing can be read.
 #[derive(Drop)]
 struct Unread {
     params: Params,
@@ -76,7 +76,7 @@ impl Cells for Unread {
 }
 
 /// What an aggregator signs with: a key of the typecodes 5 and 3 for coalitions of 2 of 3 trustees, whose tree is
-/// zeros. Only trustee 1 has an address, and nobody is there.
+/// zeros. Only trustee 1 has an address, and nobody listens there.
 #[derive(Drop)]
 struct Scene {
     key: PublicKey,
@@ -98,7 +98,7 @@ fn params(rt: &impl Abort) -> Params
 }
 
 impl Scene {
-    /// Makes the scene. Trustee 1 is to be dialled where nobody is.
+    /// Makes the scene. Trustee 1 has to be dialled where nobody listens.
     fn new(rt: &impl Abort, alloc: Global) -> Scene {
         let params = params(rt);
         let plan = Plan::new(3, 2, 5).expect(rt, "a plan");

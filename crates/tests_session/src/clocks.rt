@@ -16,7 +16,7 @@ fn tells(alloc: Global, start: u64, then: u64) -> bool {
     second_clock(&mut MemClocks::new(start), alloc) == Some((start, then))
 }
 
-/// Whether that is of 2026 or later.
+/// Whether that is in 2026 or later.
 fn is_present(told: Option<(u64, u64)>) -> bool {
     match told {
         Some((first, _)) => 1_767_225_600 <= first,

@@ -1,4 +1,4 @@
-//! Tests of what no contract says: that a store in memory is asked, and what of.
+//! Tests of what no contract says: that a store in memory is asked, and for what.
 
 use memory::NoMemory;
 use std::alloc::Global;

@@ -1,5 +1,5 @@
-//! Tests of what serves sessions: of trustees and clients at ports, and of the tool's clocks, of its enrolment, of
-//! `show` and its listings, and of the line of a summary.
+//! Tests of what serves sessions: trustees and clients at ports, the tool's clocks, its enrolment, `show` and its
+//! listings, and the line of a summary.
 #![tactic(auto)]
 
 #[cfg(test)]

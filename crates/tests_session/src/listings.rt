@@ -1,17 +1,17 @@
-//! Listings of files of slots: each line as the page of formats has the bytes, and each refusal.
+//! Listings of files of slots: each line as the page on formats gives the bytes, and each refusal.
 
 use crate::made_files::{file_of, put};
 use std::alloc::Global;
 use std::process::Abort;
 use tool_show::{ListingFault, list_slots};
 
-/// The header behind version and number: codes 5 and 3, and an identifier of sixteen bytes 1D.
+/// The header after version and number: codes 5 and 3, and an identifier of sixteen bytes 1D.
 const KEY: [u8; 26] = [
     0, 0, 0, 0, 0, 5, 0, 0, 0, 3, 0x1D, 0x1D, 0x1D, 0x1D, 0x1D, 0x1D, 0x1D, 0x1D, 0x1D, 0x1D, 0x1D,
     0x1D, 0x1D, 0x1D, 0x1D, 0x1D,
 ];
 
-/// The id of `abc`, behind an open gate A.
+/// The id of `abc`, after an open gate A.
 const ABC: [u8; 40] = [
     0xB1, 0, 0, 0, 0, 0, 0, 3, 0xBA, 0x78, 0x16, 0xBF, 0x8F, 0x01, 0xCF, 0xEA, 0x41, 0x41, 0x40,
     0xDE, 0x5D, 0xAE, 0x22, 0x23, 0xB0, 0x03, 0x61, 0xA3, 0x96, 0x17, 0x7A, 0x9C, 0xB4, 0x10, 0xFF,
@@ -25,7 +25,7 @@ const TABLE: usize = 4224;
 
 const BOOK: usize = 131_200;
 
-/// A file of this version and number, of so many bytes, whose slots are all free but for these parts.
+/// A file of this version and number, of `length` bytes, whose slots are all free except for these parts.
 fn slots(
     rt: &impl Abort,
     alloc: Global,
@@ -47,12 +47,12 @@ fn journal(rt: &impl Abort, alloc: Global, moment: u64) -> Vec<u8> {
     slots(rt, alloc, 2, 3, JOURNAL, &parts)
 }
 
-/// What is listed of these bytes.
+/// The listing of these bytes.
 fn listed(alloc: Global, bytes: Vec<u8>, leaves: bool) -> Result<String, ListingFault> {
     list_slots(alloc, bytes, leaves)
 }
 
-/// Whether these bytes are listed, with a line for each leaf or without, by this text.
+/// Whether the listing of these bytes, with a line for each leaf or without, is this text.
 fn lists(alloc: Global, bytes: Vec<u8>, leaves: bool, want: &str) -> bool {
     match listed(alloc, bytes, leaves) {
         Ok(text) => text.as_str() == want,
@@ -96,7 +96,7 @@ const LISTED: &str = concat!(
     "slot 0 3:ba7816bf8f01cfea414140de5dae2223b00361a396177a9cb410ff61f20015ad\n",
 );
 
-/// Version and number of a file, its length, what is put at which places of it, and its listing.
+/// Version and number of a file, its length, what is put at which places in it, and its listing.
 type ListingRow = (
     u8,
     u8,
@@ -124,7 +124,7 @@ static LISTINGS: [ListingRow; 4] = [
     (3, 3, BOOK, &[(128, &ABC)], LISTED),
 ];
 
-/// Whether the file of a row is listed by the row's text.
+/// Whether the listing of a row's file is the row's text.
 fn is_listed(rt: &impl Abort, alloc: Global, row: &ListingRow) -> bool {
     let bytes = slots(rt, alloc, row.0, row.1, row.2, row.3);
     lists(alloc, bytes, true, row.4)
@@ -166,7 +166,7 @@ fn moments(rt: HostRuntime) {
     }
 }
 
-/// A file's name, version and number, its length, what is put at which places of it, and why it is not listed.
+/// A file's name, version and number, its length, what is put at which places in it, and why it is not listed.
 type RefusedRow = (
     &'static str,
     u8,
@@ -227,7 +227,7 @@ static REFUSED: [RefusedRow; 6] = [
     ),
 ];
 
-/// Whether these bytes are refused for this.
+/// Whether these bytes are refused for this reason.
 fn refuses(alloc: Global, bytes: Vec<u8>, why: ListingFault) -> bool {
     match listed(alloc, bytes, true) {
         Ok(_) => false,

@@ -11,7 +11,7 @@ pub fn put(rt: &impl Abort, file: &mut Vec<u8>, parts: &[(usize, &[u8])]) {
     }
 }
 
-/// A file of so many bytes, which are zeros but for these parts.
+/// A file of `length` bytes, which are zeros except for these parts.
 pub fn file_of(rt: &impl Abort, alloc: Global, length: usize, parts: &[(usize, &[u8])]) -> Vec<u8> {
     let mut bytes = vec![in alloc; 0; length].expect(rt, "memory");
     put(rt, &mut bytes, parts);

@@ -1,4 +1,4 @@
-//! Ports in memory, at which services are tried.
+//! Ports in memory, at which services are tested.
 
 ghost use Rattle.std.specs.Prelude.{◌≡◌, IfOk, vec_len};
 
@@ -14,7 +14,7 @@ fn link(alloc: Global, bytes: &[u8]) -> Result<MemLink, NoMemory> {
     MemLink::new(alloc, source, sink, Vec::new(alloc), None)
 }
 
-/// A port at which links wait that give these bytes, one link each.
+/// A port at which links wait that give these bytes, one link for each string.
 fn port(alloc: Global, links: &[&[u8]]) -> Result<MemPort, NoMemory> {
     let mut script = PortScript::new(alloc);
     for bytes in links {
@@ -24,7 +24,7 @@ fn port(alloc: Global, links: &[&[u8]]) -> Result<MemPort, NoMemory> {
     MemPort::new(alloc, place, script)
 }
 
-/// A port at which no link waits, and one at which links wait that give these bytes, one link each.
+/// A port at which no link waits, and one at which links wait that give these bytes, one link for each string.
 pub fn two_ports(alloc: Global, links: &[&[u8]]) -> Result<Vec<MemPort>, NoMemory>
     ensures { IfOk result (λ ports. vec_len ports ≡ 2) }
 {

@@ -1,5 +1,5 @@
 //! Tests of what no contract says: that a store in memory is asked, and each line and each refusal of `show` once, as
-//! the page of formats has the bytes.
+//! the page on formats gives the bytes.
 
 use crate::made_files::file_of;
 use std::alloc::Global;
@@ -8,23 +8,23 @@ use stream_memory::MemStore;
 use tool_base::Ending;
 use tool_show::show_file;
 
-/// The bytes of a head behind the version: trustee 3, K = 3 and N = 5, codes 5 and 3, and an identifier that counts up
+/// The bytes of a head after the version: trustee 3, K = 3 and N = 5, codes 5 and 3, and an identifier that counts up
 /// from 0.
 const OF_SHARE: [u8; 27] = [
     3, 3, 5, 0, 0, 0, 5, 0, 0, 0, 3, 0, 1, 2, 3, 4, 5, 6, 7, 8, 9, 10, 11, 12, 13, 14, 15,
 ];
 
-/// The same of a tree.
+/// The same for a tree.
 const OF_TREE: [u8; 27] = [
     0, 0, 0, 0, 0, 0, 5, 0, 0, 0, 3, 0, 1, 2, 3, 4, 5, 6, 7, 8, 9, 10, 11, 12, 13, 14, 15,
 ];
 
-/// The same of a reference and of commitments, with K = 2 and N = 2 and the codes 10 and 5.
+/// The same for a reference and for commitments, with K = 2 and N = 2 and the codes 10 and 5.
 const OF_PLAN: [u8; 27] = [
     0, 2, 2, 0, 0, 0, 10, 0, 0, 0, 5, 0, 1, 2, 3, 4, 5, 6, 7, 8, 9, 10, 11, 12, 13, 14, 15,
 ];
 
-/// The same of the leaf table of a key of codes 5 and 3.
+/// The same for the leaf table of a key of codes 5 and 3.
 const OF_TABLE: [u8; 27] = OF_TREE;
 
 /// The codes 5 and 3, and the identifier.
@@ -38,7 +38,7 @@ const ROOT: [u8; 32] = [0xAB; 32];
 /// All of them but one.
 const CUT_ROOT: [u8; 31] = [0xAB; 31];
 
-/// The id of `abc`, behind an open gate A.
+/// The id of `abc`, after an open gate A.
 const LEASED: [u8; 40] = [
     0xB1, 0, 0, 0, 0, 0, 0, 3, 0xBA, 0x78, 0x16, 0xBF, 0x8F, 0x01, 0xCF, 0xEA, 0x41, 0x41, 0x40,
     0xDE, 0x5D, 0xAE, 0x22, 0x23, 0xB0, 0x03, 0x61, 0xA3, 0x96, 0x17, 0x7A, 0x9C, 0xB4, 0x10, 0xFF,
@@ -109,8 +109,8 @@ const SLOTS_6: &str = "error 13 journal fault 6\n";
 /// Nothing at any place.
 const NONE: (usize, &[u8]) = (0, &[]);
 
-/// What a file is to be, its length, its first five bytes, its head behind them, what is put at which place behind
-/// that, and the status and the line of `show file`.
+/// What a file should be, its length, its first five bytes, its head after them, what is put at which place after that,
+/// and the status and the line of `show file`.
 type HeadRow = (
     &'static str,
     usize,
@@ -235,7 +235,7 @@ static HEADED: [HeadRow; 15] = [
     ),
 ];
 
-/// What a file is to be, its length, what is put at which places of it, and the status and the line of `show file`.
+/// What a file should be, its length, what is put at which places in it, and the status and the line of `show file`.
 type PartsRow = (
     &'static str,
     usize,
@@ -268,7 +268,7 @@ fn store_of(alloc: Global, bytes: Vec<u8>) -> Option<MemStore> {
     MemStore::of_files(alloc, files, Vec::new(alloc)).ok()
 }
 
-/// How `show` ends over a store of one file `file`.
+/// How `show` ends on a store of one file `file`.
 fn shown(alloc: Global, bytes: Vec<u8>, name: &str, leaves: bool) -> Option<Ending> {
     let mut store = store_of(alloc, bytes)?;
     Some(show_file(alloc, &mut store, name, leaves))
@@ -290,7 +290,7 @@ fn says(alloc: Global, bytes: Vec<u8>, name: &str, leaves: bool, status: u8, wan
     }
 }
 
-/// Whether a file of these parts is shown, or refused, by this status and this line.
+/// Whether a file of these parts is shown, or refused, with this status and this line.
 fn is_shown(
     rt: &impl Abort,
     alloc: Global,
@@ -303,7 +303,7 @@ fn is_shown(
     says(alloc, file, "file", false, status, want)
 }
 
-/// Whether that is so of the file of a row.
+/// Whether that is so for the file of a row.
 fn is_headed(rt: &impl Abort, alloc: Global, row: &HeadRow) -> bool {
     let parts: [(usize, &[u8]); 3] = [(0, row.2), (5, row.3), row.4];
     is_shown(rt, alloc, row.1, &parts, row.5, row.6)
@@ -316,7 +316,7 @@ fn files_with_heads_are_shown_or_refused(rt: HostRuntime) {
     }
 }
 
-/// Whether that is so of the file of such a row.
+/// Whether that is so for the file of a row of parts.
 fn has_end(rt: &impl Abort, alloc: Global, row: &PartsRow) -> bool {
     is_shown(rt, alloc, row.1, row.2, row.3, row.4)
 }

@@ -1,5 +1,5 @@
-//! Tests of what no clause says: that ports are served and come back in their order, and what a peer is answered. The
-//! ask and the reply are of a session that another implementation ran.
+//! Tests of what no clause says: that ports are served and come back in their order, and what answer a peer gets. The
+//! ask and the reply are from a session that another implementation ran.
 
 ghost use Rattle.std.specs.Prelude.{◌≡◌, IfSome};
 ghost use Rattle.trustee_core.specs.Trustee.{share_of};
@@ -32,7 +32,7 @@ const ASK: [u8; 64] = [
     0x7c, 0xae, 0x51, 0x7a, 0xff, 0x2b,
 ];
 
-/// The reply to it, where the leaf is free.
+/// The reply to it, if the leaf is free.
 const REPLY: [u8; 97] = [
     0x54, 0x4c, 1, 3, 0, 0, 0, 0x59, 0, 1, 2, 3, 4, 5, 6, 7, 8, 9, 0x0a, 0x0b, 0x0c, 0x0d, 0x0e,
     0x0f, 0, 0, 0, 0, 1, 0, 0, 1, 0x4d, 0x1e, 0xe9, 0xab, 0xc0, 0x8e, 0xe9, 0x52, 0x56, 0x2a, 0x8a,

@@ -25,7 +25,7 @@ pub(crate) fn header(version: u8, number: u8) -> Header
     }
 }
 
-/// An empty disk with room for a file of so many slots.
+/// An empty disk with room for a file of `count` slots.
 pub(crate) fn empty(rt: &impl Abort, alloc: Global, count: u32) -> MemDisk {
     let room = 128 + 160 * count as usize;
     MemDisk::new(alloc, room, usize::MAX).expect(rt, "memory")
@@ -36,19 +36,19 @@ pub(crate) fn holding(rt: &impl Abort, alloc: Global, bytes: &[u8]) -> MemDisk {
     MemDisk::of_bytes(alloc, bytes, bytes.len(), usize::MAX).expect(rt, "memory")
 }
 
-/// Makes a file of so many free slots on an empty disk.
+/// Makes a file of `count` free slots on an empty disk.
 pub(crate) fn make(disk: &mut MemDisk, header: &Header, count: u32) -> Result<(), PrepareFault> {
     prepare(disk, header, count)
 }
 
-/// A file of so many free slots, on a disk that was not called yet.
+/// A file of `count` free slots, on a disk that has not been called yet.
 pub(crate) fn free_file(rt: &impl Abort, alloc: Global, header: &Header, count: u32) -> MemDisk {
     let mut disk = empty(rt, alloc, count);
     make(&mut disk, header, count).expect(rt, "a file");
     holding(rt, alloc, disk.bytes())
 }
 
-/// As `free_file`, on a disk whose call of this number fails.
+/// Like `free_file`, on a disk whose call of this number fails.
 pub(crate) fn failing_file(
     rt: &impl Abort,
     alloc: Global,
@@ -61,7 +61,7 @@ pub(crate) fn failing_file(
     disk
 }
 
-/// As `free_file`, on a disk whose calls fail from this number on.
+/// Like `free_file`, on a disk whose calls fail from this number on.
 pub(crate) fn stopping_file(
     rt: &impl Abort,
     alloc: Global,
@@ -74,14 +74,14 @@ pub(crate) fn stopping_file(
     disk
 }
 
-/// The disk with another byte at a place.
+/// The disk with a different byte at one place.
 pub(crate) fn with_byte(rt: &impl Abort, disk: MemDisk, place: u64, byte: u8) -> MemDisk {
     let mut disk = disk;
     disk.write_at(place, &[byte]).expect(rt, "a byte");
     disk
 }
 
-/// What a crash leaves, by this pick.
+/// What a crash leaves, given this pick.
 pub(crate) fn crashed(rt: &impl Abort, alloc: Global, disk: MemDisk, pick: u64) -> MemDisk {
     disk.crash(alloc, pick).ok().expect(rt, "memory")
 }

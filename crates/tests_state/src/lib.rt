@@ -1,4 +1,4 @@
-//! Tests of the crates that keep a state: files of slots, caches, journals, tables, trustees, and a lock.
+//! Tests of the crates that keep state: files of slots, caches, journals, tables, trustees, and a lock.
 #![tactic(auto)]
 
 #[cfg(test)]

@@ -52,7 +52,7 @@ fn first(key: [u8; 16], leaf: u32, message: MessageId) -> Question {
     }
 }
 
-/// An ask of round two with a randomizer of bytes `byte`, whose check tag is that of a randomizer of bytes `tagged`.
+/// An ask of round two with a randomizer of bytes `byte`, and with the check tag of a randomizer of bytes `tagged`.
 fn second(share: &Share, leaf: u32, message: MessageId, byte: u8, tagged: u8) -> Question {
     let second = Second {
         c: Val::of(&[byte; 32]),
@@ -70,7 +70,7 @@ fn second(share: &Share, leaf: u32, message: MessageId, byte: u8, tagged: u8) ->
 }
 
 impl Granted {
-    /// What this question is granted.
+    /// What is granted to this question.
     fn of(question: &Question, grant: Grant) -> Granted
         requires { ask_of grant ≡ question.now.ask }
     {
@@ -107,7 +107,7 @@ impl Signer {
         Signer::open(rt, alloc, empty_journal(rt, alloc))
     }
 
-    /// What an ask is granted.
+    /// What is granted to an ask.
     fn grant(&mut self, question: &Question) -> Result<Granted, Refusal> {
         match self.trustee.decide(&question.ask, 7) {
             Ok(grant) => Ok(Granted::of(question, grant)),
@@ -143,7 +143,8 @@ fn binds_once(signer: &mut Signer, key: [u8; 16]) -> bool {
     bound & again & signer.refuses(&empty, Refusal::Journal(JournalFault::Spent { kept }))
 }
 
-/// Whether asks are refused that are for no leaf of the trustee's, of another key, or for too long a message.
+/// Whether asks are refused if they are for a leaf that is not the trustee's, for another key, or for too long a
+/// message.
 fn refuses_others(signer: &mut Signer, key: [u8; 16]) -> bool {
     let abc = MessageId::of(b"abc");
     let got = LIMIT + 1;
@@ -284,7 +285,7 @@ fn failing(rt: &impl Abort, alloc: Global, call: u64) -> Signer {
     Signer::open(rt, alloc, disk)
 }
 
-/// Whether an ask is refused since its leaf is bound to `abc`, or `None` where it is refused for another cause.
+/// Whether an ask is refused because its leaf is bound to `abc`, or `None` if it is refused for another cause.
 fn is_spent(signer: &mut Signer, question: &Question) -> Option<bool> {
     let kept = MessageId::of(b"abc");
     match signer.grant(question) {

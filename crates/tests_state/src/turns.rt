@@ -40,7 +40,7 @@ impl Numbers {
     }
 }
 
-/// A turn that adds a number. There is none where the pass is worn.
+/// A turn that adds a number. There is none if the pass is worn.
 fn add_one(rt: &impl Wait, lock: &TurnLock<Numbers>, pass: &mut Pass<Numbers>, number: u64) -> bool
     requires { (pass.old.lock ≡ lock.now) × (pass.old.in_turn ≡ false) }
     ensures { (pass.new.lock ≡ lock.now) × (pass.new.in_turn ≡ false) }
@@ -53,7 +53,7 @@ fn add_one(rt: &impl Wait, lock: &TurnLock<Numbers>, pass: &mut Pass<Numbers>, n
     true
 }
 
-/// Adds this many numbers, each in a turn of its own.
+/// Adds `count` numbers, each in a turn of its own.
 fn add_each(
     rt: &impl Wait,
     lock: &TurnLock<Numbers>,
@@ -73,7 +73,7 @@ fn add_each(
     true
 }
 
-/// Each pass in a thread of its own, where there are as many.
+/// Each pass in a thread of its own, if there are that many.
 fn add_in_threads<R: Threads + Wait + Sync>(
     rt: &R,
     lock: &TurnLock<Numbers>,
@@ -94,7 +94,7 @@ fn add_in_threads<R: Threads + Wait + Sync>(
     thread::for_each_mut(rt, passes, threads, &add);
 }
 
-/// A pass in which another one is joined, or the other one in which this one is.
+/// A pass in which another one is joined, or the other one in which this one is joined.
 fn met_by(
     lock: &TurnLock<Numbers>,
     pass: Pass<Numbers>,
@@ -148,7 +148,7 @@ fn close(rt: &impl Abort, lock: TurnLock<Numbers>, pass: Pass<Numbers>, passes: 
     lock.close(pass)
 }
 
-/// The numbers from `from` on that are below `from + 100` stand in their order, each once. The answer is the next one.
+/// The numbers from `from` on that are below `from + 100` stand in their order, each once. Answers the next one.
 fn next_after(rt: &impl Abort, numbers: &[u64], from: u64) -> u64
     requires { from < 2 ^ 32 }
 {
@@ -162,7 +162,7 @@ fn next_after(rt: &impl Abort, numbers: &[u64], from: u64) -> u64
     next
 }
 
-/// A lock round no numbers, with room for this many, and its passes.
+/// A lock around an empty list of numbers, with room for `room` of them, and its passes.
 fn opened(
     rt: &impl Abort,
     alloc: Global,
@@ -217,7 +217,7 @@ fn one_pass_takes_turns(rt: HostRuntime) {
     assert!(rt; numbers.turns == 3 && numbers.items.as_slice() == [7, 8, 9].as_slice());
 }
 
-/// Adds numbers in threads, and gives what stands in the lock in the end.
+/// Adds numbers in threads, and gives what finally stands in the lock.
 fn added_in_threads<R: Threads + Wait + Sync + Abort>(
     rt: &R,
     alloc: Global,
@@ -233,7 +233,7 @@ fn added_in_threads<R: Threads + Wait + Sync + Abort>(
     close(rt, lock, pass, threads)
 }
 
-/// Whether each of so many threads added so many numbers, each in a turn of its own.
+/// Whether each of `threads` threads added `each` numbers, each in a turn of its own.
 fn has_all(rt: &impl Abort, numbers: &Numbers, threads: u32, each: u64) -> bool
     requires { (threads ≤ 4096) × (each ≤ 100) }
 {

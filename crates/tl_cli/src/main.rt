@@ -12,7 +12,7 @@ use stream_host::{FileStore, ProgressLine, StdoutSink, TcpNet};
 use stream_io::write_whole;
 use tool_run::{SystemClocks, run_tool};
 
-/// The words after the program's name. Where one of them is no text there are none, which is a faulty command line too.
+/// The words after the program's name. If one of them is not text there are none, which is a faulty command line too.
 fn words(rt: &HostRuntime) -> Result<Vec<String>, NoMemory> {
     match env::args(rt) {
         Ok(words) => Ok(words.skip(1).collect(rt.alloc())?),

@@ -3,9 +3,9 @@
 use std::fs::{File, OpenOptions};
 use std::os::fd::AsRawFd;
 
-/// Opens `/dev/null` in the place of each of the descriptors 0 to 2 that is closed, and keeps it open while the result
-/// lives. A program may be started with any of them closed; the system would then give its number to the next file
-/// that is opened, and what is printed would be written into that file.
+/// Opens `/dev/null` in place of each of the descriptors 0 to 2 that is closed, and keeps it open as long as the result
+/// lives. A program may be started with any of them closed; the system would then give its number to the next file that
+/// is opened, and what is printed would be written into that file.
 pub(crate) fn hold_standard(rt: &HostRuntime) -> [Option<File>; 3] {
     let mut held = [None, None, None];
     let mut how = OpenOptions::new();

@@ -1,4 +1,4 @@
--- How the command ends over a steady store that tells its content, and over such a net.
+-- How the command ends over a steady store that tells its content, and over a net of the same kind.
 use Rattle.aggregator_session.specs.Desks.{DeskState}
 use Rattle.std.proofs.Common.{◌≡◌, ◌∙◌, ℕ, List, [], ◌∷◌, All, Option, Some, IsTrue, length, map, inl, inr, false, sym, ap, subst}
 use Rattle.std.proofs.lemmas.List.Elements.{All-cons, All-head, All-nil, All-tail}

@@ -1,4 +1,4 @@
--- What is said while views are out, of the whole command.
+-- What is said while views are out, as a statement about the whole command.
 use Rattle.aggregator_session.specs.Desks.{DeskState}
 use Rattle.std.proofs.Common.{◌≡◌, ◌+◌, ◌-◌, ◌^◌, ◌≤◌, ◌++◌, min, ℕ, List, [], ◌∷◌, All, length, drop, map, Some, IsTrue, refl, sym, ap, ◌∙◌, subst, arith}
 use Rattle.std.proofs.Math.Seq.{drop-append_seam}
@@ -32,7 +32,7 @@ use Rattle.tool_sign.specs.Tables.{IsTable, LeavesTable, table_header}
 use Rattle.tool_desk.specs.Views.{IsViewOf, ViewsBack, ViewsOut, sum_of}
 use Rattle.tool_words.specs.Words.{AggregateWords}
 
--- from the state before the views to that after them
+-- from the state before the views to the state after them
 module _ (a b c d : StoreState) (count : ℕ) (counts : List ℕ) (goes : ViewsOut a count b) (same : b.disk_count ≡ a.disk_count) (comes : ViewsBack c counts d) where
   told_b : IsTrue a.told → IsTrue b.told
   told_b told = rw goes.onward.told told

@@ -18,8 +18,8 @@ use Rattle.tool_sign.specs.Ports.{NetRun}
 use Rattle.tool_sign.specs.Tables.{IsTable, table_header}
 use Rattle.tool_words.specs.Words.{AggregateWords}
 
--- How serving with the table of the words ends, with the names that it touched, where clients that were served are so.
--- At every other end nobody was heard.
+-- How serving with the table of the words ends, with the names that it touched, given what holds of an end at which
+-- clients were served. At every other end nobody was heard.
 pub data TableEnds (words : AggregateWords) (store : StoreRun) (net : NetRun) (desk : DeskState)
     (Serves : Ending → Type 0) : Ending → List (List ℕ) → Type 0 where
   no_memory : (touched : List (List ℕ)) → HeardNobody words.place net.before net.after → All (Stays store) touched
@@ -53,8 +53,8 @@ pub data AggregateEnds (words : AggregateWords) (store : StoreRun) (net : NetRun
       → TableEnds words store net desk (ServedTable words store net header desk) end touched
       → AggregateEnds words store net end touched
 
--- The command `aggregate`: an end by its rules. The store keeps all but the names that it touched, and all disks, views
--- and ports are back.
+-- The command `aggregate`: an end according to its rules. The store keeps all but the names that it touched, and all
+-- disks, views and ports are back.
 pub record AggregateRun (words : AggregateWords) (store : StoreRun) (net : NetRun) (end : Ending) : Type 0 where
   pub touched : List (List ℕ)
   pub ends : AggregateEnds words store net end touched

@@ -1,4 +1,4 @@
--- What an aggregator signs with for its clients, by the files that its words name.
+-- What an aggregator signs with for its clients, in terms of the files that its words name.
 use Rattle.aggregator_session.specs.Desks.{DeskState}
 use Rattle.std.specs.Prelude.{◌≡◌, map, IsTrue}
 use Rattle.aggregator_node.specs.Ports.{Place}
@@ -25,7 +25,7 @@ pub record IsDesk (words : AggregateWords) (store : StoreRun) (header : RefHeade
   pub addresses_are : map address desk.addresses ≡ placed words.places
   pub desk_is : desk ≡ desk_of files header desk.addresses
 
--- the end where the files of the dealing were not read, or do not go together
+-- the end if the files of the dealing were not read, or do not go together
 pub data FailsDesk (words : AggregateWords) (store : StoreRun) : Ending → Type 0 where
   no_memory : FailsDesk words store ending.NoMemory
   no_key_files : (end : Ending) → FailsKeyFiles store words.prefix end → FailsDesk words store end

@@ -45,7 +45,7 @@ pub record ServedNet (words : AggregateWords) (desk : DeskState) (old new : Tabl
   pub deaf : SomeUnaccepted (ports_of places_new) → Rose net.before.port_count net.after.port_count
 
 -- The clients were served with a leaf of the table of the words for each message: from the entries of its file to those
--- that it stands for at the end, also in what a crash leaves of it. A put is in doubt only where the disk has failed.
+-- that it stands for at the end, and in whatever a crash leaves of it. A put is in doubt only if the disk has failed.
 pub record ServesTable (words : AggregateWords) (store : StoreRun) (net : NetRun) (desk : DeskState)
     (places_old places_new : List Place) (end : Ending) : Type 0 where
   pub old : TableSeen
@@ -58,7 +58,7 @@ pub record ServesTable (words : AggregateWords) (store : StoreRun) (net : NetRun
   pub sure : new.faults ≡ 0 → new.state.doubt ≡ None
   pub rise : min (store.before.disk_count + new.faults) (2 ^ 64 - 1) ≤ store.after.disk_count
 
--- The same of the whole command: the workers read the reference of the words. The faults of the table's disk and those
+-- The same for the whole command: the workers read the reference of the words. The faults of the table's disk and those
 -- of the references are together among those of the store's disks and views.
 pub record ServedTable (words : AggregateWords) (store : StoreRun) (net : NetRun) (header : RefHeader)
     (desk : DeskState) (end : Ending) : Type 0 where
@@ -75,7 +75,7 @@ pub record CellsRun : Type 0 where
   pub before : List ℕ
   pub after : List ℕ
 
--- internal: the same of cells that have these members, by what a call made of them
+-- internal: the same for cells that have these members, according to what a call made of them
 abbrev pub cells_run : {X : Type 0} → cells.Ghosts X → faults.Ghosts X → List X → List X → CellsRun
 cells_run c f olds news = record {
   references = map (reference_state c f) olds;

@@ -1,4 +1,4 @@
--- What serving clients comes to where no call of the net fails but for its arguments.
+-- The result of serving clients if no call of the net fails except because of its arguments.
 use Rattle.aggregator_session.specs.Desks.{DeskState}
 use Rattle.std.specs.Prelude.{◌≡◌, All}
 use Rattle.aggregator_node.specs.Roomy.{NoLinkFails, TakesAll}
@@ -11,8 +11,8 @@ use Rattle.tool_sign.specs.Ports.{NetRun}
 use Rattle.tool_base.specs.Services.{HasAccepted}
 use Rattle.tool_words.specs.Words.{AggregateWords}
 
--- No port failed to accept, so the end has the numbers of what was served. Where the net's links have room for 65,536
--- of the longest replies, no client's connection ended by a link that failed.
+-- No port failed to accept, so the end has the numbers of what was served. If the net's links have room for 65,536 of
+-- the longest replies, no client's connection ended by a link that failed.
 pub record HasNoNetFault {words : AggregateWords} {store : StoreRun} {net : NetRun} {header : RefHeader}
     {desk : DeskState} {end : Ending} (run : ServedTable words store net header desk end) : Type 0 where
   pub hears : All HasAccepted (ports_of run.places_new)

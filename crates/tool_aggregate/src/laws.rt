@@ -16,10 +16,10 @@ ghost use Rattle.tool_words.specs.Words.{AggregateWords};
 use aggregator_node::client_laws::no_link_fails;
 use stream_io::Store;
 
-/// Where the net is steady, no port of a service for clients fails to accept, and the command ends with the numbers of
-/// what was served; and where its links also have room for 65,536 of the longest replies, no client's connection ended
-/// by a link that failed (`net`). Where the store tells its content and no call of it fails but for its arguments, no
-/// reply has failure 10, which tells of a table or a reference that failed (`failures`).
+/// If the net is steady, no port of a service for clients fails to accept, and the command ends with the numbers of
+/// what was served; and if its links also have room for 65,536 of the longest replies, no client's connection ended by
+/// a link that failed (`net`). If the store tells its content and no call of it fails except because of its arguments,
+/// no reply has failure 10, which tells of a table or a reference that failed (`failures`).
 pub fn steady_aggregate<S: Store>(before: &S, after: &S)
     ensures net { (words : AggregateWords) (net : NetRun) (header : RefHeader) (desk : DeskState) (end : Ending)
         (run : ServedTable words (from_to (S.state before.now) (S.state after.now)) net header desk end)

@@ -55,7 +55,7 @@ key-passes key bytes is =
     let exact : length bytes == public_length (str_to_u32 (bytes_at bytes 0 4)) ≡ true = grind (arith, nat_tests) in
     rw (long, lies.lms_at, lies.ots_at, codes_accepted key.params) (rw exact refl)
 
--- two files with the same head and the same rest behind it
+-- two files with the same head and the same rest after it
 pub record SameFile (params params' : Params) (id id' rest rest' : List ℕ) : Type 0 where
   pub set : params ≡ params'
   pub same_id : id ≡ id'

@@ -10,7 +10,7 @@ use Rattle.tool_base.specs.Ending.{Ending}
 use Rattle.tool_base.specs.Grammars.{FailsGrammar, IsShareRead, not_in_grammar, share_fault_number}
 use Rattle.tool_base.specs.World.{StoreRun, Bytes, IsRead}
 
--- a file that is no share leads to the end that names its first fault
+-- a file that is not a share leads to the end that names its first fault
 pub share_refused : (store : StoreRun) (name bytes : List ℕ) (fault : FileFault) (number : ℕ) (end : Ending)
     → IsRead store name (Bytes bytes) → share_fault bytes ≡ Some fault → number ≡ file_fault_number fault
     → (end ≡ ending.NoMemory) ⊎ (end ≡ ending.Unreadable name number)

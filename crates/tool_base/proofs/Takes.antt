@@ -60,7 +60,7 @@ module _ (a b c : StoreState) (name : List ℕ) (disk now : PagesState) (taken :
         damaged (reads_as (IsDamagedFile header count) (λ told. record { slot = slot; a = x; b = y; first = slots_damaged header count disk.reads slot x y (refused told) }))
     slots_not_loaded cache.Device refused succeeds cause = device (device_fails (cause.failed refl) (λ steady told. succeeds steady told refl))
 
--- a disk that was taken where nothing but counts had changed
+-- a disk that was taken when nothing but counts had changed
 pub taken_unchanged : (first a b : StoreState) (name : List ℕ) (disk : PagesState) → IsUnchanged first a → Taken a name disk b → Taken first name disk b
 taken_unchanged first a b name disk unchanged taken =
     let t : IsTrue first.told → IsTrue a.told = λ told. rw unchanged.onward.told told in
@@ -147,7 +147,7 @@ module _ (a b c e : StoreState) (name : List ℕ) (touched : List (List ℕ)) (d
   other_not_loaded header count other _ (device fails) = device (other_device fails)
   other_not_loaded header count other _ no_memory = no_memory
 
-  -- the name itself stays where its disk was not written
+  -- the name itself stays as it was if its disk was not written
   pub round_stays : (IsTrue disk.told → now.reads ≡ disk.reads) → (IsTrue disk.honest → (image : List ℕ) → now.may_leave image → disk.may_leave image)
       → Stays (from_to a e) name
   round_stays reads images = record {

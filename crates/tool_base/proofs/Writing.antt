@@ -36,7 +36,7 @@ pub all_new_part : (first before after last : StoreState) → IsPart first befor
 all_new_part first before after last p names new =
     All-weaker (IsNew (from_to before after)) (IsNew (from_to first last)) (λ name new. new_part first before after last p name new) names new
 
--- a name that was new is so where nothing was changed since
+-- a name that was new still is if nothing was changed since
 pub new_later : (first last now after : StoreState) → IsUnchanged first now → (name : List ℕ) → IsNew (from_to first last) name → IsNew (from_to now after) name
 new_later first last now after unchanged name new = λ told. rw (unchanged.same.names.file, unchanged.same.names.out) (new (rw (← unchanged.onward.told) told))
 
@@ -104,7 +104,7 @@ unfolding all_added
 added_none file name = refl
 
 -- ---- what is left
--- the file of an output is read by those whom it is for
+-- the file of an output is read by those it is for
 abbrev IsReadBy : StoreState → Output → Type 0
 IsReadBy store output = store.readers output.name ≡ Some output.readers
 
@@ -143,7 +143,7 @@ left_part first before last unchanged written left = record {
       (λ z. x.0 (y.0 z), λ z. y.1 (x.1 z));
 }
 
--- a call that changed nothing behind what was written
+-- a call that changed nothing after what was written
 pub left_same : (first now after : StoreState) → now.told ≡ first.told → SameStore now after → StoreOnward now after → (written : List Output) → IsLeft (from_to first now) written
     → IsLeft (from_to first after) written
 left_same first now after kind same onward written left = record {
@@ -164,7 +164,7 @@ false_when false not = refl
 differ_so : (a b : List ℕ) → a ≢ b → bytes_eq a b ≡ false
 differ_so a b other = false_when (bytes_eq a b) (λ yes. other ((bytes_eq-Decides a b).0 yes))
 
--- files that were stable are so after another was written
+-- files that were stable still are after another was written
 stable_still : (now after : StoreState) (name : List ℕ) → OthersLeave name now after → (outputs : List Output)
     → All (λ other. other ≢ name) (map (λ output. output.name) outputs) → AreStable now outputs → AreStable after outputs
 stable_still now after name others [] differ stable = All-nil (λ output. Only output.bytes (after.leaves output.name))
@@ -233,7 +233,7 @@ not_written_part first before last unchanged written name _ (write_failed f) = w
 not_written_part first before last unchanged written name _ (was_there untold) = was_there (λ told. untold (rw unchanged.onward.told told))
 not_written_part first before last unchanged written name _ no_memory_to_write = no_memory_to_write
 
--- a file could not be written behind others that were
+-- a file could not be written after others that were
 pub stops_behind : (first now after : StoreState) (written : List Output) → StoreOnward first now → ((name : List ℕ) → IsTrue first.told → now.out name ≡ first.out name)
     → IsLeft (from_to first now) written → (name : List ℕ) (end : Ending) → IsNew (from_to first first) name
     → All (λ other. other ≢ name) (map (λ output. output.name) written) → IsNotNew (from_to now after) name end

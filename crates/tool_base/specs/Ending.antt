@@ -44,7 +44,7 @@ pub data Ending : Type 0 where
   NetFailed : Ending
   BookFull : Ending
 
--- the status where nothing is signed
+-- the status if nothing is signed
 abbrev pub unsigned_status : Unsigned → ℕ
 unsigned_status (Missing member round) = 6
 unsigned_status (SpentLeaf leaf member) = 7
@@ -102,16 +102,16 @@ undealt_line (Entropy got want) =
 undealt_line (Keys t u) = codes "error 5 keys " ++ (decimal t ++ (codes " " ++ (decimal u ++ end_of_line)))
 undealt_line (Commitments bytes) = codes "error 5 commitments " ++ (decimal bytes ++ end_of_line)
 
--- two numbers, the first behind these words and the second behind those
+-- two numbers, the first after these words and the second after those
 abbrev pub two_numbers : List ℕ → ℕ → List ℕ → ℕ → List ℕ
 two_numbers words first more second = words ++ (decimal first ++ (more ++ (decimal second ++ end_of_line)))
 
--- numbers, each behind a space
+-- numbers, each after a space
 abbrev pub spaced : List ℕ → List ℕ
 spaced [] = []
 spaced (number ∷ numbers) = codes " " ++ (decimal number ++ spaced numbers)
 
--- the numbers of members that are blamed, each behind a space, or ` none`
+-- the numbers of members that are blamed, each after a space, or ` none`
 abbrev pub blamed_words : List ℕ → List ℕ
 blamed_words [] = codes " none"
 blamed_words (member ∷ members) = spaced (member ∷ members)
@@ -130,7 +130,7 @@ unsigned_line (Refused member code) = two_numbers (codes "error 11 member ") mem
 unsigned_line (Stray member round) = two_numbers (codes "error 11 stray ") member (codes " round ") round
 unsigned_line NotACoalition = codes "error 18 not a coalition" ++ end_of_line
 
--- the line that says why bytes are no HSS signature under a key; the top level is level 0
+-- the line that says why bytes are not an HSS signature under a key; the top level is level 0
 abbrev pub hss_fault_line : HssFault → List ℕ
 hss_fault_line hss.Short = codes "not accepted: hss short" ++ end_of_line
 hss_fault_line (hss.Levels got) = codes "not accepted: hss levels " ++ (decimal got ++ end_of_line)

@@ -9,7 +9,7 @@ use Rattle.tool_base.specs.Ending.{Ending}
 use Rattle.tool_base.specs.Reads.{FailsToRead}
 use Rattle.tool_base.specs.World.{StoreRun, Bytes, IsRead}
 
--- the end where the file of this name could not be read, or is not in the grammar of these faults
+-- the end if the file of this name could not be read, or is not in the grammar of these faults
 pub data FailsGrammar (fault_of : List ℕ → Option ℕ) (store : StoreRun) (name : List ℕ) : Ending → Type 0 where
   not_read : (end : Ending) → FailsToRead store name end → FailsGrammar fault_of store name end
   not_in_grammar : (bytes : List ℕ) (fault : ℕ) → IsRead store name (Bytes bytes) → fault_of bytes ≡ Some fault

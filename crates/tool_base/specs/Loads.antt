@@ -20,7 +20,7 @@ load_fault_number (Version got) = 3
 load_fault_number (Foreign kept) = 4
 load_fault_number Device = 5
 
--- a file of this header and so many slots does not open, by this fault
+-- a file of this header and `count` slots does not open, by this fault
 pub record IsOtherFile (header : Header) (count : ℕ) (fault : LoadFault) (file : List ℕ) : Type 0 where
   pub fault_is : load_fault header count file ≡ Some fault
 
@@ -37,7 +37,7 @@ pub record ReadsAs (store : StoreRun) (name : List ℕ) (Is : List ℕ → Type 
   pub is_read : IsTrue store.before.told → store.before.file name ≡ Some file
   pub is : IsTrue store.before.told → Is file
 
--- the end where a file of slots under this name was not loaded
+-- the end if a file of slots under this name was not loaded
 pub data FailsToLoad (header : Header) (count : ℕ) (store : StoreRun) (name : List ℕ) : Ending → Type 0 where
   other_file : (fault : LoadFault) → ReadsAs store name (IsOtherFile header count fault)
       → FailsToLoad header count store name (ending.NotLoaded (load_fault_number fault))

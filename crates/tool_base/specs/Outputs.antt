@@ -28,12 +28,12 @@ IsOther outputs name = All (λ output. bytes_eq name output.name ≡ false) outp
 abbrev pub AreStable : StoreState → List Output → Type 0
 AreStable store outputs = All (λ output. Only output.bytes (store.leaves output.name)) outputs
 
--- these files are read by those whom they are for
+-- these files are read by those they are for
 abbrev pub AreReadBy : StoreState → List Output → Type 0
 AreReadBy store outputs = All (λ output. store.readers output.name ≡ Some output.readers) outputs
 
--- The store has what it had and these files, which are all stable and read by those whom they are for. A crash may
--- leave of every other name what it might have left before.
+-- The store has what it had and these files, which are all stable and read by those they are for. A crash may leave of
+-- every other name what it might have left before.
 pub record IsLeft (store : StoreRun) (written : List Output) : Type 0 where
   pub file : IsTrue store.before.told → (name : List ℕ)
       → store.after.file name ≡ all_added store.before.file written name
@@ -51,13 +51,13 @@ pub record CallFailed (store : StoreRun) : Type 0 where
   pub rose : Rose store.before.count store.after.count
   pub unsteady : IsTrue store.before.steady → ⊥
 
--- the end where this name was not found new
+-- the end if this name was not found new
 pub data IsNotNew (store : StoreRun) (name : List ℕ) : Ending → Type 0 where
   test_failed : CallFailed store → IsNotNew store name ending.StoreFailed
   is_there : (IsTrue store.before.told → IsTrue (has_name store.before name)) → IsNotNew store name (ending.Exists name)
   no_memory_to_name : IsNotNew store name ending.NoMemory
 
--- the end where one of these names was not found new, the first such
+-- the end if one of these names was not found new, the first such
 pub record FirstNotNew (store : StoreRun) (names : List (List ℕ)) (end : Ending) : Type 0 where
   pub before : List (List ℕ)
   pub name : List ℕ
@@ -71,14 +71,14 @@ abbrev pub AreDifferent : List (List ℕ) → Type 0
 AreDifferent [] = ⊤
 AreDifferent (name ∷ names) = All (λ other. name ≢ other) names × AreDifferent names
 
--- The end where a file could not be written under this name behind those that were written. A name that was new when it
--- was tested is there now only in a store that does not tell its content.
+-- The end if a file could not be written under this name after those that were written. A name that was new when it was
+-- tested is there now only in a store that does not tell its content.
 pub data IsNotWritten (store : StoreRun) (written : List Output) (name : List ℕ) : Ending → Type 0 where
   write_failed : CallFailed store → IsNotWritten store written name ending.StoreFailed
   was_there : (IsTrue store.before.told → ⊥) → IsNotWritten store written name (ending.Exists name)
   no_memory_to_write : IsNotWritten store written name ending.NoMemory
 
--- the end where these of the files were written, and the next one was not
+-- the end if these of the files were written, and the next one was not
 pub record StopsAfter (store : StoreRun) (outputs written : List Output) (end : Ending) : Type 0 where
   pub output : Output
   pub rest : List Output

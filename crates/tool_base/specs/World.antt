@@ -10,7 +10,7 @@ pub record TimeState : Type 0 where
   pub told : Bool
   pub answers : ℕ → ℕ
 
--- all that a call is handed, in one state, but for its output
+-- all that a call is given, in one state, except for its output
 pub record Outside : Type 1 where
   pub store : StoreState
   pub net : NetState
@@ -57,7 +57,7 @@ pub record StoreRun : Type 1 where
 abbrev pub from_to : StoreState → StoreState → StoreRun
 from_to before after = record { before = before; after = after }
 
--- nothing changed but that counts may have risen
+-- nothing changed, except that counts may have risen
 pub record IsUnchanged (old new : StoreState) : Type 0 where
   pub same : SameStore old new
   pub onward : StoreOnward old new
@@ -94,8 +94,8 @@ pub data Reading : Type 0 where
   TooLong : (got : ℕ) → Reading
   Bytes : (bytes : List ℕ) → Reading
 
--- Reading the file of this name up to a limit came to this. It fails only where the count of faults rose, and over a
--- steady store that tells its content only where nothing is read under the name.
+-- Reading the file of this name up to a limit came to this. It fails only if the count of faults rose, and over a
+-- steady store that tells its content only if nothing is read under the name.
 abbrev pub IsReadUpTo : ℕ → StoreRun → List ℕ → Reading → Type 0
 IsReadUpTo limit store name Failed = Rose store.before.count store.after.count
     × (IsTrue store.before.told → IsTrue store.before.steady → store.before.file name ≡ None)

@@ -28,21 +28,21 @@ pub enum Ending {
     Dealt { leaves: u32, coalitions: u32 },
     /// A journal was made for the trustee of this number, or a leaf table, whose number is 0.
     Enrolled { number: u8 },
-    /// A journal was copied, with so many slots that are not free.
+    /// A journal was copied, with `slots` slots that are not free.
     Migrated { slots: u32 },
-    /// A message is listed in a book, of which so many slots are not free.
+    /// A message is listed in a book, of which `slots` slots are not free.
     Approved { slots: u32 },
     /// A signature was made with this leaf, and written.
     Signed { leaf: u32 },
     /// A signature of two levels was made, the upper one with this leaf, and written with its key.
     SignedLevels { leaf: u32 },
-    /// So many connections were served, with so many replies.
+    /// `connections` connections were served, with `frames` replies.
     Served { connections: u32, frames: u32 },
     /// A drill was run.
     Drilled(Summary),
     /// What a file holds was told by these lines, each ended by a line feed.
     Shown { text: String },
-    /// The words are no command.
+    /// The words are not a command.
     Usage,
     /// A call of the store failed, or a name is not in it.
     StoreFailed,
@@ -58,7 +58,7 @@ pub enum Ending {
     TooLong { got: u64 },
     /// A journal, a table or a book was not loaded, by the fault of this number.
     NotLoaded { fault: u8 },
-    /// Want of memory.
+    /// Memory ran out.
     NoMemory,
     /// An output of this name is in the store.
     Exists { name: String },
@@ -172,7 +172,7 @@ fn levels_line(alloc: Global, verdict: &HssVerdict) -> Result<String, AllocError
     }
 }
 
-/// The line of bytes that are no HSS signature under a key.
+/// The line of bytes that are not an HSS signature under a key.
 fn hss_fault_line(alloc: Global, fault: &HssFault) -> Result<String, AllocError>
     ensures { IfOk result (λ line. string_bytes line ≡ hss_fault_line fault.now) }
 {

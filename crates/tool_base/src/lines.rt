@@ -8,14 +8,14 @@ ghost use Rattle.tool_base.specs.Ending.{end_of_line, two_numbers};
 use lms_bytes::Val;
 use std::alloc::{AllocError, Global};
 
-/// The line of a number behind words.
+/// The line of a number after words.
 pub(crate) fn number_line(alloc: Global, words: &str, number: u32) -> Result<String, AllocError>
     ensures { IfOk result (λ line. string_bytes line ≡ words.now ++ (decimal number ++ end_of_line)) }
 {
     format!(in alloc; "{words}{number}\n")
 }
 
-/// The line of two numbers, each behind words.
+/// The line of two numbers, each after words.
 pub(crate) fn numbers_line(
     alloc: Global,
     words: &str,
@@ -28,7 +28,7 @@ pub(crate) fn numbers_line(
     format!(in alloc; "{words}{first}{more}{second}\n")
 }
 
-/// The line of a number behind words, and of the root that a signature leads to and the one that it should lead to.
+/// The line of a number after words, and of the root that a signature leads to and the one that it should lead to.
 pub(crate) fn roots_line(
     alloc: Global,
     words: &str,

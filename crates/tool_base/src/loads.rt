@@ -23,7 +23,7 @@ pub fn load_fault_number(fault: LoadFault) -> u8
     }
 }
 
-/// The end where a leaf table or a book is not loaded.
+/// The end if a leaf table or a book is not loaded.
 pub fn end_of_slots(fault: CacheLoad) -> Ending
     ensures { ending result ≡ end_of_slots fault }
 {

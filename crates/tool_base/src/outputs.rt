@@ -53,7 +53,7 @@ pub fn two_outputs(
     ])
 }
 
-/// The end where an output of this name is in the store.
+/// The end if an output of this name is in the store.
 fn exists(alloc: Global, name: &str) -> Ending
     ensures { (ending result ≡ spec.NoMemory) ⊎ (ending result ≡ spec.Exists name.now) }
 {
@@ -95,7 +95,7 @@ pub fn test_two_new<S: Store>(
     test_new(alloc, store, two)
 }
 
-/// Tests that the names of all outputs are not in the store, in their order.
+/// Tests that none of the outputs' names is in the store, in their order.
 pub fn test_all_new<S: Store>(
     alloc: Global,
     store: &mut S,

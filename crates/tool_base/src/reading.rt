@@ -10,7 +10,7 @@ use crate::ending::Ending;
 use std::alloc::{AllocError, Global};
 use stream_io::{ReadAllFault, Store};
 
-/// The end where the file of this name is not in its grammar.
+/// The end if the file of this name is not in its grammar.
 pub fn unreadable(alloc: Global, name: &str, fault: u8) -> Ending
     ensures { (ending result ≡ spec.NoMemory) ⊎ (ending result ≡ spec.Unreadable name.now fault) }
 {

@@ -22,7 +22,7 @@ pub enum Undealt {
     Entropy { got: usize, want: usize },
     /// Two trustees have the same key.
     Keys { t: u8, u: u8 },
-    /// The commitment file would have so many bytes, which is above its limit.
+    /// The commitment file would have `bytes` bytes, which is above its limit.
     Commitments { bytes: u64 },
 }
 

@@ -25,11 +25,11 @@ pub enum Unsigned {
     Blamed { members: Members },
     /// The coalition of this number has no leaf left.
     NoLeaf { coalition: u32 },
-    /// This member refused, by the refusal of this code.
+    /// This member refused, with the refusal of this code.
     Refused { member: u8, code: u8 },
-    /// This member sent frame after frame that is no reply to the ask.
+    /// This member sent frame after frame that is not a reply to the ask.
     Stray { member: u8, round: u8 },
-    /// The members are no coalition.
+    /// The members are not a coalition.
     NotACoalition,
 }
 
@@ -92,7 +92,7 @@ fn blamed_line(alloc: Global, members: Members) -> Result<String, AllocError>
     format!(in alloc; "error 8 blamed{numbers}\n")
 }
 
-/// The numbers of members in ascending order, each behind a space.
+/// The numbers of members in ascending order, each after a space.
 fn numbers_of(alloc: Global, members: Members) -> Result<String, AllocError>
     ensures { IfOk result (λ numbers. string_bytes numbers ≡ spaced members) }
 {

@@ -1,4 +1,4 @@
--- The session of a message that was signed with a table, as it stands at its end.
+-- The session of a message that was signed with a table, in its state at the end.
 use Rattle.std.proofs.Common.{◌≡◌, ◌==◌, ℕ, false, List, Option, Some, None, Result, Ok, Err, IfErr, IfSome, IsTrue, is_some, refl, sym, ap, ◌∙◌}
 use Rattle.std.proofs.lemmas.Bool.{false≢true}
 use Rattle.aggregator_session.specs.Desks.{DeskState}
@@ -32,7 +32,7 @@ use Rattle.tool_sign.specs.Signs.{SignedTable, TableEnds}
 use Rattle.tool_sign.specs.Signs as signs
 use Rattle.tool_sign.specs.declared.task.SignedBy.{SignedBy}
 
--- the session that stands at the end is of this desk's key and plan
+-- the session in its state at the end is of this desk's key and plan
 pub record IsOfDesk (desk : DeskState) (last : State) : Type 0 where
   pub key : last.key ≡ desk.key
   pub plan : last.plan ≡ desk.plan
@@ -87,7 +87,7 @@ begun-of sign before _ port _ _ f is (signing.not_leased after why short same as
 begun-of sign before _ port _ _ f is (signing.leased leaf mid after now result short asks runs spends) =
     begun-on sign.desk sign.reads leaf sign.message port now result f (with-session leaf result f is) runs
 
--- the session is of the desk that it was started with
+-- the session is of the desk with which it was started
 desk-on : (desk : DeskState) (reads : CellsRead) (leaf : ℕ) (message : List ℕ) (port now : PortState) (result : Result (List ℕ) SignFault) (runs : RunsOn desk reads leaf message port now result)
     (last : State) → last_on runs ≡ Some last → IsOfDesk desk last
 desk-on desk reads leaf message port _ _ (not_started same) last is = absurd (no_last last is)
@@ -101,7 +101,7 @@ desk-of sign before _ port _ _ (signing.too_long long same) last is = absurd (no
 desk-of sign before _ port _ _ (signing.not_leased after why short same asks) last is = absurd (no_last last is)
 desk-of sign before _ port _ _ (signing.leased leaf mid after now result short asks runs spends) last is = desk-on sign.desk sign.reads leaf sign.message port now result runs last is
 
--- the status that an answer is told by
+-- the status by which an answer is told
 abbrev answer_status : Result Signature Ending → ℕ
 answer_status (Ok signature) = 0
 answer_status (Err end) = status_of end
@@ -147,7 +147,7 @@ module _ (s : Signing) (name : List ℕ) (store : StoreRun) (net : NetRun) where
       let desk = desk_is answer touched ends last (sym is) in
       (desk.key, record { set = of.set ∙ params; plan = of.plan ∙ (plan ∙ sym desk.plan) })
 
-  -- and so they have its length, where that is told
+  -- and so they have its length, if that is told
   pub session_whole : (answer : Result Signature Ending) (touched : List (List ℕ)) (ends : TableEnds s name store net answer touched) (session : Option State) → session ≡ last_in ends
       → (header : RefHeader) (told : Type 0) (size : ℕ) → (told → size ≡ all_commits_length header.params header.plan) → header.params ≡ s.desk.key.params → header.plan ≡ s.desk.plan
       → IfSome session (λ last. told → size ≡ all_commits_length s.desk.key.params last.plan)
@@ -157,7 +157,7 @@ module _ (s : Signing) (name : List ℕ) (store : StoreRun) (net : NetRun) where
       let same : header.plan ≡ last.plan = plan ∙ sym desk.plan in
       λ it. rw (← params, ← same) (whole it)
 
-  -- behind an end of status 8 there is a session
+  -- if a command ends with status 8, there is a session
   pub begun_if : (outcome : Result SignedBy declared.Ending) (touched : List (List ℕ)) (ends : TableEnds s name store net (answer_by outcome) touched) (session : Option State) → session ≡ last_in ends
       → IfErr outcome (λ end. status_of (endings.ending end) ≡ 8 → IsTrue (is_some session))
   begun_if (Ok by) touched ends session is = tt

@@ -1,4 +1,4 @@
--- What an end of the command comes from.
+-- Where an end of the command comes from.
 use Rattle.std.proofs.Common.{ℕ, Bool, List, [], Option, Result, Err, IsTrue}
 use Rattle.aggregator_session.specs.Runs.{CellsRead}
 use Rattle.aggregator_session.specs.Signing.{Signature}

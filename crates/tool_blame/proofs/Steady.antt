@@ -1,4 +1,4 @@
--- How the command ends over a steady store that tells its content, and over such a net.
+-- How the command ends over a steady store and a steady net that tell their content.
 use Rattle.std.proofs.Common.{IsTrue}
 use Rattle.tool_base.specs.Ending.{Ending}
 use Rattle.tool_base.specs.World.{StoreRun}

@@ -1,4 +1,4 @@
--- Views of commitments, which go out of a store, and come back where there are none.
+-- Views of commitments, which go out of a store, and come back if there are none.
 use Rattle.std.proofs.Common.{◌≡◌, ◌⊎◌, ◌+◌, ℕ, List, length, drop, IsTrue, Some, inl, inr, refl, arith}
 use Rattle.std.proofs.lemmas.List.{length-drop}
 use Rattle.disk_trait.specs.Faults.{Rose}
@@ -15,7 +15,7 @@ use Rattle.tool_base.specs.World.{Failed, IsPart, file_limit, from_to}
 use Rattle.tool_desk.proofs.Viewing.{device_fails, device_part, reads_as, reads_part}
 use Rattle.tool_blame.specs.Commits.{AreNoCommits, FailsCommits, device, end_of_commits, no_memory, no_view, not_in_grammar}
 
--- the bytes behind the head of a file
+-- the bytes after the head of a file
 pub behind_head : (file : List ℕ) (size : ℕ) → length file ≡ 32 + size → length (drop 32 file) ≡ size
 behind_head file size is = let all = length-drop 32 file in omega (arith, all, is)
 
@@ -26,7 +26,7 @@ fails_part first before after last p name header _ (not_in_grammar fault reads) 
 fails_part first before after last p name header _ (device fails) = device (device_part first before after last p fails)
 fails_part first before after last p name header _ no_memory = no_memory
 
--- the end of each fault of the commitments
+-- the end for each fault of the commitments
 module _ (header : RefHeader) (a b : StoreState) (name : List ℕ) (view now : PagesState) (viewed : Viewed a name view b)
     (told_is : now.told ≡ view.told) (steady_is : now.steady ≡ view.steady) (reads_are : IsTrue view.told → now.reads ≡ view.reads)
     (c : StoreState) (goes : StoreOnward a b) (step : ViewEnded b now c) (comes : StoreOnward b c) where

@@ -44,7 +44,7 @@ use Rattle.tool_sign.specs.Writes.{WriteEnds}
 use Rattle.tool_sign.specs.Writes as writes
 use Rattle.tool_words.specs.Words.{SignWords}
 
--- the name of the signature was not found new
+-- the name of the signature was not found to be new
 pub run_taken : {S : Type 0} (state : S → StoreState) (words : SignWords) (first last : S) (net : NetState) (end : Ending) → IsUnchanged (state first) (state last)
     → InAnyRun state first last (λ run. IsNotNew run words.out end) → BlameRun words (from_to (state first) (state last)) (over_net net net) end
 run_taken state words first last net end unchanged fails = record {
@@ -54,7 +54,7 @@ run_taken state words first last net end unchanged fails = record {
   ports = net_none net;
 }
 
--- the session by what is told of it
+-- the session by what is told about it
 pub record NamingTold (words : SignWords) (a d : StoreState) (net : NetRun) (told : Result Signature Ending) : Type 0 where
   pub touched : List (List ℕ)
   pub ends : EndsNaming words (from_to a d) net told touched
@@ -84,7 +84,7 @@ both_views a b c one two = record {
 unchanged_views : (a b : StoreState) → IsUnchanged a b → SameButViews a b
 unchanged_views a b unchanged = record { names = unchanged.same.names; onward = unchanged.onward }
 
--- a message that was had while views were out was had, however the run goes on
+-- a message that was obtained while views were out was obtained, however the run goes on
 goes_in : (a b c d : StoreState) → SameButViews a b → (words : SessionWords) (name : List ℕ) (files : KeyFiles) (header : RefHeader) (message members : List ℕ) (addresses : List Address)
     → GoesWith words (message_in (from_to b c) name) files header message members addresses → GoesWith words (message_in (from_to a d) name) files header message members addresses
 goes_in a b c d on words name files header message members addresses goes = record {
@@ -95,7 +95,7 @@ goes_in a b c d on words name files header message members addresses goes = reco
   addresses_are = goes.addresses_are;
 }
 
--- from a state with all views in to one with them in again
+-- from a state with all views in to another one with all views in
 module _ (a b c d : StoreState) (goes : SameButViews a b) (same : b.disk_count ≡ a.disk_count) (comes : SameButViews c d) where
   no_commits_in : (name : List ℕ) (header : RefHeader) (end : Ending) → FailsCommits (from_to b c) name header end → FailsCommits (from_to a d) name header end
   no_commits_in name header _ (commits.no_view r) = commits.no_view (read_in a b c d goes same comes file_limit name Failed r)
@@ -129,7 +129,7 @@ module _ (words : SignWords) (files : KeyFiles) (header : RefHeader) (a x b : St
       unbegun words a d net end (whole_keeps files header a x b b (reference_name words.prefix) view unchanged viewed out (unchanged_none b) v d view ended comes [] keeps)
       (blame.no_commits files header (endings.ending end) has (no_commits_in a b v d goes_b count_b (back_view v d view ended comes) (commits_name words.prefix) header (endings.ending end) fails))
 
-  -- and on to that after the view of the commitments, and to that once the message was read
+  -- and on to the state after the view of the commitments, and to the one once the message was read
   module _ (v p : StoreState) (beside : PagesState) (besides : Viewed b (commits_name words.prefix) beside v) (on : StoreOnward b v) (task : IsUnchanged v p) where
     goes_v : SameButViews a v
     goes_v = both_views a b v goes_b (out_view b b v (commits_name words.prefix) beside (unchanged_none b) besides on)
@@ -179,7 +179,7 @@ module _ (words : SignWords) (files : KeyFiles) (header : RefHeader) (a x b : St
             omega (arith, one, two, three, four, five);
       }
 
-  -- and back once the message was not had, or once a session ended
+  -- and back once the message was not obtained, or once a session ended
   module _ {S : Type 0} (state : S → StoreState) (old new : S) (e d : StoreState) (beside beside_now now : PagesState) (besides : Viewed b (commits_name words.prefix) beside (state old)) (on : StoreOnward b (state old))
       (first : ViewEnded (state new) beside_now e) (back : StoreOnward (state new) e) (ended : ViewEnded e now d) (comes : StoreOnward e d) (net : NetRun)
       (has : StoreOnward (state old) (state new) → HasFiles (session_words words) (from_to a d) files header) where
@@ -233,14 +233,14 @@ module _ (words : SignWords) (files : KeyFiles) (header : RefHeader) (a x b : St
       run_beside are _ (sides.not_begun end lacks task idle) = lacking are end lacks task idle
       run_beside are _ (sides.begun told s) = told_by told s
 
--- the answer that is told is a signature: so it was
+-- if the answer that is told is a signature, so was the answer itself
 pub tells_ok : (reads : CellsRead) (steady : Bool) (message : List ℕ) (session : Option State) (answer told : Result Signature Ending) (signature : Signature) → TellsEnd reads steady message session answer told
     → told ≡ Ok signature → answer ≡ Ok signature
 tells_ok reads steady message session _ _ signature (names.as_signed same) is = is
 tells_ok reads steady message session _ _ signature (names.as_ended end other) is = is
 tells_ok reads steady message session _ _ signature (names.by_names end told last status some ends) is = absurd (cc)
 
--- behind the session
+-- after the session
 module _ (words : SignWords) (a d : StoreState) (net : NetRun) where
   -- what was signed, with what table, and beside which commitments
   pub record Beside (signature : Signature) (touched : List (List ℕ)) : Type 0 where
@@ -265,7 +265,7 @@ module _ (words : SignWords) (a d : StoreState) (net : NetRun) where
       subst (SessionEnds (session_words words) (from_to a d) (message_in (from_to a d) words.message) net (Ok signature)) (sym beside.by.touches)
       (sessions.ended beside.by.signing (Ok signature) (words.table ∷ []) beside.by.task (signs.signed (Ok signature) beside.by.table))
 
-  -- the name of the signature is new still
+  -- the name of the signature is still new
   pub new_still : (touched : List (List ℕ)) (signature : Signature) → IsNew (from_to a d) words.out → Keeps touched a d → EndsNaming words (from_to a d) net (Ok signature) touched
       → IsTrue d.told → has_name d words.out ≡ false
   new_still touched signature is_new keeps ends =

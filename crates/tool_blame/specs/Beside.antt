@@ -1,5 +1,5 @@
--- What came of a session beside the commitments of its dealing, while the view of these and that of the reference are
--- both out. All of it is internal.
+-- What came of a session beside the commitments of its dealing, while their view and the view of the reference are both
+-- out. All of it is internal.
 use Rattle.std.specs.Prelude.{◌≡◌, drop, ℕ, List, Result, Err}
 use Rattle.aggregator_session.specs.Runs.{CellsRead}
 use Rattle.aggregator_session.specs.Signing.{Signature}
@@ -18,7 +18,7 @@ use Rattle.tool_sign.specs.Tasks.{GoesWith, LacksTask, desk_of, message_in}
 use Rattle.tool_words.specs.Words.{SignWords}
 use Rattle.tool_blame.specs.Names.{TellsEnd}
 
--- internal: what is read through a view, as it stands before and after: the leaves of the file, behind a head of 32
+-- internal: what is read through a view, as it stands before and after: the leaves of the file, after a head of 32
 -- bytes
 abbrev pub leaves_through : PagesState → PagesState → CellsRead
 leaves_through old new = record {
@@ -66,7 +66,7 @@ pub record SessionBeside {S : Type 0} (state : S → StoreState) (words : SignWo
   pub tells : TellsEnd (leaves_through views.commits views.commits_now) views.commits.steady message
       (last_in run.ends) answer told
 
--- internal: the message was not had or does not go with the files, or there was a session
+-- internal: the message was not obtained or does not go with the files, or there was a session
 pub data EndsBeside {S : Type 0} (state : S → StoreState) (words : SignWords) (files : KeyFiles) (header : RefHeader)
     (views : ViewsBeside) (old new : S) (net : NetRun) : Result Signature Ending → Type 0 where
   not_begun : (end : Ending)

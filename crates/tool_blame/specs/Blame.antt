@@ -1,6 +1,6 @@
 -- How `blame` ends: it tests that OUT is new; runs a session for the message in the file, for which it also takes a
--- view of the commitments; names the members that these blame where the masks of the session were not accepted; and
--- else writes the signature.
+-- view of the commitments; names the members that these blame if the masks of the session were not accepted; and
+-- otherwise writes the signature.
 use Rattle.std.specs.Prelude.{◌≡◌, ℕ, Bool, List, [], ◌∷◌, Result, Ok, Err}
 use Rattle.aggregator_session.specs.Runs.{CellsRead}
 use Rattle.aggregator_session.specs.Signing.{Signature}
@@ -27,7 +27,7 @@ use Rattle.tool_words.specs.Words.{SignWords}
 use Rattle.tool_blame.specs.Commits.{AreCommitsViewed, FailsCommits, ReadsCommits, commits_name}
 use Rattle.tool_blame.specs.Names.{TellsEnd}
 
--- the end where no session was begun, by the first test that failed; the commitments come behind the reference
+-- the end if no session was begun, by the first test that failed; the commitments come after the reference
 pub data FailsToBegin (words : SessionWords) (store : StoreRun) (source : MessageSource) : Ending → Type 0 where
   no_key_files : (end : Ending) → FailsKeyFiles store words.prefix end → FailsToBegin words store source end
   no_reference : (files : KeyFiles) (end : Ending) → AreKeyFiles store words.prefix files
@@ -38,7 +38,7 @@ pub data FailsToBegin (words : SessionWords) (store : StoreRun) (source : Messag
       → AreCommitsViewed store (commits_name words.prefix) header
       → LacksTask words source files header end → FailsToBegin words store source end
 
--- How a session ends whose end names members, with the names that it touched: nothing was begun, or the leaf table was
+-- How a session whose end names members ends, with the names that it touched: nothing was begun, or the leaf table was
 -- asked for, as for any command that signs, and its answer is told by the commitments.
 pub data NamingEnds (words : SessionWords) (store : StoreRun) (source : MessageSource) (net : NetRun)
     : Result Signature Ending → List (List ℕ) → Type 0 where
@@ -68,8 +68,8 @@ pub data BlameEnds (words : SignWords) (store : StoreRun) (net : NetRun) : Endin
       → EndsNaming words store net (Ok signature) touched → IsWritten store words.out signature.bytes
       → BlameEnds words store net (ending.Signed signature.leaf) (words.out ∷ touched)
 
--- The command `blame`: an end by its rules. The store keeps all but the names that it touched, and all disks, views and
--- ports are back.
+-- The command `blame`: an end by its rules. The store keeps all names but those that it touched, and all disks, views
+-- and ports are back.
 pub record BlameRun (words : SignWords) (store : StoreRun) (net : NetRun) (end : Ending) : Type 0 where
   pub touched : List (List ℕ)
   pub ends : BlameEnds words store net end touched

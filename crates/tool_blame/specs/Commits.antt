@@ -29,7 +29,7 @@ pub record AreCommitsOf (header : RefHeader) (file : List ℕ) : Type 0 where
   pub faultless : GoesWithReference header file
   pub whole : length (drop 32 file) ≡ all_commits_length header.params header.plan
 
--- the first fault of a file as such commitments
+-- the first fault of a file as these commitments
 abbrev pub AreNoCommits : RefHeader → FileFault → List ℕ → Type 0
 AreNoCommits header fault file = commits_fault header file ≡ Some fault
 
@@ -37,8 +37,8 @@ AreNoCommits header fault file = commits_fault header file ≡ Some fault
 pub record AreCommitsViewed (store : StoreRun) (name : List ℕ) (header : RefHeader) : Type 0 where
   pub reads : ReadsAs store name (GoesWithReference header)
 
--- The end where there are no commitments under this name: no view was to be had, the file has none that go with the
--- reference, or a read of the view failed.
+-- The end if there are no commitments under this name: no view could be taken, the file has none that go with the
+-- reference, a read of the view failed, or memory ran out.
 pub data FailsCommits (store : StoreRun) (name : List ℕ) (header : RefHeader) : Ending → Type 0 where
   no_view : IsRead store name Failed → FailsCommits store name header ending.StoreFailed
   not_in_grammar : (fault : FileFault) → ReadsAs store name (AreNoCommits header fault)
@@ -51,7 +51,7 @@ pub record HasCommits (header : RefHeader) (leaves file : List ℕ) : Type 0 whe
   pub goes : GoesWithReference header file
   pub leaves_are : leaves ≡ drop 32 file
 
--- The commitments of the words are read, with no fault before, through a view that is steady where the store is. The
+-- The commitments of the words are read, with no fault before, through a view that is steady if the store is. The
 -- faults of reading are among those of the store's disks and views.
 pub record ReadsCommits (words : SessionWords) (store : StoreRun) (header : RefHeader) (reads : CellsRead)
     (steady : Bool) : Type 0 where

@@ -18,7 +18,7 @@ pub data NamesEnd (reads : CellsRead) (steady : Bool) (session : State) (digest 
   unread : Rose reads.before reads.now → (IsTrue reads.told → IsTrue steady → ⊥)
       → NamesEnd reads steady session digest ending.DeviceFailed
 
--- What is told of a session's answer. Where the masks were not accepted (status 8), the session as it stands at its end
+-- What is told about a session's answer. If the masks were not accepted (status 8), the session in its state at the end
 -- is compared with the commitments, in round two at the digits of the message's digest; all else is told as it is.
 pub data TellsEnd (reads : CellsRead) (steady : Bool) (message : List ℕ) (session : Option State)
     : Result Signature Ending → Result Signature Ending → Type 0 where

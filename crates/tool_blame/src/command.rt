@@ -24,8 +24,8 @@ use tool_desk::{KeyFiles, read_key_and_tree, view_reference};
 use tool_sign::{Message, SessionWords, SignedBy, read_task, sign_task, write_signature};
 use tool_words::SignWords;
 
-/// Signs a message as `sign` does. Where the masks of the session are not accepted, it names the members whose masks
-/// are not those that the dealer committed to.
+/// Signs a message as `sign` does. If the masks of the session are not accepted, it names the members whose masks are
+/// not those that the dealer committed to.
 pub fn blame<S: Store, N: Net>(
     alloc: Global,
     words: &SignWords,
@@ -86,8 +86,8 @@ fn sign_or_name<S: Store, N: Net>(
     outcome
 }
 
-/// Reads the message, tests that all goes together, and runs one session, whose end is told by these commitments. The
-/// session reads the reference from this view, which is given back.
+/// Reads the message, tests that everything goes together, and runs one session, whose end is told by these
+/// commitments. The session reads the reference from this view, which is given back.
 fn name_beside<V: Pages, S: Store, N: Net>(
     alloc: Global,
     words: &SignWords,

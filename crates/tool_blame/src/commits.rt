@@ -16,8 +16,8 @@ use stream_io::{CallFault, Store};
 use tool_base::{Ending, unreadable};
 use tool_desk::file_name;
 
-/// Takes a view of the commitments of a dealing, and tests that their head goes with the reference of this header.
-/// Where it refuses, the view is given back.
+/// Takes a view of the commitments of a dealing, and tests that their head goes with the reference of this header. If
+/// it refuses, the view is given back.
 pub fn view_commits<S: Store>(
     alloc: Global,
     store: &mut S,
@@ -48,7 +48,7 @@ pub fn view_commits<S: Store>(
     }
 }
 
-/// The end where the file of this name has no commitments that go with the reference.
+/// The end if the file of this name has no commitments that go with the reference.
 fn end_of_commits(alloc: Global, name: &str, fault: CommitsFault) -> Ending
     ensures { (ending result ≡ spec.NoMemory) ⊎ (ending result ≡ end_of_commits name.now fault) }
 {

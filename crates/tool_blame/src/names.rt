@@ -19,11 +19,11 @@ use share_blame::{Commits, blamed};
 use tool_base::{Ending, Unsigned};
 use tool_sign::SignedBy;
 
-/// The status where the masks of a session were not accepted.
+/// The status if the masks of a session were not accepted.
 const NOT_ACCEPTED: u8 = 8;
 
-/// What is told of what came of a session of this key and message: where its masks were not accepted, the end that
-/// names the members whom the commitments blame, and else what came of it.
+/// What is told about the outcome of a session of this key and message: if its masks were not accepted, the end that
+/// names the members that the commitments blame, otherwise the outcome itself.
 pub(crate) fn told_outcome<V: Pages>(
     commits: &mut Commits<V>,
     key: &PublicKey,
@@ -76,8 +76,8 @@ pub fn name_blamed<V: Pages>(
     }
 }
 
-/// The digest of the message under the joined randomizer of a session. A session of round one has none, and zeros stand
-/// in its place: there no mask is compared at a digest.
+/// The digest of the message under the joined randomizer of a session. A session in round one has none, and zeros take
+/// its place: no mask is compared at a digest there.
 fn session_digest(key: &PublicKey, session: &Session, message: &[u8]) -> Val
     requires { session.now.key ≡ key.now }
     ensures digest { result ≡ digest_of session.now message.now }

@@ -11,7 +11,7 @@ use Rattle.tool_base.specs.World.{StoreRun, Bytes, IsRead}
 use Rattle.tool_desk.specs.Tree.{IsTreeRead}
 use Rattle.tool_desk.specs.declared.tree.DealtTree.{DealtTree}
 
--- such a file leads to the end that names its first fault
+-- a file in no grammar leads to the end that names its first fault
 pub fault_told : {F : Type 0} (fault_of : List ℕ → Option F) (number_of : F → ℕ) (store : StoreRun) (name bytes : List ℕ) (fault : F) (number : ℕ) (end : Ending)
     → IsRead store name (Bytes bytes) → fault_of bytes ≡ Some fault → number ≡ number_of fault
     → (end ≡ ending.NoMemory) ⊎ (end ≡ ending.Unreadable name number)
@@ -20,11 +20,11 @@ fault_told fault_of number_of store name bytes fault number end read is counted 
 fault_told fault_of number_of store name bytes fault number end read is counted (inr told) =
     rw (told, counted) (not_in_grammar bytes (number_of fault) read (ap (option_map number_of) is))
 
--- such a file is read as what it is
+-- a file in a grammar is read as what it is
 pub read_as : (store : StoreRun) (name bytes other : List ℕ) → IsRead store name (Bytes bytes) → bytes ≡ other → IsRead store name (Bytes other)
 read_as store name bytes other read is = subst (λ (l : List ℕ). IsRead store name (Bytes l)) is read
 
--- what stands behind the head of a tree file are the nodes
+-- the nodes are what follows the head of a tree file
 pub nodes_behind_head : (params : Params) (bytes id nodes : List ℕ) → HasTreeLayout params bytes id nodes → drop 32 bytes ≡ nodes
 nodes_behind_head params bytes id nodes layout =
     ap (drop 32) layout.parts ∙ subst (λ (n : ℕ). drop n (id ++ nodes) ≡ nodes) layout.id_length (drop-append_seam id nodes)

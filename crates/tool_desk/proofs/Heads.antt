@@ -43,8 +43,7 @@ head_read bytes head n header is front parts size dealt = record {
   };
 }
 
--- ---- what becomes of the count of faults
--- the answer where a call of the pages failed
+-- ---- what becomes of the count of faults the answer if a call of the pages failed
 abbrev failed : Result RefHeader HeadFault
 failed = Err Device
 

@@ -10,7 +10,7 @@ use Rattle.tool_base.specs.Ending.{Ending}
 use Rattle.tool_desk.specs.Files.{AreOfOneKey, HaveSizesOf, IsOfKey, IsOfOtherKey, no_memory, other_reference, other_tree, reference_name, tree_name}
 use Rattle.tool_desk.specs.declared.files.KeyFiles.{KeyFiles}
 
--- the end where a file is of another key
+-- the end if a file is of another key
 pub tree_refused : (prefix : List ℕ) (files : KeyFiles) (reference : RefHeader) (answer : Bool) (end : Ending)
     → (IsTrue answer ↔ IsOfKey files.key files.tree.params files.tree.id) → answer ≡ false
     → (end ≡ ending.NoMemory) ⊎ (end ≡ ending.Unreadable (tree_name prefix) 7) → IsOfOtherKey prefix files reference end

@@ -1,4 +1,4 @@
--- Views that go out one after the other, and come back.
+-- Views that go out one after another, and come back.
 use Rattle.std.proofs.Common.{◌≡◌, ◌≤◌, ◌<◌, ◌+◌, ◌-◌, ℕ, false, List, [], ◌∷◌, length, map, All, IsTrue, refl, sym, ap, ◌∙◌, ◌++◌, subst, arith, append_assoc, append-nil, length-append}
 use Rattle.std.proofs.lemmas.List.{length-map, map-append}
 use Rattle.std.proofs.lemmas.List.Elements.{All-cons, All-nil, All-push, All-weaker}
@@ -48,7 +48,7 @@ out_kept a b c count out keeps = record {
   views = λ told. keeps.back.views (rw out.onward.told told) ∙ out.views told;
 }
 
--- a view that was had while others were out is one of the store before
+-- a view obtained while others were out is one of the store before
 pub view_of : (a b c : StoreState) (count : ℕ) (name : List ℕ) (view : PagesState) → ViewsOut a count b → Viewed b name view c → IsViewOf a name view
 view_of a b c count name view out viewed = record {
   given = record {
@@ -59,7 +59,7 @@ view_of a b c count name view out viewed = record {
   reads = λ told. sym (out.file told name) ∙ viewed.reads (rw out.onward.told told);
 }
 
--- what is said while views are out, of the whole run
+-- what is said while views are out, as a statement about the whole run
 module _ (a b c d : StoreState) (count : ℕ) (out : ViewsOut a count b) (later : StoreOnward c d) where
   told_b : IsTrue a.told → IsTrue b.told
   told_b told = rw out.onward.told told
@@ -101,7 +101,7 @@ all_back a c d count counts out back many = record {
   leaves = λ told name image other. (let x = out.leaves told name image in let y = back.names.leaves name image in (λ z. x.0 (y.0 z), λ z. y.1 (x.1 z)));
 }
 
--- one view more came back
+-- one more view came back
 pub back_more : (a b c : StoreState) (counts : List ℕ) (view : PagesState) → ViewsBack a counts b → ViewEnded b view c → StoreOnward b c → ViewsBack a (view.count ∷ counts) c
 back_more a b c counts view back ended onward = record {
   names = record {
@@ -135,7 +135,7 @@ out_on a b c count more one two = record {
   views = λ told. (let x = one.views told in let y = two.views (rw one.onward.told told) in omega (arith, x, y));
 }
 
--- a view that was had and given back at once
+-- a view obtained and given back at once
 pub out_ended : (a b c d : StoreState) (count : ℕ) (name : List ℕ) (view now : PagesState) → ViewsOut a count b → Viewed b name view c → StoreOnward b c
     → ViewEnded c now d → StoreOnward c d → ViewsOut a count d
 out_ended a b c d count name view now out viewed onward ended ends = record {
@@ -156,7 +156,7 @@ out_ended a b c d count name view now out viewed onward ended ends = record {
       );
 }
 
--- ---- cells that are put behind others
+-- ---- cells that are put after others
 module _ {V : Type 0} (pages : V → PagesState) (a : StoreState) (name : List ℕ) (before : List (Paged V)) where
   abbrev Is : Paged V → Type 0
   Is one = IsViewOf a name (pages (pages_of one))
@@ -191,7 +191,7 @@ module _ {V : Type 0} (pages : V → PagesState) (a : StoreState) (name : List �
       };
     }
 
--- the file that a view was had of
+-- the file of which a view was obtained
 pub reads_viewed : (a b c : StoreState) (count : ℕ) (name : List ℕ) → ViewsOut a count b → (header : RefHeader) (view : PagesState) (last : StoreState) → Viewed b name view c
     → (IsTrue view.told → IsReferenceOf header view.reads) → ReadsAs (from_to a last) name (IsReferenceOf header)
 reads_viewed a b c count name out header view last viewed is = record {
@@ -200,7 +200,7 @@ reads_viewed a b c count name out header view last viewed is = record {
   is = λ told. is (viewed.given.told (rw out.onward.told told));
 }
 
--- a view that was had behind another one is one of the store before both
+-- a view obtained after another one is one of the store before both
 pub view_before : (a b : StoreState) (count : ℕ) (name : List ℕ) (view : PagesState) → ViewsOut a count b → IsViewOf b name view → IsViewOf a name view
 view_before a b count name view out is = record {
   given = record {
@@ -220,7 +220,7 @@ out_unchanged a b unchanged = record {
   views = λ told. (let x = unchanged.same.loans.views in omega (arith, x));
 }
 
--- the first cells and those behind them
+-- the first cells and those after them
 module _ {V : Type 0} (pages : V → PagesState) (a b c : StoreState) (name : List ℕ) (own : Paged V) (view : V) (of : pages_of own ≡ view) (all : List (Paged V))
     (viewed : Viewed a name (pages view) b) (onward : StoreOnward a b) (adds : AddsCells b name pages (own ∷ []) all c) where
   abbrev first : ViewsOut a (0 + 1) b

@@ -1,4 +1,4 @@
--- What a call that takes views comes to, put together.
+-- The result of a call that takes views, put together.
 use Rattle.std.proofs.Common.{[], Ok, Err}
 use Rattle.stream_io.specs.Store.{StoreOnward, StoreState}
 use Rattle.tool_base.specs.Ending.{Ending}
@@ -18,6 +18,6 @@ module _ {S T : Type 0} (state : S → StoreState) (old new : S) (Found : StoreR
   pub refuses : (end : declared.Ending) → InAnyRun state old new (λ run. Fails run (endings.ending end)) → Keeps [] (state old) (state new) → TakesViews state old new (Err end) Found Fails
   refuses end why keeps = record { found = λ first last part. tt; refused = why; keeps = keeps; onward = keeps.back.onward }
 
-  -- it refuses where nothing changed
+  -- it refuses when nothing changed
   pub refuses_unchanged : (end : declared.Ending) → InAnyRun state old new (λ run. Fails run (endings.ending end)) → IsUnchanged (state old) (state new) → TakesViews state old new (Err end) Found Fails
   refuses_unchanged end why unchanged = refuses end why (kept_none _ _ (out_unchanged _ _ unchanged))

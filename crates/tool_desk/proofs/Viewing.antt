@@ -1,4 +1,4 @@
--- Views that go out of a store, and come back where what they show is no reference.
+-- Views that go out of a store, and come back if what they show is no reference.
 use Rattle.std.proofs.Common.{◌≡◌, ◌⊎◌, ℕ, List, [], IsTrue, inl, inr, refl, arith}
 use Rattle.disk_trait.specs.Faults.{Rose}
 use Rattle.stream_io.specs.Store.{PagesState, StoreOnward, StoreState, ViewEnded, Viewed}
@@ -37,7 +37,7 @@ fails_part first before after last p name _ (not_in_grammar fault reads) = not_i
 fails_part first before after last p name _ (device fails) = device (device_part first before after last p fails)
 fails_part first before after last p name _ no_memory = no_memory
 
--- ---- a view that was handed out, and what it is after it was read
+-- ---- a view that was handed out, and the same view after it was read
 module _ (a b : StoreState) (name : List ℕ) (view now : PagesState) (viewed : Viewed a name view b)
     (told_is : now.told ≡ view.told) (steady_is : now.steady ≡ view.steady) (reads_are : IsTrue view.told → now.reads ≡ view.reads) where
   pub reads_as : (c : StoreState) (Is : List ℕ → Type 0) → (IsTrue view.told → Is view.reads) → ReadsAs (from_to a c) name Is

@@ -1,4 +1,4 @@
--- The files of a dealing that an aggregator signs with: PREFIX.pub, PREFIX.tree and PREFIX.ref.
+-- The files of a dealing with which an aggregator signs: PREFIX.pub, PREFIX.tree and PREFIX.ref.
 use Rattle.std.specs.Prelude.{◌≡◌, ℕ, List, ◌++◌, codes}
 use Rattle.lms_bytes.specs.declared.params.Params.{Params}
 use Rattle.lms_bytes.specs.declared.public_key.PublicKey.{PublicKey}
@@ -26,7 +26,7 @@ pub record AreKeyFiles (store : StoreRun) (prefix : List ℕ) (files : KeyFiles)
   pub key : IsKeyRead store (key_name prefix) files.key
   pub tree : IsTreeRead store (tree_name prefix) files.tree
 
--- the end where the key or the tree could not be read; the key is read and tested before the tree is read
+-- the end if the key or the tree could not be read; the key is read and tested before the tree is read
 pub data FailsKeyFiles (store : StoreRun) (prefix : List ℕ) : Ending → Type 0 where
   no_key : (end : Ending) → FailsKey store (key_name prefix) end → FailsKeyFiles store prefix end
   no_tree : (key : PublicKey) (end : Ending) → IsKeyRead store (key_name prefix) key
@@ -50,7 +50,7 @@ pub record HaveSizesOf (files : KeyFiles) (reference : RefHeader) : Type 0 where
   pub plan_height : reference.plan.h ≡ files.key.params.h
   pub leaves : leaves_length reference.params reference.plan ≡ leaves_length files.key.params reference.plan
 
--- the end where the tree, or else the reference, is of another key: fault 7 of the file
+-- the end if the tree, or else the reference, is of another key: fault 7 of the file
 pub data IsOfOtherKey (prefix : List ℕ) (files : KeyFiles) (reference : RefHeader) : Ending → Type 0 where
   other_tree : (IsOfKey files.key files.tree.params files.tree.id → ⊥)
       → IsOfOtherKey prefix files reference (ending.Unreadable (tree_name prefix) 7)

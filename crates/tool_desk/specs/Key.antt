@@ -15,6 +15,6 @@ IsKeyRead store name key = IsRead store name (Bytes (public_bytes key))
 abbrev pub key_file_fault : List ℕ → Option ℕ
 key_file_fault bytes = option_map key_fault_number (public_fault bytes)
 
--- the end where the file of this name could not be read, or is no public key
+-- the end if the file of this name could not be read, or is no public key
 abbrev pub FailsKey : StoreRun → List ℕ → Ending → Type 0
 FailsKey = FailsGrammar key_file_fault

@@ -25,7 +25,7 @@ pub record IsReferenceViewed (store : StoreRun) (name : List ℕ) (header : RefH
   pub reads : ReadsAs store name (IsReferenceOf header)
   pub dealt : CanBeDealt header.params
 
--- The end where no reference could be viewed under this name: no view was to be had, the file is no reference, or a
+-- The end if no reference could be viewed under this name: no view could be obtained, the file is no reference, or a
 -- read of the view failed.
 pub data FailsReference (store : StoreRun) (name : List ℕ) : Ending → Type 0 where
   no_view : IsRead store name Failed → FailsReference store name ending.StoreFailed

@@ -21,6 +21,6 @@ pub record IsTreeRead (store : StoreRun) (name : List ℕ) (tree : DealtTree) : 
 abbrev pub tree_file_fault : List ℕ → Option ℕ
 tree_file_fault bytes = option_map file_fault_number (tree_fault bytes)
 
--- the end where the file of this name could not be read, or is no tree
+-- the end if the file of this name could not be read, or is no tree
 abbrev pub FailsTree : StoreRun → List ℕ → Ending → Type 0
 FailsTree = FailsGrammar tree_file_fault

@@ -1,4 +1,4 @@
--- Views of the files of a dealing: how they are taken, several of one name too, while they are out and once they are
+-- Views of the files of a dealing: how they are taken, also several of one name, while they are out and once they are
 -- back.
 use Rattle.std.specs.Prelude.{◌≡◌, ◌≢◌, ◌↔◌, ◌+◌, ◌-◌, ◌^◌, ◌≤◌, ◌++◌, min, ℕ, List, [], All, length, Some}
 use Rattle.std.specs.Prelude.{Result, IfErr, IfOk, IsTrue, OnErr}
@@ -22,12 +22,12 @@ use Rattle.tool_desk.specs.Reference.{FailsReference, IsReferenceOf, IsReference
 use Rattle.tool_desk.specs.declared.files.KeyFiles.{KeyFiles}
 use Rattle.tool_base.specs.Loads.{ReadsAs}
 
--- a view in one state, by the words of its traits
+-- a view in one state, in terms of its traits
 abbrev pub view_state : {V : Type 0} → pages.Ghosts V → faults.Ghosts V → V → PagesState
 view_state p f = pages_state p.told p.honest f.steady f.count p.room p.reads p.may_leave
 
--- What a call that takes views of a file comes to. Where it hands something out, this was found in any run that the
--- call is a part of; where it refuses, its end is such a failure there, all views that it took are back, and every name
+-- The result of a call that takes views of a file. If it hands something out, this was found in any run that the call
+-- is a part of; if it refuses, its end is a failure of this kind there, all views that it took are back, and every name
 -- stands for what it stood for. No count falls.
 pub record TakesViews {S T : Type 0} (state : S → StoreState) (old new : S) (result : Result T declared.Ending)
     (Found : StoreRun → T → Type 0) (Fails : StoreRun → Ending → Type 0) : Type 0 where
@@ -41,7 +41,7 @@ pub record IsViewOf (store : StoreState) (name : List ℕ) (view : PagesState) :
   pub given : HandsOut store view
   pub reads : IsTrue store.told → store.file name ≡ Some view.reads
 
--- so many views went out, and every name stands for what it stood for
+-- `count` views went out, and every name stands for what it stood for
 pub record ViewsOut (old : StoreState) (count : ℕ) (new : StoreState) : Type 0 where
   pub onward : StoreOnward old new
   pub file : IsTrue old.told → (name : List ℕ) → new.file name ≡ old.file name
@@ -59,12 +59,13 @@ pub record CellsOut {V : Type 0} (store : StoreState) (name : List ℕ) (pages :
 abbrev pub AreOfSet : {V : Type 0} → Params → PlanNumbers → List (Paged V) → Type 0
 AreOfSet params plan cells = All (λ own. (own.layout.params ≡ params) × (own.layout.plan ≡ plan)) cells
 
--- internal: in any run that a call is a part of before which nothing changed but that views went out
+-- internal: in any run that a call is a part of and in which, before the call, nothing changed except that views went
+-- out
 abbrev pub WithViewsOut : {S : Type 0} → (S → StoreState) → S → S → (StoreRun → Type 0) → Type 0
 WithViewsOut {S} state before after holds = (first last : S) (out : ℕ) → ViewsOut (state first) out (state before)
     → StoreOnward (state after) (state last) → holds (from_to (state first) (state last))
 
--- internal: cells were put behind others
+-- internal: cells were put after others
 pub record AddsCells {V : Type 0} (store : StoreState) (name : List ℕ) (pages : V → PagesState)
     (before after : List (Paged V)) (new : StoreState) : Type 0 where
   pub added : List (Paged V)
@@ -82,8 +83,8 @@ pub record ViewsBack (old : StoreState) (counts : List ℕ) (new : StoreState) :
   pub views : IsTrue old.told → new.views ≡ old.views - length counts
   pub onward : StoreOnward old new
 
--- The end where not all views of a reference were had: one was not had, or its file is no reference or is of another
--- key; or the heads of two differ, so that one of them is not of the key.
+-- The end if not all views of a reference were obtained: one was not obtained, or its file is no reference or is of
+-- another key; or the heads of two differ, so that one of them is not of the key.
 pub data FailsReferences (store : StoreRun) (prefix : List ℕ) (files : KeyFiles) : Ending → Type 0 where
   not_viewed : (end : Ending) → FailsReference store (reference_name prefix) end
       → FailsReferences store prefix files end

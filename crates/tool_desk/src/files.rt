@@ -14,7 +14,7 @@ use std::alloc::{AllocError, Global};
 use stream_io::Store;
 use tool_base::{Ending, unreadable};
 
-/// The number that users see where a file is of another key, as `FileFault` of `share_files` counts.
+/// The number that users see if a file is of another key, as counted by `FileFault` of `share_files`.
 const OTHER_KEY: u8 = 7;
 
 /// The public key and the tree of a dealing. They may be of different keys until `test_same_key` has tested them.
@@ -64,14 +64,14 @@ pub fn test_same_key(
     Ok(())
 }
 
-/// Whether a file with this parameter set and identifier is of a key. The typecodes decide all else of a set.
+/// Whether a file with this parameter set and identifier is of a key. The typecodes decide everything else in a set.
 fn is_of_key(key: &PublicKey, params: &Params, id: &KeyId) -> bool
     ensures { IsTrue result ↔ IsOfKey key.now params.now id.now }
 {
     params.lms == key.params.lms && params.ots == key.params.ots && *id == key.id
 }
 
-/// The end where the file of a dealing with this suffix is of another key.
+/// The end if the file of a dealing with this suffix is of another key.
 pub(crate) fn other_key(alloc: Global, prefix: &str, suffix: &str) -> Ending
     ensures { (ending result ≡ spec.NoMemory) ⊎ (ending result ≡ spec.Unreadable (prefix.now ++ suffix.now) 7) }
 {

@@ -19,7 +19,7 @@ use std::alloc::Global;
 use stream_io::{CallFault, Store};
 use tool_base::{Ending, unreadable};
 
-/// Takes a view of the reference of a dealing, and reads and tests its head. Where it refuses, the view is given back.
+/// Takes a view of the reference of a dealing, and reads and tests its head. If it refuses, the view is given back.
 pub fn view_reference<S: Store>(
     alloc: Global,
     store: &mut S,
@@ -87,7 +87,7 @@ fn read_head<V: Pages>(pages: &mut V) -> Result<RefHeader, HeadFault>
     }
 }
 
-/// The end where the head of the file of this name was not read.
+/// The end if the head of the file of this name was not read.
 fn end_of_head(alloc: Global, name: &str, fault: HeadFault) -> Ending
     ensures { (ending result ≡ spec.NoMemory) ⊎ (ending result ≡ end_of_head name.now fault) }
 {

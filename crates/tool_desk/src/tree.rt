@@ -5,7 +5,7 @@ ghost use Rattle.std.specs.Prelude.{◌≡◌, length};
 use lms_bytes::{KeyId, Params};
 use merkle_path::Tree;
 
-/// What a tree file has.
+/// What a tree file holds.
 #[derive(Drop)]
 pub struct DealtTree {
     /// The parameter set.

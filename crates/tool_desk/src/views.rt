@@ -17,8 +17,8 @@ use std::alloc::Global;
 use stream_io::Store;
 use tool_base::Ending;
 
-/// Takes views of the reference of a dealing, one after the other, and reads and tests the head of each as soon as it
-/// has it: it is of the key, and all heads are the same. Where one is refused, all are given back.
+/// Takes views of the reference of a dealing, one after another, and reads and tests the head of each as soon as it has
+/// the view: the head is of the key, and all heads are the same. If one is refused, all are given back.
 pub fn view_cells<S: Store>(
     alloc: Global,
     store: &mut S,
@@ -62,7 +62,7 @@ pub fn view_cells<S: Store>(
     }
 }
 
-/// Takes so many views more, each with this head, and puts their cells behind the others into the room that there is.
+/// Takes `count` more views, each with this head, and puts their cells after the others into the room available.
 fn view_others<S: Store>(
     alloc: Global,
     store: &mut S,

@@ -78,7 +78,7 @@ load_ends failed file header id (loading.Damaged slot a b) end is fails still wh
     rw is (damaged slot a b (λ told. (damaged_why header 1024 file.before slot a b (why told)).0) (λ told. (damaged_why header 1024 file.before slot a b (why told)).1) still)
 load_ends failed file header id loading.Device end is fails still why = rw is (not_read (fails refl) still)
 
--- a file that is seen from further off: less may be told of it, and more may have been left
+-- a file that is seen from further away: less may be told of it, and more may have been left
 pub record IsWithin (one two : FileRun) : Type 0 where
   pub told : IsTrue two.told → IsTrue one.told
   pub honest : IsTrue two.told → IsTrue two.honest → IsTrue one.honest

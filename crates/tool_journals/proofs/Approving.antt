@@ -39,7 +39,7 @@ pub book_out : (a b : StoreState) (book : List ℕ) (header : Header) (disk : Pa
 book_out a b book header disk (was_there out is images) = out
 book_out a b book header disk (is_new blank) = blank.is_out
 
--- what a disk's file was and is
+-- a disk's file as it was and as it is
 abbrev pub pages_run : PagesState → PagesState → FileRun
 pages_run old now = record {
   told = old.told;

@@ -50,7 +50,7 @@ made_out a b name size disk made onward = record {
 pub new_unchanged : (first a b : StoreState) (name : List ℕ) → IsUnchanged first a → IsNew (from_to a b) name → (c : StoreState) → IsNew (from_to first c) name
 new_unchanged first a b name unchanged new c = λ told. rw (← unchanged.same.names.file, ← unchanged.same.names.out) (new (rw unchanged.onward.told told))
 
--- who may read a file that was made in a run stays so
+-- who may read a file that was made in a run stays the same
 pub owners_on : (first a b c : StoreState) (name : List ℕ) → StoreOnward first a → StoreOnward a b → StoreOnward b c → IsOwners (from_to a b) name → IsOwners (from_to first c) name
 owners_on first a b c name goes made comes owners told =
     let told_a : IsTrue a.told = rw goes.told told in

@@ -72,7 +72,7 @@ load_fails failed store share new file (Version got) end is fails why = rw is (n
 load_fails failed store share new file (Foreign kept) end is fails why = rw is (not_opened (Foreign kept) (λ told. elim (why told) [ inl e ↦ cc | inr e ↦ e ]))
 load_fails failed store share new file Device end is fails why = rw is (not_read (fails refl))
 
--- a run that a later one has as a part: what it left of a name stands
+-- a run that is part of a later one: what it left of a name stands
 pub record Later (one two : StoreRun) (name : List ℕ) : Type 0 where
   pub told : IsTrue two.before.told → IsTrue one.before.told
   pub call : CallFailed one → CallFailed two

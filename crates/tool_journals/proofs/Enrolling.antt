@@ -24,7 +24,7 @@ pub reference_goes : (bytes leaves : List ℕ) (reference : RefHeader) (header :
     → header ≡ table_header reference → count ≡ 2 ^ reference.params.h → GoWith bytes header count
 reference_goes bytes leaves reference header count layout names many = rw (names, many) (table reference leaves layout)
 
--- a file that is neither leads to the end that names its first fault
+-- a file that is neither kind leads to the end that names its first fault
 pub enrol_refused : (store : StoreRun) (name bytes : List ℕ) (fault : FileFault) (number : ℕ) (end : Ending)
     → IsRead store name (Bytes bytes) → enrol_fault bytes ≡ Some fault → number ≡ file_fault_number fault
     → (end ≡ spec.NoMemory) ⊎ (end ≡ spec.Unreadable name number) → FailsGrammar enrol_fault_number store name end

@@ -33,7 +33,7 @@ free_lists (slot.Half a) id free = absurd (true≢false (sym free))
 free_lists (slot.Full a b moment) id free = absurd (true≢false (sym free))
 free_lists (slot.Damaged a b) id free = refl
 
--- a book that has taken an id lists it, and what it listed
+-- a book that has taken an id lists it, and all that it listed before
 pub lists_also : (slots : List Slot) (id : List ℕ) (entered : Entered) (after : CacheState) → AddsTo slots id (Ok entered) after → ListsAlso slots id after.slots
 lists_also slots id _ _ (old listed) other =
     absorbed (pointwise nat_eq other id) (is_listed slots other) (λ same. rw (same_text other id (sym same)) listed)

@@ -1,4 +1,4 @@
--- How a migration ends where the old journal is not taken.
+-- How a migration ends if the old journal is not taken.
 use Rattle.std.proofs.Common.{ℕ, List}
 use Rattle.share_files.specs.declared.share.Share.{Share}
 use Rattle.stream_io.specs.Store.{SameStore, StoreOnward, StoreState}
@@ -12,7 +12,7 @@ use Rattle.tool_base.proofs.Runs.{unchanged_none, unchanged_on, onward_on, part_
 use Rattle.tool_journals.specs.Migrate.{MigrateEnds, not_taken}
 use Rattle.tool_journals.specs.Taking.{IsNotTaken}
 
--- the share was read, then the new name was tested, and the call that was to take the journal changed nothing
+-- the share was read, then the new name was tested, and the call that should take the journal changed nothing
 module _ {S : Type 0} (state : S → StoreState) (first shared tested last : S) (share journal new : List ℕ) (found : Share)
     (one : IsUnchanged (state first) (state shared)) (two : IsUnchanged (state shared) (state tested))
     (same : SameStore (state tested) (state last)) (onward : StoreOnward (state tested) (state last))

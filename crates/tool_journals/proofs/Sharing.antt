@@ -17,7 +17,7 @@ share_fails run name end (inl none) = rw none (not_read spec.NoMemory no_memory)
 share_fails run name end (inr fails) = fails
 
 module _ {S : Type 0} (state : S → StoreState) (first shared : S) (share : List ℕ) (one : IsUnchanged (state first) (state shared)) where
-  -- a command that ends so keeps all
+  -- a command that ends in this way keeps all
   pub unshared : (ends : Ending → List (List ℕ) → Type 0) (end : Ending) → ((end : Ending) → FailsGrammar share_fault_number (from_to (state first) (state shared)) share end → ends end [])
       → InAnyRun state first shared (λ run. (end ≡ spec.NoMemory) ⊎ FailsGrammar share_fault_number run share end) → EndsTouching ends (from_to (state first) (state shared)) end
   unshared ends end no_share fails =

@@ -17,7 +17,7 @@ use Rattle.tool_base.specs.Ending as ending
 use Rattle.tool_base.specs.Ending.{Ending}
 use Rattle.tool_base.specs.Loads.{load_fault_number}
 
--- A file over a call: whether its content is told, whether it keeps the model of crashes, what a read gave and gives,
+-- A file during a call: whether its content is told, whether it keeps the model of crashes, what a read gave and gives,
 -- and what a crash might have left of it and may leave.
 pub record FileRun : Type 1 where
   pub told : Bool
@@ -64,7 +64,7 @@ abbrev pub ListsAlso : List Slot → List ℕ → List Slot → Type 0
 ListsAlso before id after =
     (other : List ℕ) → is_listed after other ≡ (pointwise nat_eq other id || is_listed before other)
 
--- What became of adding a message to a book of this header, where a failed call of the disk has this cause: the book
+-- What became of adding a message to a book with this header, if a failed call of the disk has this cause: the book
 -- does not open, a slot is damaged, or the message is added to the slots.
 pub data AddEnds (failed : Type 0) (file : FileRun) (header : Header) (id : List ℕ) : Ending → Type 0 where
   not_read : failed → IsStill file → AddEnds failed file header id ending.DeviceFailed

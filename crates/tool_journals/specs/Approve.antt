@@ -19,7 +19,7 @@ use Rattle.tool_base.specs.Headers.{book_header}
 use Rattle.tool_base.specs.Disks.{IsOut}
 use Rattle.tool_journals.specs.Taking.{IsNotTaken}
 
--- the end where no disk of the book is had, with the names that were touched
+-- the end if there is no disk of the book, with the names that were touched
 pub data IsNotOpened (store : StoreRun) (book : List ℕ) (header : Header) : Ending → List (List ℕ) → Type 0 where
   look_failed : CallFailed store → IsNotOpened store book header ending.StoreFailed []
   no_memory_to_look : IsNotOpened store book header ending.NoMemory []
@@ -36,7 +36,7 @@ pub data IsBookDisk (old : StoreState) (book : List ℕ) (header : Header) (disk
       → IsBookDisk old book header disk new
   is_new : IsBlankDisk old book header 1024 disk new → IsBookDisk old book header disk new
 
--- the file of this name over a run of the store, where it had and has these bytes
+-- the file of this name during a run of the store, given the bytes that it had and has
 abbrev pub file_run : StoreRun → List ℕ → List ℕ → List ℕ → (List ℕ → Type 0) → FileRun
 file_run store name before after left = record {
   told = store.before.told;
@@ -47,7 +47,7 @@ file_run store name before after left = record {
   leaves = store.after.leaves name;
 }
 
--- the file of this name is a message of this id
+-- the file of this name is a message with this id
 pub record IsMessageRead (store : StoreRun) (name id : List ℕ) : Type 0 where
   pub text : List ℕ
   pub read : IsRead store name (Bytes text)

@@ -17,19 +17,19 @@ use Rattle.tool_base.specs.Disks.{DeviceFails, IsOut}
 abbrev pub IsHonest : StoreRun → List ℕ → Type 0
 IsHonest store name = IsTrue (store.before.disks name).honest
 
--- the owner of the file of this name alone may read it
+-- only the owner of the file of this name may read it
 abbrev pub IsOwners : StoreRun → List ℕ → Type 0
 IsOwners store name = IsTrue store.before.told → store.after.readers name ≡ Some OwnerAlone
 
--- The name is in the store, for its owner alone to read. Each image that a crash may leave of it does not open, or is
--- such a file.
+-- The name is in the store, and only its owner may read it. Each image that a crash may leave of it does not open, or
+-- is a whole file of this kind.
 pub record IsNeverHalf (whole : List ℕ → Type 0) (store : StoreRun) (name : List ℕ) : Type 0 where
   pub stays : IsTrue store.before.told → IsTrue (is_some (store.after.file name))
   pub owners : IsOwners store name
   pub images : IsTrue store.before.told → IsHonest store name
       → (image : List ℕ) → store.after.leaves name image → IsUnready image ⊎ whole image
 
--- the end where no blank file was made under this name, with the names that were touched
+-- the end if no blank file was made under this name, with the names that were touched
 pub data IsNotMade (store : StoreRun) (name : List ℕ) (header : Header) (count : ℕ)
     : Ending → List (List ℕ) → Type 0 where
   not_new : (end : Ending) → IsNotNew store name end → IsNotMade store name header count end []
@@ -38,7 +38,7 @@ pub data IsNotMade (store : StoreRun) (name : List ℕ) (header : Header) (count
   not_empty : IsNew store name → (IsTrue store.before.told → ⊥)
       → IsNotMade store name header count (ending.NotLoaded 7) (name ∷ [])
 
--- the name was new, and stands for the blank file, which is stable, and which its owner alone may read
+-- the name was new, and stands for the blank file, which is stable, and which only its owner may read
 pub record IsMade (store : StoreRun) (name : List ℕ) (header : Header) (count : ℕ) : Type 0 where
   pub new : IsNew store name
   pub file : IsTrue store.before.told → store.after.file name ≡ Some (blank_file header count)
@@ -47,7 +47,7 @@ pub record IsMade (store : StoreRun) (name : List ℕ) (header : Header) (count 
       → Only (blank_file header count) (store.after.leaves name)
   pub owners : IsOwners store name
 
--- a new disk of this name is out and holds the blank file, which is stable, and which its owner alone may read
+-- a new disk of this name is out and holds the blank file, which is stable, and which only its owner may read
 pub record IsBlankDisk (old : StoreState) (name : List ℕ) (header : Header) (count : ℕ) (disk : PagesState)
     (new : StoreState) : Type 0 where
   pub is_out : IsOut old name disk new

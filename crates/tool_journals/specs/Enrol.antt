@@ -32,7 +32,7 @@ table_header reference = record {
 abbrev pub begins_with : List ℕ → List ℕ → Bool
 begins_with magic bytes = bytes_eq magic (take 4 bytes)
 
--- The first fault of bytes as the file that they begin as. Those that begin as neither have another magic.
+-- The first fault of bytes as the kind of file they begin as. Bytes that begin as neither kind have another magic.
 unfoldable pub enrol_fault : List ℕ → Option FileFault
 enrol_fault bytes =
     if begins_with share_magic bytes then share_fault bytes
@@ -41,7 +41,7 @@ enrol_fault bytes =
 abbrev pub enrol_fault_number : List ℕ → Option ℕ
 enrol_fault_number bytes = option_map file_fault_number (enrol_fault bytes)
 
--- the bytes go with a blank file of this header and so many slots: those of a share with a journal, those of a
+-- the bytes go with a blank file with this header and this number of slots: those of a share with a journal, those of a
 -- reference file with a leaf table
 pub data GoWith (bytes : List ℕ) : Header → ℕ → Type 0 where
   journal : (share : Share) → bytes ≡ share_bytes share → CanBeDealt share.params
@@ -49,7 +49,7 @@ pub data GoWith (bytes : List ℕ) : Header → ℕ → Type 0 where
   table : (reference : RefHeader) (leaves : List ℕ) → HasReferenceLayout reference bytes leaves
       → GoWith bytes (table_header reference) (2 ^ reference.params.h)
 
--- the file of this name goes with a blank file of this header and so many slots
+-- the file of this name goes with a blank file with this header and `count` slots
 pub record IsEnrolled (store : StoreRun) (name : List ℕ) (header : Header) (count : ℕ) : Type 0 where
   pub bytes : List ℕ
   pub read : IsRead store name (Bytes bytes)

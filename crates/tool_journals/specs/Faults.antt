@@ -14,18 +14,18 @@ use Rattle.stream_io.specs.declared.store.NewFault.TheVariants.{Exists, Failed, 
 use Rattle.tool_base.specs.Ending as ending
 use Rattle.tool_base.specs.Ending.{Ending}
 
--- the end where a disk was not made under a name
+-- the end if a disk was not made under a name
 abbrev pub IsEndOfNew : List ℕ → NewFault → Ending → Type 0
 IsEndOfNew name Exists end = (end ≡ ending.NoMemory) ⊎ (end ≡ ending.Exists name)
 IsEndOfNew name Failed end = end ≡ ending.StoreFailed
 IsEndOfNew name NoMemory end = end ≡ ending.NoMemory
 
--- the end where a blank file was not made on a disk
+-- the end if a blank file was not made on a disk
 abbrev pub end_of_prepare : PrepareFault → Ending
 end_of_prepare (preparing.NotEmpty length) = ending.NotLoaded 7
 end_of_prepare preparing.Device = ending.DeviceFailed
 
--- the end where a file of slots was not opened
+-- the end if a file of slots was not opened
 abbrev pub end_of_load : LoadFault → Ending
 end_of_load (Length got want) = ending.NotLoaded 1
 end_of_load (NotReady gate) = ending.NotLoaded 2
@@ -33,13 +33,13 @@ end_of_load (Version got) = ending.NotLoaded 3
 end_of_load (Foreign kept) = ending.NotLoaded 4
 end_of_load Device = ending.DeviceFailed
 
--- the end where slots were not copied
+-- the end if slots were not copied
 abbrev pub end_of_copy : CopyFault → Ending
 end_of_copy (copying.NotEmpty length) = ending.NotLoaded 7
 end_of_copy (copying.Damaged slot a b) = ending.NotLoaded 6
 end_of_copy copying.Device = ending.DeviceFailed
 
--- the end where a message was added to a book, which has so many slots that are not free
+-- the end after a message was added to a book, which has that many slots that are not free
 abbrev pub end_of_add : Result Entered BookFault → ℕ → Ending
 end_of_add (Ok entered) slots = ending.Approved slots
 end_of_add (Err adding.Device) slots = ending.DeviceFailed

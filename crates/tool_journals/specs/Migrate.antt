@@ -33,29 +33,29 @@ old_header share = record {
 abbrev pub slot_count : Share → ℕ
 slot_count share = 2 ^ share.params.h
 
--- The name stands for this file, as it did. A crash leaves of it nothing that it did not leave before.
+-- The name stands for this file, as it did. A crash leaves nothing of it that it did not leave before.
 pub record StandsStill (store : StoreRun) (name file : List ℕ) : Type 0 where
   pub before : IsTrue store.before.told → store.before.file name ≡ Some file
   pub after : IsTrue store.before.told → store.after.file name ≡ Some file
   pub images : IsTrue store.before.told → IsHonest store name
       → (image : List ℕ) → store.after.leaves name image → store.before.leaves name image
 
--- the name stands for a file that does not open, and a crash leaves no other; its owner alone may read it
+-- the name stands for a file that does not open, and a crash leaves no other; only its owner may read it
 pub record IsShut (store : StoreRun) (name : List ℕ) : Type 0 where
   pub file : IsTrue store.before.told → (bytes : List ℕ) × (store.after.file name ≡ Some bytes) × IsUnready bytes
   pub images : IsTrue store.before.told → IsHonest store name
       → (image : List ℕ) → store.after.leaves name image → IsUnready image
   pub owners : IsOwners store name
 
--- the name stands for a file with the slots of this one, which opens by the share's header and is stable; its owner
--- alone may read it
+-- the name stands for a file with the slots of this one, which opens with the share's header and is stable; only its
+-- owner may read it
 pub record IsCopied (store : StoreRun) (share : Share) (name file : List ℕ) : Type 0 where
   pub copy : IsTrue store.before.told → (bytes : List ℕ) × (store.after.file name ≡ Some bytes)
       × IsCopy (journal_header share) (slot_count share) 1 file bytes
       × (IsHonest store name → Only bytes (store.after.leaves name))
   pub owners : IsOwners store name
 
--- What became of copying this file under a new name, where a failed call of a disk has this cause, with the names that
+-- What became of copying this file under a new name, if a failed call of a disk has this cause, with the names that
 -- were touched. It is opened as a journal of version 1.
 pub data CopyEnds (failed : Type 0) (store : StoreRun) (share : Share) (new file : List ℕ)
     : Ending → List (List ℕ) → Type 0 where

@@ -5,7 +5,7 @@ use Rattle.tool_base.specs.Ending as ending
 use Rattle.tool_base.specs.Ending.{Ending}
 use Rattle.tool_base.specs.World.{StoreRun}
 
--- the end where the disk of this name was not handed out
+-- the end if the disk of this name was not handed out
 pub data IsNotTaken (store : StoreRun) (name : List ℕ) : Ending → Type 0 where
   take_failed : Rose store.before.count store.after.count
       → (IsTrue store.before.told → IsTrue store.before.steady → store.before.file name ≡ None)

@@ -1,4 +1,4 @@
-//! Blank files of slots: which goes with a file, and made under new names.
+//! Blank files of slots: which one goes with a file, and how they are made under new names.
 
 ghost use Rattle.std.specs.Prelude.{◌≡◌, ◌^◌, None, Some, IfOk, OnOk, IfErr};
 ghost use Rattle.slot_file.specs.Layout.{file_size};
@@ -53,7 +53,7 @@ impl Blank {
     }
 }
 
-/// The length in bytes of a file of so many slots.
+/// The length in bytes of a file of `count` slots.
 pub(crate) fn file_length(version: u8, count: u32) -> usize
     ensures { result ≡ file_size version count }
 {
@@ -90,7 +90,7 @@ pub(crate) fn new_blank<S: Store>(
     Ok(disk)
 }
 
-/// Reads the file that the blank file is to go with.
+/// Reads the file with which the blank file should go.
 pub(crate) fn read_blank<S: Store>(
     alloc: Global,
     store: &mut S,

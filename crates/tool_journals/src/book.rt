@@ -21,7 +21,7 @@ use std::alloc::Global;
 use stream_io::{CallFault, Store};
 use tool_base::{Ending, FILE_LIMIT, end_of_slots, read_file};
 
-/// Reads a message for its id.
+/// Reads a message to get its id.
 pub(crate) fn read_message<S: Store>(
     alloc: Global,
     store: &mut S,
@@ -37,7 +37,7 @@ pub(crate) fn read_message<S: Store>(
     Ok(MessageId::of(&text))
 }
 
-/// Takes the disk of the book out of the store, or makes the book where it is not there.
+/// Takes the disk of the book out of the store, or makes the book if it is not there.
 pub(crate) fn open_book<S: Store>(
     alloc: Global,
     store: &mut S,

@@ -14,7 +14,7 @@ use std::alloc::Global;
 use stream_io::{CallFault, Store};
 use tool_base::{Ending, read_share_file, test_new};
 
-/// Makes the journal of a share, or the leaf table of a reference file, both by the names of their files.
+/// Makes the journal of a share, or the leaf table of a reference file, both given by the names of their files.
 pub fn enrol_file<S: Store>(alloc: Global, store: &mut S, file: &str, journal: &str) -> Ending
     ensures ended { let run = from_to (S.state store.old) (S.state store.new) in
         EndsTouching (EnrolEnds run file.now journal.now) run (ending result) }
@@ -34,8 +34,8 @@ pub fn enrol_file<S: Store>(alloc: Global, store: &mut S, file: &str, journal: &
     }
 }
 
-/// Lists a message in the book of a share's trustee, all three by the names of their files. A book that is not in the
-/// store is made.
+/// Lists a message in the book of a share's trustee, all three given by the names of their files. A book that is not in
+/// the store is made.
 pub fn approve_message<S: Store>(
     alloc: Global,
     store: &mut S,
@@ -64,7 +64,8 @@ pub fn approve_message<S: Store>(
     end
 }
 
-/// Copies the journal of version 1 of a share's trustee into a new journal, all three by the names of their files.
+/// Copies the journal of version 1 of a share's trustee into a new journal, all three given by the names of their
+/// files.
 pub fn migrate_journal<S: Store>(
     alloc: Global,
     store: &mut S,

@@ -12,7 +12,7 @@ use std::alloc::{AllocError, Global};
 use stream_io::NewFault;
 use tool_base::{Ending, load_fault_number};
 
-/// The end where a disk was not made under a name.
+/// The end if a disk was not made under a name.
 pub(crate) fn end_of_new(alloc: Global, name: &str, fault: NewFault) -> Ending
     ensures { IsEndOfNew name.now fault (ending result) }
 {
@@ -26,7 +26,7 @@ pub(crate) fn end_of_new(alloc: Global, name: &str, fault: NewFault) -> Ending
     }
 }
 
-/// The end where a blank file was not made on a disk. No disk that was just made holds bytes, if it tells them.
+/// The end if a blank file was not made on a disk. No disk that was just made holds bytes, if it tells them.
 pub(crate) fn end_of_prepare(fault: PrepareFault) -> Ending
     ensures { ending result ≡ end_of_prepare fault }
 {
@@ -36,7 +36,7 @@ pub(crate) fn end_of_prepare(fault: PrepareFault) -> Ending
     }
 }
 
-/// The end where a file of slots was not opened.
+/// The end if a file of slots was not opened.
 pub(crate) fn end_of_load(fault: LoadFault) -> Ending
     ensures { ending result ≡ end_of_load fault }
 {
@@ -48,7 +48,7 @@ pub(crate) fn end_of_load(fault: LoadFault) -> Ending
     }
 }
 
-/// The end where slots were not copied. No disk that was just made holds bytes, if it tells them.
+/// The end if slots were not copied. No disk that was just made holds bytes, if it tells them.
 pub(crate) fn end_of_copy(fault: CopyFault) -> Ending
     ensures { ending result ≡ end_of_copy fault }
 {
@@ -59,7 +59,7 @@ pub(crate) fn end_of_copy(fault: CopyFault) -> Ending
     }
 }
 
-/// The end where a message was added to a book that was just loaded, which has so many slots that are not free then.
+/// The end after a message was added to a book that was just loaded, and in which `slots` slots are then not free.
 pub(crate) fn end_of_add(added: Result<Entered, BookFault>, slots: u32) -> Ending
     ensures { ending result ≡ end_of_add added slots }
 {

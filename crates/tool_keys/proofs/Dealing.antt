@@ -35,7 +35,7 @@ pub refused : (words : DealWords) (entropy : List ℕ) (params : Params) (plan :
 refused words entropy params plan fault set same sound (inl none) = rw none.0 no_memory
 refused words entropy params plan fault set same sound (inr has) = faulty params fault set (rw (← same) sound) (rw (← same) has)
 
--- the end where there is no dealing with commitments
+-- the end if there is no dealing with commitments
 abbrev pub end_of_committed : CommittedFault → Ending
 end_of_committed (Deal fault) = end_of_fault fault
 end_of_committed (TooLarge bytes) = ending.NotDealt (Commitments bytes)

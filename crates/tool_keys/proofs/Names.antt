@@ -40,7 +40,7 @@ no_share prefix suffix t other same = other (ap (λ bytes. get_or bytes 1 0) (ap
 suffixes_differ : (prefix a b : List ℕ) → get_or a 1 0 ≢ get_or b 1 0 → prefix ++ a ≢ prefix ++ b
 suffixes_differ prefix a b other same = other (ap (λ bytes. get_or bytes 1 0) (append_cancel_left prefix a b same))
 
--- a test that holds of the name of the commitment file holds of all names behind the shares
+-- a test that holds of the name of the commitment file holds of all names after the shares
 all_commits : (P : List ℕ → Type 0) (prefix : List ℕ) (commits : Option (List ℕ)) → P (prefix ++ codes ".commit")
     → All P (map (λ output. output.name) (commits_outputs prefix commits))
 all_commits P prefix None holds = All-nil P

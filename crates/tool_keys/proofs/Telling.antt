@@ -61,12 +61,12 @@ unwritten-status store outputs written end stops = not_written-status store writ
 pub dealt-status : (words : DealWords) (entropy : List ℕ) (outputs : List Output) (done : Ending) → IsDealtTo words entropy outputs done → status_of done ≢ 5
 dealt-status words entropy outputs done dealt = λ (e : status_of done ≡ 5). let is : ◌≡◌ {A = ℕ} 0 5 = sym (ap status_of dealt.done_is) ∙ e in cc
 
--- memory was wanting behind all leaves
+-- memory ran out after all leaves
 pub no_memory-all : {P : Type 0} (told : P → ℕ → ℕ → P) (words : DealWords) (params : Params) (old new : P) → IsSet words params
     → new ≡ told_of told params.h old → ToldBy told words 14 old new
 no_memory-all told words params old new set all = all_told (λ e. cc) (record { params = params; set = set; all = all })
 
--- what a dealing told that was refused, or for which memory was wanting
+-- what a dealing told that was refused, or that ran out of memory
 pub refused-told : {P : Type 0} (told : P → ℕ → ℕ → P) (words : DealWords) (params : Params) (entropy : List ℕ) (end : Ending) (old new : P) → IsSet words params
     → IsNotDealt words entropy end → (new ≡ old) ⊎ ((end ≡ ending.NoMemory) × (new ≡ told_of told params.h old)) → ToldBy told words (status_of end) old new
 refused-told told words params entropy end old new set refused (inl nothing) = nothing_told (undealt-status words entropy end refused) nothing

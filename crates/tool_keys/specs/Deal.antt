@@ -1,5 +1,5 @@
 -- How `deal` ends: it reads the entropy, tests the typecodes, the threshold, the number of coalitions, the height, the
--- width, the entropy and its keys, and where commitments are asked for the length of their file, tests that all outputs
+-- width, the entropy and its keys, and, if commitments are asked for, the length of their file, tests that all outputs
 -- are new, and writes them.
 use Rattle.std.specs.Prelude.{◌≡◌, ◌<◌, ◌≤◌, ◌^◌, ◌++◌, ℕ, List, [], ◌∷◌, length, Option, None, Some, codes, map, All}
 use Rattle.std.specs.Prelude.{Bool, IsTrue, if◌then◌else◌}
@@ -36,11 +36,11 @@ pub record IsSet (words : DealWords) (params : Params) : Type 0 where
 abbrev pub plan_of : DealWords → Params → PlanNumbers
 plan_of words params = record { n = words.n; k = words.k; h = params.h }
 
--- the commitment file of a dealing, where it is asked for
+-- the commitment file of a dealing, if it is asked for
 abbrev pub asked_commits : Bool → Dealing → Option (List ℕ)
 asked_commits commit d = if commit then Some (commits_file d) else None
 
--- the output with it, where there is one: anyone may read it
+-- the output with it, if there is one: anyone may read it
 abbrev pub commits_outputs : List ℕ → Option (List ℕ) → List Output
 commits_outputs prefix None = []
 commits_outputs prefix (Some file) = record { name = prefix ++ codes ".commit"; bytes = file; readers = Anyone } ∷ []
@@ -54,7 +54,7 @@ share_output prefix d t = record {
 }
 
 -- The files of a dealing, in the order in which they are written: `.share1` and on for the trustees, and last the
--- commitment file where the words ask for it. Anyone may read those that are no shares.
+-- commitment file if the words ask for it. Anyone may read those that are no shares.
 abbrev pub outputs_of : DealWords → Dealing → List Output
 outputs_of words d =
     record { name = key_name words.prefix; bytes = public_file d; readers = Anyone }
@@ -63,7 +63,7 @@ outputs_of words d =
     ∷ (map (share_output words.prefix d) (range_with_len 1 d.plan.n)
     ++ commits_outputs words.prefix (asked_commits words.commit d))
 
--- The dealing that this entropy stands for is dealt, and where the words ask for its commitment file this has at most
+-- The dealing that this entropy stands for is dealt, and if the words ask for its commitment file, this has at most
 -- 67,108,864 bytes.
 pub record IsDealableBy (words : DealWords) (params : Params) (plan : PlanNumbers) (entropy : List ℕ) : Type 0 where
   pub dealable : IsDealable params plan entropy
@@ -84,7 +84,7 @@ pub record IsDealtTo (words : DealWords) (entropy : List ℕ) (outputs : List Ou
   pub outputs_are : outputs ≡ outputs_of words (dealing_of params (plan_of words params) entropy)
   pub done_is : done ≡ ending.Dealt (2 ^ params.h) (count_of (plan_of words params))
 
--- the end where the entropy is not dealt
+-- the end if the entropy is not dealt
 pub data IsNotDealt (words : DealWords) (entropy : List ℕ) : Ending → Type 0 where
   no_set : (fault : KeyFault) → codes_fault words.lms words.ots ≡ Some fault
       → IsNotDealt words entropy (ending.NotDealt Code)

@@ -14,7 +14,7 @@ named_shares prefix t (share ∷ shares) =
     record { name = prefix ++ (codes ".share" ++ decimal t); bytes = share; readers = OwnerAlone }
     ∷ named_shares prefix (t + 1) shares
 
--- all files, in the order in which they are written, and the commitment file where there is one
+-- all files, in the order in which they are written, and the commitment file if there is one
 abbrev pub named_files : List ℕ → DealingFiles → Option (List ℕ) → List Output
 named_files prefix files commits =
     record { name = key_name prefix; bytes = files.public.items; readers = Anyone }

@@ -23,7 +23,7 @@ pub record IsRehearsedTo (entropy message key_out signature_out : List ℕ) (out
       ≡ record { name = key_out; bytes = public_bytes public; readers = Anyone }
       ∷ record { name = signature_out; bytes = signature; readers = Anyone } ∷ []
 
--- the end where there is no rehearsal with this entropy
+-- the end if there is no rehearsal with this entropy
 pub data IsNotRehearsed (entropy : List ℕ) : Ending → Type 0 where
   faulty : (fault : DealFault) → RehearsalFault entropy fault → IsNotRehearsed entropy (end_of_fault fault)
   no_memory : IsNotRehearsed entropy ending.NoMemory

@@ -6,7 +6,7 @@ use Rattle.tool_base.specs.Outputs.{FirstNotNew, IsNew, Output, StopsAfter}
 use Rattle.tool_base.specs.Reads.{FailsToRead}
 use Rattle.tool_base.specs.World.{StoreRun, Bytes, IsRead}
 
--- a step that refuses, and that is the end, or gives such a value to the rest
+-- a step that refuses, and that is the end, or that gives a value of this kind to the rest
 pub data StepThen {A : Type 0} (Fails : Ending → Type 0) (Gives : A → Type 0)
     (Rest : A → Ending → List Output → Type 0) : Ending → List Output → Type 0 where
   refused : (end : Ending) → Fails end → StepThen Fails Gives Rest end []
@@ -40,7 +40,7 @@ pub record AreRead (store : StoreRun) (one two a b : List ℕ) : Type 0 where
   pub first : IsRead store one (Bytes a)
   pub second : IsRead store two (Bytes b)
 
--- internal: the end where one of two files could not be read, the first one first
+-- internal: the end if one of two files could not be read, the first one first
 pub data FailsToReadTwo (store : StoreRun) (one two : List ℕ) : Ending → Type 0 where
   first_fails : (end : Ending) → FailsToRead store one end → FailsToReadTwo store one two end
   second_fails : (text : List ℕ) (end : Ending) → IsRead store one (Bytes text) → FailsToRead store two end

@@ -103,7 +103,7 @@ fn dealt_outputs<R: Threads + Sync, P: Progress>(
     Ok((outputs, done))
 }
 
-/// The dealing of this set, plan and entropy, and its commitment file where the words ask for it.
+/// The dealing of this set, plan and entropy, and its commitment file if the words ask for it.
 fn deal_as_asked<R: Threads + Sync, P: Progress>(
     rt: &R,
     progress: &mut P,
@@ -159,7 +159,7 @@ fn named_outputs(
     Ok(outputs)
 }
 
-/// Adds a file that anyone may read, under the prefix with an ending behind it.
+/// Adds a file that anyone may read, under the prefix with an ending after it.
 fn push_file(
     alloc: Global,
     prefix: &str,
@@ -201,7 +201,7 @@ fn push_shares(
     Ok(())
 }
 
-/// Adds the commitment file with its name, where there is one.
+/// Adds the commitment file with its name, if there is one.
 fn push_commits(
     alloc: Global,
     prefix: &str,

@@ -26,8 +26,8 @@ pub(crate) trait VerifyingKey: Copy {
         ensures { tells self.now message.now signature.now (ending result) [] };
 }
 
-/// Verifies a signature of a message, both by the names of their files, under a key that was read before. Where it was
-/// not read, that is the end.
+/// Verifies a signature of a message, both by the names of their files, under a key that was read before. If it was not
+/// read, that is the end.
 pub(crate) fn verify_under<K: VerifyingKey, S: Store>(
     alloc: Global,
     store: &mut S,

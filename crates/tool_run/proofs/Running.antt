@@ -1,4 +1,4 @@
--- What a command does of the outside.
+-- What a command does to the outside.
 use denote.Bor.{Bor}
 use Rattle.std.proofs.Common.{◌≡◌, ℕ, Bool, List, [], None, refl}
 use Rattle.stream_io.specs.Net.{NetState}

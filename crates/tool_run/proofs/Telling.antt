@@ -1,4 +1,4 @@
--- What words tell, by the status that is answered.
+-- What words tell, depending on the status that is answered.
 use denote.Bor.{Bor}
 use Rattle.std.proofs.Common.{◌≡◌, ◌≢◌, ◌==◌, ◌⊎◌, ℕ, zero, suc, Option, Some, None, if◌then◌else◌, inl, inr, refl, sym, ap, ◌∙◌, arith}
 use Rattle.std.proofs.lemmas.Bool.Decides.{nat_tests}
@@ -40,13 +40,13 @@ shown-status shown status n (inl whole) is other = sym whole ∙ is
 shown-status zero status n (inr cut) is other = absurd (other (sym is ∙ cut))
 shown-status (suc shown) status n (inr cut) is other = grind (arith, nat_tests)
 
--- and it is that of the end where it is not that of want of memory either
+-- and it is that of the end if it is not that of want of memory either
 end-status : (run : OutputRun) (end : Ending) (status n : ℕ) → EndsSo run end status → status ≡ n → n ≢ 3 → n ≢ 14 → status_of end ≡ n
 end-status run end status n so is whole enough =
     let shown : status_of so.shown ≡ n = shown-status (status_of so.shown) status n (elim so.answered [ inl a ↦ inl a.1 | inr a ↦ inr a.1 ]) is whole in
     elim so.is [ inl none ↦ absurd (enough (sym shown ∙ ap status_of none)) | inr same ↦ ap status_of (sym same) ∙ shown ]
 
--- what words tell at the status of their end they tell at the one that is answered
+-- what words tell at the status of their end, they also tell at the status that is answered
 pub tells-answered : {P : Type 0} (told : P → ℕ → ℕ → P) (row : Option Row) (run : OutputRun) (end : Ending) (status : ℕ) (old new : P) → EndsSo run end status
     → WordsTell told row (status_of end) old new → WordsTell told row status old new
 tells-answered told (Some (words.Deal deal)) run end status old new so (nothing_told some same) =

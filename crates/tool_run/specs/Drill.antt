@@ -5,7 +5,7 @@ use Rattle.drill_schedule.specs.declared.summary.Summary.{Summary}
 use Rattle.tool_base.specs.Ending as ending
 use Rattle.tool_base.specs.Ending.{Ending}
 
--- so many sessions were run under so many events of this number's schedule
+-- `sessions` sessions were run under `events` events of this number's schedule
 pub data DrillEnds (number sessions events : ℕ) : Ending → Type 0 where
   no_memory : DrillEnds number sessions events ending.NoMemory
   drilled : (summary : Summary) → IsSummary number sessions events summary

@@ -52,7 +52,7 @@ SignsLevels words before after =
 abbrev pub IsUsage : Outside → Outside → Ending → Type 0
 IsUsage = OnStore (λ store. EndsWith (λ end written. (end ≡ Usage) × (written ≡ [])) store)
 
--- what a command does and how it ends, by the rules of that command
+-- what a command does and how it ends, according to the rules of that command
 abbrev pub CommandRun : Row → Outside → Outside → Ending → Type 0
 CommandRun (Verify key message signature) =
     OnStore (λ store. EndsWith (VerifyEnds store key message signature) store)
@@ -84,7 +84,7 @@ IsOnStore (HssSign words) = ⊥
 IsOnStore (Aggregate words) = ⊥
 IsOnStore row = ⊤
 
--- what words do: other words than a command's are a faulty command line, and change nothing
+-- what words do: words other than a command's are a faulty command line, and change nothing
 abbrev pub WordsRun : Option Row → Outside → Outside → Ending → Type 0
 WordsRun None = IsUsage
 WordsRun (Some row) = CommandRun row
@@ -99,7 +99,7 @@ pub record IsCutShort (output : OutputRun) (line : List ℕ) : Type 0 where
   pub rose : Rose output.before.count output.after.count
   pub no_room : IsTrue output.steady → output.room < length line
 
--- the status where the line could not be printed whole
+-- the status if the line could not be printed whole
 abbrev pub status_cut_short : Ending → ℕ
 status_cut_short ending = if status_of ending == 0 then 3 else status_of ending
 
@@ -115,9 +115,9 @@ pub record EndsSo (output : OutputRun) (end : Ending) (status : ℕ) : Type 0 wh
   pub is : (shown ≡ NoMemory) ⊎ (shown ≡ end)
   pub answered : IsAnswered output shown status
 
--- A call with these words: it came to an end by the rules of its command, which say what it did, and its status and
--- its output are that end's or, where there was no memory for the line, those of want of memory. No object changed its
--- kind, no count fell, and all that was handed out is back.
+-- A call with these words: it came to an end according to the rules of its command, which say what it did, and its
+-- status and its output are that end's or, if there was no memory for the line, those of want of memory. No object
+-- changed its kind, no count fell, and all that was handed out is back.
 pub record ToolRun (words : List (List ℕ)) (world : World) (status : ℕ) : Type 0 where
   pub end : Ending
   pub ended : WordsRun (command_of words) world.before world.after end

@@ -26,7 +26,7 @@ use tool_trustee::{Clocks, serve_trustee};
 use tool_words::{Command, command_of};
 
 /// Does what the words ask for, and answers the status. The words begin with the command. `progress` is told how far a
-/// dealing is.
+/// dealing has come.
 pub fn run_tool<R: Threads + Wait + Sync, P: Progress, S: Store, N: Net, T: Clocks, O: Sink>(
     rt: &R,
     progress: &mut P,
@@ -107,7 +107,7 @@ fn run_command<R: Threads + Wait + Sync, P: Progress, S: Store, N: Net, T: Clock
     }
 }
 
-/// Does what a command asks for that works on the store alone, and answers how it ends.
+/// Does what a command that works on the store alone asks for, and answers how it ends.
 fn run_on_store<S: Store>(alloc: Global, command: &Command, store: &mut S) -> Ending
     requires alone { IsOnStore (row command.now) }
     requires differ { OutputsDiffer (row command.now) }
@@ -162,7 +162,7 @@ fn finish<O: Sink>(alloc: Global, end: &Ending, out: &mut O) -> u8
     }
 }
 
-/// Prints a line, and answers the status: 3 in the place of 0 where the line cannot be printed whole.
+/// Prints a line, and answers the status: 3 in place of 0 if the line cannot be printed whole.
 fn print<O: Sink>(line: &[u8], status: u8, out: &mut O) -> u8
     ensures { let run = output_run O.steady O.room O.talk out.old out.new in
         (IsPrinted run line.now × (result ≡ status))

@@ -59,7 +59,7 @@ years-least (suc count) =
     let more : days_of_years (suc count) ≡ days_of_years count + year_length (1970 + count) = ap days_of_years (sym (add-one count)) ∙ more in
     omega (arith, more, years-least count, length-least (1970 + count))
 
--- the days of the years up to some year by the leap years among them
+-- the days of the years up to some year, counted by the leap years among them
 counted : (count : ℕ) → days_of_years count + 719528 + (count + 2069) / 100 ≡ 365 * (count + 1970) + (count + 1973) / 4 + (count + 2369) / 400
 counted zero = rw no-years refl
 counted (suc count) =

@@ -1,4 +1,4 @@
--- What the readers' answers say of the text, and of the faults.
+-- What the readers' answers say about the text and the faults.
 use Rattle.std.proofs.Common.{◌≡◌, ◌∙◌, ◌≤◌, ◌+◌, ◌-◌, ◌*◌, ◌^◌, ℕ, Bool, List, length, Option, Some, None, refl, ap, arith}
 use Rattle.std.proofs.lemmas.Nat.{pow_below}
 use Rattle.std.proofs.Math.Nat.{mul-le-mul_left}
@@ -20,7 +20,7 @@ has_root params bytes id nodes layout =
     let most : params.n * 1 ≤ params.n * (2 ^ (params.h + 1) - 1) = mul-le-mul_left params.n some in
     omega (arith, layout.nodes_length)
 
--- what is said of a kind, or of none
+-- what is said about a kind, or about none
 abbrev fault_of : List ℕ → Option Kind → Option ℕ
 fault_of bytes kind = elim kind [ None ↦ Some 1 | Some kind ↦ fault_as kind bytes ]
 

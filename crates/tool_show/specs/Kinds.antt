@@ -48,8 +48,8 @@ kind_of bytes =
 unfoldable pub commits_fault : List ℕ → Option FileFault
 commits_fault bytes = first_fault (short_fault 32 bytes ∷ commits_head_fault (take 32 bytes) (length bytes) ∷ [])
 
--- the number of the first test that bytes of a kind fail; files of slots are tested where they are loaded, and bytes
--- are a key only where they pass
+-- the number of the first test that bytes of a kind fail; files of slots are tested when they are loaded, and bytes are
+-- a key only if they pass
 abbrev pub fault_as : Kind → List ℕ → Option ℕ
 fault_as IsShare bytes = option_map file_fault_number (share_fault bytes)
 fault_as IsTree bytes = option_map file_fault_number (tree_fault bytes)

@@ -33,7 +33,7 @@ share_line share =
 abbrev pub tree_line : Params → (id nodes : List ℕ) → List ℕ
 tree_line params id nodes = codes "tree" ++ (root_words params id (take params.n nodes) ++ end_of_line)
 
--- `of N threshold K codes LMS OTS key KEY bytes B`, behind the name of a file
+-- `of N threshold K codes LMS OTS key KEY bytes B`, after the name of a file
 abbrev pub header_line : List ℕ → RefHeader → ℕ → List ℕ
 header_line name header size =
     name ++ (plan_words header.plan

@@ -4,7 +4,7 @@ use Rattle.std.specs.Prelude.{not, List, ◌++◌, Option, None, Some, codes, if
 use Rattle.std.specs.Fmt.{decimal}
 use Rattle.tool_show.specs.declared.moment.UtcTime.{UtcTime}
 
--- the Gregorian rule: each fourth year is a leap year, but of the hundredth ones only each four hundredth
+-- the Gregorian rule: every fourth year is a leap year, but of the hundredth years only every four hundredth
 abbrev pub is_leap : ℕ → Bool
 is_leap year = (year % 4 == 0) && (not (year % 100 == 0) || (year % 400 == 0))
 
@@ -18,23 +18,23 @@ month_length year month =
     if month == 2 then (if is_leap year then 29 else 28)
     else (if (month == 4) || ((month == 6) || ((month == 9) || (month == 11))) then 30 else 31)
 
--- the days of so many years, of which 1970 is the first
+-- the days of this many years, the first of which is 1970
 unfoldable pub days_of_years : ℕ → ℕ
 days_of_years zero = 0
 days_of_years (suc count) = days_of_years count + year_length (1970 + count)
 
--- the days of so many months of a year, of which January is the first
+-- the days of this many months of a year, the first of which is January
 unfoldable pub days_of_months : ℕ → ℕ → ℕ
 days_of_months year zero = 0
 days_of_months year (suc count) = days_of_months year count + month_length year (suc count)
 
--- the days from 1 January 1970 to a date: those of the years before it, of the months before it in its year, and of its
--- month before it
+-- the days from 1 January 1970 to a date: those of the years before it, those of the months before it in its year, and
+-- those before it in its month
 abbrev pub days_before : UtcTime → ℕ
 days_before time =
     days_of_years (time.year - 1970) + days_of_months time.year (time.month - 1) + (time.day - 1)
 
--- a date and a time of day, and so many seconds from the beginning of 1970 to it
+-- a date and a time of day, and this many seconds from the beginning of 1970 to it
 pub record IsUtc (moment : ℕ) (time : UtcTime) : Type 0 where
   pub year : 1970 ≤ time.year
   pub month : (1 ≤ time.month) × (time.month ≤ 12)
@@ -59,7 +59,7 @@ clock_words time =
 abbrev pub utc_words : UtcTime → List ℕ
 utc_words time = date_words time ++ (codes "T" ++ (clock_words time ++ codes "Z"))
 
--- the word of a moment, and `-` where there is none
+-- the word of a moment, or `-` if there is none
 abbrev pub IsMomentWord : Option ℕ → List ℕ → Type 0
 IsMomentWord None word = word ≡ codes "-"
 IsMomentWord (Some moment) word = (time : UtcTime) × IsUtc moment time × (word ≡ utc_words time)

@@ -1,4 +1,4 @@
--- How `show` ends: it reads the file whole, and says what it holds, or why it does not.
+-- How `show` ends: it reads the whole file, and says what it holds, or why it does not.
 use Rattle.std.specs.Prelude.{◌≡◌, ℕ, Bool, List, Some}
 use Rattle.tool_show.specs.Listing.{IsNotLoaded}
 use Rattle.tool_base.specs.Ending as ending
@@ -8,7 +8,7 @@ use Rattle.tool_base.specs.World.{StoreRun, Bytes, IsRead}
 use Rattle.tool_show.specs.Kinds.{IsSlots, kind_of, show_fault}
 use Rattle.tool_show.specs.Shown.{IsShown}
 
--- the end where bytes are no file of their kind, or do not load
+-- the end if bytes are no file of their kind, or do not load
 pub data IsNotShown (file bytes : List ℕ) : Ending → Type 0 where
   unreadable : (fault : ℕ) → show_fault bytes ≡ Some fault → IsNotShown file bytes (ending.Unreadable file fault)
   not_loaded : (fault : ℕ) → kind_of bytes ≡ Some IsSlots → IsNotLoaded bytes fault

@@ -22,7 +22,7 @@ pub record HasCommitsHead (header : RefHeader) (bytes : List ℕ) : Type 0 where
   pub head : take 32 bytes ≡ commits_head header
   pub size : length bytes ≡ commits_length header.params header.plan
 
--- The text that says what bytes hold. Where `leaves` is true, that of a file of slots has a line more for each slot
+-- The text that says what bytes hold. If `leaves` is true, the text of a file of slots has one more line for each slot
 -- that is not free.
 pub data IsShown (bytes : List ℕ) (leaves : Bool) : List ℕ → Type 0 where
   share : (share : Share) → kind_of bytes ≡ Some IsShare → bytes ≡ share_bytes share → CanBeDealt share.params

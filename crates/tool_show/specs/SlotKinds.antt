@@ -11,7 +11,7 @@ use Rattle.tool_base.specs.Loads.{load_fault_number}
 use Rattle.tool_show.specs.declared.kind.SlotKind.{SlotKind}
 use Rattle.tool_show.specs.declared.kind.SlotKind.TheVariants.{Journal, OldJournal, Table, Book}
 
--- Version 2 is a journal, version 3 a book. Version 1 is a leaf table where the number is 0, and else a journal of the
+-- Version 2 is a journal, version 3 a book. Version 1 is a leaf table if the number is 0, otherwise a journal of the
 -- first version.
 abbrev pub version_kind : ℕ → ℕ → Option SlotKind
 version_kind version number =
@@ -47,8 +47,8 @@ pub record Loads (kind : SlotKind) (bytes : List ℕ) : Type 0 where
   pub sound : (slot : ℕ) → slot < slot_count kind bytes
       → is_damaged (slot_at (header_in bytes).version slot bytes) ≡ false
 
--- why a file does not load, by the first test that fails: it does not open, which of a file of its own header is
--- fault 1 or 2, or has a damaged slot, which is fault 6
+-- why a file does not load, by the first test that fails: it does not open, which is fault 1 or 2 for a file of its own
+-- header, or it has a damaged slot, which is fault 6
 pub data LoadsNot (kind : SlotKind) (bytes : List ℕ) : ℕ → Type 0 where
   not_open : (fault : LoadFault) → load_fault (header_in bytes) (slot_count kind bytes) bytes ≡ Some fault
       → LoadsNot kind bytes (load_fault_number fault)

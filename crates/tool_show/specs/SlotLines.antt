@@ -51,7 +51,7 @@ later (Some moment) (Some other) = Some (max moment other)
 abbrev pub last_moment : SlotKind → List Slot → Option ℕ
 last_moment kind slots = fold (λ last slot. later last (slot_moment kind slot)) None slots
 
--- the words on the leaves of a journal, with that on its last moment
+-- the words about the leaves of a journal, with the word of its last moment
 abbrev pub opened_words : List Slot → List ℕ → List ℕ
 opened_words slots last =
     codes " leaves " ++ (decimal (length slots)
@@ -91,7 +91,7 @@ file_line Book header slots last = book_line header slots
 abbrev pub id_words : List ℕ → List ℕ
 id_words body = decimal (message_id_of body).length ++ (codes ":" ++ encode_lower (message_id_of body).hash)
 
--- the line of a leaf in a journal, with the word of its moment, and nothing where it is free
+-- the line of a leaf in a journal, with the word of its moment, or nothing if it is free
 abbrev pub journal_slot_line : ℕ → Slot → List ℕ → List ℕ
 journal_slot_line leaf Free moment = []
 journal_slot_line leaf (Half a) moment =
@@ -136,19 +136,19 @@ abbrev pub IsSlotLine : SlotKind → ℕ → Slot → List ℕ → Type 0
 IsSlotLine kind place slot line =
     (word : List ℕ) × IsMomentWord (slot_moment kind slot) word × (line ≡ slot_line kind place slot word)
 
--- the lines of so many first slots, in ascending order
+-- the lines of this many of the first slots, in ascending order
 pub data AreSlotLines (kind : SlotKind) (slots : List Slot) : ℕ → List ℕ → Type 0 where
   none : AreSlotLines kind slots 0 []
   more : (place : ℕ) (lines line : List ℕ) → AreSlotLines kind slots place lines
       → IsSlotLine kind place (slice_index_or slots place Free) line
       → AreSlotLines kind slots (place + 1) (lines ++ line)
 
--- the lines behind the first: those of all slots, or none where they are not wanted
+-- the lines after the first: those of all slots, or none if they are not wanted
 abbrev pub AreFurtherLines : Bool → SlotKind → List Slot → List ℕ → Type 0
 AreFurtherLines true kind slots lines = AreSlotLines kind slots (length slots) lines
 AreFurtherLines false kind slots lines = lines ≡ []
 
--- all lines: that of the file, and those behind it
+-- all lines: that of the file, and those after it
 pub record AreLines (kind : SlotKind) (header : Header) (slots : List Slot) (leaves : Bool) (text : List ℕ)
     : Type 0 where
   pub first : List ℕ

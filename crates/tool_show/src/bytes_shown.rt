@@ -23,7 +23,7 @@ pub(crate) enum ShowFault {
     Unreadable { fault: u8 },
     /// They are a file of slots that does not load, by the fault of this number.
     NotLoaded { fault: u8 },
-    /// Want of memory.
+    /// Memory ran out.
     NoMemory,
 }
 
@@ -50,8 +50,8 @@ impl From<FileFault> for ShowFault {
     }
 }
 
-/// What these bytes hold, as lines of text: of a share all but its key, of a tree the root alone, of a reference and of
-/// a commitment file the head. Where `leaves` is true, each slot of a file of slots that is not free has a line.
+/// What these bytes hold, as lines of text: for a share all but its key, for a tree the root alone, for a reference and
+/// for a commitment file the head. If `leaves` is true, each slot of a file of slots that is not free has a line.
 #[tactic(auto, unfolding(crate::specs::Kinds::kind_of))]
 pub(crate) fn show_bytes(alloc: Global, bytes: Vec<u8>, leaves: bool) -> Result<String, ShowFault>
     ensures shown { IfOk result (λ text. IsShown bytes.items leaves (string_bytes text)) }
@@ -76,7 +76,7 @@ pub(crate) fn show_bytes(alloc: Global, bytes: Vec<u8>, leaves: bool) -> Result<
     show_unmarked(alloc, bytes, leaves)
 }
 
-/// Reads a reference that is all of `bytes` for its head.
+/// Reads a reference that is all of `bytes`, and returns its head.
 fn read_reference_head(bytes: &[u8]) -> Result<RefHeader, FileFault>
     ensures layout { IfOk result (λ header. (leaves : List ℕ) × HasReferenceLayout header bytes.now leaves) }
     ensures refused { IfErr result (λ fault. reference_fault bytes.now ≡ Some fault) }

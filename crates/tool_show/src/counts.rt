@@ -1,4 +1,4 @@
-//! What the slots of a file come to.
+//! What the slots of a file add up to.
 
 ghost use Rattle.std.specs.Prelude.{◌≡◌, count_by};
 ghost use Rattle.slot_file.specs.Copies.{taken_count};

@@ -69,7 +69,7 @@ fn kind_of(version: u8, number: u8) -> Option<SlotKind>
     }
 }
 
-/// What the file is, or none where it is no file of slots.
+/// What the file is, or none if it is no file of slots.
 #[tactic(auto, unfolding(crate::specs::SlotKinds::slot_kind, crate::specs::SlotKinds::leaf_count))]
 pub(crate) fn read_head(bytes: &[u8]) -> Option<Head>
     ensures { MatchOption result (slot_kind bytes.now ≡ None) (IsHead bytes.now) }

@@ -31,7 +31,7 @@ pub(crate) fn tree_line(alloc: Global, tree: &TreeView) -> Result<String, AllocE
     format!(in alloc; "tree{root}\n")
 }
 
-/// The line of a file with the head of a reference, behind the name of the file, which has `size` bytes.
+/// The line of a file of `size` bytes with the head of a reference, after the name of the file.
 pub(crate) fn header_line(
     alloc: Global,
     name: &str,
@@ -62,7 +62,7 @@ pub(crate) fn hss_key_line(alloc: Global, key: &HssKey) -> Result<String, AllocE
     format!(in alloc; "hss key levels {levels}{root}\n")
 }
 
-/// What a line says of a plan.
+/// What a line says about a plan.
 fn plan_words(alloc: Global, plan: &Plan) -> Result<String, AllocError>
     ensures { IfOk result (λ words. string_bytes words ≡ spec.plan_words plan.now) }
 {
@@ -71,7 +71,7 @@ fn plan_words(alloc: Global, plan: &Plan) -> Result<String, AllocError>
     format!(in alloc; " of {n} threshold {k}")
 }
 
-/// What a line says of a key with its root.
+/// What a line says about a key with its root.
 fn root_words(alloc: Global, params: &Params, id: &KeyId, root: &[u8]) -> Result<String, AllocError>
     ensures { IfOk result (λ words. string_bytes words ≡ spec.root_words params.now id.now root.now) }
 {

@@ -23,12 +23,12 @@ pub enum ListingFault {
         /// 1 its length, 2 its gate is closed, 6 a damaged slot.
         fault: u8,
     },
-    /// Want of memory.
+    /// Memory ran out.
     #[error("out of memory")]
     NoMemory,
 }
 
-/// Says in one line what a file of slots holds, and with `leaves` in a line more for each slot that is not free.
+/// Says in one line what a file of slots holds, and with `leaves` in one more line for each slot that is not free.
 pub fn list_slots(alloc: Global, bytes: Vec<u8>, leaves: bool) -> Result<String, ListingFault>
     ensures listed { IfOk result (λ text. IsListing bytes.items leaves (string_bytes text)) }
     ensures refused { IfErr result (IsNotListed bytes.items) }

@@ -57,8 +57,8 @@ fn month_length(year: u64, month: u64) -> u64
     }
 }
 
-/// The year of a day, which is counted from the beginning of 1970, and the days of that year before it. It takes 400
-/// steps at most, since whole cycles of the calendar are passed over.
+/// The year of a day, which is counted from the beginning of 1970, and the days of that year before it. It takes at
+/// most 400 steps, since whole cycles of the calendar are passed over.
 fn year_of(days: u64) -> (u64, u64)
     ensures before { days_of_years (result.0 - 1970) + result.1 ≡ days }
     ensures since { 1970 ≤ result.0 }
@@ -148,7 +148,7 @@ fn utc_words(alloc: Global, time: &UtcTime) -> Result<String, AllocError>
     format!(in alloc; "{date}T{clock}Z")
 }
 
-/// The word of a moment, and `-` where there is none.
+/// The word of a moment, or `-` if there is none.
 pub(crate) fn moment_word(alloc: Global, moment: Option<u64>) -> Result<String, AllocError>
     ensures { IfOk result (λ word. IsMomentWord moment (string_bytes word)) }
 {

@@ -9,7 +9,7 @@ use std::alloc::Global;
 use stream_io::Store;
 use tool_base::{Ending, FILE_LIMIT, read_file, unreadable};
 
-/// Says what the file of this name holds. Where `leaves` is true, each slot of a file of slots that is not free has a
+/// Says what the file of this name holds. If `leaves` is true, each slot of a file of slots that is not free has a
 /// line.
 pub fn show_file<S: Store>(alloc: Global, store: &mut S, file: &str, leaves: bool) -> Ending
     ensures ended { ShowEnds (from_to (S.state store.old) (S.state store.new)) file.now leaves (ending result) }

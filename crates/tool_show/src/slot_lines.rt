@@ -11,7 +11,7 @@ use crate::words::{key_words, slot_line};
 use slot_file::{Header, Slot};
 use std::alloc::{AllocError, Global};
 
-/// The words on the leaves of a journal, with that on its last moment.
+/// The words about the leaves of a journal, with the word of its last moment.
 fn opened_words(alloc: Global, slots: &[Slot], last: &str) -> Result<String, AllocError>
     ensures { IfOk result (λ words. string_bytes words ≡ opened_words slots.now last.now) }
 {
@@ -76,7 +76,7 @@ fn file_line(
     }
 }
 
-/// The line of a slot, and nothing where it is free.
+/// The line of a slot, or nothing if it is free.
 fn line_of_slot(
     alloc: Global,
     kind: SlotKind,
@@ -101,7 +101,7 @@ fn slot_lines(alloc: Global, kind: SlotKind, slots: &[Slot]) -> Result<String, A
     Ok(lines)
 }
 
-/// The lines behind that of the file.
+/// The lines after that of the file.
 fn further_lines(
     alloc: Global,
     kind: SlotKind,

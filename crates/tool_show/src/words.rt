@@ -9,7 +9,7 @@ use lms_bytes::{KeyId, MessageId};
 use slot_file::{Header, Slot};
 use std::alloc::{AllocError, Global};
 
-/// What a line says of a key: the codes of its parameter set, and its identifier.
+/// What a line says about a key: the codes of its parameter set, and its identifier.
 pub(crate) fn key_words(alloc: Global, lms: u32, ots: u32, id: &KeyId) -> Result<String, AllocError>
     ensures { IfOk result (λ words. string_bytes words ≡ key_words lms ots id.now) }
 {
@@ -27,7 +27,7 @@ fn id_words(alloc: Global, body: &[u8; 36]) -> Result<String, AllocError>
     format!(in alloc; "{length}:{hash}")
 }
 
-/// The line of a leaf in a journal, with the word of its moment, and nothing where it is free.
+/// The line of a leaf in a journal, with the word of its moment, or nothing if it is free.
 fn journal_slot_line(
     alloc: Global,
     leaf: usize,
@@ -49,7 +49,7 @@ fn journal_slot_line(
     }
 }
 
-/// The line of a leaf in a leaf table, and nothing where it is free.
+/// The line of a leaf in a leaf table, or nothing if it is free.
 fn table_slot_line(alloc: Global, leaf: usize, slot: &Slot) -> Result<String, AllocError>
     ensures { IfOk result (λ line. string_bytes line ≡ table_slot_line leaf slot.now) }
 {
@@ -67,7 +67,7 @@ fn table_slot_line(alloc: Global, leaf: usize, slot: &Slot) -> Result<String, Al
     }
 }
 
-/// The line of a slot in a book, and nothing where it is free.
+/// The line of a slot in a book, or nothing if it is free.
 fn book_slot_line(alloc: Global, place: usize, slot: &Slot) -> Result<String, AllocError>
     ensures { IfOk result (λ line. string_bytes line ≡ book_slot_line place slot.now) }
 {

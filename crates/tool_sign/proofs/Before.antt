@@ -1,4 +1,4 @@
--- What a command read before its session, said of its whole run.
+-- What a command read before its session, stated for its whole run.
 use Rattle.share_files.specs.declared.reference.RefHeader.{RefHeader}
 use Rattle.stream_io.specs.Store.{StoreOnward, StoreState}
 use Rattle.tool_base.proofs.Runs.{unchanged_on, onward_on, part_of}

@@ -18,7 +18,7 @@ use Rattle.stream_io.specs.Net.{PortState}
 use Rattle.stream_io.specs.Talk.{Talk}
 use Rattle.tool_sign.specs.Dealt.{IsDealt}
 
--- a session with its randomizer and its replies of round one; all else of it is what round two changes
+-- a session with its randomizer and its replies of round one; all else in it is what round two changes
 abbrev apart : State → State → State
 apart s new = record s { second = new.second }
 
@@ -33,7 +33,7 @@ which s true true w is = refl
 which s true false w is = is
 which s false f w is = refl
 
--- a reply of round two changes nothing but what is kept of round two
+-- a reply of round two changes nothing but what is kept for round two
 delivered : (s : State) (c : List ℕ) (reply : Reply) → s.c ≡ Some c → with_delivery s reply.0 reply.1 ≡ apart s (with_delivery s reply.0 reply.1)
 delivered s c reply some =
     let seats = with_reply (seats_of s) reply.0.member reply.0.code reply.1 in

@@ -32,7 +32,7 @@ module _ (words : HssSignWords) (store : StoreRun) (net : NetRun) where
   net-rose run = ends-counted ending.NetFailed run
 
 module _ (words : HssSignWords) (store : StoreRun) (net : NetRun) (member round : ℕ) where
-  -- what comes of the session for this lower key that lost the member
+  -- what follows from the session for this lower key that lost the member
   abbrev ByLower : Lower → Type 0 → Type 0
   ByLower lower X = ByWhy member round (session_words words) store (of_lower lower) net X
 

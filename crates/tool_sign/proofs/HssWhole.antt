@@ -36,7 +36,7 @@ unbegun words a b net end unchanged ends = record { touched = []; ends = ends; k
 pub two_differ : (a b : List ℕ) → a ≢ b → AreDifferent (a ∷ b ∷ [])
 two_differ a b other = (All-cons (λ name. a ≢ name) b [] other (All-nil (λ name. a ≢ name)), (All-nil (λ name. b ≢ name), tt))
 
--- the first of two outputs, or none: not both where another was to be written
+-- the first of two outputs, or none: not both if another was to be written
 differ_first : (one two : Output) (written : List Output) (output : Output) (rest : List Output) → one ∷ two ∷ [] ≡ written ++ (output ∷ rest) → AreDifferent (names_of written)
 differ_first one two [] output rest is = tt
 differ_first one two (a ∷ []) output rest is = (All-nil (λ (name : List ℕ). a.name ≢ name), tt)
@@ -118,7 +118,7 @@ module _ (words : HssSignWords) (a d : StoreState) (net : NetRun) (lower : Lower
       ports = ports;
     }
 
--- behind a session that gave a signature, the outputs are new still
+-- after a session that gave a signature, the outputs are still new
 pub new_behind : (words : HssSignWords) (a d : StoreState) (net : NetRun) (lower : Lower) (top : PublicKey) (signature : Signature) (touched : List (List ℕ)) → Keeps touched a d
     → SignsLower words (from_to a d) net lower top signature touched → All (IsNew (from_to a d)) (output_names words) → All (IsNew (from_to d d)) (output_names words)
 new_behind words a d net lower top signature touched keeps by new =

@@ -41,7 +41,7 @@ leased-none : (plan : PlanNumbers) (before after : TableState) (members : List �
 leased-none plan before after members message _ (leasing.kept settled c leaf coalition settles of is) = settled-none before settled settles
 leased-none plan before _ members message _ (leasing.made settled c leaf coalition settles of is) = refl
 
--- what a file that stands for the table makes of the leaf
+-- what the leaf is in a file that stands for the table
 module _ (state : TableState) (leaf : ℕ) (message : List ℕ) where
   abbrev Shown : List ℕ → LeafUse
   Shown file = use_of_slot (slot_at 1 leaf file)

@@ -24,14 +24,14 @@ use Rattle.tool_sign.specs.Sign.{SigningRun, session_words}
 use Rattle.tool_sign.specs.Tasks.{IsTask, MessageSource, SessionWords, message_in, message_limit}
 use Rattle.tool_words.specs.Words.{SignWords}
 
--- the end where a member's reply is missing
+-- the end if a member's reply is missing
 abbrev pub missing : ℕ → ℕ → Ending
 missing member round = ending.NotSigned (unsigned.Missing member round)
 
 abbrev pub lost_with : ℕ → ℕ → Why → Result Signature SignFault
 lost_with member round why = Err (fault.Lost member round why)
 
--- what comes of a session that lost this member in this round, whatever it is for
+-- what follows from a session that lost this member in this round, whatever it is for
 abbrev pub ByWhy : ℕ → ℕ → SessionWords → StoreRun → MessageSource → NetRun → Type 0 → Type 0
 ByWhy member round asked store source net X =
     (s : Signing) (old new : TableSeen) (why : Why) → IsTask asked store source s → SignedOver s old new net (lost_with member round why) → X
@@ -40,7 +40,7 @@ same-lost : (m r member round : ℕ) (why : Why) → missing m r ≡ missing mem
 same-lost m r member round why is = cc
 
 module _ (member round : ℕ) where
-  -- this comes of the missing reply of this member in this round
+  -- this follows from the missing reply of this member in this round
   abbrev pub heard : Type 0 → Origins
   heard X = record { store = Unit {0}; device = Unit {0}; net = Unit {0}; missing = λ m r. missing m r ≡ missing member round → X }
 
@@ -100,7 +100,7 @@ module _ (member round : ℕ) where
 
 -- ---- over a steady net whose links have room for the asks
 module _ (member round : ℕ) (asked : SessionWords) (store : StoreRun) (source : MessageSource) (net : NetRun) (steady : IsTrue net.before.steady) (room : longest_asks ≤ net.before.room) where
-  -- a session that lost a member has a message of which an ask can be made
+  -- a session that lost a member has a message from which an ask can be made
   short-of : (s : Signing) (old new : TableSeen) (port done : PortState) (why : Why) (outcome : Result Signature SignFault) → outcome ≡ lost_with member round why
       → SignsLeased (sign_of s) old port new done outcome → length s.message ≤ 16777216
   short-of s old new port done why _ is (signing.too_long long unread) = absurd (cc)

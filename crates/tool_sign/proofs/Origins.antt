@@ -49,7 +49,7 @@ use Rattle.tool_sign.specs.Tasks.{FailsTask, IsTask, LacksTask, MessageSource, S
 use Rattle.tool_sign.specs.Tasks as tasks
 use Rattle.tool_words.specs.Words.{HssSignWords, SignWords}
 
--- what a session says that has a fault: where it is the table's device, the count of the table rose, and its disk is not
+-- what a session that has a fault says: if it is the table's device, the count of the table rose, and its disk is not
 -- steady or does not tell its content; and no reply is missing, since a member is lost before
 abbrev pub Says : TableSeen → TableSeen → SignFault → Type 0
 Says old new (fault.Table table.Device) = Rose old.faults new.faults × (IsTrue old.name.steady → IsTrue old.name.told → ⊥)
@@ -100,7 +100,7 @@ signs-says sign old _ port _ _ (signing.leased leaf mid after now result short a
 abbrev pub of_lower : Lower → MessageSource
 of_lower lower = message_of (public_bytes lower.key)
 
--- what holds where the store failed, where a device did, where the net did, and where a member's reply is missing
+-- what holds if the store failed, if a device did, if the net did, and if a member's reply is missing
 pub record Origins : Type 1 where
   pub store : Type 0
   pub device : Type 0
@@ -108,7 +108,7 @@ pub record Origins : Type 1 where
   pub missing : ℕ → ℕ → Type 0
 
 module _ (o : Origins) where
-  -- the end comes from what holds where it comes
+  -- the end comes from what holds when it comes
   abbrev pub Comes : Ending → Type 0
   Comes ending.StoreFailed = o.store
   Comes ending.DeviceFailed = o.device
@@ -124,7 +124,7 @@ module _ (o : Origins) where
   comes-by (ending.NotSigned (unsigned.Missing member round)) store device net missing = missing member round refl
   comes-by end store device net missing = tt
 
-  -- the same of an answer that is no signature
+  -- the same for an answer that is no signature
   abbrev pub AnswerComes : Result Signature Ending → Type 0
   AnswerComes (Ok signature) = Unit {0}
   AnswerComes (Err end) = Comes end

@@ -65,7 +65,7 @@ module _ {P : Type 0} (f : P → PortState) where
   pub same_many : (ports : List P) (port : P) → length (map f ports) ≡ 1 → length (map f (set ports 0 port)) ≡ length (map f ports)
   same_many ports port many = ap length (one_after ports port many) ∙ sym many
 
--- what counts of one port make of those of a net
+-- what the counts of one port mean for those of a net
 module _ (done : PortState) where
   abbrev is_counted : PortState → Type 0
   is_counted port = port.count ≡ 0
@@ -169,7 +169,7 @@ module _ {P : Type 0} (state : P → PortState) (a b c : NetState) (ports : List
         (first_made state ports port makes.many is) (one_after state ports done makes.many) makes gathers onward.told count port_count leased
         (accepted_as signing.desk.key signing.message result accepted) (causes_as signing.message (state port) (state done) result causes) unread)
 
--- ---- where nothing was changed
+-- ---- if nothing was changed
 pub net_same : (a b : NetState) → SameNet a b → NetOnward a b → IsNetBack a b
 net_same a b same onward = record { onward = onward; out = λ told. same.out }
 

@@ -7,7 +7,7 @@ use Rattle.coalition_map.specs.Members.{member_numbers}
 use Rattle.coalition_map.proofs.MemberLaws.{member_numbers-push, member_numbers-zero}
 use Rattle.tool_sign.specs.Members.{Placed, members_placed, placed, placed_from}
 
--- a trustee, where it has a place
+-- a trustee, if it has a place
 pub one : ℕ → Option (List ℕ) → List Placed
 one t None = []
 one t (Some place) = record { member = t; place = place } ∷ []
@@ -24,7 +24,7 @@ placed_more t (Some place ∷ places) last =
     let next : t + suc (length places) ≡ t + 1 + length places = omega arith in
     rw next (ap (λ rest. record { member = t; place = place } ∷ rest) (placed_more (t + 1) places last))
 
--- one place more
+-- one more place
 pub placed_next : {Y : Type 0} (g : Y → List ℕ) (xs : List (Option Y)) (i : ℕ) → i < length xs
     → placed (map (option_map g) (take (i + 1) xs)) ≡ placed (map (option_map g) (take i xs)) ++ one (i + 1) (option_map g (get_or xs i None))
 placed_next g xs i h =

@@ -1,4 +1,4 @@
--- What a session says of a port and of the reference, by its outcome.
+-- What a session says about a port and about the reference, by its outcome.
 use Rattle.std.proofs.Common.{◌≡◌, ℕ, List, IfOk, Result, Ok, Err, ap}
 use Rattle.aggregator_session.specs.Desks.{DeskState}
 use Rattle.aggregator_session.specs.Runs.{reads_of}

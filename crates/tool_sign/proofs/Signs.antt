@@ -84,7 +84,7 @@ name_stays old new stays = same_name stays.header stays.plan stays.disk.told sta
 idle_at : (signing : Signing) (net : NetState) → signing.reads.now ≡ signing.reads.before → IsIdle signing (over_net net net)
 idle_at signing net reads = record { reads = reads; ports = record { offers = refl; out = refl; kept = refl } }
 
--- no session was begun: the disk of the table was not had
+-- no session was begun: the disk of the table was not obtained
 module _ (signing : Signing) (name : List ℕ) (a e : StoreState) (net : NetState) (outcome : Result Signed declared.Ending) (session : Option State) where
   pub no_table_to : outcome ≡ Err declared.TheVariants.StoreFailed → session ≡ None → signing.reads.now ≡ signing.reads.before → SameStore a e → StoreOnward a e → IsRead (from_to a e) name Failed
       → TableTo signing name (from_to a e) (over_net net net) (answer_in outcome) session

@@ -1,4 +1,4 @@
--- How commands end over a steady store that tells its content, and over such a net.
+-- How commands end over a store and a net that are steady and tell their content.
 use Rattle.std.proofs.Common.{◌≡◌, ℕ, List, Option, None, IsTrue, refl, subst}
 use Rattle.share_files.specs.declared.reference.RefHeader.{RefHeader}
 use Rattle.slot_file.specs.declared.header.Header.{Header}
@@ -19,7 +19,7 @@ use Rattle.tool_sign.specs.Sign.{SigningRun, session_words}
 use Rattle.tool_sign.specs.Tasks.{MessageSource, SessionWords, message_in, message_limit}
 use Rattle.tool_words.specs.Words.{SignWords}
 
--- the store fails only where this is lacking, the net only where this is not offered, and no device does
+-- the store fails only if this is lacking, the net only if this is not offered, and no device does
 pub record EndsSteady (lacks unoffered : Type 0) (end : Ending) : Type 0 where
   pub store : end ≡ ending.StoreFailed → lacks
   pub device : end ≡ ending.DeviceFailed → ⊥
@@ -48,7 +48,7 @@ module _ (lacks unoffered : Type 0) where
   unheard none = ends-steady ending.NetFailed none
 
   module _ (store : StoreRun) (told : IsTrue store.before.told) (steady : IsTrue store.before.steady) where
-    -- the end where nothing is read under a name
+    -- the end if nothing is read under a name
     abbrev pub Lack : List ℕ → Type 0
     Lack name = store.before.file name ≡ None → lacks
 

@@ -82,7 +82,7 @@ pub record TableRefused (first last : StoreState) (name : List ℕ) (header : He
   pub stays : Stays (from_to first last) name
   pub keeps : touched.Keeps (name ∷ []) first last
 
--- it was loaded: what it was and what it leaves, also where nothing was made of it
+-- it was loaded: what it was and what it leaves, also if nothing was done with it
 pub record TableRound (first last : StoreState) (name : List ℕ) (header : Header) (plan : PlanNumbers) (untouched : Type 0) (old new : TableSeen) : Type 0 where
   pub fresh : IsFresh first name header plan old
   pub table_is : ReadsAs (from_to first last) name (IsTable header plan old.state.entries)

@@ -1,4 +1,4 @@
--- What is said while a view is out, of the whole run.
+-- What holds while a view is out, stated for the whole run.
 use Rattle.std.proofs.Common.{◌≡◌, ◌+◌, ◌-◌, ◌^◌, ℕ, List, Option, Result, IsTrue, inl, inr, refl, sym, ◌∙◌, arith}
 use Rattle.std.proofs.lemmas.List.Elements.{All-weaker}
 use Rattle.aggregator_session.specs.declared.fault.SignFault.{SignFault}
@@ -45,12 +45,12 @@ out_view first a b name view unchanged viewed onward = record {
 pub back_view : (c d : StoreState) (view : PagesState) → ViewEnded c view d → StoreOnward c d → SameButViews c d
 back_view c d view ended onward = record { names = ended.names; onward = onward }
 
--- a message that was had while the view was out was had, however the run goes on
+-- a message that was obtained while the view was out was obtained, however the run goes on
 pub source_had : (a b c d : StoreState) → SameButViews a b → (message : Message) (bytes : List ℕ) → (source_of message (from_to b c)).is bytes → (source_of message (from_to a d)).is bytes
 source_had a b c d goes (InFile name) bytes is = (is.0, λ told. rw (← goes.names.file) (is.1 (rw goes.onward.told told)))
 source_had a b c d goes (Known given) bytes is = is
 
--- how signing with a table ends, told of a wider run, with the same session at its end
+-- how signing with a table ends, stated for a wider run, with the same session at its end
 pub record EndsWider (s : Signing) (name : List ℕ) (store : StoreRun) (net : NetRun) (answer : Result Signature Ending) (touched : List (List ℕ)) (last : Option State) : Type 0 where
   pub ends : TableEnds s name store net answer touched
   pub last_is : last_in ends ≡ last
@@ -76,7 +76,7 @@ module _ (a b c d : StoreState) (goes : SameButViews a b) (same : b.disk_count �
   fails_in limit name _ (too_long got r) = too_long got (read_in limit name (TooLong got) r)
   fails_in limit name _ no_memory = no_memory
 
-  -- a message that was not had
+  -- a message that was not obtained
   pub no_source_in : (message : Message) (end : Ending) → (source_of message (from_to b c)).fails end → (source_of message (from_to a d)).fails end
   no_source_in (InFile name) end fails = fails_in message_limit name.now end fails
   no_source_in (Known given) end fails = fails

@@ -177,7 +177,7 @@ module _ (files : KeyFiles) (header : RefHeader) (a x b p : StoreState) (name : 
         → EndsWider s table (from_to a d) net answer touched (last_in ends)
     whole_ends s table net answer touched ends = ends_in a p c d goes-in count-in (back_view c d now ended comes) s table net answer touched ends
 
--- the message was not had, or not all goes together
+-- the message was not obtained, or not everything goes together
 module _ (words : SessionWords) (message : Message) (files : KeyFiles) (header : RefHeader) (a x b p d : StoreState) (name : List ℕ) (view : PagesState) (unchanged : IsUnchanged a x)
     (viewed : Viewed x name view b) (out : StoreOnward x b) (task : IsUnchanged b p) where
   first : SameButViews a b
@@ -249,7 +249,7 @@ module _ (s : Signing) (table : List ℕ) (a d e : StoreState) (same_file : IsTr
     lease = lease_later outcome signed.lease;
   }
 
--- a session as it is told once a signature was written behind it, or was not
+-- a session as it is told once a signature was written after it, or was not
 module _ (words : SessionWords) (a d e : StoreState) (onward : StoreOnward d e) where
   pub files_later : (files : KeyFiles) (header : RefHeader) → HasFiles words (from_to a d) files header → HasFiles words (from_to a e) files header
   files_later files header has = record {
@@ -286,7 +286,7 @@ module _ (words : SessionWords) (a d e : StoreState) (onward : StoreOnward d e) 
     };
   }
 
--- behind the session
+-- after the session
 module _ (words : SignWords) (a d : StoreState) (net : NetRun) where
   abbrev session : SessionWords
   session = session_words words
@@ -312,7 +312,7 @@ module _ (words : SignWords) (a d : StoreState) (net : NetRun) where
       let both = as-signed s words.table a d net answer touched signature ends is in
       record { signing = s; task = task; table = both.0; touches = both.1 }
 
-  -- it is new still
+  -- it is still new
   pub still_new : (touched : List (List ℕ)) (signature : Signature) (answer : Result Signature Ending) → IsNew (from_to a d) words.out → Keeps touched a d
       → SessionEnds session (from_to a d) (source (from_to a d)) net answer touched → answer ≡ Ok signature → IsTrue d.told → has_name d words.out ≡ false
   still_new touched signature answer is_new keeps ends is told_d =

@@ -1,4 +1,4 @@
--- A signature that is written behind a session, or is not.
+-- A signature that is written after a session, or is not.
 use Rattle.std.proofs.Common.{◌≡◌, ◌↔◌, ◌⊎◌, ℕ, Bool, true, false, List, [], ◌∷◌, Option, Some, Result, Ok, Err, IsTrue, inl, inr, refl, sym, ap, ◌∙◌, subst, arith}
 use Rattle.std.proofs.lemmas.Bool.{false≢true}
 use Rattle.std.proofs.lemmas.List.Elements.{All-cons, All-head, All-nil, All-tail}
@@ -25,7 +25,7 @@ true_or_false false = inr refl
 same_true : (name : List ℕ) → bytes_eq name name ≡ true
 same_true name = (bytes_eq-Decides name name).1 refl
 
--- a name that is new is none that is read
+-- a new name is none that is read
 pub new_is_other : (a : StoreState) (name new file : List ℕ) → a.file name ≡ Some file → has_name a new ≡ false → bytes_eq new name ≡ false
 new_is_other a name new file there is_new = elim (true_or_false (bytes_eq new name)) [
   | inl same ↦

@@ -1,4 +1,4 @@
--- The files that are written behind a session.
+-- The files that are written after a session.
 use Rattle.std.proofs.Common.{◌≡◌, ◌≢◌, ◌↔◌, ◌⊎◌, ◌++◌, ℕ, Bool, true, false, List, [], ◌∷◌, All, Option, Some, IsTrue, inl, inr, refl, sym, ap, ◌∙◌, subst, arith}
 use Rattle.std.proofs.lemmas.List.Elements.{All-cons, All-head, All-nil, All-tail, All-weaker}
 use Rattle.std.proofs.lemmas.Slice.Eq.{bytes_eq-Decides}
@@ -28,7 +28,7 @@ other_false x y differ = elim (true_or_false (bytes_eq x y)) [
   | inr other ↦ other
 ]
 
--- the first outputs of some
+-- the first of some outputs
 pub first_ones : (P : Output → Type 0) (written rest : List Output) → All P (written ++ rest) → All P written
 first_ones P [] rest all = All-nil P
 first_ones P (output ∷ outputs) rest all =
@@ -73,7 +73,7 @@ added_each file (output ∷ outputs) differ =
 abbrev pub IsForAnyone : Output → Type 0
 IsForAnyone output = output.readers ≡ Anyone
 
--- from the state before the session to that behind it, and on to the state once these files were written
+-- from the state before the session to that after it, and on to the state once these files were written
 module _ (a d e : StoreState) (touched : List (List ℕ)) (keeps : Keeps touched a d) (written : List Output) (back : IsBack d e) (left : IsLeft (from_to d e) written) where
   told_d : IsTrue a.told → IsTrue d.told
   told_d told = rw keeps.back.onward.told told
@@ -134,7 +134,7 @@ module _ (a d e : StoreState) (touched : List (List ℕ)) (keeps : Keeps touched
       (λ told. left.readers (told_d told))
       anyone
 
-  -- the end where the writing stopped
+  -- the end with which the writing stopped
   pub stops_later : (outputs : List Output) (end : Ending) → StopsAfter (from_to d e) outputs written end → StopsAfter (from_to a e) outputs written end
   stops_later outputs end stops = record {
     output = stops.output;
@@ -158,7 +158,7 @@ module _ (a d e : StoreState) (touched : List (List ℕ)) (keeps : Keeps touched
       All-weaker (λ (output : Output). IsNew (from_to a e) output.name) (differs_from name)
       (λ output is_new. turned_about output.name name (new_is_other a name output.name file (reads told) (is_new told))) written all_new
 
--- names that were new before the session are new still, but for the table's
+-- names that were new before the session are still new, but for the table's
 pub new_since : (a d : StoreState) (touched : List (List ℕ)) → Keeps touched a d → (table : List ℕ) → touched ≡ table ∷ [] → (file : List ℕ) → (IsTrue a.told → a.file table ≡ Some file)
     → (names : List (List ℕ)) → All (IsNew (from_to a d)) names → All (IsNew (from_to d d)) names
 new_since a d touched keeps table touches file reads names new = All-weaker (IsNew (from_to a d)) (IsNew (from_to d d)) still names new

@@ -12,12 +12,12 @@ use Rattle.tool_sign.specs.Ports as ports
 use Rattle.tool_sign.specs.Signs.{TableEnds, TableRun}
 use Rattle.tool_sign.specs.Signs as tables
 
--- how the session stands at its end, where one was begun over the port
+-- how the session stands at its end, if one was begun over the port
 abbrev pub last_over : {signing : Signing} → {old new : TableSeen} → {net : NetRun}
     → {outcome : Result Signature SignFault} → SignedOver signing old new net outcome → Option State
 last_over over = last_of over.signs
 
--- the same of the ways in which signing with the table of a name ends
+-- the same for the ways in which signing with the table of a name ends
 abbrev pub last_in : {signing : Signing} → {table : List ℕ} → {store : StoreRun} → {net : NetRun}
     → {answer : Result Signature Ending} → {touched : List (List ℕ)}
     → TableEnds signing table store net answer touched → Option State
@@ -33,7 +33,7 @@ pub record TableTo (signing : Signing) (table : List ℕ) (store : StoreRun) (ne
   pub run : TableRun signing table store net answer
   pub session_is : session ≡ last_in run.ends
 
--- internal: the same of the ways in which signing over a net ends
+-- internal: the same for the ways in which signing over a net ends
 abbrev pub last_over_net : {signing : Signing} → {same : Type 0} → {old new : TableSeen} → {net : NetRun}
     → {answer : Result Signature Ending} → NetEnds signing same old new net answer → Option State
 last_over_net (ports.no_memory is idle) = None

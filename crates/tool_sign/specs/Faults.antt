@@ -9,7 +9,7 @@ use Rattle.tool_base.specs.Ending as ending
 use Rattle.tool_base.specs.Ending.{Ending}
 use Rattle.tool_base.specs.declared.unsigned.Unsigned.TheVariants as unsigned
 
--- the end where no leaf was leased
+-- the end if no leaf was leased
 abbrev pub end_of_table : TableFault → Ending
 end_of_table table.NotACoalition = ending.NotSigned unsigned.NotACoalition
 end_of_table table.Device = ending.DeviceFailed
@@ -26,8 +26,8 @@ end_of_session (session.MemberRefused member code) = ending.NotSigned (unsigned.
 end_of_session session.Reference = ending.DeviceFailed
 end_of_session session.NoMemory = ending.NoMemory
 
--- The end where there is no signature. A command's table has no lock whose turns could be used up: that never comes,
--- and is told as want of memory.
+-- The end if there is no signature. A command's table has no lock whose turns could be used up: that never happens, and
+-- is told as want of memory.
 abbrev pub end_of_fault : SignFault → Ending
 end_of_fault (sign.TooLong got) = ending.TooLong got
 end_of_fault sign.Worn = ending.NoMemory

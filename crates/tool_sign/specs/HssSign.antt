@@ -25,7 +25,7 @@ use Rattle.tool_words.specs.Words.{HssSignWords}
 abbrev pub session_words : HssSignWords → SessionWords
 session_words words = record { prefix = words.prefix; table = words.table; places = words.places }
 
--- key and signature of two levels, under the names of the words, for anyone to read
+-- the key and the signature of two levels, under the names of the words, for anyone to read
 abbrev pub two_levels : HssSignWords → PublicKey → List ℕ → Lower → List Output
 two_levels words top top_signature lower =
     record { name = words.key_out; bytes = two_level_key top; readers = Anyone }
@@ -38,7 +38,7 @@ two_levels words top top_signature lower =
 abbrev pub names_of : List Output → List (List ℕ)
 names_of outputs = map (λ output. output.name) outputs
 
--- these files stand in the store, all stable, for anyone to read
+-- these files are in the store, all stable, for anyone to read
 abbrev pub AreWritten : StoreRun → List Output → Type 0
 AreWritten store outputs = All (λ output. IsWritten store output.name output.bytes) outputs
 
@@ -83,7 +83,7 @@ pub record HssSigningRun (words : HssSignWords) (store : StoreRun) (net : NetRun
   pub keeps : Keeps touched store.before store.after
   pub ports : IsNetBack net.before net.after
 
--- internal: how the writing of both levels ends, the top signature being of this leaf
+-- internal: how the writing of both levels ends, if the top signature is of this leaf
 pub data LevelsEnd (store : StoreRun) (outputs : List Output) (leaf : ℕ) : Ending → Type 0 where
   written : IsLeft store outputs → LevelsEnd store outputs leaf (ending.SignedLevels leaf)
   no_memory : IsLeft store [] → LevelsEnd store outputs leaf ending.NoMemory

@@ -14,7 +14,7 @@ use Rattle.tool_base.specs.Touched.{DeviceRose}
 use Rattle.tool_base.specs.World.{StoreRun}
 use Rattle.tool_sign.specs.Ports.{Signing}
 
--- the file of this name is such at the end, and so is each image that a crash may leave of it
+-- the file of this name satisfies `Is` at the end, and so does each image that a crash may leave of it
 pub record AllLeave (store : StoreRun) (name : List ℕ) (Is : List ℕ → Type 0) : Type 0 where
   pub file : IsTrue store.before.told → (file : List ℕ) → store.after.file name ≡ Some file → Is file
   pub images : IsTrue store.before.told → IsTrue (store.before.disks name).honest → (image : List ℕ)

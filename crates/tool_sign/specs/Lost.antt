@@ -33,8 +33,8 @@ IsOfPeer ReadFailed = ⊥
 IsOfPeer Ended = Unit {0}
 IsOfPeer (Garbled fault) = Unit {0}
 
--- this project's profile: how many bytes a session writes to a member at most, where its message is of the 16,777,216
--- bytes that are the most
+-- this project's profile: how many bytes at most a session writes to a member, if its message has the 16,777,216 bytes
+-- that are the most
 abbrev pub longest_asks : ℕ
 longest_asks = 16777372
 
@@ -54,8 +54,8 @@ pub record Loses (kind : Why → Type 0) (words : SessionWords) (store : StoreRu
 abbrev pub LosesMember : SessionWords → StoreRun → MessageSource → NetRun → ℕ → ℕ → Type 0
 LosesMember words store source net member round = Loses IsUnfailed words store source net member round
 
--- The same over a net whose calls do not fail but for their arguments, and whose links have room for the asks: it lost
--- the member since nobody could be dialled, or by what the peer sent or left out, or since no address names it.
+-- The same over a net whose calls fail only because of their arguments, and whose links have room for the asks: it lost
+-- the member because nobody could be dialled, or by what the peer sent or left out, or because no address names it.
 abbrev pub LosesPeer : SessionWords → StoreRun → MessageSource → NetRun → ℕ → ℕ → Type 0
 LosesPeer words store source net member round = Loses IsOfPeer words store source net member round
 
@@ -67,6 +67,6 @@ pub record MissesReply (words : SignWords) (store : StoreRun) (net : NetRun) (me
   pub peer : IsTrue net.before.steady → longest_asks ≤ net.before.room
       → LosesPeer (session_words words) store (message_in store words.message) net member round
 
--- a member was lost since it could not be dialled, written to or read
+-- a member was lost because it could not be dialled, written to or read
 abbrev pub LostByCall : Result Signature SignFault → Type 0
 LostByCall outcome = LostBy DialFailed outcome ⊎ LostBy WriteFailed outcome ⊎ LostBy ReadFailed outcome

@@ -22,8 +22,8 @@ pub record LosesLower (kind : Why → Type 0) (words : HssSignWords) (store : St
 abbrev pub LosesForLower : HssSignWords → StoreRun → NetRun → ℕ → ℕ → Type 0
 LosesForLower words store net member round = LosesLower IsUnfailed words store net member round
 
--- The same over a net whose calls do not fail but for their arguments, and whose links have room for the asks: it lost
--- the member since nobody could be dialled, or by what the peer sent or left out, or since no address names it.
+-- The same over a net whose calls fail only because of their arguments, and whose links have room for the asks: it lost
+-- the member because nobody could be dialled, or by what the peer sent or left out, or because no address names it.
 abbrev pub LosesLowerPeer : HssSignWords → StoreRun → NetRun → ℕ → ℕ → Type 0
 LosesLowerPeer words store net member round = LosesLower IsOfPeer words store net member round
 

@@ -30,7 +30,7 @@ pub record IsLower (words : HssSignWords) (store : StoreRun) (lower : Lower) : T
   pub signature : IsRead store words.low_signature (Bytes lower.signature)
   pub message : IsRead store words.message (Bytes lower.message)
 
--- the end where one of them was not read, or the key is none; the key is tested before the signature is read
+-- the end if one of them was not read, or the key is no key; the key is tested before the signature is read
 pub data FailsLower (words : HssSignWords) (store : StoreRun) : Ending → Type 0 where
   no_key : (end : Ending) → FailsKey store words.low_key end → FailsLower words store end
   no_signature : (key : PublicKey) (end : Ending) → IsKeyRead store words.low_key key

@@ -14,7 +14,7 @@ placed_from t [] = []
 placed_from t (None ∷ places) = placed_from (t + 1) places
 placed_from t (Some place ∷ places) = record { member = t; place = place } ∷ placed_from (t + 1) places
 
--- the place of trustee t stands at t - 1
+-- the place of trustee t is at t - 1
 abbrev pub placed : List (Option (List ℕ)) → List Placed
 placed = placed_from 1
 

@@ -54,7 +54,7 @@ sign_of signing = record {
 abbrev pub is_exact : Bool → Bool → List ℕ → Params → PlanNumbers → Bool
 is_exact told steady leaves params plan = told && steady && length leaves == leaves_length params plan
 
--- what is read of the file on these pages, as they stand before and after: its leaves, behind a head of 32 bytes
+-- what is read of the file on these pages, as they stand before and after: its leaves, after a head of 32 bytes
 abbrev pub reads_on : {V : Type 0} → pages.Ghosts V → faults.Ghosts V → V → V → CellsRead
 reads_on p f old new = record {
   told = p.told old;
@@ -73,12 +73,12 @@ signing_of c f desk old new members message = record {
   message = message;
 }
 
--- nothing was begun: no value of the reference was read, and no port was had
+-- nothing was begun: no value of the reference was read, and no port was obtained
 pub record IsIdle (signing : Signing) (net : NetRun) : Type 0 where
   pub reads : signing.reads.now ≡ signing.reads.before
   pub ports : SameNet net.before net.after
 
--- the reference is found unread only where its count rose, and never where it gives what it has
+-- the reference is found unread only if its count rose, and never if it gives what it has
 pub record IsUnread (signing : Signing) (outcome : Result Signature SignFault) : Type 0 where
   pub rises : outcome ≡ Err (Session Reference) → Rose signing.reads.before signing.reads.now
   pub succeeds : IsTrue signing.exact → outcome ≢ Err (Session Reference)
@@ -98,13 +98,13 @@ pub record SignedOver (signing : Signing) (old new : TableSeen) (net : NetRun) (
   pub count : RisesWhere (done.count ≢ 0) net.before.count net.after.count
   pub port_count : RisesWhere (done.accept_count ≢ 0) net.before.port_count net.after.port_count
 
--- a signature, or the end that the fault is told by
+-- a signature, or the end by which the fault is told
 abbrev pub answer_of : Result Signature SignFault → Result Signature Ending
 answer_of (Ok signature) = Ok signature
 answer_of (Err fault) = Err (end_of_fault fault)
 
--- internal: How signing over a net ends with a table that is loaded: no port was had and the table is as it was, or the
--- message was signed, or was not.
+-- internal: How signing over a net ends with a table that is loaded: no port was obtained and the table is as it was,
+-- or the message was signed, or was not.
 pub data NetEnds (signing : Signing) (same : Type 0) (old new : TableSeen) (net : NetRun)
     : Result Signature Ending → Type 0 where
   no_memory : same → IsIdle signing net → NetEnds signing same old new net (Err ending.NoMemory)

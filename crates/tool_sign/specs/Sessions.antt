@@ -1,4 +1,4 @@
--- How a session ends that is run with the files of a dealing: it reads them and the message, tests that they go
+-- How a session that is run with the files of a dealing ends: it reads them and the message, tests that they go
 -- together, and signs with the leaf table over one port.
 use Rattle.std.specs.Prelude.{◌≡◌, ℕ, List, [], Result, Ok, Err, IfOk}
 use Rattle.aggregator_session.specs.Signing.{Signature}

@@ -24,8 +24,8 @@ answer_in (Ok signed) = Ok (record { leaf = signed.leaf; bytes = signed.bytes.it
 answer_in (Err end) = Err (endings.ending end)
 
 -- The message was signed with a leaf of the table of this name, or was not: from the entries of its file to those that
--- it stands for at the end. A put is in doubt only where the disk has failed, and the disk's faults are among those of
--- the store's disks.
+-- it stands for at the end. A put is in doubt only if the disk has failed, and the disk's faults are among those of the
+-- store's disks.
 pub record SignedTable (signing : Signing) (table : List ℕ) (store : StoreRun) (net : NetRun)
     (outcome : Result Signature SignFault) : Type 0 where
   pub old : TableSeen

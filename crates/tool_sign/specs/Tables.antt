@@ -36,8 +36,8 @@ pub record StandsAs (header : Header) (plan : PlanNumbers) (state : TableState) 
   pub loads : IsTableFile header (2 ^ plan.h) file
   pub stands : StandsFor file state
 
--- The table of this name stands for this state at the end, in each image that a crash may leave too. Each leaf is for
--- one message, also where an entry is in doubt.
+-- The table of this name stands for this state at the end, and so it does in each image that a crash may leave. Each
+-- leaf is for one message, also if an entry is in doubt.
 pub record LeavesTable (store : StoreRun) (name : List ℕ) (header : Header) (plan : PlanNumbers) (state : TableState)
     : Type 0 where
   pub file : List ℕ

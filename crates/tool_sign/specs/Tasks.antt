@@ -16,7 +16,7 @@ use Rattle.tool_desk.specs.declared.files.KeyFiles.{KeyFiles}
 use Rattle.tool_base.specs.Loads.{ReadsAs}
 use Rattle.tool_sign.specs.Ports.{Signing}
 
--- how long a message may be that is signed
+-- how long a message that is signed may be
 abbrev pub message_limit : ℕ
 message_limit = 16777216
 
@@ -27,7 +27,7 @@ pub record SessionWords : Type 0 where
   pub table : List ℕ
   pub places : List (Option (List ℕ))
 
--- where a message comes from: what it is, and the ends where there is none
+-- where a message comes from: what it is, and the ends if there is none
 pub record MessageSource : Type 1 where
   pub is : List ℕ → Type 0
   pub fails : Ending → Type 0
@@ -48,7 +48,7 @@ pub record HasFiles (words : SessionWords) (store : StoreRun) (files : KeyFiles)
   pub files_are : AreKeyFiles store words.prefix files
   pub reference_is : IsReferenceViewed store (reference_name words.prefix) header
 
--- the message was had, the files are of one key, and the members are a coalition and have these addresses
+-- the message was obtained, the files are of one key, and the members are a coalition and have these addresses
 pub record GoesWith (words : SessionWords) (source : MessageSource) (files : KeyFiles) (header : RefHeader)
     (message members : List ℕ) (addresses : List Address) : Type 0 where
   pub message_is : source.is message
@@ -57,7 +57,7 @@ pub record GoesWith (words : SessionWords) (source : MessageSource) (files : Key
   pub coalition : IsCoalition header.plan members
   pub addresses_are : map address addresses ≡ placed words.places
 
--- the end where the message was not had, or the files or the members do not go together
+-- the end if the message was not obtained, or the files or the members do not go together
 pub data LacksTask (words : SessionWords) (source : MessageSource) (files : KeyFiles) (header : RefHeader)
     : Ending → Type 0 where
   no_memory : LacksTask words source files header ending.NoMemory
@@ -68,7 +68,7 @@ pub data LacksTask (words : SessionWords) (source : MessageSource) (files : KeyF
       → AreOfOneKey files header → (IsCoalition header.plan (members_placed words.places) → ⊥)
       → LacksTask words source files header (ending.NotSigned NotACoalition)
 
--- the end where no session was begun, by the first test that failed
+-- the end if no session was begun, by the first test that failed
 pub data FailsTask (words : SessionWords) (store : StoreRun) (source : MessageSource) : Ending → Type 0 where
   no_key_files : (end : Ending) → FailsKeyFiles store words.prefix end → FailsTask words store source end
   no_reference : (files : KeyFiles) (end : Ending) → AreKeyFiles store words.prefix files

@@ -9,8 +9,8 @@ use leaf_table::TableFault;
 use session_core::SessionFault;
 use tool_base::{DAMAGED, Ending, Unsigned};
 
-/// The end where a session gave no signature. A command's table has no lock, so no turn of it is ever used up: that is
-/// told as want of memory, which claims nothing of store, net or members.
+/// The end if a session gave no signature. A command's table has no lock, so no turn of it is ever used up: that is
+/// told as want of memory, which claims nothing about store, net or members.
 pub(crate) fn end_of_fault(fault: SignFault) -> Ending
     ensures { ending result ≡ end_of_fault fault }
 {
@@ -26,7 +26,7 @@ pub(crate) fn end_of_fault(fault: SignFault) -> Ending
     }
 }
 
-/// The end where no leaf was leased.
+/// The end if no leaf was leased.
 fn end_of_table(fault: TableFault) -> Ending
     ensures { ending result ≡ end_of_table fault }
 {
@@ -38,7 +38,7 @@ fn end_of_table(fault: TableFault) -> Ending
     }
 }
 
-/// The end where a session has this fault. A session that is run over links never misses a reply without losing its
+/// The end if a session has this fault. A session that is run over links never misses a reply without losing its
 /// member first; should it, the member gave no reply, and the end says so.
 fn end_of_session(fault: SessionFault) -> Ending
     ensures { ending result ≡ end_of_session fault }

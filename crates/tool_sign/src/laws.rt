@@ -24,13 +24,13 @@ ghost use Rattle.tool_sign.specs.Sign.{SigningRun};
 
 use stream_io::Store;
 
-/// The causes of four ends of `sign`: the store fails only where its count of faults rose, a device only where that of
-/// its disks and views rose, and the net only where its count of failed ports rose (`failed`). A member is lost only
-/// where the net's count of faults rose, or since its link ended before a reply, what it sent is no frame of a reply,
-/// or no address names it (`lost`): of a session, that it could not be dialled, written to or read is the cause only
-/// where that count rose (`links`). Over a steady net whose links have room for the asks of the longest message, a
-/// member is lost only since nobody could be dialled, since its link ended or what it sent is no frame of a reply, or
-/// since no address names it, and never by a write or a read that failed (`peer` of `MissesReply`).
+/// The causes of four ends of `sign`: the store fails only if its count of faults rose, a device only if that of its
+/// disks and views rose, and the net only if its count of failed ports rose (`failed`). A member is lost only if the
+/// net's count of faults rose, or because its link ended before a reply, what it sent is no frame of a reply, or no
+/// address names it (`lost`): in a session, that it could not be dialled, written to or read is the cause only if that
+/// count rose (`links`). Over a steady net whose links have room for the asks of the longest message, a member is lost
+/// only because nobody could be dialled, because its link ended or what it sent is no frame of a reply, or because no
+/// address names it, and never by a write or a read that failed (`peer` of `MissesReply`).
 pub fn causes<S: Store>(before: &S, after: &S)
     ensures failed { FailuresAreCounted SigningRun (from_to (S.state before.now) (S.state after.now)) }
     ensures lost { (member round : ℕ) → let run = from_to (S.state before.now) (S.state after.now) in
@@ -40,12 +40,12 @@ pub fn causes<S: Store>(before: &S, after: &S)
         → SignedOver signing old new net outcome → LostByCall outcome → Rose net.before.count net.after.count }
 {}
 
-/// The causes of four ends of `hss sign`: the store fails only where its count of faults rose, a device only where that
-/// of its disks and views rose, and the net only where its count of failed ports rose (`failed`). A member is lost only
-/// where the net's count of faults rose, or since its link ended before a reply, what it sent is no frame of a reply,
-/// or no address names it (`lost`). Over a steady net whose links have room for the asks of the longest message, a
-/// member is lost only since nobody could be dialled, since its link ended or what it sent is no frame of a reply, or
-/// since no address names it, and never by a write or a read that failed (`peer` of `MissesLower`).
+/// The causes of four ends of `hss sign`: the store fails only if its count of faults rose, a device only if that of
+/// its disks and views rose, and the net only if its count of failed ports rose (`failed`). A member is lost only if
+/// the net's count of faults rose, or because its link ended before a reply, what it sent is no frame of a reply, or no
+/// address names it (`lost`). Over a steady net whose links have room for the asks of the longest message, a member is
+/// lost only because nobody could be dialled, because its link ended or what it sent is no frame of a reply, or because
+/// no address names it, and never by a write or a read that failed (`peer` of `MissesLower`).
 pub fn hss_causes<S: Store>(before: &S, after: &S)
     ensures failed { FailuresAreCounted HssSigningRun (from_to (S.state before.now) (S.state after.now)) }
     ensures lost { (member round : ℕ) → let run = from_to (S.state before.now) (S.state after.now) in

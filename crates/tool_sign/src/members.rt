@@ -12,7 +12,7 @@ use memory::NoMemory;
 use std::alloc::Global;
 use tool_base::{Ending, Unsigned};
 
-/// The trustees that have a place. That of trustee `t` stands at `t - 1`.
+/// The trustees that have a place. That of trustee `t` is at `t - 1`.
 pub(crate) fn members_of(places: &[Option<&str>; 12]) -> Members
     ensures { result ≡ members_placed (map (option_map (λ place. place.now)) places.now) }
 {
@@ -25,7 +25,7 @@ pub(crate) fn members_of(places: &[Option<&str>; 12]) -> Members
     Members::of_bits(bits)
 }
 
-/// Where the trustees are dialled that have a place, in ascending order. That of trustee `t` stands at `t - 1`.
+/// Where the trustees that have a place are dialled, in ascending order. The place of trustee `t` is at `t - 1`.
 pub fn addresses_of(alloc: Global, places: &[Option<&str>; 12]) -> Result<Vec<Address>, NoMemory>
     ensures { IfOk result (λ addresses.
         map address addresses.items ≡ placed (map (option_map (λ place. place.now)) places.now)) }

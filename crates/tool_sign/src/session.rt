@@ -38,7 +38,7 @@ pub fn table_header(key: &PublicKey) -> Header
 }
 
 /// Takes the leaf table of this name, signs with a leaf of it over a port that only dials, and gives both back. The
-/// session is given as it stands at its end, where one was begun.
+/// session is given as it stands at its end, if one was begun.
 pub(crate) fn sign_with_table<R: Cells, S: Store, N: Net>(
     alloc: Global,
     desk: &Desk,
@@ -113,7 +113,7 @@ fn sign_over_net<R: Cells, D: Disk, N: Net>(
     }
 }
 
-/// The end where no session was begun.
+/// The end if no session was begun.
 fn not_begun(end: Ending) -> Ended<Result<Signed, Ending>>
     ensures { (result.outcome ≡ Err end) × (result.session ≡ None) }
 {
@@ -123,7 +123,7 @@ fn not_begun(end: Ending) -> Ended<Result<Signed, Ending>>
     }
 }
 
-/// A signature, or the end that the fault is told by.
+/// A signature, or the end by which the fault is told.
 fn answer_of(outcome: Result<Signed, SignFault>) -> Result<Signed, Ending>
     ensures { answer_in result ≡ answer_of (signature_in outcome) }
 {

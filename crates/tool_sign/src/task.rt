@@ -26,7 +26,7 @@ use tool_base::{Ending, read_file};
 use tool_desk::{KeyFiles, read_key_and_tree, test_same_key, view_reference};
 use tool_words::Places;
 
-/// How long a message may be that is signed, in bytes.
+/// How long a message that is signed may be, in bytes.
 const MESSAGE_LIMIT: u64 = LIMIT as u64;
 
 /// What a session is run with.
@@ -152,7 +152,7 @@ fn read_message<S: Store>(alloc: Global, message: Message, store: &mut S) -> Res
 }
 
 /// Signs with a leaf of the table of this name. The session reads the reference from this view, which is given back,
-/// and is given as it stands at its end, where one was begun.
+/// and is given as it stands at its end, if one was begun.
 pub fn sign_task<V: Pages, S: Store, N: Net>(
     alloc: Global,
     table: &str,

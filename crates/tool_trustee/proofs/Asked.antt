@@ -12,7 +12,7 @@ use Rattle.trustee_node.specs.Ports.{AllComeFrom, ComesFrom, is_asked, was_in_do
 use Rattle.trustee_node.specs.Trustees.{TrusteeState}
 use Rattle.trustee_node.specs.Turns.{IsAsked, Turn}
 
--- the notes of a journal with no doubt have none
+-- the notes of a journal with no entry in doubt have none
 none-made : (entries : List Entry) (entry : Entry) → Contains (made entries) (Doubted entry) → ⊥
 none-made entries entry at =
     All-contains (λ (note : Note). note ≢ Doubted entry) (made entries) (Doubted entry)

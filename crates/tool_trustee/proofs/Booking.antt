@@ -20,7 +20,7 @@ use Rattle.tool_trustee.specs.Services.{BookEnds, StaysThere, absent, end_of_cal
 use Rattle.tool_words.specs.Words.{TrusteeWords}
 use Rattle.stream_io.specs.Store.{PagesState, handed}
 
--- a disk as told, honest and steady as another is handed as it
+-- two disks that are equally told, honest and steady are handed out alike
 pub handed_same : (disk now : PagesState) → now.told ≡ disk.told → now.honest ≡ disk.honest → now.steady ≡ disk.steady → handed disk ≡ handed now
 handed_same disk now told honest steady = cc
 

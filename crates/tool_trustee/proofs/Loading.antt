@@ -14,7 +14,7 @@ use Rattle.tool_base.specs.Loads.{FailsToLoad, IsDamagedFile, IsOtherFile, damag
 use Rattle.tool_base.proofs.Takes.{device_fails, reads_as}
 use Rattle.tool_trustee.specs.Loads.{end_of_journal}
 
--- why a journal is not loaded, by its fault
+-- why a journal is not loaded, depending on its fault
 journal_other : (header : Header) (count : ℕ) (file : List ℕ) (fault : LoadFault) → journals.LoadRefused header count file (journal.Slots fault) → load_fault header count file ≡ Some fault
 journal_other header count file fault (journals.other_file f is) = is
 

@@ -1,4 +1,4 @@
--- Journals and books of a service, by their files.
+-- Journals and books of a service, in terms of their files.
 use Rattle.std.specs.Prelude.{◌≡◌, ◌↔◌, ◌^◌, ℕ, List, length, Option, Some, None, IsTrue, Contains}
 use Rattle.approval_book.specs.Listed.{is_listed}
 use Rattle.opening_journal.specs.Entries.{HasEntries, IsLegalList, JournalState, StandsFor}
@@ -24,8 +24,8 @@ pub record StandsAs (share : Share) (state : JournalState) (file : List ℕ) : T
   pub loads : IsJournalFile (journal_header share) (2 ^ share.params.h) file
   pub stands : StandsFor share.params.n (2 ^ share.params.h) file state
 
--- The journal of this name stands for this state at the end, in each image that a crash may leave too. Each of its
--- entries may follow those before, the one in doubt too.
+-- The journal of this name stands for this state at the end, and so does each image that a crash may leave. Each of its
+-- entries may follow those before, and so may the one in doubt.
 pub record LeavesJournal (store : StoreRun) (name : List ℕ) (share : Share) (state : JournalState) : Type 0 where
   pub file : List ℕ
   pub is_read : IsTrue store.before.told → store.after.file name ≡ Some file
@@ -41,7 +41,7 @@ pub record IsBook (share : Share) (ids : List (List ℕ)) (file : List ℕ) : Ty
   pub many : length slots ≡ 1024
   pub lists : (id : List ℕ) → Contains ids id ↔ IsTrue (is_listed slots id)
 
--- the ids of the book of the words, and none where they name no book
+-- the ids of the book of the words, or none if they name no book
 pub data HasBook (store : StoreRun) (share : Share) : Option (List ℕ) → Option (List (List ℕ)) → Type 0 where
   no_book : HasBook store share None None
   book : (name : List ℕ) (ids : List (List ℕ)) → ReadsAs store name (IsBook share ids)

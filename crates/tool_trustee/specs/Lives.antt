@@ -23,9 +23,9 @@ abbrev pub left_by : {words : TrusteeWords} {before after : Outside} {end : Endi
     → ServedTrustee words before after end → JournalState
 left_by run = record { entries = run.new.entries; doubt = run.doubt }
 
--- Runs of `trustee` over one journal, one after the other, from what the journal stands for before the first: each
--- begins with a file that stands for what the run before it left, be it the file at its end or what a crash made of it.
--- Store, net, time, words and book may be others in each run.
+-- Runs of `trustee` over one journal, one after another, from what the journal stands for before the first: each begins
+-- with a file that stands for what the run before it left, whether it is the file at its end or what a crash made of
+-- it. Store, net, time, words and book may differ in each run.
 pub data ServedRuns (share : Share) {S : Type 0} (store : S → StoreState)
     : JournalState → List (List Turn) → Type 0 where
   no_run : (state : JournalState) → ServedRuns share store state []

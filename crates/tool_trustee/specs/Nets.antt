@@ -48,7 +48,7 @@ pub record ServedNet (words : TrusteeWords) (service : Service) (ids : Option (L
   pub deaf : SomeUnaccepted ports_new → Rose net_old.port_count net_new.port_count
   pub hears : IsTrue net_old.steady → All HasAccepted ports_new
 
--- How service over a net ends: the trustee was served, or no ports were had and it is as it was.
+-- How service over a net ends: the trustee was served, or there were no ports and the trustee is as it was.
 pub data NetServiceEnds (words : TrusteeWords) (service : Service) (ids : Option (List (List ℕ))) (same : Type 0)
     (net_old net_new : NetState) (time : TimeState) : Ending → Type 0 where
   no_memory : same → HeardNobody words.place net_old net_new

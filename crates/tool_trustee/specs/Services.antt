@@ -13,7 +13,7 @@ use Rattle.tool_trustee.specs.Journals.{HasBook}
 use Rattle.tool_trustee.specs.Nets.{NetServiceEnds, Service}
 use Rattle.tool_words.specs.Words.{TrusteeWords}
 
--- the end where a disk was not taken
+-- the end if a disk was not taken
 abbrev pub end_of_call : CallFault → Ending
 end_of_call call.Failed = ending.StoreFailed
 end_of_call call.NoMemory = ending.NoMemory
@@ -24,7 +24,7 @@ pub record StaysThere (store : StoreRun) (name : List ℕ) : Type 0 where
   pub was : IsTrue store.before.told → store.before.file name ≡ Some file
   pub stays : Stays store name
 
--- internal: how a service ends once the journal is loaded, with the names that it touched beside the journal's
+-- internal: how a service ends once the journal is loaded, with the names that it touched besides the journal's
 pub data BookEnds (words : TrusteeWords) (service : Service) (same : Type 0) (before after : Outside)
     : Ending → List (List ℕ) → Type 0 where
   absent : (name : List ℕ) → words.book ≡ Some name → same → HeardNobody words.place before.net after.net

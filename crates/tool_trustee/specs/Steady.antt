@@ -1,4 +1,4 @@
--- What a trustee grants where nothing outside fails.
+-- What a trustee grants if nothing outside fails.
 use Rattle.std.specs.Prelude.{◌≡◌, ℕ, List, All, Option, None, Some}
 use Rattle.trustee_core.specs.Approvals.{Decided}
 use Rattle.lms_bytes.specs.MessageId.{message_id_bytes}
@@ -27,7 +27,7 @@ pub data LeafGrants (ask : Ask) (leaf : LeafState) : Type 0 where
   second_kept : (pair : Second) (moment : ℕ) → ask.second ≡ Some pair
       → leaf ≡ IsOpened (message_id_bytes ask.message) pair.c pair.digest moment → LeafGrants ask leaf
 
--- the trustee of this share grants the ask, with this book or none, where it has just these entries
+-- the trustee of this share grants the ask, with this book or none, if it has just these entries
 pub record MayGrant (share : Share) (ids : Option (List (List ℕ))) (entries : List Entry) (ask : Ask) : Type 0 where
   pub reaches : ReachesJournal share ids ask
   pub leaf : LeafGrants ask (map_of entries ask.leaf)
@@ -42,7 +42,7 @@ abbrev pub outside : StoreState → NetState → TimeState → Outside
 outside store net time = record { store = store; net = net; time = time }
 
 -- In any service of a trustee over a store that goes from one state to the other, whatever its words, its net, its time
--- and its end: this holds of the outside before and after it, of the end, and of what was served.
+-- and its end: this holds for the outside before and after it, for the end, and for what was served.
 abbrev pub InAnyService : StoreState → StoreState
     → ((words : TrusteeWords) (before after : Outside) (end : Ending) → ServedTrustee words before after end → Type 0)
     → Type 0

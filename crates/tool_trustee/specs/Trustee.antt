@@ -30,7 +30,7 @@ use Rattle.trustee_node.specs.Turns.{IsAsked, Turn}
 abbrev pub store_of : Outside → Outside → StoreRun
 store_of before after = from_to before.store after.store
 
--- what the disk of a trustee is for good
+-- what never changes about the disk of a trustee
 abbrev pub handed_of : TrusteeName → Handed
 handed_of name = record { told = name.told; honest = name.honest; steady = name.steady }
 
@@ -40,22 +40,22 @@ pub record IsTrustee (words : TrusteeWords) (before after : Outside) (share : Sh
   pub share_is : IsShareRead (store_of before after) words.share share
   pub journal_is : ReadsAs (store_of before after) words.journal (IsJournal share entries)
 
--- No disk of this name was to be had beside that of the journal: the count of faults rose. In a steady store that tells
--- its content the name is the journal's, or nothing is read under it.
+-- No disk of this name could be obtained besides that of the journal: the count of faults rose. In a steady store that
+-- tells its content the name is the journal's, or nothing is read under it.
 pub record HasNoBook (words : TrusteeWords) (before after : Outside) (name : List ℕ) : Type 0 where
   pub named : words.book ≡ Some name
   pub rose : Rose before.store.count after.store.count
   pub absent : IsTrue before.store.told → IsTrue before.store.steady
       → (bytes_eq name words.journal ≡ true) ⊎ (before.store.file name ≡ None)
 
--- each entry of the journal, and the one in doubt, was there before or is that of one of these turns' asks
+-- each entry of the journal, and the one in doubt, was there before or belongs to one of these turns' asks
 pub record OnlyAsked (old : List Entry) (new : JournalState) (turns : List Turn) : Type 0 where
   pub entries : (entry : Entry) → Contains new.entries entry → Contains old entry ⊎ IsAsked turns entry
   pub doubt : (entry : Entry) → new.doubt ≡ Some entry → Contains old entry ⊎ IsAsked turns entry
 
 -- The trustee of the words was served, from the entries of its journal to those that the journal has at the end. An
--- entry is in doubt only where the disk has failed, and the disk's faults are among those of the store's disks. Nothing
--- is bound that was not asked for, whatever the disk does.
+-- entry is in doubt only if the disk has failed, and the disk's faults are among those of the store's disks. Nothing is
+-- bound that was not asked for, whatever the disk does.
 pub record ServedTrustee (words : TrusteeWords) (before after : Outside) (end : Ending) : Type 0 where
   pub share : Share
   pub old : TrusteeState
@@ -109,8 +109,8 @@ pub data TrusteeEnds (words : TrusteeWords) (before after : Outside) : Ending �
       → All (Stays (store_of before after)) books
       → TrusteeEnds words before after end (words.journal ∷ books)
 
--- The command `trustee`: an end by its rules. The store keeps all but the names that it touched, and all disks and
--- ports are back.
+-- The command `trustee`: an end according to its rules. The store keeps all but the names that it touched, and all
+-- disks and ports are back.
 pub record TrusteeRun (words : TrusteeWords) (before after : Outside) (end : Ending) : Type 0 where
   pub touched : List (List ℕ)
   pub ends : TrusteeEnds words before after end touched

@@ -1,4 +1,4 @@
-//! What makes clocks, in memory and over the machine's clock.
+//! Makers of clocks, in memory and over the machine's clock.
 
 ghost use Rattle.std.specs.Prelude.{◌≡◌, ◌+◌, ◌-◌, ◌^◌, ℕ, All, min, length, IsTrue, IsFalse, IfOk, true};
 ghost use Rattle.std.specs.Prelude.{false};
@@ -99,7 +99,7 @@ impl<R: MachineClock + Copy + Send> Clocks for SystemClocks<R> {
     }
 }
 
-/// The clock of a runtime. It answers 0 before 1970, and where the machine's clock cannot be read.
+/// The clock of a runtime. It answers 0 before 1970, and if the machine's clock cannot be read.
 #[derive(Clone, Copy)]
 pub struct SystemClock<R: MachineClock + Copy + Send> {
     rt: R,

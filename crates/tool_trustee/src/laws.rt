@@ -20,10 +20,10 @@ pub fn one_opening<S: Store>()
         → ServedRuns share S.state state passes → OneOpening share (granted_by passes) }
 {}
 
-/// Where the store tells its content and no call of it fails but for its arguments, each ask that the trustee grants on
-/// the entries that its turn met is granted, so it is answered with its masks. Where the net is steady too, the command
-/// ends with the numbers of what was served; and where its links also have room for 65,536 of the longest replies, no
-/// connection ended by a link that failed.
+/// If the store tells its content and no call of it fails except because of its arguments, each ask that the trustee
+/// grants on the entries that its turn met is granted, so it is answered with its masks. If the net is steady too, the
+/// command ends with the numbers of what was served; and if its links also have room for 65,536 of the longest replies,
+/// no connection ended by a link that failed.
 pub fn steady_trustee<S: Store>(before: &S, after: &S)
     ensures grants { InAnyService (S.state before.now) (S.state after.now) (λ words old new end run.
         IsTrue old.store.told → IsTrue old.store.steady

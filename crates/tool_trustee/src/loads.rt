@@ -7,7 +7,7 @@ ghost use Rattle.tool_trustee.specs.Loads.{end_of_journal};
 use opening_journal::JournalLoad;
 use tool_base::{DAMAGED, Ending, load_fault_number};
 
-/// The end where a journal is not loaded.
+/// The end if a journal is not loaded.
 pub(crate) fn end_of_journal(fault: JournalLoad) -> Ending
     ensures { ending result ≡ end_of_journal fault }
 {

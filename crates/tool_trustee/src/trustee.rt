@@ -103,7 +103,7 @@ fn serve_with_book<R: Threads + Wait + Sync, S: Store, N: Net, T: Clocks>(
     (trustee, end)
 }
 
-/// The end where a disk was not taken.
+/// The end if a disk was not taken.
 fn end_of_call(fault: CallFault) -> Ending
     ensures { ending result ≡ end_of_call fault }
 {

@@ -9,7 +9,7 @@ use Rattle.std.proofs.Math.ListN.{drop_of_length-le, get_or-map}
 use Rattle.std.proofs.Math.Seq.{drop-cons}
 use Rattle.tool_words.specs.Words.{HasPlaces, address_of, is_equals, number_of, number_within, places_named, places_of, with_address, with_addresses, with_place}
 
--- no place, where nothing stands behind the first `=`
+-- no place, if nothing stands after the first `=`
 pub placeless : (word : List ℕ) → (length (after_first is_equals word) == 0) ≡ true → None ≡ address_of word
 unfolding address_of
 placeless word nothing = rw nothing refl
@@ -17,7 +17,7 @@ placeless word nothing = rw nothing refl
 pub placeless_at : (word after : List ℕ) → after ≡ after_first is_equals word → (length after == 0) ≡ true → None ≡ address_of word
 placeless_at word after back nothing = placeless word (rw (← back) nothing)
 
--- no address, where there is no `=`
+-- no address, if there is no `=`
 pub without_equals : (word : List ℕ) → position_or_len is_equals word ≡ length word → None ≡ address_of word
 without_equals word none =
     placeless word (rw (drop_of_length-le word {i = position_or_len is_equals word + 1} (omega (arith, none))) refl)

@@ -7,8 +7,8 @@ use Rattle.std.specs.Option.{ForSome, option_and_then, option_map, unwrap_or}
 use Rattle.std.specs.Str.{all_ascii_digits, bytes_eq}
 use Rattle.std.specs.Str.Parse.{digits_value}
 
--- the words after `deal`: k of n trustees, what the names of the outputs begin with, and whether there is a commitment
--- file among them
+-- the words after `deal`: k of n trustees, the prefix of the outputs' names, and whether there is a commitment file
+-- among them
 pub record DealWords : Type 0 where
   pub entropy : List ℕ
   pub lms : ℕ
@@ -107,7 +107,7 @@ address_of word =
     if length (after_first is_equals word) == 0 then None else
     option_map (λ number. (number, after_first is_equals word)) (number_within 1 12 (before_first is_equals word))
 
--- the places with that of one more trustee, where it has none yet
+-- the places with that of one more trustee, if it has none yet
 abbrev pub with_place : List (Option (List ℕ)) → ℕ × List ℕ → Option (List (Option (List ℕ)))
 with_place places address =
     if is_some (slice_index_or places (address.0 - 1) None) then None else
@@ -261,7 +261,7 @@ hss_sign_of (prefix ∷ table ∷ low_key ∷ low_signature ∷ message ∷ key_
     (places_of addresses)
 hss_sign_of words = None
 
--- the words after `hss`: what is done, and its words
+-- the words after `hss`: what is to be done, and its words
 abbrev pub hss_of : List (List ℕ) → Option Row
 hss_of [] = None
 hss_of (name ∷ words) =
@@ -326,7 +326,7 @@ row_of (name ∷ words) =
     if bytes_eq name (codes "drill") then drill_of words else
     if bytes_eq name (codes "show") then show_of words else None
 
--- the command that the words are, if they are one: none where a word begins with `-`
+-- the command that the words are, if they are one: none if a word begins with `-`
 unfoldable pub command_of : List (List ℕ) → Option Row
 command_of words = if list_any is_option words then None else row_of words
 

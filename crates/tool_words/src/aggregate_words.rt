@@ -7,7 +7,7 @@ use crate::places::Places;
 /// The words after `aggregate`.
 #[derive(Clone, Copy)]
 pub struct AggregateWords<'a> {
-    /// What the names of the key's, the tree's and the reference file begin with.
+    /// The prefix of the names of the key's, the tree's and the reference file.
     pub prefix: &'a str,
     /// The name of the leaf table.
     pub table: &'a str,

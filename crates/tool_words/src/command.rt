@@ -27,7 +27,7 @@ pub enum Command<'a> {
         message: &'a str,
         /// The name that the public key is written under.
         key_out: &'a str,
-        /// The name that the signature is written under, another one.
+        /// The name that the signature is written under, a different one.
         signature_out: &'a str,
     },
     /// Deals a key.
@@ -61,7 +61,7 @@ pub enum Command<'a> {
     Trustee(TrusteeWords<'a>),
     /// Signs a message.
     Sign(SignWords<'a>),
-    /// Signs a message, and names the members whose replies are not the dealer's where the signature is not accepted.
+    /// Signs a message, and if the signature is not accepted, names the members whose replies are not the dealer's.
     Blame(SignWords<'a>),
     /// Verifies a signature of a message under a key of one to eight levels.
     HssCheck {

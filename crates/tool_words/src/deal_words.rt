@@ -13,7 +13,7 @@ pub struct DealWords<'a> {
     pub n: u32,
     /// How many of them sign together.
     pub k: u32,
-    /// What the names of the outputs begin with.
+    /// The prefix of the outputs' names.
     pub prefix: &'a str,
     /// Whether commitments to the masks are written too.
     pub commit: bool,

@@ -5,7 +5,7 @@ use crate::places::Places;
 /// The words after `hss sign`.
 #[derive(Clone, Copy)]
 pub struct HssSignWords<'a> {
-    /// What the names of the key's, the tree's and the reference file begin with.
+    /// The prefix of the names of the key's, the tree's and the reference file.
     pub prefix: &'a str,
     /// The name of the leaf table.
     pub table: &'a str,
@@ -17,7 +17,7 @@ pub struct HssSignWords<'a> {
     pub message: &'a str,
     /// The name that the key of two levels is written under.
     pub key_out: &'a str,
-    /// The name that the signature of two levels is written under, another one.
+    /// The name that the signature of two levels is written under, a different one.
     pub signature_out: &'a str,
     /// The places of trustees.
     pub places: Places<'a>,

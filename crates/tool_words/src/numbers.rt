@@ -28,7 +28,7 @@ pub(crate) fn number_of(word: &str) -> Option<u32>
     word.parse().ok()
 }
 
-/// Whether the word has decimal digits alone.
+/// Whether the word consists of decimal digits alone.
 fn is_decimal(word: &str) -> bool
     ensures { result ≡ list_all is_ascii_digit word.now }
 {

@@ -14,7 +14,7 @@ pub struct Places<'a> {
 }
 
 impl<'a> Places<'a> {
-    /// The places that one to twelve address words name: none where a word is no address word, or two have one number.
+    /// The places that one to twelve address words name: none if a word is not an address word, or two have one number.
     pub(crate) fn of(words: &'a [String]) -> Option<Places<'a>>
         ensures { option_map (λ places. places_named (map string_bytes places.words.now)) result
             ≡ places_of (map string_bytes words.now) }
@@ -39,7 +39,7 @@ impl<'a> Places<'a> {
     }
 }
 
-/// Adds the places of address words. It gives up at a word that is no address word, or whose trustee has a place.
+/// Adds the places of address words. It gives up at a word that is not an address word, or whose trustee has a place.
 fn fill<'a>(places: &mut [Option<&'a str>; 12], words: &'a [String]) -> bool
     ensures { with_addresses (map (option_map (λ place. place.now)) places.old) (map string_bytes words.now)
         ≡ (if result then Some (map (option_map (λ place. place.now)) places.new) else None) }
@@ -52,7 +52,7 @@ fn fill<'a>(places: &mut [Option<&'a str>; 12], words: &'a [String]) -> bool
     true
 }
 
-/// Adds the place of an address word, where the word is one and its trustee has no place yet.
+/// Adds the place of an address word, if the word is one and its trustee has no place yet.
 fn add<'a>(places: &mut [Option<&'a str>; 12], word: &'a str) -> bool
     ensures { with_address (map (option_map (λ place. place.now)) places.old) word.now
         ≡ (if result then Some (map (option_map (λ place. place.now)) places.new) else None) }

@@ -3,8 +3,8 @@
 use clap::{Arg, ArgAction, ArgMatches, Command as Parser, Error};
 use std::alloc::{AllocError, Global};
 
-/// The words of a command, its name first, in the order in which `clap` splits them off, or why they are no command by
-/// its rules. No clause says what comes: whoever calls it compares each word with the one that was given.
+/// The words of a command, its name first, in the order in which `clap` splits them off, or why they are not a command
+/// by its rules. No clause says what comes: the caller compares each word with the one that was given.
 pub fn split_words(alloc: Global, words: &[String]) -> Result<Vec<&str>, Error> {
     let found = parser_of(alloc, words)?.try_get_matches_from(words)?;
     Ok(values_of(alloc, &found)?)
@@ -30,8 +30,8 @@ fn parser_of<'a>(alloc: Global, words: &'a [String]) -> Result<Parser<'a>, Alloc
         .arg(words_of(alloc, least, most))
 }
 
-/// How many words a command of this name has with its name, at least and at most. A name of no command may have none,
-/// so that it is a word too many itself.
+/// How many words a command of this name has, its name included, at least and at most. A name of no command may have
+/// none, so that it is itself a word too many.
 fn counts_of(name: &str) -> (usize, usize) {
     match name {
         "show" => (2, 3),
@@ -47,7 +47,7 @@ fn counts_of(name: &str) -> (usize, usize) {
     }
 }
 
-/// The words of a command, so many at least and at most.
+/// The words of a command, at least `least` and at most `most` of them.
 fn words_of<'a>(alloc: Global, least: usize, most: usize) -> Arg<'a> {
     Arg::new(alloc, "words")
         .required(true)

@@ -22,7 +22,7 @@ use crate::trustee_words::TrusteeWords;
 use std::alloc::Global;
 
 /// The command that the words are, if they are one. The rule of the words decides, and `clap` splits them: a word of
-/// its split is taken where it is the word of the rule. Numbers and address words are read from those that were given.
+/// its split is taken if it is the word of the rule. Numbers and address words are read from those that were given.
 pub fn command_of(alloc: Global, words: &[String]) -> Option<Command<'_>>
     ensures { option_map row result ≡ command_of (map string_bytes words.now) }
 {
@@ -103,7 +103,7 @@ fn rehearse_of<'a>(words: &'a [String], split: &[&'a str]) -> Option<Command<'a>
     })
 }
 
-/// The words after `deal`: six, and `commit` or nothing. What the names of the outputs begin with is not empty.
+/// The words after `deal`: six, and `commit` or nothing. The prefix of the outputs' names is not empty.
 fn deal_of<'a>(words: &'a [String], split: &[&'a str]) -> Option<Command<'a>>
     ensures { option_map row result ≡ deal_of (map string_bytes words.now) }
 {
@@ -254,7 +254,7 @@ fn blame_of<'a>(words: &'a [String], split: &[&'a str]) -> Option<Command<'a>>
     sign_words_of(words, split).map(Command::Blame)
 }
 
-/// The words after `sign` and after `blame`. What the names of the files of the dealing begin with is not empty.
+/// The words after `sign` and after `blame`. The prefix of the names of the dealing's files is not empty.
 fn sign_words_of<'a>(words: &'a [String], split: &[&'a str]) -> Option<SignWords<'a>>
     ensures { option_map sign_words result ≡ sign_words_of (map string_bytes words.now) }
 {
@@ -274,7 +274,7 @@ fn sign_words_of<'a>(words: &'a [String], split: &[&'a str]) -> Option<SignWords
     })
 }
 
-/// The words after `hss`: what is done, and its words. To the split what is done is a value.
+/// The words after `hss`: what is to be done, and its words. To the split, what is to be done is a value.
 fn hss_of<'a>(words: &'a [String], split: &[&'a str]) -> Option<Command<'a>>
     ensures { option_map row result ≡ hss_of (map string_bytes words.now) }
 {
@@ -291,7 +291,7 @@ fn hss_of<'a>(words: &'a [String], split: &[&'a str]) -> Option<Command<'a>>
     }
 }
 
-/// The words after `hss sign`. What the names of the files of the dealing begin with is not empty, and the outputs have
+/// The words after `hss sign`. The prefix of the names of the dealing's files is not empty, and the outputs have
 /// different names.
 fn hss_sign_of<'a>(words: &'a [String], split: &[&'a str]) -> Option<Command<'a>>
     ensures { option_map row result ≡ hss_sign_of (map string_bytes words.now) }
@@ -342,7 +342,7 @@ fn aggregate_of<'a>(words: &'a [String], split: &[&'a str]) -> Option<Command<'a
     )
 }
 
-/// The words of an aggregator with these address words. What the names of the files that it reads begin with is not
+/// The words of an aggregator with these address words. The prefix of the names of the files that it reads is not
 /// empty.
 fn aggregate_with<'a>(
     prefix: &'a str,
@@ -423,7 +423,7 @@ fn flag_of(words: &[String], flag: &str) -> Option<bool>
     }
 }
 
-/// What is behind the first word of the split.
+/// What comes after the first word of the split.
 fn rest_of<'s, 'a>(split: &'s [&'a str]) -> &'s [&'a str] {
     match split {
         [_, rest @ ..] => rest,
@@ -431,7 +431,7 @@ fn rest_of<'s, 'a>(split: &'s [&'a str]) -> &'s [&'a str] {
     }
 }
 
-/// The word of the split at this place, where it is this word; else the word itself.
+/// The word of the split at this place, if it is this word, or else the word itself.
 fn word_at<'a>(split: &[&'a str], place: usize, word: &'a str) -> &'a str
     ensures { result.now ≡ word.now }
 {

@@ -145,7 +145,7 @@ some-counted note (first ∷ notes) at = elim (Contains-append_cases (first ∷ 
       omega (arith, more, some)
 ]
 
--- where a list has each note as often as two others together, each of its notes is in one of them
+-- if a list has each note as often as two others together, each of its notes is in one of them
 pub counted-in-one : (last first own : List Note) (note : Note)
     → ((test : Note → Bool) → count_by test last ≡ count_by test first + count_by test own)
     → Contains last note → Contains first note ⊎ Contains own note

@@ -125,7 +125,7 @@ module _ (notes : List Note) (ask : Ask) (moment : ℕ) where
     opens-came pair result after some (damaged entry a b is neither) = came-none result
 
     module _ (same : entries_in notes ≡ before.entries) (result : Result Entered JournalFault) (after : JournalState) (came : Came before result after) where
-      -- the entries behind those that were there
+      -- the entries after those that were there
       behind : drop (length (entries_in notes)) after.entries ≡ came.more
       behind =
           ap (λ (e : List Entry). drop (length (entries_in notes)) e) (came.entries ∙ ap (λ (e : List Entry). e ++ came.more) (sym same))

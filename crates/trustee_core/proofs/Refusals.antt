@@ -47,7 +47,7 @@ rises-granted grant is call = record {
   others = λ differs. call.others (λ same. entered-never is same);
 }
 
--- a fault that is handed on as a refusal
+-- a fault that is passed on as a refusal
 pub rises-refusal : {S T : Type 0} (before now : ℕ) (fault : JournalFault)
     → RisesAt {R = Result S JournalFault} before now (Err fault) (Err journal.Device) → RisesAt {R = Result T Refusal} before now (Err (Journal fault)) (Err (Journal journal.Device))
 rises-refusal before now fault call = record {

@@ -15,7 +15,7 @@ use Rattle.trustee_core.specs.Growth.{MapGrows}
 use Rattle.trustee_core.specs.Decisions.{Answer, Decides, Granted, answer_of, first, second, tested}
 use Rattle.trustee_core.proofs.Adding.{IsSound, below-answers, below-opened, below-same, below-then, map_of-made, no-doubt, push-below, settles-below}
 
--- a sound state follows, and each of so many leaves grows
+-- a sound state follows, and each of that many leaves grows
 pub record Steps (count : ℕ) (before after : JournalState) : Type 0 where
   pub sound : IsSound after
   pub keeps : MapGrows count before.entries after.entries

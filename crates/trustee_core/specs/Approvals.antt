@@ -66,7 +66,7 @@ abbrev pub decided_in : List BookAnswered → List Answered
 decided_in [] = []
 decided_in (one ∷ rest) = if_decided one.answer one.ask (decided_in rest)
 
--- a grant of round one is for an id of the book, where there is one; a denial is of an id that is none
+-- a grant of round one is for an id of the book, if there is a book; a denial is of an id that is not in it
 abbrev pub IsApproved : BookAnswered → Type 0
 IsApproved one = (one.answer ≡ Decided Granted → IsDenied one.ids one.ask → ⊥)
     × ((message : MessageId) → one.answer ≡ Denied message → IsDenied one.ids one.ask × (message ≡ one.ask.message))

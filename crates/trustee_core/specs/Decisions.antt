@@ -53,7 +53,7 @@ pub data Answer : Type 0 where
   Granted : Answer
   Refused : (why : Refusal) → Answer
 
--- the answer where the journal answers this
+-- the answer if the journal answers this
 abbrev pub answer_of : Result Entered JournalFault → Answer
 answer_of (Ok entered) = Granted
 answer_of (Err fault) = Refused (Journal fault)

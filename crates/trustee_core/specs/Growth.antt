@@ -10,7 +10,7 @@ pub data IsBelow : LeafState → LeafState → Type 0 where
   frees : (state : LeafState) → IsBelow IsFree state
   opens : (message c digest : List ℕ) (moment : ℕ) → IsBelow (IsBound message) (IsOpened message c digest moment)
 
--- m <= m' over so many leaves, for the maps of two lists of entries
+-- m <= m' over that many leaves, for the maps of two lists of entries
 abbrev pub MapGrows : ℕ → List Entry → List Entry → Type 0
 MapGrows count old new = (leaf : ℕ) → leaf < count → IsBelow (map_of old leaf) (map_of new leaf)
 

@@ -38,8 +38,8 @@ abbrev pub granted_in : List Answered → List Ask
 granted_in [] = []
 granted_in (one ∷ rest) = if_granted one.answer one.ask (granted_in rest)
 
--- Two grants on one leaf are for one message; where both are of round two, for one randomizer and one digest; and where
--- they are of one round, they give the same masks.
+-- Two grants on one leaf are for one message; if both are of round two, for one randomizer and one digest; and if they
+-- are of one round, they give the same masks.
 pub record OneOpening (share : Share) (asks : List Ask) : Type 0 where
   pub message : (a b : Ask) → Contains asks a → Contains asks b → a.leaf ≡ b.leaf
       → message_id_bytes a.message ≡ message_id_bytes b.message

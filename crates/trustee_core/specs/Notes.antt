@@ -30,11 +30,11 @@ abbrev pub doubted : Option Entry → List Note
 doubted None = []
 doubted (Some entry) = Doubted entry ∷ []
 
--- the notes of a trustee that begins with a journal: its entries, and behind them its doubt
+-- the notes of a trustee that begins with a journal: its entries, and after them its doubt
 abbrev pub first_notes : JournalState → List Note
 first_notes state = made state.entries ++ doubted state.doubt
 
--- internal: it is not so that each of the notes is another one
+-- internal: not each of the notes differs from this one
 abbrev pub HasNote : List Note → Note → Type 0
 HasNote notes note = All (λ other. other ≢ note) notes → ⊥
 
@@ -55,7 +55,7 @@ pub data MayNote (notes : List Note) (ask : Ask) (moment : ℕ) (answer : Answer
       → MayNote notes ask moment answer (Doubted (entry_of ask moment))
   turned_out : (entry : Entry) → Contains notes (Doubted entry) → MayNote notes ask moment answer (Made entry)
 
--- the notes before a decision, and behind them what it may note
+-- the notes before a decision, and after them what it may note
 pub record Notes (ask : Ask) (moment : ℕ) (answer : Answer) (old new : List Note) : Type 0 where
   pub added : List Note
   pub are : new ≡ old ++ added

@@ -34,8 +34,8 @@ module _ {D : Type 0} {p : pages.Ghosts D} {f : faults.Ghosts D} where
   abbrev pub notes_of : Trustee D p f → List Note
   notes_of trustee = trustee.log.notes
 
-  -- What a decision says of the disk: no slot is found damaged where the disk tells its content, a steady disk that
-  -- tells it does not fail, and the count rises where the answer is Device and nowhere else.
+  -- What a decision says of the disk: no slot is found damaged if the disk tells its content, a steady disk that tells
+  -- it does not fail, and the count rises if the answer is Device and not otherwise.
   pub record Decided {T : Type 0} (old new : Trustee D p f) (result : Result T Refusal) : Type 0 where
     pub told : IsTold (journal_of old) → (leaf a b : ℕ) → result ≢ Err (refusal.Journal (journal.Damaged leaf a b))
     pub succeeds : IsSteady (journal_of old) → IsTold (journal_of old) → result ≢ Err (refusal.Journal journal.Device)

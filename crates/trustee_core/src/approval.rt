@@ -20,9 +20,9 @@ use crate::trustee::Trustee;
 use disk_trait::Disk;
 use lms_bytes::Ask;
 
-/// Decides on an ask at a moment, in seconds since the start of 1970. Where there is a book, an ask of round one is
-/// denied whose message it does not list; that is tested first, makes no call of the disk and changes nothing. All
-/// other asks are decided on as without a book.
+/// Decides on an ask at a moment, in seconds since the start of 1970. If there is a book, an ask of round one whose
+/// message it does not list is denied; that is tested first, makes no call of the disk and changes nothing. All other
+/// asks are decided on as without a book.
 pub fn decide_approved<D: Disk>(
     book: Option<&Approved>,
     trustee: &mut Trustee<D>,

@@ -24,7 +24,7 @@ impl Approved {
         self.lists(&message.to_bytes())
     }
 
-    /// No message yet, and room for so many.
+    /// No message yet, and room for `room` of them.
     pub fn with_room(alloc: Global, room: usize) -> Result<Approved, NoMemory>
         ensures empty { IfOk result (λ approved. ids_of approved ≡ []) }
         ensures room { IfOk result (λ approved. room ≤ room_of approved) }

@@ -7,7 +7,7 @@ pub trait Clock {
     /// Whether it tells what it answers.
     ghost told: { Self → Bool };
 
-    /// What it answers from now on, the next answer at 0, where that is told.
+    /// What it answers from now on, the next answer at 0, if that is told.
     ghost answers: { Self → ℕ → ℕ };
 
     /// The moment, in seconds since the start of 1970.

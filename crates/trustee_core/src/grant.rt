@@ -33,7 +33,7 @@ pub fn mask_count(params: &Params, grant: &Grant) -> u16
 }
 
 /// Mask `i` of a grant, `n` bytes: the randomizer's, or that of chain `i` at the digit of the ask's digest. The share
-/// is that of the trustee that granted. It takes no lock, no memory and no wait.
+/// is that of the trustee that granted. It takes no lock and no memory, and does not wait.
 pub fn release(share: &Share, grant: &Grant, i: u16) -> Val
     requires mask { i < masks_of share.now.params (ask_of grant.now) }
     requires digest { IfSome (ask_of grant.now).second (λ second. length second.digest ≡ share.now.params.n) }

@@ -9,7 +9,7 @@ ghost use Rattle.trustee_core.specs.Decisions.{Answer, Decides};
 ghost use Rattle.trustee_core.specs.Growth.{Extends, MapGrows};
 ghost use Rattle.trustee_core.specs.Lives.{Answered, Lives, OneOpening, granted_in};
 
-/// Whatever is asked, and however the journal is stopped and loaded again, a trustee answers for one message at most
+/// Whatever is asked, and however the journal is stopped and loaded again, a trustee answers for at most one message
 /// per leaf, and for one randomizer and one digest, and what it keeps of the leaves only grows.
 pub fn one_opening()
     ensures opening { (share : Share) (before last : JournalState) (answers : List Answered) → before.doubt ≡ None
@@ -24,7 +24,7 @@ pub fn decision_extends()
         → Decides share before ask moment answer after → Extends before after.entries }
 {}
 
-/// Whatever is asked, the answers of a trustee with a book are those of one without, to the asks that were not denied:
+/// Whatever is asked, the answers of a trustee with a book to the asks that were not denied are those of one without,
 /// so all that is said of such a trustee's answers holds. A grant of round one is for a message that the book lists,
 /// and a denial names a message that it does not.
 pub fn only_approved()

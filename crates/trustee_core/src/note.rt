@@ -1,4 +1,4 @@
-//! Notes: what a trustee made of its journal's list, doubts too.
+//! Notes: what a trustee made of its journal's list, including doubts.
 
 ghost use Rattle.std.specs.Prelude.{◌≡◌, List};
 ghost use Rattle.std.specs.Borrow.{ftrue};

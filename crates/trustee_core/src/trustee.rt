@@ -46,8 +46,8 @@ pub struct Trustee<D: Disk> {
 impl<D: Disk> Trustee<D> {
     ghost use Rattle.trustee_core.specs.Trustee.{Decided, journal_header, journal_of, notes_of, share_of};
 
-    /// The trustee of this share, whose journal this is. A journal that was loaded from what an earlier life left goes
-    /// on with that life.
+    /// The trustee of this share, given its journal. A journal that was loaded from what an earlier life left goes on
+    /// with that life.
     pub fn new(share: Share, journal: Journal<D>) -> Trustee<D>
         requires header { header_of journal ≡ journal_header share }
         requires params { params_of journal ≡ share.params }
@@ -68,7 +68,7 @@ impl<D: Disk> Trustee<D> {
 
     /// Decides on an ask at a moment, in seconds since the start of 1970. The randomizer and the digest of a round-two
     /// ask have `n` bytes. A grant comes only after the sync that makes its entry stable. A refusal by a test that
-    /// needs no journal leaves the trustee as it is, and where no entry is in doubt only a new entry makes calls of the
+    /// needs no journal leaves the trustee as it is, and if no entry is in doubt only a new entry makes calls of the
     /// disk.
     pub fn decide(&mut self, ask: &Ask, moment: u64) -> Result<Grant, Refusal>
         requires c { IfSome ask.now.second (λ second. length second.c ≡ (share_of self.old).params.n) }
@@ -129,7 +129,7 @@ impl<D: Disk> Trustee<D> {
     }
 }
 
-/// A call of the journal, as the notes are shown it.
+/// A call of the journal, as it is shown to the notes.
 #[derive(Drop)]
 struct Entering<D: Disk> {
     /// The notes before it.

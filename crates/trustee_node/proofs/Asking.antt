@@ -29,7 +29,7 @@ pub record Replied (share : Share) (first link : Talk) (turns : List Turn) : Typ
   pub quiet : link.count ≡ first.count
 
 module _ (share : Share) (turns : List Turn) (turn : Turn) where
-  -- one more was read and had its turn, and of its reply something was written
+  -- one more was read and had its turn, and part of its reply was written
   pub heard-more : (ids : Option (List (List ℕ))) (old mid new : ServerState) (first link last next : Talk)
       → Heard share ids old mid first link turns → mid.clock.told ≡ old.clock.told → Serves share ids mid.pass new.pass (turn ∷ [])
       → (IsTrue mid.clock.told → turn.moment ≡ mid.clock.answers 0) → (IsTrue mid.clock.told → (j : ℕ) → new.clock.answers j ≡ mid.clock.answers (j + 1))

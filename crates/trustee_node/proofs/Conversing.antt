@@ -110,7 +110,7 @@ module _ (frames : ℕ) (turns : List Turn) (count : frames ≡ length turns) (f
   pub ends-ended : (ended : ServedEnd) (fault : FrameFault) → ended ≡ end_by fault → fault ≢ NoMemory → EndsBy ended frames turns
   ends-ended ended fault is other = subst (λ (e : ServedEnd). EndsBy e frames turns) (sym is) (ends-by fault other)
 
--- a count that stays where no link fails, and rises where one does
+-- a count that stays if no link fails, and rises if one does
 pub quiet-cause : (ended : ServedEnd) (old new : ℕ) → (IsLinkFault ended → ⊥) → new ≡ old → RisesWhere (IsLinkFault ended) old new
 quiet-cause ended old new never same = record { later = omega (arith, same); rose = λ is. absurd (never is); same = λ _. same }
 
@@ -151,7 +151,7 @@ read-end Shape is = cc
 read-end ReadFault is = refl
 read-end NoMemory is = cc
 
--- the moments of turns after turns
+-- the moments of turns that follow other turns
 moments-more : (answers : ℕ → ℕ) (from : ℕ) (turns : List Turn) (turn : Turn) → HaveMoments answers from turns → turn.moment ≡ answers (from + length turns) → HaveMoments answers from (turns ++ turn ∷ [])
 moments-more answers from [] turn have is =
     let at : from + 0 ≡ from = omega arith in
@@ -171,7 +171,7 @@ dated-more before mid now turns turn dated is later = record {
       later j ∙ dated.later (j + 1) ∙ ap before at;
 }
 
--- the replies of turns after turns
+-- the replies to turns that follow other turns
 pub replies-more : (share : Share) (turns : List Turn) (turn : Turn) → replies share (turns ++ turn ∷ []) ≡ replies share turns ++ reply_bytes share turn.ask turn.outcome
 replies-more share turns turn =
     let f = λ (t : Turn). reply_bytes share t.ask t.outcome in
@@ -180,7 +180,7 @@ replies-more share turns turn =
 replies-length : (share : Share) (turns : List Turn) (turn : Turn) → length (replies share (turns ++ turn ∷ [])) ≡ length (replies share turns) + length (reply_bytes share turn.ask turn.outcome)
 replies-length share turns turn = ap length (replies-more share turns turn) ∙ length-append (replies share turns) (reply_bytes share turn.ask turn.outcome)
 
--- no replies are longer than as many of the longest
+-- replies are together no longer than the same number of longest ones
 pub small-more : (share : Share) (turns : List Turn) (turn : Turn) (longest : ℕ) → length (replies share turns) ≤ length turns * longest
     → length (reply_bytes share turn.ask turn.outcome) ≤ longest → length (replies share (turns ++ turn ∷ [])) ≤ length (turns ++ turn ∷ []) * longest
 small-more share turns turn longest before last =
@@ -188,7 +188,7 @@ small-more share turns turn longest before last =
     let all : length (turns ++ turn ∷ []) * longest ≡ (length turns + 1) * longest = ap (λ (n : ℕ). n * longest) (length-append turns (turn ∷ [])) in
     omega (arith, before, last, product, all, replies-length share turns turn)
 
--- the room behind one more reply
+-- the room left after one more reply
 pub room-more : (share : Share) (turns : List Turn) (turn : Turn) (first mid last new : ℕ) → first ≤ mid + length (replies share turns) → mid ≤ last
     → last ≤ new + length (reply_bytes share turn.ask turn.outcome) → first ≤ new + length (replies share (turns ++ turn ∷ []))
 room-more share turns turn first mid last new before read wrote = omega (arith, before, read, wrote, replies-length share turns turn)
@@ -201,7 +201,7 @@ room-short share turns turn first mid last before read full =
     (λ fits. absurd (full (omega (arith, before, read, fits, replies-length share turns turn))))
     (λ never. omega (arith, never))
 
--- a fault of a frame that is one of the link
+-- a fault of a frame that is a fault of the link
 pub link-fault : (fault : FrameFault) → IsLinkFault (end_by fault) → fault ≡ ReadFault
 link-fault End is = absurd is
 link-fault Cut is = is

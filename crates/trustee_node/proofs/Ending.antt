@@ -1,4 +1,4 @@
--- How a connection ends, by what its last call gave.
+-- How a connection ends, depending on what its last call gave.
 use Rattle.std.proofs.Common.{◌≡◌, ◌+◌, ◌<◌, ◌≤◌, ℕ, List, [], ◌∷◌, ◌++◌, Bool, Option, IsTrue, Result, Err, length, refl, ap, ◌∙◌, subst, arith}
 use Rattle.disk_trait.specs.Faults.{Rose}
 use Rattle.lms_bytes.specs.declared.ask.Ask.{Ask}
@@ -47,7 +47,7 @@ module _ (share : Share) (ids : Option (List (List ℕ))) (old mid : ServerState
     place = only.place ∙ heard.place;
   }
 
-  -- as many were read as one connection may have
+  -- as many asks were read as one connection may have
   pub ends-full : length turns ≡ 65536 → Conversation share ids old mid (record { steady = steady; talk = first }) link (record { frames = frames; ended = Full })
   ends-full all = record {
     turns = turns;

@@ -73,7 +73,7 @@ is-head share ask outcome sizes = record {
   zero = c-zero share.params ask.second;
 }
 
--- what follows the head, by the answer of the call
+-- what follows the head, depending on the answer of the call
 pub body-is : (share : Share) (ask : Ask) (given : Answer) → IsGrantOf given ask → body_in share given ≡ reply_body share ask (outcome_in given)
 body-is share ask (answer.Decided (Ok grant)) is = ap (masks_joined share) is
 body-is share ask (answer.Decided (Err (Core why))) is = refl

@@ -1,4 +1,4 @@
--- Masks that are written one behind the other.
+-- Masks that are written one after another.
 use Rattle.std.proofs.Common.{◌≡◌, ◌+◌, ◌<◌, ◌≤◌, ◌⊎◌, inl, inr, ◌++◌, ℕ, zero, suc, List, [], length, take, Option, None, Some, refl, sym, ap, ◌∙◌, subst, arith, add-one, append_assoc, length-append}
 use Rattle.std.proofs.Math.Seq.{take-append-add}
 use Rattle.std.proofs.lemmas.List.{take-append-le}
@@ -61,7 +61,7 @@ Gathered f old now front room head next =
     ((next ≡ 0) × (now.written ≡ old.written) × (take front room ≡ head))
     ⊎ ((front ≡ 0) × (now.written ≡ old.written ++ (head ++ joined f next)))
 
--- the bytes of the front and of more masks, where they are written behind what was written
+-- the bytes of the front and of more masks, if they are written after what was written
 pub gathered-bytes : (f : ℕ → List ℕ) (old mid : Talk) (front : ℕ) (room head more : List ℕ) (next after : ℕ)
     → Gathered f old mid front room head next → joined f next ++ more ≡ joined f after
     → mid.written ++ (take front room ++ more) ≡ old.written ++ (head ++ joined f after)
@@ -100,13 +100,13 @@ gathered-part f old mid new front room head more next after (inr (none, written)
     let bytes : (head ++ joined f next) ++ more ≡ head ++ joined f after = append_assoc head (joined f next) more ∙ ap (λ (l : List ℕ). head ++ l) on in
     subst (WrotePart old new) bytes (part-behind old mid new (head ++ joined f next) more written bare)
 
--- where there are masks and the last of them was gathered, all is written
+-- if there are masks and the last of them was gathered, all is written
 pub gathered-all : (f : ℕ → List ℕ) (old now : Talk) (front : ℕ) (room head : List ℕ) (next : ℕ)
     → Gathered f old now front room head next → 0 < next → now.written ≡ old.written ++ (head ++ joined f next)
 gathered-all f old now front room head next (inl (none, same, is)) some = absurd (omega (arith, none, some))
 gathered-all f old now front room head next (inr (none, written)) some = written
 
--- the room behind more masks, where the front and they were written as one piece
+-- the room left after more masks, if the front and they were written as one piece
 pub room-on : (f : ℕ → List ℕ) (first mid last : ℕ) (front head more piece : List ℕ) (next after : ℕ)
     → first + length front ≤ mid + length (head ++ joined f next) → joined f next ++ more ≡ joined f after
     → piece ≡ front ++ more → mid ≤ last + length piece → first ≤ last + length (head ++ joined f after)
@@ -115,7 +115,7 @@ room-on f first mid last front head more piece next after before on is took =
     let b = ap length is in
     omega (arith, before, took, a, b, length-append (joined f next) more, length-append front more, length-append head (joined f next), length-append head (joined f after))
 
--- where all masks fit, so does the next piece
+-- if all masks fit, so does the next piece
 pub room-there : (f : ℕ → List ℕ) (first mid : ℕ) (front head more piece : List ℕ) (next after count : ℕ)
     → first + length front ≤ mid + length (head ++ joined f next) → joined f next ++ more ≡ joined f after
     → piece ≡ front ++ more → after ≤ count → length (head ++ joined f count) ≤ first → length piece ≤ mid
@@ -126,7 +126,7 @@ room-there f first mid front head more piece next after count before on is le fi
     let e = ap length p.1 in
     omega (arith, before, fits, a, b, e, length-append (joined f after) p.0, length-append (joined f next) more, length-append front more, length-append head (joined f next), length-append head (joined f count))
 
--- the room behind some masks is room behind all
+-- the room left after some masks is the room left after all
 pub room-all : (f : ℕ → List ℕ) (first last : ℕ) (head : List ℕ) (after count : ℕ)
     → first ≤ last + length (head ++ joined f after) → after ≤ count → first ≤ last + length (head ++ joined f count)
 room-all f first last head after count before le =

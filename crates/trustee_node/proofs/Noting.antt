@@ -82,11 +82,11 @@ noted-join start old other new turns more none sum left right a b =
       log = prefix-then start.log old.log new.log a.log left;
     }
 
--- the only one of a list
+-- the only item of a list
 one-is : {A : Type 0} (x y : A) → Contains (x ∷ []) y → y ≡ x
 one-is x y at = All-contains (λ (z : _). z ≡ x) (x ∷ []) y (All-cons (λ (z : _). z ≡ x) x [] refl (All-nil (λ (z : _). z ≡ x))) at
 
--- an entry that was made stands in the notes so, and the other way round
+-- an entry that was made stands in the notes as made, and the other way round
 pub contains-made : (notes : List Note) (entry : Entry) → Contains (entries_in notes) entry → Contains notes (Made entry)
 contains-made [] entry at = absurd (none-in entry at)
   where

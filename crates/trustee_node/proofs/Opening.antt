@@ -32,7 +32,7 @@ legal-at xs rest last entry is legal =
     let front : take (length xs) last ≡ xs = ap (take (length xs)) (sym is) ∙ take_at xs (entry ∷ rest) (length xs) refl in
     subst (λ (b : List Entry). Follows b entry) front (subst (λ (e : Entry). Follows (take (length xs) last) e) here (legal (length xs) entry below))
 
--- entries that legally follow let each leaf grow
+-- entries that follow legally let each leaf grow
 legal-below : (xs rest last : List Entry) (leaf : ℕ) → xs ++ rest ≡ last → IsLegalList last → IsBelow (map_of xs leaf) (map_of last leaf)
 legal-below xs [] last leaf is legal = below-same _ _ (ap (λ (e : List Entry). map_of e leaf) (sym (append-nil xs) ∙ is))
 legal-below xs (entry ∷ rest) last leaf is legal =
@@ -83,7 +83,7 @@ all-fit share last (turns ∷ others) legal all =
 pub one-opening : (share : Share) (last : List Entry) (passes : List (List Turn)) → IsLegalList last → All (StandUnder share last) passes → OneOpening share (granted_by passes)
 one-opening share last passes legal all = opening-of share (settled_with last) (granted_by passes) (all-fit share last passes legal all)
 
--- an entry in doubt may follow where both lists are legal
+-- an entry in doubt may follow if both lists are legal
 sound-of : (state : JournalState) → IsLegal state → IsSound state
 sound-of state legal entry is = legal-at state.entries [] (state.entries ++ entry ∷ []) entry refl (legal (state.entries ++ entry ∷ []) (inr (entry, is, refl)))
 

@@ -19,7 +19,7 @@ use Rattle.trustee_node.specs.Ports.{IsPortRun, PortRun, PortsRun, ServedPorts, 
 use Rattle.trustee_node.specs.Trustees.{TrusteeState}
 use Rattle.stream_io.specs.declared.totals.Totals.{Totals}
 
--- what was granted in turns after turns
+-- what was granted in turns that follow other turns
 granted-one : (outcome : Outcome) (ask : Ask) (asks more : List Ask) → if_granted outcome ask (asks ++ more) ≡ if_granted outcome ask asks ++ more
 granted-one (InTurn (Decided Granted)) ask asks more = refl
 granted-one (InTurn (Decided (Refused why))) ask asks more = refl
@@ -52,7 +52,7 @@ ports-opening share ids asked old new ports totals all legal =
     subst (OneOpening share) (granted-runs all.runs)
     (one-opening share new.entries (map (λ (run : PortRun). turns_of run.served) all.runs) legal (runs-stand share ids asked old.entries new.entries all.runs all.are))
 
--- the log at the start begins the last one, where there is a port
+-- the log at the start begins the last one, if there is a port
 pub runs-begin : (share : Share) (ids : Option (List (List ℕ))) (asked : ℕ) (log last : List Entry) (runs : List PortRun) → 1 ≤ length runs → All (IsPortRun share ids asked log last) runs
     → IsPrefix log last
 runs-begin share ids asked log last [] some are = absurd (omega (arith, some))

@@ -1,4 +1,4 @@
--- No link fails where all are steady and have room.
+-- No link fails if all are steady and have room.
 use Rattle.std.proofs.Common.{◌∙◌, ℕ, List, [], ◌∷◌, Option, All, IsTrue, map, subst, sym, arith}
 use Rattle.std.proofs.Math.Nat.{mul-le-mul_right}
 use Rattle.std.proofs.lemmas.List.Elements.{All-nil, All-cons, All-head, All-tail}

@@ -1,4 +1,4 @@
--- Turns after turns.
+-- Turns that follow other turns.
 use Rattle.std.proofs.Common.{◌≡◌, false, ◌+◌, ◌≤◌, ℕ, List, [], ◌++◌, Option, IfSome, refl, sym, ap, ◌∙◌, subst, arith, append_assoc, append-nil, length-append}
 use Rattle.std.proofs.lemmas.List.Sums.{sum_by-append}
 use Rattle.std.proofs.lemmas.Grind.{flat_map-append}
@@ -20,7 +20,7 @@ pub idle-again : (lock : Lock Note TrusteeName) (share : Share) (old new : Seen 
 idle-again lock share old new is same idle =
     (same.lock ∙ is.0, idle, subst (λ (o : Option TrusteeName). IfSome o (λ name. name.share ≡ share)) (sym same.name) is.2)
 
--- how many have a code, of turns after turns
+-- how many of these turns and those after them have a code
 pub with_code-append : (code : ℕ) (turns more : List Turn) → with_code code (turns ++ more) ≡ with_code code turns + with_code code more
 with_code-append code turns more = sum_by-append (λ (t : Turn). is_code code t.outcome) turns more
 

@@ -48,7 +48,7 @@ module _ {D : Type 0} {p : pages.Ghosts D} {f : counting.Ghosts D} where
 at-most : (x k : ℕ) → x ≡ 0 → x ≤ k
 at-most x k is = omega (arith, is)
 
--- only a refusal by the disk has code 6, and only one for a damaged slot has code 7
+-- only a refusal by the disk has code 6, and only a refusal for a damaged slot has code 7
 six : (why : Refusal) → why ≢ (refusal.Journal journal.Device) → is_code 6 (InTurn (Decided (Refused why))) ≡ 0
 six refusal.ForeignKey other = refl
 six refusal.NoSuchLeaf other = refl
@@ -91,7 +91,7 @@ device-rises (Decided (Refused (refusal.Journal journal.NotBound))) number floor
 device-rises (Decided (Refused (refusal.Journal (journal.Spent kept)))) number floor rose le small = at-most _ (floor - number) (six (refusal.Journal (journal.Spent kept)) (λ is. absurd (cc)))
 device-rises (Decided (Refused (refusal.Journal (journal.OtherDigest c digest)))) number floor rose le small = at-most _ (floor - number) (six (refusal.Journal (journal.OtherDigest c digest)) (λ is. absurd (cc)))
 
--- no worn pass stands behind a decision
+-- a decision never comes from a worn pass
 eleven-refused : (why : Refusal) → is_code 11 (InTurn (Decided (Refused why))) ≡ 0
 eleven-refused refusal.ForeignKey = refl
 eleven-refused refusal.NoSuchLeaf = refl
@@ -109,7 +109,7 @@ eleven (Denied message) = refl
 eleven (Decided Granted) = refl
 eleven (Decided (Refused why)) = eleven-refused why
 
--- a decision of a trustee with a book, and what it leaves of the trustee
+-- a decision of a trustee with a book, and the state in which it leaves the trustee
 denied-or : (share : Share) (ids : Option (List (List ℕ))) (before : JournalState) (ask : Ask) (moment : ℕ) (answer : BookAnswer) (after : JournalState)
     → BookDecides share ids before ask moment answer after → (IsDenied ids ask × (answer ≡ Denied ask.message)) ⊎ (IsDenied ids ask → ⊥)
 denied-or share ids before ask moment answer after (denied is) = inl (is, refl)

@@ -55,7 +55,7 @@ rises-nowhere failed before now never same = record { later = omega (arith, same
 abbrev pub begun : WorkerState → WorkerState
 begun old = record { port = old.port; pass = old.pass; clock = old.clock; connections = 0; frames = 0; worn = false; failed = false }
 
--- a worker ends where its port gave no link
+-- a worker ends when its port gave no link
 pub ends-none : (asked : ℕ) (new : WorkerState) (old : PortState) (failed : Bool) → new.failed ≡ failed → NoLink old new.port failed → WorkEnds asked new
 ends-none asked new old true is none = accept_failed is (none.unsteady refl)
 ends-none asked new old false is none = no_further (none.none_waits refl) is

@@ -21,7 +21,7 @@ use Rattle.node_workers.specs.declared.served.Served.{Served}
 use Rattle.node_workers.specs.declared.served.ServedEnd.{ServedEnd}
 use Rattle.node_workers.specs.declared.served.ServedEnd.TheVariants.{Closed, Frame, WriteFailed, Worn, Full}
 
--- the bytes begin with the asks of these turns, one frame after the other, and this is what stands behind them
+-- the bytes begin with the asks of these turns, one frame after another, and this is what follows them
 pub data ReadsAsks (params : Params) : List ℕ → List Turn → List ℕ → Type 0 where
   read_none : (bytes : List ℕ) → ReadsAsks params bytes [] bytes
   read_one : (bytes rest : List ℕ) (turn : Turn) (turns : List Turn)
@@ -29,12 +29,12 @@ pub data ReadsAsks (params : Params) : List ℕ → List Turn → List ℕ → T
       → ReadsAsks params (drop (frame_of (asks params) bytes).size bytes) turns rest
       → ReadsAsks params bytes (turn ∷ turns) rest
 
--- what stands behind the asks has this fault, and just the bytes that show it were read
+-- what follows the asks has this fault, and just the bytes that show it were read
 abbrev pub FaultBehind : Params → FrameFault → List ℕ → List ℕ → Type 0
 FaultBehind params fault rest left =
     ((frame_of (asks params) rest).result ≡ Err fault) × (left ≡ drop (frame_of (asks params) rest).size rest)
 
--- what was left to read at the end, by what stood behind the asks
+-- what was left to read at the end, depending on what followed the asks
 abbrev pub LeftBehind : Params → ServedEnd → List ℕ → List ℕ → Type 0
 LeftBehind params Closed rest left = FaultBehind params End rest left
 LeftBehind params (Frame fault) rest left = (fault ≡ ReadFault) ⊎ FaultBehind params fault rest left
@@ -42,14 +42,14 @@ LeftBehind params WriteFailed rest left = left ≡ rest
 LeftBehind params Worn rest left = left ≡ rest
 LeftBehind params Full rest left = left ≡ rest
 
--- what was read: the asks of these turns, and of what stood behind them as much as the end says
+-- what was read: the asks of these turns, and as much of what followed them as the end says
 pub record HasRead (params : Params) (old new : Talk) (ended : ServedEnd) (turns : List Turn) : Type 0 where
   pub rest : List ℕ
   pub asks_read : ReadsAsks params old.left turns rest
   pub behind : LeftBehind params ended rest new.left
   pub all : new.taken ++ new.left ≡ old.taken ++ old.left
 
--- all replies but the last were written whole, and of the last a beginning that is not all of it
+-- all replies but the last were written whole, and only a beginning of the last, not all of it
 pub record WroteButLast (share : Share) (old new : Talk) (turns : List Turn) : Type 0 where
   pub before : List Turn
   pub last : Turn
@@ -59,7 +59,7 @@ pub record WroteButLast (share : Share) (old new : Talk) (turns : List Turn) : T
   pub written : new.written
       ≡ old.written ++ (replies share before ++ take size (reply_bytes share last.ask last.outcome))
 
--- what was written: all replies, or all but the last where a write failed
+-- what was written: all replies, or all but the last if a write failed
 abbrev pub HasWritten : Share → Talk → Talk → ServedEnd → List Turn → Type 0
 HasWritten share old new Closed turns = new.written ≡ old.written ++ replies share turns
 HasWritten share old new (Frame fault) turns = new.written ≡ old.written ++ replies share turns
@@ -67,7 +67,7 @@ HasWritten share old new WriteFailed turns = WroteButLast share old new turns
 HasWritten share old new Worn turns = new.written ≡ old.written ++ replies share turns
 HasWritten share old new Full turns = new.written ≡ old.written ++ replies share turns
 
--- how many replies were written whole: all but the last where a write failed; only the last ask may meet a worn pass
+-- how many replies were written whole: all but the last if a write failed; only the last ask may meet a worn pass
 abbrev pub EndsBy : ServedEnd → ℕ → List Turn → Type 0
 EndsBy Closed frames turns = (frames ≡ length turns) × (with_code 11 turns ≡ 0)
 EndsBy (Frame fault) frames turns =
@@ -76,7 +76,7 @@ EndsBy WriteFailed frames turns = (frames + 1 ≡ length turns) × (with_code 11
 EndsBy Worn frames turns = (frames ≡ length turns) × (with_code 11 turns ≡ 1)
 EndsBy Full frames turns = (frames ≡ length turns) × (length turns ≡ 65536) × (with_code 11 turns ≡ 0)
 
--- over a steady link with this room no read fails, and a write only where the replies take more
+-- over a steady link with this room no read fails, and a write fails only if the replies take more
 abbrev pub FailsForRoom : Share → Bool → ℕ → ServedEnd → List Turn → Type 0
 FailsForRoom share steady room ended turns =
     IsTrue steady → IsLinkFault ended → (ended ≡ WriteFailed) × (room < length (replies share turns))
@@ -110,8 +110,8 @@ pub record LinkState : Type 0 where
   pub steady : Bool
   pub talk : Talk
 
--- All of a connection, by the turns that its asks had: its server before and after, its link as it was, the talk that
--- came of it, and its end.
+-- All of a connection, given the turns that its asks had: its server before and after, its link as it was, the
+-- resulting talk, and its end.
 pub record Conversation (share : Share) (ids : Option (List (List ℕ))) (old new : ServerState) (link : LinkState)
     (talk : Talk) (served : Served) : Type 0 where
   pub turns : List Turn

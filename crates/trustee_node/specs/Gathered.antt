@@ -13,7 +13,7 @@ use Rattle.stream_io.specs.declared.totals.Totals.{Totals}
 use Rattle.turn_lock.specs.Lock.{Lock}
 use Rattle.turn_lock.specs.Pass.{SamePass, Seen, first_pass}
 
--- internal: workers that stand so to these ports and clocks, the worker of the first port last
+-- internal: workers that stand in this relation to these ports and clocks, the worker of the first port last
 pub data StandTo {W : Type 0} (Is : PortState → ClockState → W → Type 0)
     : List PortState → List ClockState → List W → Type 0 where
   none : StandTo Is [] [] []
@@ -28,13 +28,13 @@ pub record IsBegun (pass : Seen Note TrusteeName) (port : PortState) (clock : Cl
   pub port_is : worker.port ≡ port
   pub clock_is : worker.clock ≡ clock
 
--- internal: such workers, by what each was given
+-- internal: workers of this kind, by what each was given
 abbrev pub AreBegun : {W : Type 0} → (W → WorkerState) → Seen Note TrusteeName → List PortState → List ClockState
     → List W → Type 0
 AreBegun state pass ports clocks workers =
     StandTo (λ port clock worker. IsBegun pass port clock (state worker)) ports clocks workers
 
--- internal: such a worker, after it was run
+-- internal: a worker of this kind, after it was run
 pub record IsDone (share : Share) (ids : Option (List (List ℕ))) (asked : ℕ) (pass : Seen Note TrusteeName)
     (port : PortState) (clock : ClockState) (worker : WorkerState) : Type 0 where
   pub first : WorkerState

@@ -10,13 +10,13 @@ use Rattle.share_files.specs.declared.share.Share.{Share}
 use Rattle.trustee_core.specs.Decisions.{Granted, Refused}
 use Rattle.trustee_node.specs.Turns.{InTurn, NoTurn, Outcome, ServedTurns, Turn}
 
--- the turn met so many entries of the log, no fewer than these, and what it added stands just behind them
+-- the turn met the first entries of the log, at least `least` of them, and what it added stands just after them
 pub record StandsIn (log : List Entry) (least : ℕ) (turn : Turn) : Type 0 where
   pub later : least ≤ length turn.seen
   pub seen : take (length turn.seen) log ≡ turn.seen
   pub added : take (length turn.seen + length turn.added) log ≡ turn.seen ++ turn.added
 
--- the turns stand in the log one behind the other
+-- the turns stand in the log one after another
 abbrev pub StandInLog : List Entry → ℕ → List Turn → Type 0
 StandInLog log least [] = least ≤ length log
 StandInLog log least (turn ∷ turns) =
@@ -30,7 +30,7 @@ pub record StandUnder (share : Share) (last : List Entry) (turns : List Turn) : 
   pub served : ServedTurns share ids log turns end
   pub begins : IsPrefix end last
 
--- these asks, behind this one if it was granted
+-- these asks, after this one if it was granted
 abbrev pub if_granted : Outcome → Ask → List Ask → List Ask
 if_granted (InTurn (Decided Granted)) ask asks = ask ∷ asks
 if_granted (InTurn (Decided (Refused why))) ask asks = asks
@@ -51,7 +51,7 @@ granted_by (turns ∷ others) = granted_in turns ++ granted_by others
 abbrev pub IsLegal : JournalState → Type 0
 IsLegal state = (entries : List Entry) → SettlesTo state entries → IsLegalList entries
 
--- One run of a journal's trustee after the other: each begins with entries that make of each leaf what the journal kept
+-- Runs of a journal's trustee, one after another: each begins with entries that make of each leaf what the journal kept
 -- of it, and its passes stand under the entries that it ends with.
 pub data Runs (share : Share) : JournalState → List (List Turn) → JournalState → Type 0 where
   stopped : (state : JournalState) → Runs share state [] state

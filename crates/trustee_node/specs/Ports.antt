@@ -1,4 +1,4 @@
--- Ports that one trustee served, all beside each other.
+-- Ports that one trustee served, all side by side.
 use Rattle.std.specs.Prelude.{◌≡◌, ◌≤◌, ◌<◌, ◌+◌, ◌-◌, ◌*◌, ◌^◌, ◌++◌, ℕ, Bool, List, All, length, map, min}
 use Rattle.std.specs.Prelude.{count_by, Contains, Option, Some, IsTrue}
 use Rattle.std.specs.List.{flat_map, sum_by}
@@ -23,8 +23,8 @@ pub record PortRun : Type 0 where
   pub clock : ClockState
   pub served : List Connection
 
--- A port was served: its connections had their turns one after the other, between these two logs, each was of a link
--- that waited, and the port's talks grew by just theirs, as they ended
+-- A port was served: its connections had their turns one after another, between these two logs, each was over a link
+-- that waited, and the port's talks grew by exactly theirs, as they ended
 pub record IsPortRun (share : Share) (ids : Option (List (List ℕ))) (asked : ℕ) (log last : List Entry) (run : PortRun)
     : Type 0 where
   pub are : All (IsConnection share run.before) run.served
@@ -54,9 +54,9 @@ NoLinkFails runs =
 abbrev pub turns_in : List PortRun → List Turn
 turns_in runs = flat_map (λ (run : PortRun). turns_of run.served) runs
 
--- What the codes of the replies say of the disk: code 6 stands in no more replies than its count of faults rose, and
--- in none where it is steady and tells its content; code 7 in none before the first fault, and in none where it tells
--- its content. No pass is worn.
+-- What the codes of the replies say of the disk: code 6 stands in no more replies than its count of faults rose by, and
+-- in none if it is steady and tells its content; code 7 in none before the first fault, and in none if it tells its
+-- content. No pass is worn.
 pub record HasCodes (old new : TrusteeState) (turns : List Turn) : Type 0 where
   pub rises : new.faults < 2 ^ 64 - 1 → old.faults + with_code 6 turns ≤ new.faults
   pub steady : IsTrue new.name.steady → IsTrue new.name.told → with_code 6 turns ≡ 0
@@ -76,7 +76,8 @@ pub data ComesFrom (old : TrusteeState) (turns : List Turn) (entry : Entry) : Ty
   was_in_doubt : Contains old.notes (Doubted entry) → ComesFrom old turns entry
   is_asked : IsAsked turns entry → ComesFrom old turns entry
 
--- nothing is bound that was not asked for, at any number of faults: each entry, and the one in doubt, comes from there
+-- nothing is bound that was not asked for, whatever the number of faults: each entry, and the one in doubt, comes from
+-- there
 pub record AllComeFrom (old new : TrusteeState) (turns : List Turn) : Type 0 where
   pub entries : (entry : Entry) → Contains new.entries entry → ComesFrom old turns entry
   pub doubt : (entry : Entry) → new.doubt ≡ Some entry → ComesFrom old turns entry
@@ -92,8 +93,8 @@ pub record PortsRun : Type 0 where
 abbrev pub ports_run : List PortState → List PortState → List ClockState → PortsRun
 ports_run before after clocks = record { before = before; after = after; clocks = clocks }
 
--- What serving these ports made of a trustee and of them, in their order. Where there was no fault, each entry stands
--- in the last log as often as in the first one and in what the turns added together.
+-- What became of a trustee and of these ports when they were served, in their order. If there was no fault, each entry
+-- stands in the last log as often as in the first one and in what the turns added together.
 pub record ServedPorts (share : Share) (ids : Option (List (List ℕ))) (asked : ℕ) (old new : TrusteeState)
     (ports : PortsRun) (totals : Totals) : Type 0 where
   pub runs : List PortRun

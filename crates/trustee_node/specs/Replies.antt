@@ -61,7 +61,7 @@ kept_by (Journal journal.NotBound) = []
 kept_by (Journal (journal.Spent kept)) = message_id_bytes kept
 kept_by (Journal (journal.OtherDigest c digest)) = c ++ digest
 
--- the masks of a grant, one behind the other
+-- the masks of a grant, one after another
 abbrev pub masks_joined : Share → Ask → List ℕ
 masks_joined share ask = joined (mask_of share ask) (masks_of share.params ask)
 
@@ -92,7 +92,7 @@ longest_reply params = 99 + params.p * params.n
 abbrev pub replies : Share → List Turn → List ℕ
 replies share turns = flat_map (λ (turn : Turn). reply_bytes share turn.ask turn.outcome) turns
 
--- what came of an ask, by the answer of the call
+-- what came of an ask, depending on the answer of the call
 abbrev pub outcome_in : Answer → Outcome
 outcome_in (answer.Decided result) = InTurn (book_answer_in result)
 outcome_in answer.Worn = NoTurn
@@ -102,7 +102,7 @@ abbrev pub IsGrantOf : Answer → Ask → Type 0
 IsGrantOf (answer.Decided result) ask = IfOk result (λ grant. ask_of grant ≡ ask)
 IsGrantOf answer.Worn ask = ⊤
 
--- an ask was answered so, in one turn or in none
+-- an ask was answered in this way, in one turn or in none
 pub record OneTurn (share : Share) (ids : Option (List (List ℕ))) (ask : Ask) (moment : ℕ) (result : Answer)
     (old new : Seen Note TrusteeName) : Type 0 where
   pub seen : List Entry
@@ -121,7 +121,7 @@ abbrev pub KeepsFew : Answer → Type 0
 KeepsFew (answer.Decided (Err (Core why))) = length (kept_by why) ≤ 64
 KeepsFew given = ⊤
 
--- internal: what follows the head, by the answer of the call
+-- internal: what follows the head, depending on the answer of the call
 abbrev pub body_in : Share → Answer → List ℕ
 body_in share (answer.Decided (Ok grant)) = masks_joined share (ask_of grant)
 body_in share (answer.Decided (Err (Core why))) = kept_by why

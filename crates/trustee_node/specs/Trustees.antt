@@ -9,8 +9,8 @@ use Rattle.trustee_core.specs.declared.kept.TrusteeName.{TrusteeName}
 use Rattle.trustee_core.specs.declared.note.Note.{Note}
 use Rattle.trustee_core.specs.declared.trustee.Trustee.{Trustee}
 
--- the entries of its journal, the one in doubt, its notes, the count of faults of its disk, and its share and what its
--- disk is for good
+-- the entries of its journal, the one in doubt, its notes, the count of faults of its disk, and its share and what
+-- never changes about its disk
 pub record TrusteeState : Type 0 where
   pub entries : List Entry
   pub doubt : Option Entry
@@ -19,7 +19,7 @@ pub record TrusteeState : Type 0 where
   pub name : TrusteeName
 
 module _ {D : Type 0} {p : pages.Ghosts D} {f : faults.Ghosts D} where
-  -- its share and what its disk is for good
+  -- its share and what never changes about its disk
   abbrev pub name_of : Trustee D p f → TrusteeName
   name_of trustee = record {
     share = share_of trustee;

@@ -40,7 +40,7 @@ pub record ReachesJournal (share : Share) (ids : Option (List (List ℕ))) (ask 
   pub tag : IfSome ask.second (HasTag share ask)
 
 -- What comes of an ask that meets these entries, and what it adds: what is decided with no entry in doubt; or a fault
--- of the disk, a damaged slot or a worn pass, and then nothing is added
+-- of the disk, a damaged slot or a worn pass, in which case nothing is added
 pub data Answers (share : Share) (ids : Option (List (List ℕ))) (seen : List Entry) (ask : Ask) (moment : ℕ)
     : Outcome → List Entry → Type 0 where
   step : (answer : BookAnswer) (added : List Entry)
@@ -53,7 +53,7 @@ pub data Answers (share : Share) (ids : Option (List (List ℕ))) (seen : List E
   worn : Answers share ids seen ask moment NoTurn []
 
 -- From one log to another that goes on from it: each turn met a log that goes on from what was there before, and what
--- it added stands just behind that
+-- it added stands just after that
 pub data ServedTurns (share : Share) (ids : Option (List (List ℕ))) : List Entry → List Turn → List Entry → Type 0 where
   ended : (log last : List Entry) → IsPrefix log last → ServedTurns share ids log [] last
   next : (log last : List Entry) (turn : Turn) (rest : List Turn) → IsPrefix log turn.seen
@@ -68,12 +68,12 @@ code_of (InTurn (Decided (Refused why))) = refusal_code why
 code_of (InTurn (Denied message)) = 12
 code_of NoTurn = 11
 
--- no turn was had, since the pass is worn
+-- there was no turn, since the pass is worn
 abbrev pub is_worn : Outcome → Bool
 is_worn (InTurn answer) = false
 is_worn NoTurn = true
 
--- 1 where the reply has this code, and else 0
+-- 1 if the reply has this code, and 0 otherwise
 abbrev pub is_code : ℕ → Outcome → ℕ
 is_code code outcome = if code_of outcome == code then 1 else 0
 
@@ -93,13 +93,13 @@ TellsDisk name = IsSomeAnd name (λ name. IsTrue name.told)
 abbrev pub HasSteadyDisk : Option TrusteeName → Type 0
 HasSteadyDisk name = IsSomeAnd name (λ name. IsTrue name.steady × IsTrue name.told)
 
--- the pass is of this lock, round the trustee of this share, and holds no turn
+-- the pass is of this lock, around the trustee of this share, and holds no turn
 abbrev pub IsIdle : Lock Note TrusteeName → Share → Seen Note TrusteeName → Type 0
 IsIdle lock share pass =
     (pass.lock ≡ lock) × (pass.in_turn ≡ false) × IfSome pass.name (λ name. name.share ≡ share)
 
--- The tickets of these turns: one for each ask that is decided, and one or none for one that is not. An ask is not
--- decided exactly where the pass is worn.
+-- The tickets of these turns: one for each ask that is decided, and one or none for one that is not. An ask is left
+-- undecided exactly when the pass is worn.
 pub record Draws (old new : Seen Note TrusteeName) (turns : List Turn) : Type 0 where
   pub most : new.draws ≤ old.draws + length turns
   pub least : old.draws + length turns ≤ new.draws + with_code 11 turns
@@ -130,14 +130,14 @@ pub data IsNoteOf (log : List Note) (turns : List Turn) : Note → Type 0 where
   asked_doubted : (entry : Entry) → IsAsked turns entry → IsNoteOf log turns (Doubted entry)
   turned_out : (entry : Entry) → Contains log (Doubted entry) → IsNoteOf log turns (Made entry)
 
--- What these turns noted, at any number of faults. The log goes on from the one before.
+-- What these turns noted, whatever the number of faults. The log goes on from the one before.
 pub record NotedBy (old new : Seen Note TrusteeName) (turns : List Turn) : Type 0 where
   pub noted : List Note
   pub are : new.own ≡ old.own ++ noted
   pub each : All (IsNoteOf new.log turns) noted
   pub log : IsPrefix old.log new.log
 
--- What these turns made of a pass. With no fault they added what their answers say, and nothing else.
+-- What became of a pass in these turns. With no fault they added what their answers say, and nothing else.
 pub record Serves (share : Share) (ids : Option (List (List ℕ))) (old new : Seen Note TrusteeName) (turns : List Turn)
     : Type 0 where
   pub served : ServedTurns share ids (entries_in old.log) turns (entries_in new.log)

@@ -47,8 +47,8 @@ pub record ServesLink (share : Share) (ids : Option (List (List ℕ))) (old new 
   pub conversation : Conversation share ids old new link talk served
   pub hung : HangsUp port_old talk port_new
 
--- a connection that was served: its link as it was accepted, as it was hung up and as it then ended, its turns and how
--- serving it ended
+-- a connection that was served: its link when it was accepted, when it was hung up and when it then ended, its turns,
+-- and how serving it ended
 pub record Connection : Type 0 where
   pub link : Talk
   pub talk : Talk
@@ -56,7 +56,7 @@ pub record Connection : Type 0 where
   pub turns : List Turn
   pub served : Served
 
--- The link was new at this port as it stood by then, was served so, and ended so.
+-- The link was new at this port as the port stood by then, was served in this way, and ended in this way.
 pub record IsConnection (share : Share) (port : PortState) (one : Connection) : Type 0 where
   pub by_then : PortState
   pub since : PortOnward port by_then
@@ -81,8 +81,8 @@ turns_of served = flat_map (λ (one : Connection). one.turns) served
 abbrev pub frames_of : List Connection → ℕ
 frames_of served = sum_by (λ (one : Connection). one.served.frames) served
 
--- All of a worker, by the connections that it served, one after the other: its pass, its clock and its port, its
--- numbers, and whether accepting failed. Where it is worn, at least one ask met a worn pass.
+-- All of a worker, given the connections that it served, one after another: its pass, its clock and its port, its
+-- numbers, and whether accepting failed. If its pass is worn, at least one ask met a worn pass.
 pub record Worked (share : Share) (ids : Option (List (List ℕ))) (old new : WorkerState) : Type 0 where
   pub served : List Connection
   pub are : All (IsConnection share old.port) served
@@ -97,8 +97,8 @@ pub record Worked (share : Share) (ids : Option (List (List ℕ))) (old new : Wo
   pub frames : new.frames ≡ min (frames_of served) (2 ^ 32 - 1)
   pub worn : new.worn ≡ true → 1 ≤ with_code 11 (turns_of served)
 
--- why a worker ended: it served as many connections as it was to, there is no further link, accepting failed, or its
--- pass is worn
+-- why a worker ended: it served as many connections as it was meant to, there is no further link, accepting failed, or
+-- its pass is worn
 pub data WorkEnds (asked : ℕ) (new : WorkerState) : Type 0 where
   served_all : new.connections ≡ asked → new.failed ≡ false → WorkEnds asked new
   no_further : (IsTrue new.port.told → new.port.waiting ≡ 0) → new.failed ≡ false → WorkEnds asked new

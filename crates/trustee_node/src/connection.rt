@@ -20,7 +20,7 @@ use turn_lock::{Pass, TurnLock};
 /// The most frames of one connection.
 const MOST_FRAMES: u32 = 65_536;
 
-/// Serves a connection: reads asks one after the other, reads the clock once for each, decides on it in a turn of its
+/// Serves a connection: reads asks one after another, reads the clock once for each, decides on it in a turn of its
 /// own, and writes a reply. The share is that of the lock's trustee. A trustee with a book grants round one only for
 /// the messages that the book lists. The lock is held for the decision alone. It holds neither a message nor a list of
 /// masks, and takes no memory.

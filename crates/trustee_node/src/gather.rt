@@ -1,4 +1,4 @@
-//! Workers after they were run.
+//! Workers after their run.
 
 ghost use Rattle.std.specs.Prelude.{◌≡◌, ◌≤◌, ◌<◌, ◌+◌, ◌++◌, ℕ, [], ◌∷◌, List, Option, All, map, vec_len};
 ghost use Rattle.std.specs.Prelude.{vec_capacity};
@@ -17,7 +17,7 @@ use stream_io::{Port, Totals};
 use trustee_core::{Clock, Trustee};
 use turn_lock::{Pass, TurnLock};
 
-/// Joins the passes of workers that are done, adds their numbers, and puts their ports into the room that there is, the
+/// Joins the passes of workers that are done, adds their numbers, and puts their ports into the room available, the
 /// last worker's first.
 pub(crate) fn gather<D: Disk, C: Clock + Drop, P: Port>(
     lock: &TurnLock<Trustee<D>>,
@@ -74,7 +74,7 @@ fn begin<D: Disk, C: Clock + Drop, P: Port>(
     (pass, totals)
 }
 
-/// Joins the pass of one more worker, adds its numbers, and puts its port behind the others.
+/// Joins the pass of one more worker, adds its numbers, and puts its port after the others.
 fn take_in<D: Disk, C: Clock + Drop, P: Port>(
     lock: &TurnLock<Trustee<D>>,
     pass: &mut Pass<Trustee<D>>,

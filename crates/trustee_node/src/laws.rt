@@ -14,20 +14,20 @@ ghost use Rattle.trustee_node.specs.Replies.{KeepsSizes, reply_body, reply_bytes
 ghost use Rattle.trustee_node.specs.Turns.{Outcome, ServedTurns, Turn};
 
 /// Each turn met the first entries of the last log, no fewer than there were at the start and than the turns before it
-/// left, and what it added stands just behind them.
+/// left, and what it added stands just after them.
 pub fn turns_stand_in_the_log()
     ensures { (share : Share) (ids : Option (List (List ℕ))) (log last : List Entry) (turns : List Turn)
         → ServedTurns share ids log turns last → StandInLog last (length log) turns }
 {}
 
-/// Of all turns of passes whose logs one legal log goes on from, whatever books they were asked under, the grants are
-/// of one opening.
+/// The grants in all turns of passes are of one opening if one legal log goes on from all their logs, whatever books
+/// they were asked under.
 pub fn one_opening()
     ensures { (share : Share) (last : List Entry) (passes : List (List Turn)) → IsLegalList last
         → All (StandUnder share last) passes → OneOpening share (granted_by passes) }
 {}
 
-/// The same through all runs of one journal, one after the other, whether an entry in doubt was made or was not.
+/// The same through all runs of one journal, one after another, whether an entry in doubt was made or was not.
 pub fn one_opening_of_runs()
     ensures { (share : Share) (before last : JournalState) (passes : List (List Turn)) → IsLegal before
         → Runs share before passes last → OneOpening share (granted_by passes) }

@@ -1,5 +1,5 @@
 //! The running trustee: it reads asks from a connection, decides on each in a turn of its own, and writes a reply to
-//! each. Workers serve the connections of ports, beside each other.
+//! each. Workers serve the connections of ports, side by side.
 #![tactic(auto)]
 
 mod connection;

@@ -9,7 +9,7 @@ ghost use Rattle.trustee_node.specs.Ports.{HasRoomyLinks, NoLinkFails, PortsRun,
 ghost use Rattle.trustee_node.specs.Trustees.{TrusteeState};
 ghost use Rattle.stream_io.specs.declared.totals.Totals.{Totals};
 
-/// All that was granted at all ports is of one opening, where each entry of the trustee may follow those before it, as
+/// All that was granted at all ports is of one opening if each entry of the trustee may follow those before it, as
 /// `Trustee::end` says.
 pub fn one_opening()
     ensures { (share : Share) (ids : Option (List (List ℕ))) (asked : ℕ) (old new : TrusteeState)

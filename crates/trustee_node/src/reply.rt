@@ -20,10 +20,10 @@ use share_files::Share;
 use stream_io::{Failed, Sink, Stream, write_whole};
 use trustee_core::{Denial, Grant, Refusal, mask_count};
 
-/// How many bytes of a reply are written at once: all of them, most often.
+/// How many bytes of a reply are written at once: usually all of them.
 const ROOM: usize = 4096;
 
-/// Writes the reply to an ask: its head, and behind it the masks of a grant, or what a refusal keeps.
+/// Writes the reply to an ask: its head, followed by the masks of a grant, or by what a refusal keeps.
 pub(crate) fn write_reply<K: Sink>(
     share: &Share,
     ask: &Ask,
@@ -69,7 +69,7 @@ fn round_of(ask: &Ask) -> u8
     }
 }
 
-/// The randomizer of an ask, and `n` zero bytes in round one.
+/// The randomizer of an ask, or `n` zero bytes in round one.
 fn randomizer_of(params: &Params, ask: &Ask) -> Val
     ensures { result ≡ c_of params.now ask.now.second }
 {
@@ -125,7 +125,7 @@ fn write_kept<K: Sink>(
     write_whole(link, &room[..length])
 }
 
-/// Puts what a refusal keeps behind the front of the room, and answers how long both are.
+/// Puts what a refusal keeps after the front of the room, and answers the length of both together.
 fn put_behind(why: &Refusal, room: &mut [u8; ROOM], front: usize) -> usize
     requires { front ≤ 99 }
     ensures keeps { length (kept_by why.now) ≤ 64 }
@@ -135,7 +135,7 @@ fn put_behind(why: &Refusal, room: &mut [u8; ROOM], front: usize) -> usize
     front + put_kept(why, &mut room[front..])
 }
 
-/// Puts what a refusal keeps to the front of the room, and answers its length: the two gates, the kept message's id, or
+/// Puts what a refusal keeps at the front of the room, and answers its length: the two gates, the kept message's id, or
 /// the kept randomizer and digest.
 fn put_kept(why: &Refusal, out: &mut [u8]) -> usize
     requires { 64 ≤ length out.old }
@@ -161,7 +161,7 @@ fn put_kept(why: &Refusal, out: &mut [u8]) -> usize
     }
 }
 
-/// Puts two values one behind the other to the front of the room, and answers their length.
+/// Puts two values one after the other at the front of the room, and answers their total length.
 fn put_pair(first: &Val, second: &Val, out: &mut [u8]) -> usize
     requires { 64 ≤ length out.old }
     ensures length { result ≤ 64 }
@@ -182,7 +182,7 @@ struct Batch {
     length: usize,
 }
 
-/// Writes the front of the room, and the masks of a grant, as much at once as there is room for.
+/// Writes the front of the room, and the masks of a grant, as much at a time as there is room for.
 fn write_masks<K: Sink>(
     share: &Share,
     grant: &Grant,
@@ -229,7 +229,7 @@ fn mask(key: &MacKey, share: &Share, ask: &Ask, i: u16) -> Val
     }
 }
 
-/// Puts masks of a grant to the front of the room, from mask `from` on and as many as there is room for.
+/// Puts masks of a grant at the front of the room, from mask `from` on, as many as there is room for.
 fn put_masks(key: &MacKey, share: &Share, grant: &Grant, from: u16, room: &mut [u8]) -> Batch
     requires key { key.now ≡ share.now.key }
     requires from { from < masks_of share.now.params (ask_of grant.now) }

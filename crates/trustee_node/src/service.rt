@@ -1,4 +1,4 @@
-//! The whole run: a lock is made round a trustee, its ports are served, and the lock is ended.
+//! The whole run: a lock is made around a trustee, its ports are served, and the lock is ended.
 
 ghost use Rattle.std.specs.Prelude.{◌≡◌, ◌≤◌, map, vec_len, IfOk, OnErr};
 ghost use Rattle.std.specs.Option.{option_map};
@@ -21,10 +21,10 @@ use stream_io::{Port, Totals};
 use trustee_core::{Approved, Clock, Trustee};
 use turn_lock::TurnLock;
 
-/// Serves a trustee over ports, by a worker for each port, all beside each other, each with a clock of its own. A
-/// worker serves one link after the other, until it has served `connections`, there is no further link or accepting
-/// fails. A trustee with a book grants round one only for the messages that the book lists. The ports come back in
-/// their order. Where memory runs out, nothing was served. No memory is taken while ports are served.
+/// Serves a trustee over ports, with a worker for each port, all side by side, each with a clock of its own. A worker
+/// serves one link after another, until it has served `connections`, there is no further link or accepting fails. A
+/// trustee with a book grants round one only for the messages that the book lists. The ports come back in their order.
+/// If memory runs out, nothing was served. No memory is taken while ports are served.
 pub fn serve_ports<
     R: Threads + Wait + Sync,
     D: Disk + Send,

@@ -24,7 +24,7 @@ pub(crate) enum Answer {
 }
 
 impl Answer {
-    /// The code of the reply: 0 for a grant, 11 where the pass has no more turns, and else the refusal's number.
+    /// The code of the reply: 0 for a grant, 11 if the pass has no more turns, and the refusal's number otherwise.
     pub(crate) fn code(&self) -> u8
         ensures { result ≡ code_of (outcome_in self.now) }
     {

@@ -1,4 +1,4 @@
-//! Workers, which serve one link after the other.
+//! Workers, which serve one link after another.
 
 ghost use Rattle.std.specs.Prelude.{◌≡◌, ◌≤◌, ◌<◌, ℕ, All, length};
 ghost use Rattle.std.specs.Prelude.{slice_index_or};
@@ -20,8 +20,8 @@ use stream_io::{Port, Stream};
 use trustee_core::{Approved, Clock, Trustee};
 use turn_lock::{Pass, TurnLock};
 
-/// Serves one link after the other by each worker, all beside each other, until each has served `connections`, there is
-/// no further link for it, accepting fails or its pass has no more turns. It takes no memory.
+/// Has each worker serve one link after another, all side by side, until each has served `connections`, there is no
+/// further link for it, accepting fails or its pass has no more turns. It takes no memory.
 pub fn serve<R: Threads + Wait + Sync, D: Disk + Send, C: Clock + Send, P: Port + Send>(
     rt: &R,
     lock: &TurnLock<Trustee<D>>,
@@ -54,7 +54,7 @@ pub fn serve<R: Threads + Wait + Sync, D: Disk + Send, C: Clock + Send, P: Port 
     thread::for_each_mut(rt, workers, threads, &serves);
 }
 
-/// Serves one link after the other, until it has served `connections`, there is no further link, accepting fails or the
+/// Serves one link after another, until it has served `connections`, there is no further link, accepting fails or the
 /// pass has no more turns.
 fn work<D: Disk, C: Clock, P: Port>(
     rt: &impl Wait,

@@ -82,7 +82,7 @@ module _ {T E N : Type 0} (entries : T → List E) (number : T → ℕ) (name : 
   abbrev Rule : S → Type 0
   Rule = Turned entries number name o
 
-  -- what the rule says of a seat in which all passes are joined
+  -- what the rule says about a seat in which all passes are joined
   pub record Whole (s : S) (r : Rule s) (v : K) : Type 0 where
     pub next : r.next ≡ o.first + v.draws
     pub log : v.log ≡ r.all
@@ -208,7 +208,7 @@ module _ {T E N : Type 0} (entries : T → List E) (number : T → ℕ) (name : 
         },
       ))
 
-  -- looking: the ticket that is served is one seat's alone
+  -- looking: the ticket that is served belongs to one seat alone
   found_turn : (slots id t : ℕ) (me : Me (Option T) K) (st : Step (Option T)) (s : S) (r : Rule s) → get_elem? s.views id ≡ some me.0 → me.0.stage ≡ Waiting t → r.serving ≡ t
       → Goes entries number name o s 1 id me (λ n. n) (Looked entries number name st me) (r.next ∷ r.serving ∷ r.parked)
   found_turn slots id t me st s r at waits here = ⊎_elim
@@ -308,7 +308,7 @@ module _ {T E N : Type 0} (entries : T → List E) (number : T → ℕ) (name : 
         },
       ))
 
-  -- calling, and sleeping: a word to park on may become anything
+  -- calling, and sleeping: a word to park on may take any value
   called : (slots id k : ℕ) (f : ℕ → ℕ) (me : Me (Option T) K) (st : Step (Option T)) → Allows Rule slots id me (suc (suc k)) f (Called st me)
   called slots id k f me st s r _ at _ = subst (Goes entries number name o s (suc (suc k)) id me f (Called st me)) (sym r.words) (
     me.0,
@@ -567,7 +567,7 @@ module _ {T E N : Type 0} (entries : T → List E) (number : T → ℕ) (name : 
         knower = (0, d, refl, refl, refl, part);
       }
 
-  -- where one pass is left, the value is at home, and stands for all that the pass saw
+  -- if one pass is left, the value is at home, and stands for all that the pass saw
   pub record Closes (v : K) (slot : Option T) : Type 0 where
     pub value : T
     pub is : slot ≡ Some value

@@ -25,7 +25,7 @@ tail_of : {A : Type 0} → List A → List A
 tail_of [] = []
 tail_of (y ∷ ys) = ys
 
--- of two beginnings of one list the shorter begins the longer
+-- of two beginnings of one list, the shorter begins the longer
 pub prefix_both : {A : Type 0} (xs ys zs : List A) → IsPrefix xs zs → IsPrefix ys zs → length xs ≤ length ys → IsPrefix xs ys
 unfolding head_or tail_of
 prefix_both [] ys zs p q le = prefix_none ys
@@ -59,7 +59,7 @@ module _ {E : Type 0} where
   shorter_is xs ys = let Is : Bool → Type 0 = λ b. (nat_lt (length xs) (length ys) ≡ b) → length (cond b xs ys) ≤ length (cond b ys xs) in
       let all = elim (nat_lt (length xs) (length ys)) as Is [ true ↦ λ is. grind (arith, is) | false ↦ λ is. grind (arith, is) ] in all refl
 
-  -- the longer of all and a beginning of it is all
+  -- the longer of everything and a beginning of it is everything
   pub longer_left : (xs ys zs : List E) → xs ≡ zs → IsPrefix ys zs → longer_of xs ys ≡ zs
   longer_left xs ys zs e q = let le = prefix_length ys zs q in let l = ap length e in let Is : Bool → Type 0 = λ b. (nat_lt (length xs) (length ys) ≡ b) → cond b ys xs ≡ zs in
       let all = elim (nat_lt (length xs) (length ys)) as Is [ true ↦ λ is. absurd (let lt : length xs < length ys = grind (arith, is) in omega arith) | false ↦ λ is. e ] in all refl

@@ -29,7 +29,7 @@ get_elem-below [] i a e = absurd (some-ne-none a (sym e))
 get_elem-below (x ∷ xs) zero a e = omega arith
 get_elem-below (x ∷ xs) (suc i) a e = omega (arith, get_elem-below xs i a e)
 
--- two that stand at one place are one
+-- two elements at one place are the same
 pub same_at : {A : Type 0} (xs : List A) (i j : ℕ) (a b : A) → get_elem? xs i ≡ some a → get_elem? xs j ≡ some b → i ≡ j → a ≡ b
 same_at xs i j a b p q e = some-injective a b (sym p ∙ (ap (get_elem? xs) e ∙ q))
 
@@ -48,13 +48,13 @@ module _ {E N : Type 0} where
   below_next n t all most d (Waiting x) u k h = subst (λ (z : ℕ). z < n) h k.1
   below_next n t all most d (Holding x) u k h = subst (λ (z : ℕ). z < n) h k.1
 
-  -- the turn went on from the ticket t, which this seat has not
+  -- the turn went on from the ticket t, which this seat does not have
   pub waiting_on : (n t : ℕ) (all more : List E) (a b : ℕ) (d : Known E N) (st : Stage) → (HasTicket st t → ⊥) → Stands n t all a d st → Stands n (t + 1) more b d st
   waiting_on n t all more a b d Idle other k = tt
   waiting_on n t all more a b d (Waiting u) other k = let ne : u ≢ t = other in let le = k.0 in (omega arith, k.1)
   waiting_on n t all more a b d (Holding u) other k = absurd (other k.0)
 
-  -- a seat with a ticket stood there before a split
+  -- a seat with a ticket was there before a split
   pub old_seat : (vs : List (Known E N)) (id : ℕ) (w u : Known E N) (j : ℕ) (d : Known E N) (t : ℕ) → w.stage ≡ Idle → u.stage ≡ Idle → get_elem? (set vs id w ++ u ∷ []) j ≡ some d → HasTicket d.stage t → get_elem? vs j ≡ some d
   old_seat vs id w u j d t idle idle_u e h = ⊎_elim
       (λ (e : get_elem? (set vs id w) j ≡ some d). ⊎_elim
@@ -133,7 +133,7 @@ module _ {T E N : Type 0} (entries : T → List E) (number : T → ℕ) (name : 
     knower = adds.knower;
   }
 
-  -- who knew all still does, where the seat keeps what it knew
+  -- a seat that knew all still does, if the seat that steps keeps what it knew
   pub still_known : (s : S) (r : Rule s) (id : ℕ) (v w : K) → get_elem? s.views id ≡ some v → w.log ≡ v.log → w.floor ≡ v.floor → 0 < w.parts → HasKnower r.all r.most (set s.views id w)
   still_known s r id v w at l f p = let k = r.knower in dite (ℕ_discrete k.0 id)
       (λ here. let same : v ≡ k.1 = same_at s.views id k.0 v k.1 at k.2 (sym here) in
@@ -149,7 +149,7 @@ module _ {T E N : Type 0} (entries : T → List E) (number : T → ℕ) (name : 
   Goes s i id me f then ws = (w : K) × (a : Act (Option T)) × Valid s.homes me.1 a
       × Rule record { words = set ws i (f (get_or ws i 0)); homes = homes_after s.homes me.1 a; views = set s.views id w } × then (get_or ws i 0) (w, carried_after me.1 a)
 
-  -- a seat that holds no turn changes nothing of where the value is
+  -- a seat that holds no turn does not change where the value is
   pub home_stays : (s : S) (r : Rule s) (id : ℕ) (v w : K) → get_elem? s.views id ≡ some v → ((t : ℕ) → v.stage ≡ Holding t → ⊥) → Home r.serving r.all r.most s.homes (set s.views id w)
   home_stays s r id v w at idle = ⊎_elim inl
       (λ (p : IsOut r.serving s.homes s.views).
@@ -183,6 +183,6 @@ module _ {T E N : Type 0} (entries : T → List E) (number : T → ℕ) (name : 
   pub unmoved : (s : S) (r : Rule s) (id : ℕ) (me : K) → get_elem? s.views id ≡ some me → Rule record { words = r.next ∷ r.serving ∷ r.parked; homes = s.homes; views = set s.views id me }
   unmoved s r id me at = stirred s r id me at r.parked r.parks
 
-  -- the sum of worn parts, where this seat's stay as they were
+  -- the sum of worn parts, if this seat's stay as they were
   pub same_low : (ds : List K) (id n : ℕ) (v w : K) → get_elem? ds id ≡ some v → worn_parts w ≡ worn_parts v → n ≤ 2 ^ 62 + total worn_parts ds → n ≤ 2 ^ 62 + total worn_parts (set ds id w)
   same_low ds id n v w at same low = let c = total_set worn_parts ds id v w at in omega arith

@@ -25,7 +25,7 @@ module _ {A : Type 0} (f : A → ℕ) where
   total_le g [] h = omega arith
   total_le g (d ∷ ds) h = omega (arith, h d, total_le g ds h)
 
-  -- where the numbers add up to nothing, each is 0
+  -- if the numbers add up to 0, each is 0
   pub total_zero : (ds : List A) → total f ds ≡ 0 → (j : ℕ) (d : A) → get_elem? ds j ≡ some d → f d ≡ 0
   unfolding total
   total_zero [] z j d e = absurd (some-ne-none d (sym e))
@@ -62,6 +62,6 @@ module _ {E N : Type 0} where
   pub worn_parts-worn : (d : Known E N) → 2 ^ 62 ≤ d.greatest → worn_parts d ≡ d.parts
   worn_parts-worn d le = grind (arith, nat_tests)
 
-  -- two that are joined may have drawn as many worn tickets as each alone
+  -- two that are joined may have drawn at least as many worn tickets as both apart
   pub worn_parts-both : (d e b : Known E N) → b.greatest ≡ max d.greatest e.greatest → b.parts ≡ d.parts + e.parts → worn_parts d + worn_parts e ≤ worn_parts b
   worn_parts-both d e b g p = grind (arith, nat_tests)

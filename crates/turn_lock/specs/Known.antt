@@ -1,4 +1,4 @@
--- What a seat at a lock's table knows, and what each step makes of it.
+-- What a seat at a lock's table knows, and what each step does to it.
 use Rattle.std.specs.Prelude.{◌≡◌, ℕ, ◌+◌, ◌-◌, ◌^◌, ◌<◌, max, Bool, true, false, List, [], ◌∷◌, ◌++◌, length, drop}
 use Rattle.std.specs.Prelude.{Option, Some, None, nat_lt, nat_le, if◌then◌else◌}
 use Rattle.atomic_table.specs.Seated.{TableId}
@@ -10,7 +10,7 @@ use Rattle.turn_lock.specs.declared.view.Opening.{Opening}
 use Rattle.turn_lock.specs.declared.view.Stage.{Stage}
 use Rattle.turn_lock.specs.declared.view.Stage.TheVariants.{Idle, Waiting, Holding}
 
--- what a lock is made with, by what its value means
+-- what a lock is made with, in terms of what its value means
 abbrev pub opening_of : {T E N : Type 0} → (T → List E) → (T → ℕ) → (T → N) → T → ℕ → ℕ → Opening E N
 opening_of entries number name value first passes =
     record { entries = entries value; number = number value; name = Some (name value); first = first; passes = passes }
@@ -35,7 +35,7 @@ module _ {E N : Type 0} where
     opening = o;
   }
 
-  -- the seat, with one pass less
+  -- the seat, with one pass fewer
   abbrev pub rest_of : Known E N → Known E N
   rest_of d = record d { parts = d.parts - 1 }
 

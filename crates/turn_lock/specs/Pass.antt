@@ -27,7 +27,7 @@ abbrev pub longer_of : {E : Type 0} → List E → List E → List E
 longer_of xs ys = if nat_lt (length xs) (length ys) then ys else xs
 
 module _ {E N : Type 0} where
-  -- a pass that this lock was just made with
+  -- a pass that was just made with this lock
   abbrev pub first_pass : Lock E N → Seen E N
   first_pass lock = record {
     lock = lock;
@@ -65,15 +65,15 @@ module _ {E N : Type 0} where
     pub turn : new.in_turn ≡ false
     pub worn : 2 ^ 62 ≤ new.greatest
 
-  -- A ticket is drawn, which is then the greatest; a pass that is worn draws none. Where all passes of the lock are
-  -- joined in this one, the ticket is the first one and as many more as were drawn.
+  -- A ticket is drawn, so the greatest does not fall; a pass that is worn draws none. If all passes of the lock are
+  -- joined in this one, the ticket is the first one plus the number of tickets that were drawn.
   pub record DrawsOne (lock : Lock E N) (old new : Seen E N) : Type 0 where
     pub draws : old.greatest < 2 ^ 62 → new.draws ≡ old.draws + 1
     pub still_worn : 2 ^ 62 ≤ old.greatest → new ≡ old
     pub greatest : old.greatest ≤ new.greatest
     pub next : old.greatest < 2 ^ 62 → old.joined ≡ lock.passes → new.greatest ≡ lock.first_ticket + old.draws
 
-  -- what stays as it is where a turn is taken: what the turns of the pass did
+  -- what stays as it is when a turn is taken: what the turns of the pass did
   pub record SameDone (old new : Seen E N) : Type 0 where
     pub rises : new.rises ≡ old.rises
     pub own : new.own ≡ old.own
@@ -89,14 +89,14 @@ module _ {E N : Type 0} where
     pub own : new.own ≡ old.own ++ drop (length old.log) entries
     pub turn : new.in_turn ≡ false
 
-  -- what stays as it is where a turn is given back: the tickets of the pass
+  -- what stays as it is when a turn is given back: the tickets of the pass
   pub record SameDrawn (old new : Seen E N) : Type 0 where
     pub draws : new.draws ≡ old.draws
     pub greatest : new.greatest ≡ old.greatest
     pub joined : new.joined ≡ old.joined
     pub same : SamePass old new
 
-  -- another pass is joined in this one: of their two logs one begins the other, and the longer is kept
+  -- another pass is joined in this one: one of their two logs begins the other, and the longer is kept
   pub record Joins (old other new : Seen E N) : Type 0 where
     pub one_log : IsPrefix old.log other.log ⊎ IsPrefix other.log old.log
     pub log : new.log ≡ longer_of old.log other.log
@@ -115,5 +115,5 @@ module _ {E N : Type 0} where
     pub no_ticket : pass.draws ≡ 0 → pass.greatest ≡ 0
     -- the number rose in turns alone
     pub rises : pass.floor ≡ lock.opening_number + pass.rises
-    -- each entry stands in the log as often as in the first list and the own entries together
+    -- each entry is in the log as often as in the first list and the own entries together
     pub entries : (test : E → Bool) → count_by test pass.log ≡ count_by test lock.opening_log + count_by test pass.own

@@ -13,8 +13,8 @@ pub record KnowsAll {E N : Type 0} (d : Known E N) : Type 0 where
   pub rises : d.floor ≡ d.opening.number + d.rises
   pub entries : (test : E → Bool) → count_by test d.log ≡ count_by test d.opening.entries + count_by test d.own
 
--- the ticket is above those that the seat drew before, and where all passes are joined in it, it is the first one and
--- those that were drawn
+-- the ticket is not below those that the seat drew before, and if all passes are joined in it, it is the first one plus
+-- the number of those that were drawn
 pub record Drew {T E N : Type 0} (st : Step (Option T)) (m : Me (Option T) (Known E N))
     (found : ℕ) (m' : Me (Option T) (Known E N)) : Type 0 where
   pub slots : m'.1 ≡ m.1
@@ -27,7 +27,7 @@ abbrev pub Called : {T E N : Type 0} → Step (Option T) → Me (Option T) (Know
     → Type 0
 Called st m found m' = m' ≡ m
 
--- after a meeting, of the two logs one begins the other
+-- after a meeting, one of the two logs begins the other
 pub record Compared {T E N : Type 0} (st : Step (Option T)) (m : Me (Option T) (Known E N))
     (found : ℕ) (m' : Me (Option T) (Known E N)) : Type 0 where
   pub slots : m'.1 ≡ m.1
@@ -36,7 +36,7 @@ pub record Compared {T E N : Type 0} (st : Step (Option T)) (m : Me (Option T) (
   pub few : m.0.parts ≤ 4096
   pub all : m.0.parts ≡ m.0.opening.passes → KnowsAll m.0
 
--- of a seat that waits for a ticket: where that one is found served, the seat has the value, which goes on from what it
+-- for a seat that waits for a ticket: if that one is found served, the seat has the value, which goes on from what it
 -- knew
 abbrev pub Finds : {T E N : Type 0} → (T → List E) → (T → ℕ) → (T → N) → ℕ → Me (Option T) (Known E N) → ℕ
     → Me (Option T) (Known E N) → Type 0
@@ -45,7 +45,7 @@ Finds {T} entries number name t m found m' =
     × IsPrefix m.0.log (entries v) × (m.0.floor ≤ number v) × (Some (name v) ≡ m.0.opening.name))
     × (found ≢ t → m' ≡ m)
 
--- so it is found by whoever looks
+-- what a waiting seat finds when it looks
 abbrev pub Looked : {T E N : Type 0} → (T → List E) → (T → ℕ) → (T → N) → Step (Option T) → Me (Option T) (Known E N)
     → ℕ → Me (Option T) (Known E N) → Type 0
 Looked entries number name st m found m' =

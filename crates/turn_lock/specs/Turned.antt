@@ -1,5 +1,5 @@
--- The rule of a lock's table. Word 0 is the next ticket, word 1 the ticket that is served, the 64 words behind them are
--- there to be parked on and may have any value, and slot 0 has the value where no seat holds the turn.
+-- The rule of a lock's table. Word 0 is the next ticket, word 1 the ticket that is served, the 64 words after them are
+-- there to be parked on and may have any value, and slot 0 has the value if no seat holds the turn.
 use Rattle.std.specs.Prelude.{◌≡◌, ℕ, ◌+◌, ◌^◌, ◌<◌, ◌≤◌, ◌⊎◌, Bool, List, [], ◌∷◌, length, count_by, Option, Some}
 use mathlib.Core.Option.{none, some}
 use mathlib.Core.List.{IsPrefix}
@@ -17,13 +17,13 @@ HasTicket Idle t = ⊥
 HasTicket (Waiting u) t = u ≡ t
 HasTicket (Holding u) t = u ≡ t
 
--- a number of each seat, added up
+-- a number for each seat, added up
 unfoldable pub total : {A : Type 0} → (A → ℕ) → List A → ℕ
 total f [] = 0
 total f (d ∷ ds) = f d + total f ds
 
 module _ {E N : Type 0} where
-  -- what is true of a seat's stage: who holds the turn knows all
+  -- what is true of a seat's stage: the holder of the turn knows all
   abbrev pub Stands : ℕ → ℕ → List E → ℕ → Known E N → Stage → Type 0
   Stands next serving all most d Idle = Unit {0}
   Stands next serving all most d (Waiting t) = (serving ≤ t) × (t < next)
@@ -65,7 +65,7 @@ pub record Turned {T E N : Type 0} (entries : T → List E) (number : T → ℕ)
       × (Some (name v) ≡ o.name))
       ⊎ ((s.homes ≡ none ∷ [])
       × ((j : ℕ) × (d : Known E N) × (get_elem? s.views j ≡ some d) × (d.stage ≡ Holding serving)))
-  -- what each seat knows is so, and no two have one ticket
+  -- what each seat knows is true, and no two have the same ticket
   pub each_seat : (j : ℕ) (d : Known E N) → get_elem? s.views j ≡ some d → Knows o next serving all most d
   pub apart : (i j : ℕ) (d e : Known E N) (t : ℕ) → get_elem? s.views i ≡ some d → get_elem? s.views j ≡ some e
       → HasTicket d.stage t → HasTicket e.stage t → i ≡ j

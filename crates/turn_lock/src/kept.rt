@@ -11,7 +11,7 @@ pub trait Kept {
     /// An entry.
     type Entry;
 
-    /// What tells one value from another for good.
+    /// What distinguishes one value from another for good.
     type Name;
 
     /// The entries that the value stands for.

@@ -66,8 +66,8 @@ impl<T: Kept> Model for Pass<T> {
 }
 
 impl<T: Kept> TurnLock<T> {
-    /// A lock round this value, whose tickets begin with `first`, and its passes. No pass is made later.
-    /// Where memory runs out, the value comes back. No later call of the lock takes memory.
+    /// A lock round this value, whose tickets begin with `first`, and its passes. No pass is made later. If memory runs
+    /// out, the value comes back. No later call of the lock takes memory.
     pub fn new(
         alloc: Global,
         value: T,
@@ -117,7 +117,7 @@ impl<T: Kept> TurnLock<T> {
         let ticket = steps::draw(&self.table.shared, &mut pass.seat);
         pass.greatest = ticket;
         if ticket >= WORN_FROM {
-            // No turn of this pass will end any more and let in who sleeps at the gate.
+            // No turn of this pass will end any more and let in a sleeper at the gate.
             steps::let_in(&self.table.shared, &mut pass.seat);
             return Err(Worn);
         }
@@ -157,7 +157,7 @@ impl<T: Kept> TurnLock<T> {
         pass.greatest = pass.greatest.max(greatest);
     }
 
-    /// How many of the passes that the lock was made with are joined in this one.
+    /// How many of the lock's original passes are joined in this one.
     pub fn joined(pass: &Pass<T>) -> u32
         ensures { result ≡ pass.now.joined }
     {
@@ -198,7 +198,7 @@ impl<T: Kept> Pass<T> {
     }
 }
 
-// Splits the first seat into so many passes, for which there is room.
+// Splits the first seat into `count` passes, for which there is room.
 fn deal<T: Kept>(
     words: &Words<T>,
     mut seat: Place<T>,

@@ -30,7 +30,7 @@ impl<T: Kept> Play<Option<T>, Known<T::Entry, T::Name>> for Draw {
     ghost then = { Drew };
 }
 
-/// Looking which ticket is served, with a ticket in hand.
+/// Looking up which ticket is served, with a ticket in hand.
 pub struct Look<T> {
     of: PhantomData<T>,
 }
@@ -52,7 +52,7 @@ impl<T: Kept> Play<Option<T>, Known<T::Entry, T::Name>> for PassOn<T> {
     ghost then = { PassedOn T.entries T.number };
 }
 
-/// Calling who waits for a turn.
+/// Calling those who wait for a turn.
 pub struct Call;
 
 impl<T: Kept> Play<Option<T>, Known<T::Entry, T::Name>> for Call {

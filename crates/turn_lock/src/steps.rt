@@ -25,28 +25,28 @@ const TICKET: usize = 0;
 /// The word of the ticket that is served.
 const SERVING: usize = 1;
 
-/// The first of the words on which those who wait are parked.
+/// The first of the words on which waiters are parked.
 const PARKING: usize = 2;
 
-/// How many these words are.
+/// How many of these words there are.
 const PARKED: usize = 63;
 
-/// The word on which those are parked who have no ticket yet.
+/// The word on which those without a ticket are parked.
 const GATE: usize = PARKING + PARKED;
 
 /// What each sleeper adds to its word, above the bits that a sleep compares. A word that starts there, or whose turns
-/// reach it, costs wakes of nobody.
+/// reach it, costs wakes that wake nobody.
 const SLEEPER: u64 = 1 << 32;
 
 /// How often the waiter of one of the next tickets looks before it sleeps: for about as long as a sleeper takes to
 /// wake.
 const LOOKS: u32 = 2_000;
 
-/// How many tickets are out at once before whoever wants a further one sleeps at the gate. These few hand the turn on
+/// How many tickets are out at once before anyone who wants another one sleeps at the gate. These few hand the turn on
 /// to each other without a sleep. If all had a ticket, each turn would wait until one more sleeper is awake.
 const ROOM: u64 = 3;
 
-/// Every so many turns one who sleeps at the gate is let in, however many tickets are out.
+/// One sleeper at the gate is let in each time this many turns have passed, however many tickets are out.
 const ROTATION: u64 = 8;
 
 /// All words of a lock.
@@ -72,7 +72,7 @@ pub type Home<T> = Table<
     Global,
 >;
 
-/// What a pass steps with.
+/// What a pass takes its steps with.
 pub type Place<T> = Seat<Option<T>, Known<<T as Kept>::Entry, <T as Kept>::Name>>;
 
 /// The table of a lock, and its first seat.
@@ -106,7 +106,7 @@ pub fn open<T: Kept>(alloc: Global, value: T, start: &Start<T>) -> Result<(Home<
     }
 }
 
-/// Sleeps at the gate where as many tickets are out as can be handed on without a sleep. Whoever is woken there draws
+/// Sleeps at the gate if as many tickets are out as can be handed on without a sleep. The one that is woken there draws
 /// next, so each is let in after some turns.
 pub fn enter<T: Kept>(rt: &impl Wait, words: &Words<T>, seat: &mut Place<T>)
     requires table { (seat.old.table_id ≡ words.now.table_id) × (words.now.table_id.words ≡ 66) }
@@ -116,8 +116,8 @@ pub fn enter<T: Kept>(rt: &impl Wait, words: &Words<T>, seat: &mut Place<T>)
     if !is_crowded(words) {
         return;
     }
-    // The sleeper is counted before it looks again, and whoever lets it in raises the word after that. A turn that ends
-    // with no ticket out lets one in, so where it looks crowded there is a turn to come that does.
+    // The sleeper is counted before it looks again, and the one that lets it in raises the word after that. A turn that
+    // ends with no ticket out lets one in, so if it looks crowded, there is a turn to come that does.
     let parked = words.fetch_add::<Call>(seat, GATE, SLEEPER);
     if is_crowded(words) {
         words.park(rt, GATE, (parked % SLEEPER) as u32);
@@ -174,7 +174,7 @@ pub fn wait<T: Kept>(rt: &impl Wait, words: &Words<T>, seat: &mut Place<T>, tick
     value
 }
 
-/// Waits until the ticket is served: awake while it is one of the next and for a short time, and else asleep.
+/// Waits until the ticket is served: awake while it is one of the next and for a short time, otherwise asleep.
 fn await_turn<T: Kept>(rt: &impl Wait, words: &Words<T>, seat: &mut Place<T>, ticket: u64)
     requires table { (seat.old.table_id ≡ words.now.table_id) × (words.now.table_id.words ≡ 66) }
     requires waits { (seat.old.me.0.stage ≡ Waiting ticket) × (seat.old.me.1 ≡ []) }
@@ -186,8 +186,8 @@ fn await_turn<T: Kept>(rt: &impl Wait, words: &Words<T>, seat: &mut Place<T>, ti
     }
 }
 
-/// Looks again and again, while the ticket is one of the next, and tells which was served at the last look. Whoever has
-/// a later ticket looks once, since it would only keep a processor from those who come before.
+/// Looks again and again, while the ticket is one of the next, and returns which was served at the last look. A waiter
+/// with a later ticket looks once, since it would only keep a processor from those ahead of it.
 fn watch<T: Kept>(words: &Words<T>, seat: &mut Place<T>, ticket: u64) -> u64
     requires table { (seat.old.table_id ≡ words.now.table_id) × (words.now.table_id.words ≡ 66) }
     requires waits { (seat.old.me.0.stage ≡ Waiting ticket) × (seat.old.me.1 ≡ []) }
@@ -213,8 +213,8 @@ fn sleep<T: Kept>(rt: &impl Wait, words: &Words<T>, seat: &mut Place<T>, ticket:
 {
     let parking = parking_of(ticket);
     'sleeps: for _ in rt.forever() {
-        // The sleeper is counted before the turn is looked at, and whoever makes it this ticket's turn raises the word
-        // after that: so it sees a sleeper and wakes it, or the sleep finds another word and ends at once.
+        // The sleeper is counted before the turn is looked at, and the one that makes it this ticket's turn raises the
+        // word after that: so it sees a sleeper and wakes it, or the sleep finds another word and ends at once.
         let parked = words.fetch_add::<Call>(seat, parking, SLEEPER);
         let served = look(words, seat, ticket);
         if served != ticket {
@@ -228,7 +228,7 @@ fn sleep<T: Kept>(rt: &impl Wait, words: &Words<T>, seat: &mut Place<T>, ticket:
     unreachable!()
 }
 
-/// Which ticket is served. Where it is this one, the slot is out with the seat.
+/// Which ticket is served. If it is this one, the slot is out with the seat.
 fn look<T: Kept>(words: &Words<T>, seat: &mut Place<T>, ticket: u64) -> u64
     requires table { (seat.old.table_id ≡ words.now.table_id) × (words.now.table_id.words ≡ 66) }
     requires waits { (seat.old.me.0.stage ≡ Waiting ticket) × (seat.old.me.1 ≡ []) }
@@ -259,7 +259,7 @@ pub fn pass_on<T: Kept>(words: &Words<T>, seat: &mut Place<T>, value: T)
     }
 }
 
-/// Wakes one who sleeps at the gate, where one does.
+/// Wakes one sleeper at the gate, if there is one.
 pub fn let_in<T: Kept>(words: &Words<T>, seat: &mut Place<T>)
     requires table { (seat.old.table_id ≡ words.now.table_id) × (words.now.table_id.words ≡ 66) }
     ensures table { seat.new.table_id ≡ seat.old.table_id }
@@ -271,7 +271,7 @@ pub fn let_in<T: Kept>(words: &Words<T>, seat: &mut Place<T>)
     }
 }
 
-/// Wakes the waiter of this ticket, and those whose tickets have the same word, where one of them sleeps.
+/// Wakes the waiter of this ticket, and those whose tickets have the same word, if one of them sleeps.
 fn call<T: Kept>(words: &Words<T>, seat: &mut Place<T>, ticket: u64)
     requires table { (seat.old.table_id ≡ words.now.table_id) × (words.now.table_id.words ≡ 66) }
     ensures table { seat.new.table_id ≡ seat.old.table_id }

@@ -12,17 +12,17 @@ pub struct Start<T> {
     pub passes: u32,
 }
 
-/// The same, by what the value means. No value of it is made.
+/// The same, in terms of what the value means. No value of this type is made.
 pub struct Opening<E, N> {
     pub entries: LinkedList<E>,
     pub number: u64,
-    /// It is there, but in a seat that was joined to another.
+    /// It is there, except in a seat that was joined to another.
     pub name: Option<N>,
     pub first: u64,
     pub passes: u64,
 }
 
-/// Where a seat stands. No value of it is made.
+/// Where a seat stands. No value of this type is made.
 pub enum Stage {
     Idle,
     /// It drew this ticket.
@@ -31,7 +31,7 @@ pub enum Stage {
     Holding(u64),
 }
 
-/// What a seat knows. No value of it is made.
+/// What a seat knows. No value of this type is made.
 pub struct Known<E, N> {
     /// The longest list of entries that it saw.
     pub log: LinkedList<E>,

@@ -1,6 +1,6 @@
-//! Serves two links of one trustee by two workers, where the first link waits until the second was answered: in the
-//! middle of its ask of round two, or before it takes a byte of its first reply. Both are answered, with the bytes
-//! that another implementation's trustee replied: a turn is held for a decision alone.
+//! Serves two links of one trustee with two workers, while the first link waits until the second was answered: in the
+//! middle of its ask of round two, or before it takes a byte of its first reply. Both are answered, with the bytes that
+//! another implementation's trustee replied: a turn is held for a decision alone.
 
 ghost use Rattle.std.specs.Prelude.{◌≡◌, IfSome, vec_len};
 
@@ -23,7 +23,7 @@ const REPLY: usize = 97;
 /// Where the first link waits in the middle of its second ask.
 const MIDDLE: usize = 300;
 
-/// How often a link looks whether the other one was answered, before it fails.
+/// How often a link checks whether the other one was answered before it fails.
 const LOOKS: u64 = 1_000_000_000;
 
 /// A port in memory at which one link waits, which gives these bytes.
@@ -34,7 +34,7 @@ fn port(alloc: Global, given: &[u8]) -> Option<MemPort> {
     MemPort::new(alloc, Some(place), script).ok()
 }
 
-/// What was written to the link that was hung up at a port is this.
+/// Whether this is what was written to the link that was hung up at a port.
 fn is_answered(port: Option<&WaitingPort>, want: &[u8]) -> bool {
     let Some(port) = port else {
         return false;
@@ -54,7 +54,7 @@ fn hold_of(bell: &Bell, before: Option<Before>) -> Option<Hold<'_>> {
     })
 }
 
-/// The ports of both workers, at which one link each waits. The first link waits for the second where this says so.
+/// The ports of both workers, each with one link that waits. The first link waits for the second if this says so.
 fn ports_of<'a>(
     alloc: Global,
     asks: &[u8],
@@ -110,7 +110,7 @@ fn answered(rt: HostRuntime, ports: &[WaitingPort]) -> Option<(bool, bool)> {
     ))
 }
 
-/// Serves both links, and says which of them were answered with the right bytes.
+/// Serves both links, and returns which of them were answered with the right bytes.
 fn serve_both(
     threads: &(impl Threads + Wait + Sync),
     rt: HostRuntime,
@@ -138,7 +138,7 @@ fn print_run(
     }
 }
 
-/// All that is run.
+/// Runs all of it.
 pub(crate) fn print_runs(
     threads: &(impl Threads + Wait + Sync),
     rt: HostRuntime,

@@ -2,7 +2,7 @@
 
 use std::fs;
 
-/// The bytes of a file, nothing where it cannot be read.
+/// The bytes of a file, or nothing if it cannot be read.
 pub(crate) fn file(rt: HostRuntime, name: &str) -> Option<Vec<u8>> {
     fs::read(&rt, name).ok()
 }

@@ -1,7 +1,7 @@
 //! Reads frames from tables with a row for each reading: the typecodes, the reader, the bytes, and what was read. One
 //! table is another implementation's, one has headers by hand: other kinds, and lengths at their limits. Each row is
 //! read twice, from one piece and from pieces of one byte. It prints the number of each row that was read otherwise,
-//! and how many were not. Then it reads a long message in pieces.
+//! and how many rows were not. Then it reads a long message in pieces.
 mod reading;
 
 use lms_bytes::Params;
@@ -19,18 +19,18 @@ struct Row<'a> {
     want: &'a str,
 }
 
-/// The parameter set of these typecodes. What is no number is no typecode.
+/// The parameter set of these typecodes. Anything that is no number is no typecode.
 fn params_of(lms: &str, ots: &str) -> Option<Params> {
     Params::of_codes(lms.parse().unwrap_or(0), ots.parse().unwrap_or(0)).ok()
 }
 
-/// A cell of a line; the last one is all that stands behind the fourth tab. It is empty where the line has none: no
-/// number and no reading is.
+/// A cell of a line; the last one is everything after the fourth tab. It is empty if the line has none: no number and
+/// no reading is empty.
 fn cell(line: &str, index: usize) -> &str {
     line.splitn(5, '\t').nth(index).unwrap_or("")
 }
 
-/// The row that a line is.
+/// A line as a row.
 fn row_of(line: &str) -> Option<Row<'_>> {
     let params = params_of(cell(line, 0), cell(line, 1))?;
     Some(Row {
@@ -41,8 +41,8 @@ fn row_of(line: &str) -> Option<Row<'_>> {
     })
 }
 
-/// What is read of these bytes in these pieces. Every reading is a call of this function, since what costs a proof is a
-/// call over a source of this very type.
+/// What is read of these bytes in these pieces. Every reading is a call of this function, since it is each call over a
+/// source of this very type that costs a proof.
 fn read(
     alloc: Global,
     params: &Params,
@@ -110,7 +110,7 @@ fn are_alike(whole: &Reading, cut: &Reading) -> bool {
     whole.text() == cut.text() && whole.text().contains(LONG_ID)
 }
 
-/// Whether that ask is read from these pieces as it is from one, or nothing where memory ran out.
+/// Whether that ask is read from these pieces as it is from one, or nothing if memory ran out.
 fn reads_alike(alloc: Global, params: &Params, pieces: Vec<usize>) -> Option<bool> {
     let whole = read_long(alloc, params, Vec::new(alloc))?;
     let cut = read_long(alloc, params, pieces)?;

@@ -6,7 +6,7 @@ use stream_memory::{MemLink, MemSink, MemSource};
 /// No link here is written more bytes, and each write takes all that it is given.
 const ROOM: usize = 8192;
 
-/// A link that gives these bytes. Each of its reads gives all that it is asked for.
+/// A link that gives these bytes. Each of its reads gives everything that is asked for.
 pub(crate) fn link(alloc: Global, given: &[u8]) -> Option<MemLink> {
     let given = Vec::from_slice(alloc, given).ok()?;
     let source = MemSource::new(given, Vec::new(alloc), Vec::new(alloc));

@@ -1,4 +1,4 @@
-//! Runs trustees and aggregators over links in memory of which one waits for another: links of one trustee, and
+//! Runs trustees and aggregators over links in memory, one of which waits for another: links of one trustee, and
 //! sessions of two clients. Then it reads frames as another implementation did.
 #![tactic(auto)]
 

@@ -1,5 +1,5 @@
-//! Serves two clients by two workers, each of whom asks for a signature by the trustees of coalition 9. The link to the
-//! last of these answers in neither session before the other session has dialled it as well. Both clients are given
+//! Serves two clients with two workers. Each client asks for a signature by the trustees of coalition 9. The link to
+//! the last of these answers in neither session before the other session has dialled it as well. Both clients get
 //! signatures that are accepted, by different leaves: no turn of the table is held through a session.
 
 ghost use Rattle.std.specs.Prelude.{◌≡◌, ◌≤◌, All, IfSome, length, vec_len};
@@ -36,7 +36,7 @@ const FIRST: &[u8] = b"the first message";
 
 const SECOND: &[u8] = b"the second message";
 
-/// How often a link looks whether the last member was dialled from both ports, before it fails.
+/// How often a link checks whether the last member was dialled from both ports before it fails.
 const LOOKS: u64 = 1_000_000_000;
 
 /// No request here is longer.
@@ -93,7 +93,7 @@ fn signed_leaves<W: Wait>(
     [first, second]
 }
 
-/// The ports of both workers, at which one client each waits.
+/// The ports of both workers, each with one client that waits.
 fn ports_of<'a, W: Wait>(
     alloc: Global,
     meeting: &'a Meeting<'a, W>,
@@ -119,7 +119,7 @@ fn cells_of(alloc: Global, scene: &Scene, desk: &Desk) -> Option<Vec<Paged<MemDi
     vec![in alloc; first, second].ok()
 }
 
-/// Serves the clients at two ports with a table and cells, and gives the table that came back.
+/// Serves the clients at two ports with a table and cells, and returns the table that came back.
 fn serve_with<R: Threads + Wait + Sync, X: Cells + Send, D: Disk + Send + Drop, P: Port + Send>(
     rt: &R,
     alloc: Global,
@@ -139,7 +139,7 @@ fn serve_with<R: Threads + Wait + Sync, X: Cells + Send, D: Disk + Send + Drop, 
     }
 }
 
-/// Serves the clients at two ports, and gives the table that came back.
+/// Serves the clients at two ports, and returns the table that came back.
 fn serve<'a, R: Threads + Wait + Sync>(
     rt: &R,
     alloc: Global,
@@ -154,7 +154,7 @@ fn serve<'a, R: Threads + Wait + Sync>(
     serve_with(rt, alloc, &desk, table, &mut cells, ports)
 }
 
-/// Serves the clients at two ports, and gives what came of their requests.
+/// Serves the clients at two ports, and returns what came of their requests.
 fn serve_at<'a, R: Threads + Wait + Sync>(
     rt: &R,
     alloc: Global,
@@ -210,7 +210,7 @@ fn print_verdict(rt: HostRuntime, signed: Option<u32>) -> io::Result<()> {
     println!(rt; "{verdict}")
 }
 
-/// Prints what came of both requests: the lesser leaf first, whichever client was given it.
+/// Prints what came of both requests: the lesser leaf first, whichever client got it.
 fn print_signed(rt: HostRuntime, signed: [Option<u32>; 2]) -> io::Result<()> {
     let [first, second] = signed;
     if let (Some(one), Some(other)) = (first, second) {

@@ -66,7 +66,7 @@ pub(crate) fn trustee(alloc: Global, share: &Share) -> Option<Trustee<MemDisk>>
     Some(Trustee::new(*share, empty_journal(alloc, share)?))
 }
 
-/// Serves a link of a trustee, or gives nothing where memory ran out.
+/// Serves a link of a trustee, or returns nothing if memory ran out.
 fn serve_over<D: Disk + Drop, L: Source + Sink>(
     waits: &impl Wait,
     alloc: Global,
@@ -84,12 +84,12 @@ fn serve_over<D: Disk + Drop, L: Source + Sink>(
     Some(())
 }
 
-/// Serves a link of a trustee of this share whose journal is empty, or gives nothing where memory ran out.
+/// Serves a link of a trustee of this share whose journal is empty, or returns nothing if memory ran out.
 fn serve_link(waits: &impl Wait, alloc: Global, share: &Share, link: &mut MemLink) -> Option<()> {
     serve_over(waits, alloc, trustee(alloc, share)?, share, link)
 }
 
-/// What a trustee of this share whose journal is empty replies to these asks, or nothing where memory ran out.
+/// What a trustee of this share whose journal is empty replies to these asks, or nothing if memory ran out.
 pub(crate) fn replies(
     waits: &impl Wait,
     alloc: Global,

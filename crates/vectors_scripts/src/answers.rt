@@ -1,4 +1,4 @@
-//! What clients are answered.
+//! The answers that clients get.
 
 use crate::links::TALKS;
 use crate::scene::file;
@@ -14,7 +14,7 @@ const FRAMES: usize = 8;
 /// More workers than a command here has.
 const WORKERS: usize = 8;
 
-/// The first frame of these bytes, if there is one: its kind, its payload, and what is behind it.
+/// The first frame of these bytes, if there is one: its kind, its payload, and what follows it.
 fn first_frame(bytes: &[u8]) -> Option<(u8, &[u8], &[u8])> {
     let [b'T', b'L', 1, kind, a, b, c, d, left @ ..] = bytes else {
         return None;
@@ -23,7 +23,7 @@ fn first_frame(bytes: &[u8]) -> Option<(u8, &[u8], &[u8])> {
     Some((*kind, left.get(..end)?, left.get(end..)?))
 }
 
-/// What the client of this number was answered at a port; the first that was accepted there has the number 0.
+/// The answer to the client of this number at a port; the first client that was accepted there has the number 0.
 fn answer_of(port: &KeptPort, client: usize) -> Option<&[u8]> {
     let mut before: usize = 0;
     for index in 0..TALKS {
@@ -38,13 +38,13 @@ fn answer_of(port: &KeptPort, client: usize) -> Option<&[u8]> {
     None
 }
 
-/// The same, nothing where there is no such client.
+/// The same, or nothing if there is no such client.
 pub(crate) fn answered(port: Option<&KeptPort>, client: usize) -> &[u8] {
     port.and_then(|port| answer_of(port, client))
         .unwrap_or_default()
 }
 
-/// The leaf that the first four bytes are, the greatest number where there are fewer.
+/// The leaf in the first four bytes, or the greatest number if there are fewer.
 fn leaf_at(bytes: &[u8]) -> u32 {
     match bytes {
         [a, b, c, d, ..] => u32::from_be_bytes([*a, *b, *c, *d]),
@@ -52,7 +52,7 @@ fn leaf_at(bytes: &[u8]) -> u32 {
     }
 }
 
-/// Adds the text of a signature: its leaf, and whether it is the one that is given.
+/// Adds the text of a signature: its leaf, and whether it is one of those that are given.
 fn push_signature(page: &mut String, store: &MemStore, signature: &[u8]) -> Result<(), AllocError> {
     let given = [file(store, "signature"), file(store, "signature.24")];
     let likeness = if given.contains(&signature) {
@@ -64,7 +64,7 @@ fn push_signature(page: &mut String, store: &MemStore, signature: &[u8]) -> Resu
     write!(page, " signature of leaf {leaf}{likeness};")
 }
 
-/// Adds the text of a trustee's refusal, whose round and code are the bytes 89 and 90 where hashes have 32 bytes.
+/// Adds the text of a trustee's refusal, whose round and code are the bytes 89 and 90 if hashes have 32 bytes.
 fn push_refusal(page: &mut String, payload: &[u8]) -> Result<(), AllocError> {
     match payload.get(89..91) {
         Some([round, code]) => write!(page, " refusal of round {round} by code {code};"),
@@ -101,7 +101,7 @@ fn push_answer(
     }
 }
 
-/// Adds the text of what a client was answered.
+/// Adds the text of the answers to a client.
 fn push_answers(page: &mut String, store: &MemStore, written: &[u8]) -> Result<(), AllocError> {
     let mut left = written;
     for _ in 0..FRAMES {
@@ -140,7 +140,7 @@ fn push_clients(
     Ok(())
 }
 
-/// Prints what each client was answered.
+/// Prints the answers to each client.
 pub(crate) fn tell_clients(world: &mut World) -> Result<(), AllocError> {
     for worker in 0..WORKERS {
         push_clients(&mut world.page, &world.store, &world.net, worker)?;
@@ -148,8 +148,8 @@ pub(crate) fn tell_clients(world: &mut World) -> Result<(), AllocError> {
     Ok(())
 }
 
-/// Puts the signature that the first client was answered into the store, under this name. Where there is none, or it
-/// cannot be written, the line is wrong.
+/// Puts the signature in the answer to the first client into the store, under this name. If there is none, or it cannot
+/// be written, the line is wrong.
 pub(crate) fn add_signature(world: &mut World, name: &str) -> Result<(), AllocError> {
     let alloc = world.alloc;
     let written = match first_frame(answered(world.net.kept(0), 0)) {

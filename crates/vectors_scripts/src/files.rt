@@ -2,8 +2,8 @@
 //!
 //! A part is the name of a file, or `NAME:FROM:TO` for the bytes between two places of it, `hex:DIGITS` for these
 //! bytes, `add:BYTE` for one, `long:NUMBER` for a number of four bytes, the greatest first, or `count:LENGTH:MODULUS`
-//! for so many bytes that count up from 0 and begin again at the modulus. Others change what stands before them:
-//! `cut:LENGTH` leaves so many bytes, `set:PLACE:BYTE` puts a byte at a place, and `flip:PLACE` changes its lowest bit.
+//! for LENGTH bytes that count up from 0 and begin again at the modulus. Others change what comes before them:
+//! `cut:LENGTH` leaves LENGTH bytes, `set:PLACE:BYTE` puts a byte at a place, and `flip:PLACE` changes its lowest bit.
 
 use crate::scene::held;
 use crate::world::World;
@@ -14,7 +14,7 @@ use std::mem;
 use stream_io::Store;
 use stream_memory::MemStore;
 
-/// The bytes between two places of a file, or all where no place is named.
+/// The bytes between two places of a file, or all of them if no place is named.
 fn part_of<'a>(world: &'a World, name: &str, from: &str, to: &str) -> Option<&'a [u8]> {
     let bytes = world.bytes(name);
     if from.is_empty() && to.is_empty() {
@@ -23,7 +23,7 @@ fn part_of<'a>(world: &'a World, name: &str, from: &str, to: &str) -> Option<&'a
     bytes.get(from.parse().ok()?..to.parse().ok()?)
 }
 
-/// Adds bytes of a file. Where they are not there, the line is wrong.
+/// Adds bytes of a file. If they are not there, the line is wrong.
 fn add_file(
     world: &mut World,
     bytes: &mut Vec<u8>,
@@ -47,7 +47,7 @@ fn add_counted(bytes: &mut Vec<u8>, length: usize, modulus: usize) -> Result<(),
     Ok(())
 }
 
-/// Adds the bytes of these digits. Where they are no digits of bytes, the line is wrong.
+/// Adds the bytes of these digits. If they are no digits of bytes, the line is wrong.
 fn add_hex(world: &mut World, bytes: &mut Vec<u8>, digits: &str) -> Result<(), AllocError> {
     match hex::decode(world.alloc, digits) {
         Ok(decoded) => bytes.extend_from_slice(&decoded)?,
@@ -56,7 +56,7 @@ fn add_hex(world: &mut World, bytes: &mut Vec<u8>, digits: &str) -> Result<(), A
     Ok(())
 }
 
-/// Changes the byte at a place. Where there is none, the line is wrong.
+/// Changes the byte at a place. If there is none, the line is wrong.
 fn set_byte(world: &mut World, bytes: &mut Vec<u8>, place: usize, kept: u8, flipped: u8) {
     match bytes.get_mut(place) {
         Some(byte) => *byte = *byte & kept ^ flipped,
@@ -64,7 +64,7 @@ fn set_byte(world: &mut World, bytes: &mut Vec<u8>, place: usize, kept: u8, flip
     }
 }
 
-/// The byte that a number is.
+/// The lowest byte of a number.
 fn byte_of(number: usize) -> u8 {
     (number % 256) as u8
 }
@@ -95,7 +95,7 @@ fn add(world: &mut World, bytes: &mut Vec<u8>, part: (&str, &str, &str)) -> Resu
     }
 }
 
-/// The first three words of a part, nothing for each that it does not have.
+/// The first three words of a part, with nothing for each that it does not have.
 fn words_of(part: &str) -> (&str, &str, &str) {
     let mut words = part.split(':');
     let verb = words.next().unwrap_or_default();
@@ -132,7 +132,7 @@ pub(crate) fn make_file(world: &mut World, rest: &str) -> Result<(), AllocError>
     world.put(name, bytes)
 }
 
-/// Keeps a file of the store. Where it is not there, the line is wrong.
+/// Keeps a file of the store. If it is not there, the line is wrong.
 pub(crate) fn keep(world: &mut World, name: &str) -> Result<(), AllocError> {
     match world.store.bytes(name) {
         Some(bytes) => {
@@ -146,7 +146,7 @@ pub(crate) fn keep(world: &mut World, name: &str) -> Result<(), AllocError> {
     }
 }
 
-/// A word without the number of a call behind it, and that number.
+/// A word without the number of a call that follows it, and that number.
 pub(crate) fn with_call<'a>(world: &mut World, word: &'a str) -> (&'a str, Option<u64>) {
     match word.split_once('!') {
         Some((name, call)) => (name, Some(world.number(call) as u64)),
@@ -198,7 +198,7 @@ pub(crate) fn add_disk(world: &mut World, word: &str) -> Result<(), AllocError> 
     push_disk(world, name, disk)
 }
 
-/// Puts what a crash leaves of a disk of the store into the store that is made next, if it is there.
+/// Puts what a crash leaves of a disk of the store, if it is there, into the store that is made next.
 pub(crate) fn crash_disk(world: &mut World, pick: u64, name: &str) -> Result<(), AllocError> {
     let Ok(disk) = world.store.take_disk(name) else {
         return Ok(());

@@ -9,7 +9,7 @@ use stream_io::Store;
 /// No file that is read from the system is longer.
 const FILE_LIMIT: u64 = 1 << 26;
 
-/// Adds a word. Two quotation marks are one with nothing in it.
+/// Adds a word. Two quotation marks are a word with nothing in it.
 fn add_word(alloc: Global, words: &mut Vec<String>, word: &str) -> Result<(), AllocError> {
     let word = if word == "\"\"" { "" } else { word };
     Ok(words.push(String::from_str(alloc, word)?)?)

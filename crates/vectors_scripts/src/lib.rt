@@ -1,4 +1,4 @@
-//! Scripts that run the tool over files, links and disks in memory, and print what comes of it. `play` plays them,
+//! Scripts that run the tool over files, links and disks in memory, and print what comes of it. `play` plays them, and
 //! `verbs` does their lines, all but those that run a command: `runs` has the program do these.
 #![tactic(auto)]
 

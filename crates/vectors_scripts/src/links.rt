@@ -11,8 +11,8 @@ use stream_memory::{KeptPort, MemLink, MemNet, MemSink, MemSource, PortScript};
 /// More conversations than a port here has.
 pub(crate) const TALKS: usize = 32;
 
-/// How many bytes the reads of so many bytes give, one after the other: so many as these, again and again, or all
-/// where there are none of these.
+/// How many bytes the reads of `length` bytes give, one after the other: as many as `sizes` says, again and again, or
+/// all of them if `sizes` is empty.
 fn pieces_of(alloc: Global, length: usize, sizes: &[u8]) -> Result<Vec<usize>, AllocError> {
     let mut pieces = Vec::new(alloc);
     for index in 0..length {
@@ -30,8 +30,8 @@ fn source_of(alloc: Global, bytes: &[u8], pieces: &[u8]) -> Result<MemSource, Al
     Ok(MemSource::new(bytes, pieces, Vec::new(alloc)))
 }
 
-/// A link that gives these bytes in these pieces, with room for so many and for so many in one write. The call of one
-/// number fails, if there is one.
+/// A link that gives these bytes in these pieces, with this much room in all and in one write. The call of this number
+/// fails, if there is one.
 fn link_of(
     alloc: Global,
     bytes: &[u8],
@@ -69,7 +69,7 @@ pub(crate) fn add_port(world: &mut World) -> Result<(), AllocError> {
     Ok(world.ports.push(port)?)
 }
 
-/// Has a call of the last port fail.
+/// Makes a call of the last port fail.
 pub(crate) fn deafen(world: &mut World, call: &str) -> Result<(), AllocError> {
     let call = world.number(call) as u64;
     match world.ports.last_mut() {
@@ -86,7 +86,7 @@ pub(crate) fn take_net(world: &mut World) -> Result<MemNet, AllocError> {
     held(net_at_here(alloc, ports))
 }
 
-/// Has a link to a file wait at the last port.
+/// Makes a link to a file wait at the last port.
 pub(crate) fn wait(world: &mut World, rest: &str) -> Result<(), AllocError> {
     let (name, pieces) = rest.split_once(' ').unwrap_or((rest, "empty"));
     let (name, call) = with_call(world, name);
@@ -98,7 +98,7 @@ pub(crate) fn wait(world: &mut World, rest: &str) -> Result<(), AllocError> {
     Ok(())
 }
 
-/// Has a link be dialled at a place from the last port.
+/// Adds a link that can be dialled at a place from the last port.
 fn push_dialled(world: &mut World, place: &str, link: MemLink) -> Result<(), AllocError> {
     let entry = (String::from_str(world.alloc, place)?, link);
     match world.ports.last_mut() {
@@ -108,7 +108,7 @@ fn push_dialled(world: &mut World, place: &str, link: MemLink) -> Result<(), All
     Ok(())
 }
 
-/// Has a link to a file be dialled from the last port.
+/// Adds a link to a file that can be dialled from the last port.
 pub(crate) fn dial(world: &mut World, word: &str) -> Result<(), AllocError> {
     let (place, name) = word.split_once('=').unwrap_or((word, ""));
     let (name, call) = with_call(world, name);
@@ -116,7 +116,7 @@ pub(crate) fn dial(world: &mut World, word: &str) -> Result<(), AllocError> {
     push_dialled(world, place, link)
 }
 
-/// What the peer who was dialled at a place was sent over a port, none where nobody was.
+/// What was sent over a port to the peer that was dialled at a place, or nothing if none was.
 pub(crate) fn asked<'a>(port: Option<&'a KeptPort>, place: &str) -> &'a [u8] {
     let Some(port) = port else {
         return &[];

@@ -9,12 +9,12 @@ use std::alloc::AllocError;
 use std::io;
 use stream_memory::{MemNet, MemSink, MemStore};
 
-/// The first word of a text, and what is behind it.
+/// The first word of a text, and what follows it.
 fn split_first(text: &str) -> (&str, &str) {
     text.split_once(' ').unwrap_or((text, ""))
 }
 
-/// Does what a line says, and prints the line where it is wrong.
+/// Does what a line says, and prints the line if it is wrong.
 fn obey<F: Fn(&[String], &mut MemStore, &mut MemNet, &mut MemSink) -> u8>(
     run: &F,
     world: &mut World,

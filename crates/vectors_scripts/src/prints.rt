@@ -14,7 +14,7 @@ const LEAVES: usize = 32;
 
 const BLOCK: usize = 128;
 
-/// How these bytes are like those that are wanted, in words with a colon before them.
+/// How these bytes compare with those that are wanted, in words with a colon before them.
 fn likeness(got: &[u8], want: &[u8]) -> &'static str {
     if got.is_empty() {
         ": nothing"
@@ -27,7 +27,7 @@ fn likeness(got: &[u8], want: &[u8]) -> &'static str {
     }
 }
 
-/// What was written to a link of a port, none where there was no such link.
+/// What was written to a link of a port, or nothing if there was no such link.
 fn written(port: Option<&KeptPort>, index: usize) -> &[u8] {
     match port.and_then(|port| port.talk(index)) {
         Some(talk) => talk.written(),
@@ -48,7 +48,7 @@ fn got<'a>(world: &'a World, verb: &str, name: &str) -> &'a [u8] {
     }
 }
 
-/// Prints how bytes are like a file.
+/// Prints how bytes compare with a file.
 pub(crate) fn compare(world: &mut World, verb: &str, rest: &str) -> Result<(), AllocError> {
     let (name, want) = rest.split_once(' ').unwrap_or((rest, ""));
     world.load(want)?;
@@ -81,7 +81,7 @@ fn push_digits(page: &mut String, bytes: &[u8]) -> Result<(), AllocError> {
     push_hex(page, &Sha256::digest(bytes))
 }
 
-/// Adds the line of a file: its name, its length, its first 16 bytes, its SHA-256, and a word behind it.
+/// Adds the line of a file: its name, its length, its first 16 bytes, its SHA-256, and a word after it.
 fn push_line(page: &mut String, name: &str, bytes: &[u8], word: &str) -> Result<(), AllocError> {
     write!(page, "{name} {} ", bytes.len())?;
     push_digits(page, bytes)?;

@@ -1,4 +1,4 @@
-//! The lines of scripts that run a command. What runs it is handed in: it does what the words ask for over a store and
+//! The lines of scripts that run a command. What runs it is passed in: it does what the words ask for over a store and
 //! a net, prints its line, and gives its status.
 
 use crate::answers::answered;
@@ -48,7 +48,7 @@ pub(crate) fn run_line<F: Fn(&[String], &mut MemStore, &mut MemNet, &mut MemSink
     tell_ran(&mut world.page, out.written(), status)
 }
 
-/// Has what was asked at a place wait at the next port, under the name of the place.
+/// Makes what was asked at a place wait at the next port, under the name of the place.
 fn wait_asked(world: &mut World, place: &str) -> Result<(), AllocError> {
     let asks = Vec::from_slice(world.alloc, asked(world.net.kept(0), place))?;
     world.put(place, asks)?;
@@ -56,13 +56,13 @@ fn wait_asked(world: &mut World, place: &str) -> Result<(), AllocError> {
     wait(world, place)
 }
 
-/// Keeps what a client was answered over a net under this name.
+/// Keeps the answer to a client over a net under this name.
 fn keep_answer(world: &mut World, net: &MemNet, name: &str) -> Result<(), AllocError> {
     let answer = Vec::from_slice(world.alloc, answered(net.kept(0), 0))?;
     world.put(name, answer)
 }
 
-/// Runs a command to which what was asked at a place is sent, and keeps what it answers under the name of the place.
+/// Runs a command that is sent what was asked at a place, and keeps what it answers under the name of the place.
 pub(crate) fn reply<F: Fn(&[String], &mut MemStore, &mut MemNet, &mut MemSink) -> u8>(
     run: &F,
     world: &mut World,

@@ -12,12 +12,12 @@ pub type Files = Vec<(String, Vec<u8>)>;
 /// Room for any lines of the tool that are printed by scripts.
 pub(crate) const LINE: usize = 1000;
 
-/// What was made, where there was memory for it.
+/// What was made, if there was memory for it.
 pub fn made<T>(value: Result<T, NoMemory>) -> io::Result<T> {
     value.map_err(|_| io::Error::from(ErrorKind::OutOfMemory))
 }
 
-/// The same, with the error that every allocation here has, so that it is handed on as it is.
+/// The same, with the error that every allocation here has, so that it is passed on as it is.
 pub(crate) fn held<T>(value: Result<T, NoMemory>) -> Result<T, AllocError> {
     value.map_err(|_| AllocError)
 }
@@ -32,7 +32,7 @@ pub(crate) fn store_of(
     held(MemStore::of_files(alloc, files, failing))
 }
 
-/// The bytes of a file of a store, none where it is not there.
+/// The bytes of a file of a store, or nothing if it is not there.
 pub fn file<'a>(store: &'a MemStore, name: &str) -> &'a [u8] {
     store.bytes(name).unwrap_or_default()
 }

@@ -1,8 +1,8 @@
 //! How a script is read. A line that is not empty and does not begin with `#` is a verb and what it is about. A script
-//! has parts with an empty line between each two. What a part's lines print is printed behind it. A line `each COUNT`
-//! has the lines behind it done so often, and prints what they print where it is not as the time before, with the
-//! number, which stands for `%0%` in these lines. A line `each FILE` has them done for each line of a file, whose
-//! words stand for `%0%`, `%1%` and so on.
+//! has parts with an empty line between each two. What a part's lines print is printed after it. A line `each COUNT`
+//! has the lines after it done that many times, and prints what they print if it differs from the time before, with the
+//! number, which replaces `%0%` in these lines. A line `each FILE` has them done for each line of a file, whose words
+//! replace `%0%`, `%1%` and so on.
 
 use crate::world::World;
 use std::alloc::{AllocError, Global};
@@ -22,7 +22,7 @@ fn word_of<'a>(row: &'a str, number: &str) -> &'a str {
     row.split_whitespace().nth(number).unwrap_or_default()
 }
 
-/// A line where the words of a row stand for their numbers.
+/// A line in which the words of a row replace their numbers.
 fn filled(alloc: Global, line: &str, row: &str) -> Result<String, AllocError> {
     let mut text = String::new(alloc);
     for (index, piece) in line.split('%').enumerate() {
@@ -36,7 +36,7 @@ fn filled(alloc: Global, line: &str, row: &str) -> Result<String, AllocError> {
     Ok(text)
 }
 
-/// Adds these lines with the words of a row, but those that say nothing.
+/// Adds these lines with the words of a row, except those that say nothing.
 fn add_lines(alloc: Global, all: &mut Lines, lines: &str, row: &str) -> Result<(), AllocError> {
     for line in lines.lines() {
         if !line.is_empty() && !line.starts_with('#') {
@@ -52,14 +52,14 @@ fn add_printed(alloc: Global, all: &mut Lines, lines: &str, row: &str) -> Result
     add_lines(alloc, all, "print", "")
 }
 
-/// Adds lines for the turn of this number, with what prints them where they print something else than the time before.
+/// Adds lines for the turn of this number, with what prints them if they print something else than the time before.
 fn add_call(alloc: Global, all: &mut Lines, call: usize, lines: &str) -> Result<(), AllocError> {
     let row = format!(in alloc; "{call}")?;
     add_lines(alloc, all, lines, &row)?;
     add_lines(alloc, all, "turn %0%", &row)
 }
 
-/// Adds lines so often.
+/// Adds lines `count` times.
 fn add_calls(alloc: Global, all: &mut Lines, count: usize, lines: &str) -> Result<(), AllocError> {
     for call in 0..count {
         add_call(alloc, all, call, lines)?;
@@ -75,7 +75,7 @@ fn add_rows(alloc: Global, all: &mut Lines, rows: &str, lines: &str) -> Result<(
     Ok(())
 }
 
-/// Adds lines behind the first, which says how often they are done, or has the name of a file with rows.
+/// Adds the lines after the first one, which says how often they are done, or names a file with rows.
 fn add_turns(world: &mut World, all: &mut Lines, turns: &str) -> Result<(), AllocError> {
     let (head, lines) = turns.split_once('\n').unwrap_or((turns, ""));
     match head.parse() {

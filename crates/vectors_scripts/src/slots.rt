@@ -14,7 +14,7 @@ struct Count {
     full: u32,
 }
 
-/// The slots on a disk, whatever key they are of.
+/// The slots on a disk, whatever key they belong to.
 fn slots_on<D: Disk + Drop>(disk: D, version: u8, number: u8) -> Option<Slots<D>> {
     let header = Header {
         version,
@@ -32,7 +32,7 @@ fn slots_on<D: Disk + Drop>(disk: D, version: u8, number: u8) -> Option<Slots<D>
     }
 }
 
-/// What slots hold, where they are as many as the leaves.
+/// What slots hold, if there are as many of them as leaves.
 fn count_slots<D: Disk>(slots: &mut Slots<D>) -> Option<Count> {
     let mut count = Count { half: 0, full: 0 };
     for slot in 0..LEAVES {
@@ -48,7 +48,7 @@ fn count_slots<D: Disk>(slots: &mut Slots<D>) -> Option<Count> {
     Some(count)
 }
 
-/// What a disk holds, where it is a file of slots of that version.
+/// What a disk holds, if it is a file of slots of that version.
 fn counted(disk: MemDisk, version: u8, number: u8) -> Option<Count> {
     let mut slots = slots_on(disk, version, number)?;
     count_slots(&mut slots)

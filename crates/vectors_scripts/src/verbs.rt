@@ -1,23 +1,24 @@
-//! The verbs of scripts. A verb that is none is seen, and so is a word that is missing or not understood.
+//! The verbs of scripts. An unknown verb is noticed, and so is a word that is missing or not understood.
 //!
 //! - `file NAME PART..` keeps a file that is made of parts under a name; `keep NAME..` keeps files of the store, and
-//!   `clear NAME..` keeps nothing under these names. Where a line names a file it is one that was kept, or else one of
+//!   `clear NAME..` keeps nothing under these names. If a line names a file, it is one that was kept, or else one of
 //!   the store, or else one that was there from the start, which is then kept.
 //! - `disks NAME..` makes disks of files; `synced NAME..`, `unsynced NAME..` and `torn NAME..` make them of what a
 //!   crash leaves of the store's disks: the bytes as at the last sync, as a read gives them, or some of what was
-//!   written since. `store` makes the store of these disks. `disks NAME!CALL` and `store !CALL` have a call fail, and
-//!   `disks NAME!!CALL` has that call and all behind it fail.
-//! - `views CALL` has that call fail in each view, and `stop CALL` has new disks stop there.
+//!   written since. `store` makes the store of these disks. `disks NAME!CALL` and `store !CALL` make a call fail, and
+//!   `disks NAME!!CALL` makes that call and all after it fail.
+//! - `views CALL` makes that call fail in each view, and `stop CALL` makes new disks stop there.
 //! - `port` begins a port of the next run; `wait FILE PIECES` and `dial PLACE=FILE..` give it links that wait and links
-//!   that can be dialled, of which `FILE!CALL` has a call fail, and `deaf CALL` has a call of the port fail. `room ROOM
-//!   MOST LINE` says for how many bytes links have room, how many one write takes, and how many a command may print.
-//! - `run WORDS` runs a command over the store and the net, and `reply PLACE WORDS` runs one to which what was asked at
-//!   a place is sent, and keeps what it answers under that name. These two are the program's.
+//!   that can be dialled, of which `FILE!CALL` makes a call fail, and `deaf CALL` makes a call of the port fail.
+//!   `room ROOM MOST LINE` says for how many bytes links have room, how many one write takes, and how many a command
+//!   may print.
+//! - `run WORDS` runs a command over the store and the net, and `reply PLACE WORDS` runs one that is sent what was
+//!   asked at a place, and keeps what it answers under that name. These two are the program's.
 //! - `like NAME FILE`, `asked PLACE FILE` and `answered PORT FILE` print how a file of the store, what was asked, or
-//!   what was answered on the first link of a port, or on link LINK of `PORT.LINK`, is like a file; `clients` prints
-//!   what was answered on each link, `counts TABLE` how many leaves are leased and burnt, `show NAME..` and `there
-//!   NAME..` files of the store. `signature NAME` puts the signature that was answered into the store, and `hush`
-//!   forgets what was printed.
+//!   what was answered on the first link of a port, or on link LINK of `PORT.LINK`, compares with a file; `clients`
+//!   prints what was answered on each link, `counts TABLE` how many leaves are leased and burnt, `show NAME..` and
+//!   `there NAME..` files of the store. `signature NAME` puts the signature that was answered into the store, and
+//!   `hush` forgets what was printed.
 
 use crate::answers::{add_signature, tell_clients};
 use crate::files::{add_disk, crash_disk, keep, make_file, make_store};

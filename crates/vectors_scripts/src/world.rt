@@ -14,7 +14,7 @@ pub struct World {
     pub alloc: Global,
     /// Files that are there from the start.
     given: Files,
-    /// Files that were made or kept, and those of the first that were used, which lines name.
+    /// Files that lines name: those that were made or kept, and those from the start that were used.
     pub(crate) files: Files,
     /// The disks of the store that is made next.
     pub(crate) disks: Vec<(String, MemDisk)>,
@@ -67,7 +67,7 @@ fn push_turn(said: &mut String, call: usize, page: &str) -> Result<(), AllocErro
 }
 
 impl World {
-    /// The number that a word is. Where it is none, the line is wrong.
+    /// The number that a word is. If it is none, the line is wrong.
     pub(crate) fn number(&mut self, word: &str) -> usize {
         match word.parse() {
             Ok(number) => number,
@@ -83,19 +83,19 @@ impl World {
         last_of(&self.files, name).or_else(|| self.store.bytes(name))
     }
 
-    /// The same, none where there is no such file.
+    /// The same, or nothing if there is no such file.
     pub(crate) fn bytes(&self, name: &str) -> &[u8] {
         self.find(name).unwrap_or_default()
     }
 
-    /// Keeps a file under this name, before those that have it.
+    /// Keeps a file under this name, ahead of those that have it already.
     pub(crate) fn put(&mut self, name: &str, bytes: Vec<u8>) -> Result<(), AllocError> {
         let name = String::from_str(self.alloc, name)?;
         Ok(self.files.push((name, bytes))?)
     }
 
-    /// Has the file of this name found: where it was not made or kept, and is not in the store, it is one of those that
-    /// are there from the start. Where it is nowhere, the line is wrong.
+    /// Makes sure that the file of this name is found: if it was not made or kept, and is not in the store, it is one
+    /// of those that are there from the start. If it is nowhere, the line is wrong.
     pub(crate) fn load(&mut self, name: &str) -> Result<(), AllocError> {
         if self.find(name).is_some() {
             return Ok(());
@@ -112,7 +112,7 @@ impl World {
         }
     }
 
-    /// Adds a line to what lines have printed: a name, and what is said of it.
+    /// Adds a line to what lines have printed: a name, and what is said about it.
     pub(crate) fn say(&mut self, name: &str, said: &str) -> Result<(), AllocError> {
         writeln!(self.page, "{name}{said}")
     }
@@ -133,7 +133,7 @@ impl World {
         Ok(())
     }
 
-    /// Does so behind the turn of this number, where it is not what lines printed in the turn before.
+    /// Does so after the turn of this number, if it is not what lines printed in the turn before.
     pub(crate) fn print_turn(&mut self, call: usize) -> Result<(), AllocError> {
         if self.page.as_str() != self.last.as_str() {
             push_turn(&mut self.said, call, &self.page)?;

@@ -1,8 +1,8 @@
 //! Runs the tool as a user does, over files and links in memory: `verify`, `rehearse` and `deal`; the commands of a
-//! trustee; `sign`; `aggregate`; `hss check`; `drill`; and runs for which the premises of laws hold. What it is given
-//! and what must come of it is from another implementation. What is run stands in scripts, which are data, and which
-//! `vectors_scripts` plays. It prints what each command prints, the status behind it, and how the files and the bytes
-//! on links are like those that are wanted.
+//! trustee; `sign`; `aggregate`; `hss check`; `drill`; and runs for which the premises of laws hold. The inputs and the
+//! results expected are from another implementation. What is run stands in scripts, which are data, and which
+//! `vectors_scripts` plays. It prints what each command prints, the status after it, and how the files and the bytes on
+//! links compare with those expected.
 #![tactic(auto)]
 
 mod drills;
@@ -33,7 +33,7 @@ const WITNESSES: &str = "runs.witnesses";
 /// The moment at which each clock of a script begins.
 const START: u64 = 1000;
 
-/// Plays all scripts by what runs a command, and runs what no script runs: the drills, and the witnesses over files
+/// Plays all scripts with what runs a command, and runs what no script runs: the drills, and the witnesses over files
 /// that a script makes.
 fn print_all<
     R: Threads + Wait + Sync,
@@ -48,7 +48,7 @@ fn print_all<
     witnesses::print_runs(threads, rt, &world.store)
 }
 
-/// Does so by the tool.
+/// Does so with the tool.
 fn print_by_tool<R: Threads + Wait + Sync>(threads: &R, rt: HostRuntime) -> io::Result<()> {
     let run = |words: &[String], store: &mut MemStore, net: &mut MemNet, out: &mut MemSink| {
         let mut time = MemClocks::new(START);

@@ -1,5 +1,5 @@
-//! The tool over objects in memory, for scripts and for witnesses: a call over these very types takes long to prove,
-//! so there is one.
+//! The tool over objects in memory, for scripts and for witnesses: a call over these very types takes long to prove, so
+//! there is only one.
 
 ghost use Rattle.std.specs.Prelude.{map, string_bytes};
 ghost use Rattle.tool_base.specs.World.{output_run};

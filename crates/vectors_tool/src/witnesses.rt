@@ -1,5 +1,5 @@
-//! Runs for which the premises of laws hold together. Each is the witness of a law, and a line says whether it is one.
-//! The files that they are over are those that a script made.
+//! Runs for which the premises of laws hold together. Each is the witness of a law, and a line tells whether it is one.
+//! They run over files that a script made.
 
 mod steady;
 
@@ -36,7 +36,7 @@ fn files_of(alloc: Global, store: &MemStore, names: &[&str]) -> Result<Files, Al
     Ok(files)
 }
 
-/// Serves a trustee of these words both asks of a session.
+/// Runs a trustee of these words on both asks of a session.
 fn serve<R: Threads + Wait + Sync>(
     threads: &R,
     alloc: Global,
@@ -47,7 +47,7 @@ fn serve<R: Threads + Wait + Sync>(
     served_steadily(threads, alloc, words, files, file(store, "asks"))
 }
 
-/// Serves a trustee both asks of a session, over a journal with no entry.
+/// Runs a trustee on both asks of a session, over a journal with no entry.
 fn served<R: Threads + Wait + Sync>(
     threads: &R,
     alloc: Global,
@@ -72,7 +72,7 @@ fn ran<R: Threads + Wait + Sync>(
     ran_steadily(threads, alloc, words.as_slice(), files, places)
 }
 
-/// Signs where the first trustee's link ends before a reply.
+/// Signs when the first trustee's link ends before a reply.
 fn lost(alloc: Global, store: &MemStore, words: &SignWords) -> Result<bool, NoMemory> {
     let files = files_of(alloc, store, SIGN_FILES)?;
     let peers = [Peer {
@@ -111,7 +111,7 @@ fn lost_and_signed(
     Ok((lost, signed(alloc, store, words)?))
 }
 
-/// Signs by the words of `sign` in both ways.
+/// Signs with the words of `sign` in both ways.
 fn sign_runs(alloc: Global, store: &MemStore) -> Result<(bool, bool), NoMemory> {
     let words = words_of(alloc, SIGN)?;
     match command_of(alloc, words.as_slice()) {

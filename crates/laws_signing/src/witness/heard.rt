@@ -10,7 +10,7 @@ use crate::witness::links::Peer;
 use stream_io::Net;
 use stream_memory::{Conversation, KeptPort, MemNet};
 
-/// Whether each conversation of a port of which these are the peers gave just what its peer sends, without a fault.
+/// Whether each conversation of a port with these peers gave just what its peer sends, without a fault.
 pub(crate) fn all_gave(port: &KeptPort, peers: &[Peer]) -> bool
     ensures { IsTrue result → AllGaveJust (port_state port.now).talks (map (λ peer. peer.bytes.now) peers.now) }
 {

@@ -12,7 +12,7 @@ use stream_memory::{MemLink, MemNet, MemSink, MemSource, PortScript};
 /// The most bytes that one write takes.
 const MOST: usize = 4096;
 
-/// A peer who can be dialled at a place, and the bytes that are sent from there.
+/// A peer that can be dialled at a place, and the bytes that are sent from there.
 #[derive(Clone, Copy)]
 pub struct Peer<'a> {
     /// The place.
@@ -21,7 +21,7 @@ pub struct Peer<'a> {
     pub bytes: &'a [u8],
 }
 
-/// A link that gives these bytes, and takes so many.
+/// A link that gives these bytes, and takes `room` bytes.
 fn link_of(alloc: Global, bytes: &[u8], room: usize) -> Result<MemLink, NoMemory>
     ensures steady { IfOk result (λ link. IsTrue (is_steady_waiting link)) }
     ensures room { IfOk result (λ link. room ≤ room_of_waiting link) }
@@ -32,7 +32,7 @@ fn link_of(alloc: Global, bytes: &[u8], room: usize) -> Result<MemLink, NoMemory
     MemLink::new(alloc, source, sink, Vec::new(alloc), None)
 }
 
-/// A net that offers the place, and makes a port where a link waits that gives these bytes and takes so many.
+/// A net that offers the place, and makes a port where a link waits that gives these bytes and takes `room` bytes.
 pub(crate) fn waiting_net(
     alloc: Global,
     place: &str,
@@ -48,7 +48,7 @@ pub(crate) fn waiting_net(
     net_of(alloc, places, script, room)
 }
 
-/// A net that makes a port from which these peers can be dialled, over links that take so many bytes.
+/// A net that makes a port from which these peers can be dialled, over links that take `room` bytes.
 pub(crate) fn dialled_net(alloc: Global, peers: &[Peer], room: usize) -> Result<MemNet, NoMemory>
     ensures { IfOk result (λ net. IsNewNet room (⟦<MemNet as Net>⟧.state net)) }
 {

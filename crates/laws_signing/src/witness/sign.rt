@@ -23,8 +23,8 @@ use tool_words::SignWords;
 /// Room for the longest asks of a session.
 const ROOM: usize = 16_777_372;
 
-/// Signs over a store of these files and a net of these peers, and says whether it ended since a member is missing.
-/// Where it did, the premises of the clause `peer` of `tool_sign::laws::causes` hold of the run: the net does not fail,
+/// Signs over a store of these files and a net of these peers, and tells whether it ended because a member is missing.
+/// If it did, the premises of the clause `peer` of `tool_sign::laws::causes` hold of the run: the net does not fail,
 /// and its links have room for the longest asks.
 pub fn lost_steadily(
     alloc: Global,
@@ -42,7 +42,7 @@ pub fn lost_steadily(
     Ok(is_missing(alloc, words, &mut store, &mut net))
 }
 
-/// Signs over objects that do not fail, and says whether it ended since a member is missing.
+/// Signs over objects that do not fail, and tells whether it ended because a member is missing.
 fn is_missing(alloc: Global, words: &SignWords, store: &mut MemStore, net: &mut MemNet) -> bool
     requires store { IsSteadyStore (⟦<MemStore as Store>⟧.state store.old) }
     requires net { IsNewNet 16777372 (⟦<MemNet as Net>⟧.state net.old) }
@@ -64,10 +64,10 @@ fn is_loss(end: &Ending) -> bool
     }
 }
 
-/// Signs over a store of these files and a net of these peers, in the order of the members, and says whether each of
-/// them who was dialled was heard out without a fault. Where it was so, the premise of
-/// [`completeness`](crate::laws::completeness) holds of the run, for each dealing of which these bytes are: files and
-/// table by their definitions, and what each peer sends as what that trustee replies who grants both asks.
+/// Signs over a store of these files and a net of these peers, in the order of the members, and tells whether each of
+/// them that was dialled was heard out without a fault. If so, the premise of
+/// [`completeness`](crate::laws::completeness) holds of the run, for each dealing that these bytes are of: files and
+/// table by their definitions, and what each peer sends as what that trustee replies when it grants both asks.
 pub fn well_signed(
     alloc: Global,
     words: &SignWords,
@@ -84,7 +84,7 @@ pub fn well_signed(
     Ok(all_heard(alloc, words, peers, &mut store, &mut net))
 }
 
-/// Signs over objects that do not fail, and says whether each peer who was dialled was heard out without a fault.
+/// Signs over objects that do not fail, and tells whether each peer that was dialled was heard out without a fault.
 fn all_heard(
     alloc: Global,
     words: &SignWords,

@@ -23,7 +23,7 @@ use tool_words::TrusteeWords;
 const ROOM: usize = 562_233_344;
 
 /// Serves a trustee of these words over a store of these files, at a port where a link waits that gives these asks, and
-/// says whether it came to its end and the asks were read or left at that link. Where it was so, the premises of
+/// tells whether it came to its end and the asks were read or left at that link. If so, the premises of
 /// `tool_trustee::laws::steady_trustee` hold of the run: store and net tell their content and do not fail, and the link
 /// has room for all replies.
 pub fn served_steadily<R: Threads + Wait + Sync>(
@@ -44,8 +44,8 @@ pub fn served_steadily<R: Threads + Wait + Sync>(
     Ok(is_served(rt, alloc, words, asks, &mut store, &mut net))
 }
 
-/// Serves a trustee over objects that do not fail, and says whether it came to its end, and the first link of the first
-/// port that the net kept gave just these asks.
+/// Serves a trustee over objects that do not fail, and tells whether it came to its end, and the first link of the
+/// first port that the net kept gave just these asks.
 fn is_served<R: Threads + Wait + Sync>(
     rt: &R,
     alloc: Global,

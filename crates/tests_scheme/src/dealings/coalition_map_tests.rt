@@ -13,7 +13,7 @@ fn plan_of(n: u8, k: u8, h: u8) -> Result<Plan, PlanFault>
     Plan::new(n, k, h)
 }
 
-/// A plan that there is.
+/// A plan that exists.
 fn made(rt: &impl Abort, n: u8, k: u8, h: u8) -> Plan
     requires { h ≤ 25 }
 {
@@ -78,8 +78,8 @@ fn orders_the_coalitions_of_three_of_five(rt: HostRuntime) {
     assert!(rt; has_leaves(&plan, 9, &[9, 19, 29]));
 }
 
-/// Whether the coalitions are all sets of `k` of `n` trustees. In lexicographic order of the sets the numbers go down
-/// whose greatest bit is trustee 1, the next one trustee 2, and so on.
+/// Whether the coalitions are all sets of `k` of `n` trustees. In lexicographic order of the sets, the numbers whose
+/// greatest bit is trustee 1, the next one trustee 2, and so on, go down.
 fn has_walk(plan: &Plan, n: u8, k: u8) -> bool
     requires { n ≤ 12 }
 {
@@ -120,7 +120,7 @@ fn agrees_with_a_walk_of_every_list(rt: HostRuntime) {
 fn gives_each_of_six_of_twelve_a_leaf_or_two(rt: HostRuntime) {
     let plan = made(&rt, 12, 6, 10);
     assert!(rt; plan.count() == 924);
-    // The leaves 924 to 1023 go to the first hundred anew.
+    // The leaves 924 to 1023 go to the first hundred again.
     for c in 0..100 {
         holds(&rt, c, has_leaves(&plan, c, &[c, c + 924]));
     }
@@ -157,7 +157,7 @@ fn refuses_what_is_no_coalition(rt: HostRuntime) {
     }
 }
 
-/// Whether leaf 13 is that of coalition 3, and trustee 1, 3 and 4 its members alone.
+/// Whether leaf 13 is that of coalition 3, and trustees 1, 3 and 4 alone are its members.
 fn has_members_of_leaf(plan: &Plan) -> bool {
     if plan.h() != 5 || plan.coalition_of(13) != 3 {
         return false;

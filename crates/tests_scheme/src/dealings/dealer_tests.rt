@@ -51,14 +51,14 @@ fn public_digest(dealt: &Dealt) -> [u8; 32] {
     digest_of(&public[..length], &[])
 }
 
-/// That of the file of the tree.
+/// The SHA-256 of the file of the tree.
 fn tree_digest(dealt: &Dealt) -> [u8; 32] {
     let mut head = [0; 32];
     write_tree_head(&dealt.public.params, &dealt.public.id, &mut head);
     digest_of(&head, dealt.tree.nodes())
 }
 
-/// That of the file of a share.
+/// The SHA-256 of the file of a share.
 fn share_digest(share: &Share) -> [u8; 32] {
     let mut bytes = [0; 64];
     write_share(share, &mut bytes);
@@ -127,7 +127,7 @@ fn deal_alike<R: Threads + Sync + Abort>(rt: &R, alloc: Global) -> bool {
     have_same_files(rt, alloc, one, dealt_beside(rt, alloc))
 }
 
-/// The same of dealings with commitments, which are the same too.
+/// The same for dealings with commitments, which are the same too.
 fn commit_alike<R: Threads + Sync + Abort>(rt: &R, alloc: Global) -> bool {
     let (one, commits) = committed(rt, alloc);
     let (beside, others) = committed_beside(rt, alloc);
@@ -158,7 +158,7 @@ impl Heard {
         }
     }
 
-    /// Whether it was told so often, and last that all of so many leaves are built.
+    /// Whether it was told `calls` times, and last that all of `all` leaves are built.
     fn is_whole(&self, all: u32, calls: u32) -> bool {
         (self.leaves == all) & (self.all == all) & (self.calls == calls)
     }
@@ -180,7 +180,7 @@ impl Progress for Heard {
     }
 }
 
-/// Whether a dealing of these typecodes by several threads tells of so many leaves in so many parts.
+/// Whether a dealing of these typecodes by several threads tells of `all` leaves in `parts` parts.
 fn tells_of_parts<R: Threads + Sync + Abort>(
     rt: &R,
     alloc: Global,
@@ -209,7 +209,7 @@ fn each_part_is_told_of_once(rt: HostRuntime) {
     assert!(rt; tells_of_commitments(&rt, rt.alloc()));
 }
 
-/// Whether this entropy is refused for this.
+/// Whether this entropy is refused for this reason.
 fn refuses(
     rt: &impl Abort,
     alloc: Global,
@@ -223,7 +223,7 @@ fn refuses(
     }
 }
 
-/// The bytes that count up from 0, with the keys of trustees 2 and 3 once more in the place of those of 4 and 5.
+/// The bytes that count up from 0, with the keys of trustees 2 and 3 again in place of those of 4 and 5.
 fn with_keys_twice() -> [u8; 240] {
     let mut entropy = count_up();
     for i in 176..240 {
@@ -248,7 +248,7 @@ fn refuses_lengths(rt: &impl Abort, alloc: Global) -> bool {
     length & high & refuses(rt, alloc, (6, 4), entropy, DealFault::TooWide)
 }
 
-/// Whether entropy is refused in which two trustees have the same key.
+/// Whether entropy in which two trustees have the same key is refused.
 fn refuses_same_keys(rt: &impl Abort, alloc: Global) -> bool {
     let first = DealFault::SameKeys { t: 1, u: 2 };
     let later = DealFault::SameKeys { t: 2, u: 4 };

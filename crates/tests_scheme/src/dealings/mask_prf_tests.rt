@@ -103,7 +103,7 @@ const VECTORS: [Vector; 2] = [
     },
 ];
 
-/// Whether the masks are the vector's, of the key and of what is kept of it.
+/// Whether the masks are the vector's, both of the key and of what is kept of it.
 fn has_masks(kept: &MacKey, params: &Params, vector: &Vector) -> bool {
     let (q, i, j) = (vector.leaf, vector.chain, vector.steps);
     let chains = chain_mask(KEY, params, ID, q, i, j);
@@ -114,7 +114,7 @@ fn has_masks(kept: &MacKey, params: &Params, vector: &Vector) -> bool {
         && kept.random_mask(params, ID, q) == random
 }
 
-/// Whether the tag of the vector's randomizer is the vector's, of the key and of what is kept of it.
+/// Whether the tag of the vector's randomizer is the vector's, both of the key and of what is kept of it.
 fn has_tag(kept: &MacKey, params: &Params, vector: &Vector) -> bool {
     if vector.c.len() != params.n as usize {
         return false;
@@ -124,7 +124,7 @@ fn has_tag(kept: &MacKey, params: &Params, vector: &Vector) -> bool {
     tag.as_slice() == vector.check_tag && kept.check_tag(ID, vector.leaf, &c) == tag
 }
 
-/// Whether the randomizer is the vector's, of the key and of what is kept of it.
+/// Whether the randomizer is the vector's, both of the key and of what is kept of it.
 fn has_randomizer(kept: &MacKey, params: &Params, vector: &Vector) -> bool {
     let value = randomizer(KEY, params, ID, vector.leaf);
     value.bytes() == vector.randomizer && kept.randomizer(params, ID, vector.leaf) == value

@@ -258,7 +258,7 @@ fn case_of(rt: &impl Abort, alloc: Global) -> Case {
     }
 }
 
-/// Pages that count the reads of a file, of which the one of this number fails, if any does.
+/// Pages that count the reads of a file. The read of this number fails, if any does.
 fn watching(rt: &impl Abort, alloc: Global, file: &[u8], fails: Option<u64>) -> Watched {
     let mut disk = MemDisk::of_bytes(alloc, file, file.len(), usize::MAX).expect(rt, "memory");
     if let Some(call) = fails {
@@ -271,7 +271,7 @@ fn watching(rt: &impl Abort, alloc: Global, file: &[u8], fails: Option<u64>) -> 
     }
 }
 
-/// Joins the leaf over pages, says whether its values are those of memory, and gives the pages back.
+/// Joins the leaf over pages, tells whether its values are those of memory, and gives the pages back.
 fn join_pages<V: Pages>(rt: &impl Abort, case: &Case, pages: V) -> (Result<bool, RefFault>, V) {
     let Share { params, plan, .. } = &case.share;
     let sums = case.sums.as_slice();
@@ -285,7 +285,7 @@ fn join_pages<V: Pages>(rt: &impl Abort, case: &Case, pages: V) -> (Result<bool,
     (joined.map(|_| out == case.want), paged.end())
 }
 
-/// Joins the leaf over pages that count the reads, of which the one of this number fails, if any does.
+/// Joins the leaf over pages that count the reads. The read of this number fails, if any does.
 fn join_watched(
     rt: &impl Abort,
     alloc: Global,
@@ -308,7 +308,7 @@ fn a_read_that_fails_is_a_fault(rt: HostRuntime) {
     assert!(rt; joined == Err(RefFault) && watched.faults() == 1);
 }
 
-/// The places of five trustees among the members of a leaf, where one that is no member has 9.
+/// The places of five trustees among the members of a leaf, with 9 for one that is no member.
 fn ranks_of(plan: &Plan, leaf: u32) -> [usize; 5] {
     let mut ranks = [9; 5];
     if leaf < 1 << plan.h() {

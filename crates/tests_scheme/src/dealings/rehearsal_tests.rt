@@ -70,7 +70,7 @@ fn keys_and_signatures_are_those_of_another_program(rt: HostRuntime) {
     }
 }
 
-/// Whether this entropy is refused for this.
+/// Whether this entropy is refused for this reason.
 fn refuses(alloc: Global, entropy: &[u8], why: DealFault) -> bool {
     match rehearsed(alloc, entropy, b"") {
         Ok(_) => false,

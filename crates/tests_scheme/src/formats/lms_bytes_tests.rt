@@ -20,7 +20,7 @@ const DIGITS: [(u32, u32, u8, u16, u8, &[u8]); 9] = [
     (5, 3, 0xff, 64, 15, &[0, 0, 0]),
 ];
 
-/// Whether all digits of a digest are those: so many of one kind, and the checksum.
+/// Whether all digits of a digest are those: `count` of one kind, and the checksum.
 fn has_digits(params: &Params, digest: &Val, count: u16, one: u8, checksum: &[u8]) -> bool {
     if digest.bytes().len() != params.n as usize {
         return false;
@@ -64,7 +64,7 @@ fn signature_length(params: &Params) -> usize {
     12 + n * (params.p as usize + 1) + n * params.h as usize
 }
 
-/// Typecodes, and the length of a signature of theirs, or why they make no set.
+/// Typecodes, and the length of their signatures, or why they make no set.
 const SETS: [(u32, u32, Result<usize, KeyFault>); 10] = [
     (5, 4, Ok(1292)),
     (5, 3, Ok(2348)),
@@ -93,7 +93,7 @@ fn typecodes_make_sets(rt: HostRuntime) {
     }
 }
 
-/// A public key of the typecodes 10 and 7 with room behind it.
+/// A public key of the typecodes 10 and 7 with room after it.
 const PUBLIC: &[u8; 56] = b"\x00\x00\x00\x0a\x00\x00\x00\x07\
     \x11\x11\x11\x11\x11\x11\x11\x11\x11\x11\x11\x11\x11\x11\x11\x11\
     \x22\x22\x22\x22\x22\x22\x22\x22\x22\x22\x22\x22\x22\x22\x22\x22\
@@ -108,7 +108,7 @@ fn public_key(params: &Params) -> PublicKey {
     }
 }
 
-/// What is read from the first bytes of it, as far as they go.
+/// What is read from the first bytes of that key, as far as they go.
 fn read_front(length: usize, lms: u8, ots: u8) -> Result<PublicKey, KeyFault> {
     let mut bytes = *PUBLIC;
     bytes[3] = lms;
@@ -125,7 +125,7 @@ fn a_public_key_is_read_as_it_is_written(rt: HostRuntime) {
     assert!(rt; read_front(48, 10, 7) == Ok(key));
 }
 
-/// A length, two typecodes, and the number of the fault of so many bytes of the key with these typecodes.
+/// A length, two typecodes, and the number of the fault of that many bytes of the key with these typecodes.
 const KEY_FAULTS: [(usize, u8, u8, u8); 5] = [
     (7, 10, 7, 1),
     (48, 4, 7, 2),
@@ -186,7 +186,7 @@ fn a_signature_is_read_as_it_is_written(rt: HostRuntime) {
     assert!(rt; length_of_parts(&set_of(&rt, 10, 8)) == Some(780));
 }
 
-/// Why so many bytes are no signature, if they are none: those of a signature of leaf 31, with one byte changed.
+/// Why `length` bytes are no signature, if they are none: those of a signature of leaf 31, with one byte changed.
 fn signature_fault(params: &Params, length: usize, place: usize, byte: u8) -> Option<SigFault> {
     let mut bytes = [0; 781];
     // The number of leaf 31, and the two typecodes.
@@ -197,7 +197,7 @@ fn signature_fault(params: &Params, length: usize, place: usize, byte: u8) -> Op
     read_signature(params, &bytes[..length.min(781)]).err()
 }
 
-/// A length, a place, the byte that is put there, and why so many bytes are no signature.
+/// A length, a place, the byte that is put there, and why that many bytes are no signature.
 const SIGNATURE_FAULTS: [(usize, usize, u8, SigFault); 7] = [
     (7, 3, 31, SigFault::Short),
     (659, 3, 31, SigFault::TooShort { got: 659 }),

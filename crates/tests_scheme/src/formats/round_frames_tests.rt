@@ -1,4 +1,4 @@
-//! Tests of what no contract says: that calls succeed where there is memory and no call fails.
+//! Tests of what no contract says: that calls succeed if there is memory and no call fails.
 
 ghost use Rattle.std.specs.Prelude.{◌≡◌, None, false, refl};
 ghost use Rattle.round_frames.specs.Replies.{IsHead};
@@ -117,7 +117,7 @@ fn reads_signature<S: Source>(alloc: Global, params: &Params, source: &mut S) ->
     matches!(&result, Ok(Outcome::Signature(bytes)) if bytes.as_slice() == SIGNATURE.as_slice())
 }
 
-/// Whether a request ends by one read that fails.
+/// Whether a request ends with one read that fails.
 fn fails_once<S: Source>(alloc: Global, source: &mut S) -> bool {
     match next_request(alloc, source) {
         Err(FrameFault::ReadFault) => source.faults() == 1,
@@ -144,7 +144,7 @@ fn writes<K: Sink>(params: &Params, frames: Frames, sink: &mut K) -> bool {
     }
 }
 
-/// Whether they are read, but for a request, of which one read fails.
+/// Whether they are read, but for a request, one read of which fails.
 fn reads<S: Source>(alloc: Global, params: &Params, frames: Frames, source: &mut S) -> bool {
     match frames {
         Frames::Request => fails_once(alloc, source),
@@ -158,8 +158,8 @@ fn reads<S: Source>(alloc: Global, params: &Params, frames: Frames, source: &mut
     }
 }
 
-/// The same of a sink and a source in memory, of which the listed calls fail. The tests share it, since what costs a
-/// proof is a call over these very types.
+/// The same for a sink and a source in memory, whose listed calls fail. The tests share it, since what costs a proof is
+/// a call over these very types.
 fn run(rt: &impl Abort, alloc: Global, frames: Frames, failing: &[u64]) {
     let params = Params::of_codes(5, 3).ok().expect(rt, "a set");
     let mut sink = sink(alloc).expect(rt, "a sink");
@@ -191,7 +191,7 @@ fn each_read_that_fails_ends_a_request(rt: HostRuntime) {
     }
 }
 
-/// A source that notes how many bytes at most were asked of it at once.
+/// A source that notes the most bytes that were asked of it at once.
 #[derive(Drop)]
 struct Watched {
     source: MemSource,
@@ -221,8 +221,8 @@ impl Source for Watched {
     }
 }
 
-/// How many bytes at most are asked for at once of a request whose header promises the longest message, where so many
-/// bytes of it come.
+/// The most bytes that are asked for at once in a request whose header promises the longest message, if `sent` bytes of
+/// it come.
 fn most_asked(alloc: Global, sent: usize) -> Option<usize> {
     let mut bytes = Vec::from_slice(alloc, b"\x54\x4c\x01\x06\x01\x00\x00\x02\x00\x07").ok()?;
     bytes.resize(bytes.len().checked_add(sent)?, 0).ok()?;

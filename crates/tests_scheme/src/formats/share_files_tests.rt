@@ -46,7 +46,7 @@ fn a_share_is_read_and_written(rt: HostRuntime) {
     assert!(rt; has_parts(&share) && bytes_of(&share) == SHARE);
 }
 
-/// Two places of a share with what is put there, a length, and the fault of so many bytes of it.
+/// Two places of a share with what is put there, a length, and the fault of that many bytes of it.
 const SHARE_FAULTS: [(usize, u8, usize, u8, usize, FileFault); 11] = [
     (0, 0, 4, 2, 63, FileFault::Length { got: 63, want: 64 }),
     (3, 0x49, 4, 2, 64, FileFault::Magic),
@@ -61,7 +61,7 @@ const SHARE_FAULTS: [(usize, u8, usize, u8, usize, FileFault); 11] = [
     (5, 1, 5, 1, 65, FileFault::Length { got: 65, want: 64 }),
 ];
 
-/// The share with a byte behind it.
+/// The share with a byte after it.
 fn longer_share() -> [u8; 65] {
     let mut bytes = [0; 65];
     bytes[..64].copy_from_slice(&SHARE);
@@ -117,7 +117,7 @@ const TREE_FAULTS: [(usize, usize, u8, FileFault); 9] = [
     ),
 ];
 
-/// A tree file with a byte behind it.
+/// A tree file with a byte after it.
 fn longer_tree() -> [u8; 2049] {
     let mut bytes = [7; 2049];
     bytes[..32].copy_from_slice(&TREE_HEAD);
@@ -195,7 +195,7 @@ const REFERENCE_FAULTS: [(u64, usize, u8, FileFault); 6] = [
     ),
 ];
 
-/// The fault of a head that is none of a reference file of this length.
+/// The fault of a head that is not one of a reference file of this length.
 fn head_fault(head: &[u8; 32], length: u64) -> Option<FileFault> {
     read_ref_header(head, length).err()
 }

@@ -25,8 +25,8 @@ fn are_same(found: &[&str], words: &[String]) -> bool {
     true
 }
 
-/// What `clap` makes of the words of a line: nothing where it does not take them, else whether it splits off each of
-/// them in its place.
+/// What `clap` makes of the words of a line: nothing if it does not take them, else whether it splits off each of them
+/// in its place.
 fn is_split(alloc: Global, line: &str) -> Option<bool> {
     let Ok(words) = words_of(alloc, line) else {
         return Some(false);

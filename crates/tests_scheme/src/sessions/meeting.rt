@@ -38,7 +38,7 @@ pub const MESSAGE: &[u8; 333] =
 /// The bytes of all leaves of a reference of the typecodes 10 and 7.
 pub const LEAVES: usize = 32 * 19_704;
 
-/// The masks of a trustee with this key for the chains of leaf 0 under a randomizer, one behind the other.
+/// The masks of a trustee with this key for the chains of leaf 0 under a randomizer, one after the other.
 pub fn masks_of(params: &Params, key: &[u8; 32], c: &Val) -> Option<[u8; 8480]> {
     let n = params.n as usize;
     if c.bytes().len() != n {
@@ -119,7 +119,7 @@ impl Meeting {
         Meeting::new(rt, alloc, (10, 7), leaves, &[0; 24 * 63])
     }
 
-    /// Changes the byte of the reference at this place behind its header.
+    /// Changes the byte of the reference at this place after its header.
     pub fn spoil(&mut self, place: usize) {
         if place < self.leaves.len() {
             self.leaves[place] ^= 1;
@@ -150,7 +150,7 @@ impl Meeting {
         self.take(member, 0, mask.bytes())
     }
 
-    /// Trustee `member` gives its masks of round two, where there is one.
+    /// Trustee `member` gives its masks of round two, if there is one.
     pub fn give_masks(&mut self, member: u8) -> Option<Step> {
         let c = self.session.randomizer()?;
         let masks = masks_of(&self.params, &key_of(member), &c)?;
@@ -186,14 +186,14 @@ impl Meeting {
         Some(self.session.ask(&mut cells, 2, digest))
     }
 
-    /// Ends round one, where the session is in it.
+    /// Ends round one, if the session is in it.
     pub fn turn(&mut self) -> Option<Result<(), SessionFault>> {
         self.in_first()?;
         let mut cells = Whole::new(&self.params, &self.plan, &self.leaves);
         Some(self.session.turn(&mut cells))
     }
 
-    /// Ends round two, where there is one.
+    /// Ends round two, if there is one.
     pub fn finish(&self, alloc: Global) -> Option<Result<Vec<u8>, SessionFault>> {
         self.session.randomizer()?;
         let mut cells = Whole::new(&self.params, &self.plan, &self.leaves);

@@ -11,7 +11,7 @@ use sha2::{Digest, Sha256};
 use std::alloc::Global;
 use std::process::Abort;
 
-/// The replies of round one: of trustees 3, 1 and 2, of trustee 4, who is no member, and of trustee 3 once more.
+/// The replies of round one: of trustees 3, 1 and 2, of trustee 4, which is no member, and of trustee 3 again.
 const FIRST: [(u8, Step); 5] = [
     (3, Step::Kept),
     (4, Step::NotMine),
@@ -104,12 +104,12 @@ fn a_changed_reference_gives_no_signature(rt: HostRuntime) {
         want: Val::of(want),
     };
     let mut meeting = Meeting::dealt(&rt, rt.alloc(), 10, 7);
-    // Behind the randomizer and three tags lie the values of chain 0, and the digest's first digit is 4.
+    // The values of chain 0 lie after the randomizer and three tags, and the digest's first digit is 4.
     meeting.spoil(24 + 96 + 24 * 4);
     assert!(rt; fault_of(&mut meeting, rt.alloc()) == Some(fault));
 }
 
-/// Whether a session in which trustee 1 alone has answered, by this refusal, turns with this fault.
+/// Whether a session in which trustee 1 alone has answered, with this refusal, turns with this fault.
 fn turns_with(rt: &impl Abort, alloc: Global, code: u8, body: &[u8], want: SessionFault) -> bool {
     let mut meeting = Meeting::blank(rt, alloc);
     meeting.take(1, code, body);
@@ -164,8 +164,8 @@ fn refusals_are_told_apart(rt: HostRuntime) {
     assert!(rt; tells_messages(&rt, rt.alloc()));
 }
 
-/// What `finish` says of a session over a reference of zeros in which trustees 1, 2 and 3 have answered round one with
-/// zeros, and trustee 1 round two by a refusal.
+/// What `finish` says about a session over a reference of zeros in which trustees 1, 2 and 3 have answered round one
+/// with zeros, and trustee 1 has answered round two with a refusal.
 fn fault_of_later_refusal(
     meeting: &mut Meeting,
     alloc: Global,
@@ -180,7 +180,7 @@ fn fault_of_later_refusal(
     meeting.finish(alloc)?.err()
 }
 
-/// Whether that is this.
+/// Whether that fault is this one.
 fn ends_with(rt: &impl Abort, alloc: Global, code: u8, body: &[u8], want: SessionFault) -> bool {
     let mut meeting = Meeting::blank(rt, alloc);
     fault_of_later_refusal(&mut meeting, alloc, code, body) == Some(want)
@@ -229,7 +229,7 @@ fn ask_with(second: Option<Second>) -> Ask {
     }
 }
 
-/// Whether these masks of a member are kept of a round.
+/// Whether these masks of a member are kept for a round.
 fn keeps(meeting: &Meeting, round: u8, member: u8, masks: &[u8]) -> bool {
     meeting
         .session
@@ -237,7 +237,7 @@ fn keeps(meeting: &Meeting, round: u8, member: u8, masks: &[u8]) -> bool {
         .is_some_and(|kept| kept == masks)
 }
 
-/// Whether nothing is kept of a member in a round.
+/// Whether nothing from a member is kept in a round.
 fn keeps_none(meeting: &Meeting, round: u8, member: u8) -> bool {
     meeting.session.kept_reply(round, member).is_none()
 }
@@ -247,11 +247,11 @@ fn asks(meeting: &Meeting, digest: &[u8; 24], second: Option<Second>) -> bool {
     meeting.ask(&Val::of(digest)) == Some(Ok(ask_with(second)))
 }
 
-/// The mask that another implementation had of trustee 2.
+/// The mask that another implementation had from trustee 2.
 const MASK: &[u8; 24] =
     b"\x2e\x88\xf5\x5e\xc3\xf9\x50\xe6\xba\x46\xf4\x98\xb8\x94\x4c\x4b\x48\xe0\x8e\x73\x94\x2a\x5b\xfe";
 
-/// Whether that mask is kept of round one, and nothing of trustee 4 or of round two.
+/// Whether that mask is kept for round one, and nothing from trustee 4 or for round two.
 fn keeps_first(meeting: &Meeting) -> bool {
     keeps(meeting, 1, 2, MASK) && keeps_none(meeting, 1, 4) && keeps_none(meeting, 2, 2)
 }
@@ -263,7 +263,7 @@ fn round_one_tells_what_it_asks_and_keeps(rt: HostRuntime) {
     assert!(rt; answer_first(&mut meeting) && keeps_first(&meeting));
 }
 
-/// What another implementation asked of trustee 2 and had of it: a randomizer.
+/// What another implementation asked of trustee 2 and had from it: a randomizer.
 const C: &[u8; 24] =
     b"\x44\xeb\xb5\xe6\xe3\x18\x9c\xe4\x3e\xf1\x3b\xeb\xc0\x51\xdb\x04\xcd\xba\x90\xf2\x6f\x2e\x38\x63";
 
@@ -289,7 +289,7 @@ fn asks_second(meeting: &Meeting) -> bool {
     asks(meeting, ASKED, Some(second))
 }
 
-/// Whether the masks are kept of round two, and nothing of trustee 1 or of another round.
+/// Whether the masks are kept for round two, and nothing from trustee 1 or for another round.
 fn keeps_second(meeting: &Meeting) -> bool {
     match meeting.session.kept_reply(2, 2) {
         Some(kept) => {

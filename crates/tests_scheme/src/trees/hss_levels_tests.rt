@@ -30,7 +30,7 @@ fn signing_key(rt: &impl Abort) -> HssKey {
     read(&KEY).expect(rt, "a key")
 }
 
-/// The verdict on so many bytes of the signature and of a 0 behind it, with one byte changed.
+/// The verdict on `length` bytes of the signature and of a 0 after it, with one byte changed.
 fn verdict_on(key: &HssKey, place: usize, byte: u8, length: usize) -> HssVerdict {
     let mut bytes = [0; 2733];
     bytes[..2732].copy_from_slice(&SIGNATURE);
@@ -38,7 +38,7 @@ fn verdict_on(key: &HssKey, place: usize, byte: u8, length: usize) -> HssVerdict
     hss_verify(key, &MESSAGE, &bytes[..length.min(2733)])
 }
 
-/// A place of the signature, the byte that is put there, a length, and why so many bytes of it are no signature.
+/// A place of the signature, the byte that is put there, a length, and why that many bytes of it are no signature.
 const FAULTS: [(usize, u8, usize, HssFault); 9] = [
     (0, 0, 3, HssFault::Short),
     (3, 2, 2732, HssFault::Levels { got: 2 }),
@@ -120,7 +120,7 @@ fn other_bytes_are_no_signature(rt: HostRuntime) {
 
 #[test]
 fn a_signature_is_accepted(rt: HostRuntime) {
-    // The byte behind the signature is not among those that are verified.
+    // The byte after the signature is not among those that are verified.
     assert!(rt; verdict_on(&signing_key(&rt), 2732, 0, 2732) == HssVerdict::Accepted { levels: 2 });
 }
 
@@ -180,7 +180,7 @@ const KEY_FAULTS: [(usize, usize, u8, HssKeyFault, u8); 5] = [
     ),
 ];
 
-/// What is read from so many bytes of the key, with one byte changed.
+/// What is read from `length` bytes of the key, with one byte changed.
 fn key_of(length: usize, place: usize, byte: u8) -> Result<HssKey, HssKeyFault> {
     let mut bytes = [0; 52];
     bytes.copy_from_slice(&KEY);

@@ -32,7 +32,7 @@ fn verdict(key: &PublicKey, message: &[u8], bytes: &[u8]) -> Verdict {
     verify(key, message, bytes)
 }
 
-/// The root to which the signature leads for a message whose first byte is another.
+/// The root to which the signature leads for a message with another first byte.
 const OTHER_ROOT: &[u8; 24] = b"\x13\x77\x59\x44\x86\xc2\xb0\x51\x13\x1d\x78\x4f\
     \x26\x4e\xe4\x4d\x27\x3a\x8f\x85\x6c\xde\xf0\xdd";
 
@@ -63,7 +63,7 @@ fn verdicts_read_as_sentences(rt: HostRuntime) {
     assert!(rt; reads_as(rt.alloc(), &malformed, text));
 }
 
-/// A place of the signature, the byte that is put there, a length, and why so many bytes of it are no signature.
+/// A place of the signature, the byte that is put there, a length, and why that many bytes of it are no signature.
 const FAULTS: [(usize, u8, usize, SigFault); 7] = [
     (0, 0, 7, SigFault::Short),
     (7, 7, 780, SigFault::OtsCode { got: 7 }),
@@ -90,7 +90,7 @@ const FAULTS: [(usize, u8, usize, SigFault); 7] = [
     ),
 ];
 
-/// The verdict on so many bytes of the signature and of a 0 behind it, with one byte changed.
+/// The verdict on `length` bytes of the signature and of a 0 after it, with one byte changed.
 fn verdict_on(key: &PublicKey, place: usize, byte: u8, length: usize) -> Verdict {
     let mut bytes = [0; 781];
     bytes[..780].copy_from_slice(&SIGNATURE);

@@ -1,4 +1,4 @@
-//! Books of approved messages: a message is listed once, also where calls of the disk fail, and no other is answered.
+//! Books of approved messages: a message is listed once, even when calls of the disk fail, and no other is answered.
 
 ghost use Rattle.std.specs.Prelude.{◌<◌, ◌^◌, length};
 
@@ -39,7 +39,7 @@ fn after_crash(rt: &impl Abort, alloc: Global, book: Book<MemDisk>, pick: u64) -
     loaded(rt, alloc, crashed(rt, alloc, book.end(), pick))
 }
 
-/// Whether listing a message is answered by this.
+/// Whether listing a message gives this answer.
 fn adds(book: &mut Book<MemDisk>, text: &[u8], want: Result<Entered, BookFault>) -> bool
     requires { length text.now < 2 ^ 32 }
 {
@@ -80,7 +80,7 @@ fn a_message_is_listed_once(rt: HostRuntime) {
     assert!(rt; two & keeps_two(&rt, rt.alloc(), book));
 }
 
-/// What is answered where the disk stops at a call of a listing.
+/// The answer when the disk stops at a call of a listing.
 fn stopped(call: u64) -> Result<Entered, BookFault> {
     if call < 4 {
         Err(BookFault::Device)
@@ -89,13 +89,13 @@ fn stopped(call: u64) -> Result<Entered, BookFault> {
     }
 }
 
-/// Whether a listing that stops at a call is made, by this pick of a crash.
+/// Whether a listing that stops at a call is made, given this pick of a crash.
 fn is_made(call: u64, pick: u64) -> bool {
     call == 4 || call == 3 && pick == 1
 }
 
-/// Lists `abc`, stopped at a call of the disk: whether that is answered by this, and the book of what a crash leaves
-/// lists it or not.
+/// Lists `abc`, stopped at a call of the disk: whether that gives the answer expected, and the book of what a crash
+/// leaves lists it or not, as expected.
 fn adds_or_not(rt: &impl Abort, alloc: Global, call: u64, pick: u64) -> bool {
     let disk = stopping_file(
         rt,
@@ -110,14 +110,14 @@ fn adds_or_not(rt: &impl Abort, alloc: Global, call: u64, pick: u64) -> bool {
     answered & (listed == is_made(call, pick))
 }
 
-/// Lists `abc`, which fails, and then another message: whether so many are listed then.
+/// Lists `abc`, which fails, and then another message: whether `count` are then listed.
 fn adds_after_failing(book: &mut Book<MemDisk>, count: u32) -> bool {
     let fails = adds(book, b"abc", Err(BookFault::Device));
     let other = adds(book, b"", Ok(Entered::New));
     fails & other & (book.count() == count)
 }
 
-/// Lists `abc` by a disk that fails at a call, and then another message: whether so many are listed then.
+/// Lists `abc` on a disk that fails at a call, and then another message: whether `count` are then listed.
 fn adds_again(rt: &impl Abort, alloc: Global, call: u64, count: u32) -> bool {
     let disk = failing_file(
         rt,
@@ -141,7 +141,7 @@ fn a_listing_is_before_or_after_and_a_doubt_is_settled(rt: HostRuntime) {
     assert!(rt; adds_again(&rt, rt.alloc(), 3, 2));
 }
 
-/// Writes what a full book has: in slot `i` the message of the bytes of `i`.
+/// Writes the content of a full book: in slot `i` the message that consists of the bytes of `i`.
 fn fill(disk: &mut MemDisk) -> bool {
     for i in 0..1024_u64 {
         let place = 128 * (i + 1);
@@ -154,7 +154,7 @@ fn fill(disk: &mut MemDisk) -> bool {
     true
 }
 
-/// Whether a full book lists no more, and knows what it lists.
+/// Whether a full book lists no further message, and knows what it lists.
 fn is_full(book: &mut Book<MemDisk>) -> bool {
     let full = adds(book, b"abc", Err(BookFault::Full));
     let old = adds(book, &[0; 8], Ok(Entered::Old));
@@ -169,7 +169,7 @@ fn a_full_book_lists_no_more(rt: HostRuntime) {
     assert!(rt; filled & is_full(&mut book));
 }
 
-/// Whether a free file with another byte at a place is refused for this.
+/// Whether a free file with a different byte at one place is refused for this reason.
 fn is_refused(rt: &impl Abort, alloc: Global, place: u64, byte: u8, why: CacheLoad) -> bool {
     let disk = free_file(rt, alloc, &header(3, 3), 1024);
     load(alloc, with_byte(rt, disk, place, byte)).err() == Some(why)
@@ -191,7 +191,7 @@ fn a_load_is_refused(rt: HostRuntime) {
     assert!(rt; is_refused(&rt, rt.alloc(), 4, 2, version));
 }
 
-/// What an ask of round one is answered, by its number, and 0 where it is granted.
+/// The answer to an ask of round one, by its number, or 0 if it is granted.
 fn code(
     book: Option<&Approved>,
     trustee: &mut Trustee<MemDisk>,
@@ -212,7 +212,7 @@ fn code(
     }
 }
 
-/// Whether what a book lists is decided on by the trustee of this key, and all else is denied.
+/// Whether the trustee of this key decides on what a book lists, and all else is denied.
 fn denies(book: &Approved, trustee: &mut Trustee<MemDisk>, key: [u8; 16]) -> bool {
     let listed = code(Some(book), trustee, key, 0, b"abc") == 0;
     let other = code(Some(book), trustee, key, 10, b"xyz") == 12;

@@ -1,4 +1,4 @@
-//! Journals: a leaf is bound once and opened once, also where calls of the disk fail.
+//! Journals: a leaf is bound once and opened once, even when calls of the disk fail.
 
 ghost use Rattle.std.specs.Prelude.{◌≡◌, ◌<◌, length};
 ghost use Rattle.opening_journal.specs.Journal.{params_of};
@@ -33,7 +33,7 @@ fn params(rt: &impl Abort) -> Params
     params
 }
 
-/// A value of these bytes.
+/// A value all of whose bytes are `byte`.
 fn value(byte: u8) -> Val
     ensures { length result ≡ 32 }
 {
@@ -43,7 +43,7 @@ fn value(byte: u8) -> Val
 /// The answer that a leaf is bound to message `ONE`.
 const SPENT: Result<Entered, JournalFault> = Err(JournalFault::Spent { kept: ONE });
 
-/// The answer that a leaf was opened with C and Q of bytes CC and DD.
+/// The answer that a leaf was opened with a C of bytes CC and a Q of bytes DD.
 fn other_digest() -> Result<Entered, JournalFault> {
     let (c, digest) = (value(0xCC), value(0xDD));
     Err(JournalFault::OtherDigest { c, digest })
@@ -92,14 +92,14 @@ impl Leaves {
         Leaves::load(rt, alloc, disk, 3).expect(rt, "load")
     }
 
-    /// Whether binding a leaf is answered by this.
+    /// Whether binding a leaf gives this answer.
     fn binds(&mut self, leaf: u32, message: &MessageId, want: Result<Entered, JournalFault>) -> bool
         requires { leaf < 32 }
     {
         self.journal.bind(leaf, message) == want
     }
 
-    /// Whether opening leaf 1 for message `ONE` with C and Q of these bytes is answered by this.
+    /// Whether opening leaf 1 for message `ONE` with C and Q of these bytes gives this answer.
     fn opens(&mut self, bytes: (u8, u8), moment: u64, want: Result<Entered, JournalFault>) -> bool {
         let (c, digest) = (value(bytes.0), value(bytes.1));
         self.journal.open_leaf(1, &ONE, &c, &digest, moment) == want
@@ -121,7 +121,7 @@ fn empty_journal(rt: &impl Abort, alloc: Global) -> Leaves {
     Leaves::open(rt, alloc, free_file(rt, alloc, &header(2, 3), 32))
 }
 
-/// A journal with no entry, on a disk of which one call after the load fails.
+/// A journal with no entry, on a disk where one call after the load fails.
 fn failing_journal(rt: &impl Abort, alloc: Global, call: u64) -> Leaves {
     let disk = failing_file(
         rt,
@@ -168,7 +168,7 @@ fn a_leaf_is_opened_once(rt: HostRuntime) {
     assert!(rt; once & leaves.lists(&[bound(1, ONE), opened()]));
 }
 
-/// What is answered where the disk stops at a call of an entry.
+/// The answer when the disk stops at a call of an entry.
 fn stopped(call: u64) -> Result<Entered, JournalFault> {
     if call < 4 {
         Err(JournalFault::Device)
@@ -177,8 +177,8 @@ fn stopped(call: u64) -> Result<Entered, JournalFault> {
     }
 }
 
-/// Whether binding leaf 1 and then opening it leaves each as before or as after, where the disk stops at a call: an
-/// entry takes four, and by pick 1 a crash keeps what was written and not synced.
+/// Whether binding leaf 1 and then opening it leaves each as before or as after, if the disk stops at a call: an entry
+/// takes four calls, and with pick 1 a crash keeps what was written but not synced.
 fn enters_or_not(rt: &impl Abort, alloc: Global, call: u64, pick: u64) -> bool {
     let at = LOAD_CALLS.saturating_add(call);
     let mut leaves = Leaves::open(rt, alloc, stopping_file(rt, alloc, &header(2, 3), 32, at));
@@ -192,7 +192,7 @@ fn enters_or_not(rt: &impl Abort, alloc: Global, call: u64, pick: u64) -> bool {
     binds & opens & listed & leaves.binds(1, &TWO, again)
 }
 
-/// Whether that is so by each pick.
+/// Whether that is so with each pick.
 fn enters_by_each_pick(rt: &impl Abort, alloc: Global, call: u64) -> bool {
     let none = enters_or_not(rt, alloc, call, 0);
     let all = enters_or_not(rt, alloc, call, 1);
@@ -206,7 +206,7 @@ fn an_entry_is_before_or_after(rt: HostRuntime) {
     }
 }
 
-/// Binds leaf 1 to one message, which fails at a call, and then to another: whether that is answered by this, and the
+/// Binds leaf 1 to one message, which fails at a call, and then to another: whether that gives this answer, and the
 /// leaf is bound to this message.
 fn binds_again(
     rt: &impl Abort,
@@ -221,7 +221,7 @@ fn binds_again(
     fails & answered & leaves.lists(&[bound(1, message)])
 }
 
-/// Opens leaf 1 with one pair, which fails at a call, and then with another: whether that is answered by this.
+/// Opens leaf 1 with one pair, which fails at a call, and then with another: whether that gives this answer.
 fn opens_again(
     rt: &impl Abort,
     alloc: Global,
@@ -244,7 +244,7 @@ fn a_doubtful_entry_is_settled(rt: HostRuntime) {
     assert!(rt; binds & opens_again(&rt, rt.alloc(), 3, other_digest()));
 }
 
-/// Whether the journal of a trustee is refused for this.
+/// Whether the journal of a trustee is refused for this reason.
 fn is_refused(rt: &impl Abort, alloc: Global, disk: MemDisk, number: u8, why: JournalLoad) -> bool {
     Leaves::load(rt, alloc, disk, number).err() == Some(why)
 }

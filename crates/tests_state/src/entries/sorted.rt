@@ -27,15 +27,16 @@ fn has<T: Ord + Copy>(list: &SortedList<T>, items: &[T]) -> bool {
     list.items() == items
 }
 
-/// Whether a list finds an item, alone and as the least that is not below another, and none from behind it on.
+/// Whether a list finds an item, on its own and as the least that is not below another item, and finds nothing from
+/// `behind` on.
 fn finds<T: Ord + Copy>(list: &SortedList<T>, item: T, below: T, behind: T) -> bool {
     let held = list.holds(&item) & !list.holds(&below);
     let least = list.least_from(&below) == Some(item);
     held & least & (list.least_from(&behind) == None)
 }
 
-/// Whether a list of three ascending items has them in their order, finds the one in the middle, alone and as the least
-/// that is not below another, finds none from behind them on, and has the others once that one is taken out.
+/// Whether a list of three ascending items has them in their order, finds the one in the middle, on its own and as the
+/// least that is not below another item, finds nothing from `behind` on, and has the others once that one is taken out.
 fn keeps<T: Ord + Copy>(alloc: Global, items: &[T; 3], below: T, behind: T) -> bool {
     let Some(mut list) = list_of(alloc, items) else {
         return false;

@@ -30,7 +30,7 @@ const TWO: MessageId = MessageId {
 /// The coalition of trustees 1 and 3, whose leaves are 1, 4, 7 and so on.
 const FIRST_AND_THIRD: u16 = 0b101;
 
-/// A message by its length.
+/// A message given by its length.
 fn numbered(length: u32) -> MessageId {
     MessageId {
         length,
@@ -69,7 +69,7 @@ fn empty_table(rt: &impl Abort, alloc: Global) -> Table<MemDisk> {
     small(rt, alloc, free_file(rt, alloc, &header(1, 0), 32))
 }
 
-/// A table with no entry, on a disk of which one call after the load fails.
+/// A table with no entry, on a disk where one call after the load fails.
 fn failing_table(rt: &impl Abort, alloc: Global, call: u64) -> Table<MemDisk> {
     let call = LOAD_CALLS.saturating_add(call);
     small(rt, alloc, failing_file(rt, alloc, &header(1, 0), 32, call))
@@ -80,7 +80,7 @@ fn after_crash(rt: &impl Abort, alloc: Global, table: Table<MemDisk>, pick: u64)
     small(rt, alloc, crashed(rt, alloc, table.end(), pick))
 }
 
-/// Leases a leaf of a coalition, by its bits, and burns it where a member is said to have reported it.
+/// Leases a leaf of a coalition, given by its bits, and burns it if a reporting member is given.
 fn enter<D: Disk>(
     table: &mut Table<D>,
     bits: u16,
@@ -99,7 +99,7 @@ fn enter<D: Disk>(
     Ok(leaf)
 }
 
-/// Leases a leaf of a coalition, by its bits.
+/// Leases a leaf of a coalition, given by its bits.
 fn lease<D: Disk>(table: &mut Table<D>, bits: u16, message: &MessageId) -> Result<u32, TableFault> {
     enter(table, bits, message, None)
 }
@@ -109,7 +109,7 @@ fn burn<D: Disk>(table: &mut Table<D>, by: u8) -> Result<u32, TableFault> {
     enter(table, FIRST_AND_THIRD, &ONE, Some(by))
 }
 
-/// Whether trustees 1 and 3 who ask for a leaf are answered this.
+/// Whether trustees 1 and 3 get this answer when they ask for a leaf.
 fn leases<D: Disk>(
     table: &mut Table<D>,
     message: &MessageId,
@@ -118,7 +118,7 @@ fn leases<D: Disk>(
     lease(table, FIRST_AND_THIRD, message) == want
 }
 
-/// Whether burning their leaf for message `ONE` as reported by a member is answered by this.
+/// Whether burning their leaf for message `ONE` as reported by a member gives this answer.
 fn burns<D: Disk>(table: &mut Table<D>, by: u8, want: Result<u32, TableFault>) -> bool {
     burn(table, by) == want
 }
@@ -153,7 +153,7 @@ fn a_leaf_is_leased_for_one_message(rt: HostRuntime) {
     assert!(rt; answered & keeps_two(&rt, rt.alloc(), table));
 }
 
-/// Whether a disk holds the report of leaf 1: the id in body B, and behind it the member.
+/// Whether a disk holds the report of leaf 1: the id in body B, followed by the member.
 fn is_reported(disk: &MemDisk) -> bool {
     let id = disk.bytes().get(300..304) == Some([0, 0, 0, 3].as_slice());
     id & (disk.bytes().get(335..338) == Some([0x11, 3, 0].as_slice()))
@@ -198,7 +198,7 @@ fn a_coalition_runs_out_of_leaves(rt: HostRuntime) {
     assert!(rt; eleven & has_run_out(&mut table));
 }
 
-/// What is answered where the disk stops at a call of an entry of leaf 1.
+/// The answer when the disk stops at a call of an entry of leaf 1.
 fn stopped(call: u64) -> Result<u32, TableFault> {
     if call < 4 {
         Err(TableFault::Device)
@@ -207,14 +207,14 @@ fn stopped(call: u64) -> Result<u32, TableFault> {
     }
 }
 
-/// Whether so many of the lease of leaf 1 and its burning are the entries.
+/// Whether the entries are the first `count` of the lease of leaf 1 and its burning.
 fn lists_first(table: &Table<MemDisk>, count: u64) -> bool {
     let whole = [leased(1, ONE), Lease::Burnt { leaf: 1 }];
     lists(table, &whole[..count.min(2) as usize])
 }
 
-/// Whether leasing leaf 1 and then burning it leaves each as before or as after, where the disk stops at a call: an
-/// entry takes four, and by pick 1 a crash keeps what was written and not synced.
+/// Whether leasing leaf 1 and then burning it leaves each as before or as after, if the disk stops at a call: an entry
+/// takes four calls, and with pick 1 a crash keeps what was written but not synced.
 fn enters_or_not(rt: &impl Abort, alloc: Global, call: u64, pick: u64) -> bool {
     let at = LOAD_CALLS.saturating_add(call);
     let mut table = small(rt, alloc, stopping_file(rt, alloc, &header(1, 0), 32, at));
@@ -225,7 +225,7 @@ fn enters_or_not(rt: &impl Abort, alloc: Global, call: u64, pick: u64) -> bool {
     leased & burnt & lists_first(&table, count)
 }
 
-/// Whether that is so by each pick.
+/// Whether that is so with each pick.
 fn enters_by_each_pick(rt: &impl Abort, alloc: Global, call: u64) -> bool {
     let none = enters_or_not(rt, alloc, call, 0);
     let all = enters_or_not(rt, alloc, call, 1);
@@ -253,7 +253,7 @@ fn leases_again(rt: &impl Abort, alloc: Global, call: u64, two: u32, one: u32) -
 }
 
 /// Burns leaf 1 as reported by member 3, which fails at a call, and then the leaf of the message as reported by member
-/// 5: whether that is this leaf, and this member is kept for leaf 1.
+/// 5: whether the burnt leaf is `leaf`, and `reporter` is the member kept for leaf 1.
 fn burns_again(rt: &impl Abort, alloc: Global, call: u64, leaf: u32, reporter: u8) -> bool {
     let mut table = failing_table(rt, alloc, call.saturating_add(4));
     let fails = burns(&mut table, 3, Err(TableFault::Device));
@@ -285,7 +285,7 @@ fn has_leaves(table: &mut Table<MemDisk>, bits: u16, c: u32, step: u32, count: u
     lease(table, bits, &ONE) == Err(TableFault::NoLeaf { coalition: c })
 }
 
-/// Whether there is a coalition `c` of a plan, and it has so many leaves, each 924 after the last.
+/// Whether a plan has a coalition `c`, and that coalition has `count` leaves, each 924 after the last.
 fn has_own(table: &mut Table<MemDisk>, plan: &Plan, c: u32, count: u32) -> bool
     requires { (c ≤ 1024) × (count ≤ 4) }
 {
@@ -299,7 +299,7 @@ fn has_two_up_to_99(table: &mut Table<MemDisk>, plan: &Plan) -> bool {
     first & second & has_own(table, plan, 923, 1)
 }
 
-// 1,024 leaves for six of twelve trustees, of whom there are 924 coalitions.
+// 1,024 leaves for six of twelve trustees, which makes 924 coalitions.
 #[test]
 fn a_hundred_of_924_coalitions_have_two_leaves(rt: HostRuntime) {
     let plan = plan_of(&rt, 12, 6, 10);
@@ -328,7 +328,7 @@ fn trustees_3_4_and_5_of_5_have_three_leaves(rt: HostRuntime) {
     assert!(rt; leases_three(&mut table));
 }
 
-/// Hands a value on that may stand under a lock.
+/// Hands on a value that may stand under a lock.
 fn handed_on<K: Kept>(kept: K) -> K
     ensures { K.entries result ≡ K.entries kept }
 {

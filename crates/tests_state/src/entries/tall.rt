@@ -63,7 +63,7 @@ fn header(params: &Params) -> Header
     }
 }
 
-/// A value of these bytes.
+/// A value all of whose bytes are `byte`.
 fn value(byte: u8) -> Val
     ensures { length result ≡ 32 }
 {
@@ -80,7 +80,7 @@ impl<D: Disk + Drop> Tall<D> {
         }
     }
 
-    /// Whether binding the last leaf is answered by this.
+    /// Whether binding the last leaf gives this answer.
     fn binds_last(&mut self, message: &MessageId, want: Result<Entered, JournalFault>) -> bool {
         self.journal.bind(LAST, message) == want
     }
@@ -119,7 +119,7 @@ impl<D: Disk + Drop> Tall<D> {
     }
 }
 
-/// Whether a disk is made a journal of 1,024 leaves.
+/// Whether a disk is made into a journal of 1,024 leaves.
 fn is_prepared<D: Disk>(rt: &impl Abort, disk: &mut D) -> bool {
     prepare(disk, &header(&params(rt)), 1024) == Ok(())
 }

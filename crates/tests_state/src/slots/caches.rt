@@ -35,7 +35,7 @@ impl Cache {
         Cache::load(alloc, disk).expect(rt, "load")
     }
 
-    /// Puts into slot 1 the body that is next, where no put is in doubt.
+    /// Puts the next body into slot 1, if no put is in doubt.
     fn put_next(&mut self) -> Result<(), DiskFault> {
         match (self.slots.doubt(), *self.slots.slot(1)) {
             (None, Slot::Free) => self.slots.put_a(1, &A),
@@ -44,7 +44,7 @@ impl Cache {
         }
     }
 
-    /// Whether a slot is kept as this.
+    /// Whether a slot is kept in this state.
     fn has(&self, slot: u32, want: Slot) -> bool
         requires { slot < 8 }
     {
@@ -102,7 +102,7 @@ fn slots_are_kept(rt: HostRuntime) {
     assert!(rt; put & has_both(&Cache::open(&rt, rt.alloc(), cache.end())));
 }
 
-/// Puts body A into slot 1, which fails, and settles it: whether that finds this, and keeps the slot as this.
+/// Puts body A into slot 1, which fails, and settles it: whether that finds this, and keeps the slot in this state.
 fn settles_as(cache: &mut Cache, found: Settled, kept: Slot) -> bool {
     let refused = cache.put_next().is_err();
     let doubted = cache.is_doubted();
@@ -110,13 +110,14 @@ fn settles_as(cache: &mut Cache, found: Settled, kept: Slot) -> bool {
     refused & doubted & settled & cache.is_sure() & cache.has(1, kept)
 }
 
-/// Puts body A into slot 1, which fails at a call, and settles it: whether that finds this, and keeps the slot as this.
+/// Puts body A into slot 1, which fails at a call, and settles it: whether that finds this, and keeps the slot in this
+/// state.
 fn is_settled(rt: &impl Abort, alloc: Global, call: u64, found: Settled, kept: Slot) -> bool {
     let disk = failing_file(rt, alloc, &header(1, 3), 8, call);
     settles_as(&mut Cache::open(rt, alloc, disk), found, kept)
 }
 
-// Loading makes four calls, of which one reads all slots, and a put the next four.
+// Loading makes four calls, one of which reads all slots, and a put makes the next four.
 #[test]
 fn a_refused_put_is_settled(rt: HostRuntime) {
     for call in 4..7 {
@@ -125,21 +126,21 @@ fn a_refused_put_is_settled(rt: HostRuntime) {
     assert!(rt; is_settled(&rt, rt.alloc(), 7, Settled::Made, Slot::Half(A)));
 }
 
-/// Whether a put and settling it fail, and leave the doubt.
+/// Whether a put and settling it both fail, and leave the doubt.
 fn stays_doubted(cache: &mut Cache) -> bool {
     let refused = cache.put_next().is_err();
     let fails = cache.settles(Err(SettleFault::Device));
     refused & fails & cache.is_doubted()
 }
 
-// The last call of a put fails, and those of settling.
+// The last call of a put fails, and so do those of settling.
 #[test]
 fn a_doubt_stays_where_the_disk_fails(rt: HostRuntime) {
     let disk = stopping_file(&rt, rt.alloc(), &header(1, 3), 8, 7);
     assert!(rt; stays_doubted(&mut Cache::open(&rt, rt.alloc(), disk)));
 }
 
-/// Whether the file of a disk is refused for this.
+/// Whether the file of a disk is refused for this reason.
 fn is_refused(alloc: Global, disk: MemDisk, why: CacheLoad) -> bool {
     Cache::load(alloc, disk).err() == Some(why)
 }

@@ -1,4 +1,4 @@
-//! Files of slots: what they are made of, and what a put, a making and a copy leave where calls of the disk fail.
+//! Files of slots: what they are made of, and what putting, making and copying leave when calls of the disk fail.
 
 ghost use Rattle.std.specs.Prelude.{◌≡◌, ◌≢◌, ◌<◌};
 ghost use Rattle.slot_file.specs.Slots.{count_of, header_of};
@@ -65,7 +65,7 @@ impl File {
         File::load(disk, version).expect(rt, "load")
     }
 
-    /// Puts body A into a slot that is free, where none is in doubt.
+    /// Puts body A into a slot that is free, if none is in doubt.
     fn put_first(&mut self, slot: u32) -> Result<(), DiskFault>
         requires { slot < 32 }
     {
@@ -76,7 +76,7 @@ impl File {
         }
     }
 
-    /// Puts body B and the moment into slot 1 if it is half, where none is in doubt.
+    /// Puts body B and the moment into slot 1 if it is half and none is in doubt.
     fn put_second(&mut self) -> Result<(), DiskFault> {
         let found = self.slots.look(1)?;
         match (found, self.slots.doubt()) {
@@ -120,7 +120,7 @@ impl File {
         before & after & self.has(1, want)
     }
 
-    /// Whether slot 1 is in doubt, by the one call of the disk that has failed.
+    /// Whether slot 1 is in doubt, because of the one call of the disk that has failed.
     fn is_refused(&self) -> bool {
         (self.slots.doubt() == Doubt::Refused(1)) & (self.slots.faults() == 1)
     }
@@ -141,13 +141,13 @@ fn load_fault(disk: MemDisk) -> Option<LoadFault> {
     File::load(disk, 2).err()
 }
 
-/// Whether a disk holds a ready file of a version, of so many bytes.
+/// Whether a disk holds a ready file of a version, of `size` bytes.
 fn is_ready(disk: &MemDisk, version: u8, size: usize) -> bool {
     let front = [0xA7, 0, 0, 0, version, 3, 0, 0, 0, 0, 0, 5, 0, 0, 0, 3];
     (disk.bytes().len() == size) & disk.bytes().starts_with(&front)
 }
 
-/// Whether a file that is made has so many bytes, is made once, and is free.
+/// Whether a file that is made has `size` bytes, is made once, and is free.
 fn is_made_free(rt: &impl Abort, alloc: Global, version: u8, size: usize) -> bool {
     let mut disk = free_file(rt, alloc, &header(version, 3), 32);
     let ready = is_ready(&disk, version, size);
@@ -165,7 +165,7 @@ fn a_prepared_file_is_free(rt: HostRuntime) {
     assert!(rt; is_made_free(&rt, rt.alloc(), 3, 4224));
 }
 
-/// Puts both bodies into slot 1 of a file whose disk stops at a call: whether a crash leaves the slot as this.
+/// Puts both bodies into slot 1 of a file whose disk stops at a call: whether a crash leaves the slot in this state.
 fn leaves(rt: &impl Abort, alloc: Global, version: u8, call: u64, pick: u64, want: Slot) -> bool {
     let disk = stopping_file(rt, alloc, &header(version, 3), 32, call);
     let mut file = File::open(rt, disk, version);
@@ -208,7 +208,7 @@ fn a_put_is_before_or_after(rt: HostRuntime) {
     assert!(rt; first & puts_or_not(&rt, rt.alloc(), 1, 9, half, Slot::Full(A, B, 0)));
 }
 
-/// Puts body A into slot 1, which fails: whether settling finds the slot as this, and a put is made then.
+/// Puts body A into slot 1, which fails: whether settling finds the slot in this state, and a put is then made.
 fn settles_as(file: &mut File, found: Slot) -> bool {
     let fails = file.put_first(1).is_err();
     let settled = file.settles();
@@ -217,7 +217,8 @@ fn settles_as(file: &mut File, found: Slot) -> bool {
     fails & settled & finds & again & file.has(1, Slot::Half(A))
 }
 
-/// Puts body A into slot 1, which fails at a call: whether settling finds the slot as this, and a put is made then.
+/// Puts body A into slot 1, which fails at a call: whether settling finds the slot in this state, and a put is then
+/// made.
 fn is_settled(rt: &impl Abort, alloc: Global, call: u64, found: Slot) -> bool {
     let disk = failing_file(rt, alloc, &header(2, 3), 32, call);
     settles_as(&mut File::open(rt, disk, 2), found)
@@ -231,7 +232,7 @@ fn a_slot_in_doubt_is_settled(rt: HostRuntime) {
     assert!(rt; is_settled(&rt, rt.alloc(), 7, Slot::Half(A)));
 }
 
-/// Why the first bytes of a free file, with another byte at a place, do not open.
+/// Why the first bytes of a free file, with a different byte at one place, do not open.
 fn part_fault(
     rt: &impl Abort,
     alloc: Global,
@@ -302,7 +303,7 @@ fn filled(rt: &impl Abort, alloc: Global, version: u8) -> File {
     file
 }
 
-/// Whether the last two slots of a file of a version are looked at at once.
+/// Whether one look shows the last two slots of a file of a version.
 fn is_looked_at(rt: &impl Abort, alloc: Global, version: u8) -> bool {
     let disk = free_file(rt, alloc, &header(version, 3), 32);
     File::open(rt, disk, version).puts_last()
@@ -336,7 +337,7 @@ fn slots_are_copied(rt: HostRuntime) {
     assert!(rt; copies(&rt, rt.alloc(), 1));
 }
 
-/// Whether a damaged slot is shown, and a copy that it stops does not open.
+/// Whether a damaged slot is shown, and a copy stopped by it does not open.
 fn shows_damage(rt: &impl Abort, alloc: Global) -> bool {
     let disk = free_file(rt, alloc, &header(2, 3), 32);
     let mut file = File::open(rt, with_byte(rt, disk, 168, 0xC2), 2);
@@ -352,8 +353,8 @@ fn a_damaged_slot_is_shown(rt: HostRuntime) {
     assert!(rt; shows_damage(&rt, rt.alloc()));
 }
 
-/// Whether what a crash leaves of a file that was being made opens, or `None` where it is refused for another cause
-/// than that it is short or shut.
+/// Whether what a crash leaves of a file that was being made opens, or `None` if it is refused for any other cause than
+/// being short or shut.
 fn is_whole(rt: &impl Abort, alloc: Global, disk: MemDisk, pick: u64) -> Option<bool> {
     match load_fault(crashed(rt, alloc, disk, pick)) {
         None => Some(true),
@@ -362,7 +363,8 @@ fn is_whole(rt: &impl Abort, alloc: Global, disk: MemDisk, pick: u64) -> Option<
     }
 }
 
-/// Makes a file on a disk that stops at a call: whether that fails, and what a crash leaves opens or not, as is said.
+/// Makes a file on a disk that stops at a call: whether that fails, and what a crash leaves opens or not, as `want`
+/// says.
 fn makes_or_not(rt: &impl Abort, alloc: Global, call: u64, pick: u64, want: bool) -> bool {
     let mut disk = empty(rt, alloc, 32);
     disk.stop_at(call);
@@ -370,7 +372,7 @@ fn makes_or_not(rt: &impl Abort, alloc: Global, call: u64, pick: u64, want: bool
     (done == Err(PrepareFault::Device)) & (is_whole(rt, alloc, disk, pick) == Some(want))
 }
 
-/// As `makes_or_not`, where the file is made as a copy.
+/// Like `makes_or_not`, with the file made as a copy.
 fn copies_or_not(
     rt: &impl Abort,
     alloc: Global,
@@ -385,7 +387,7 @@ fn copies_or_not(
     (done == Err(CopyFault::Device)) & (is_whole(rt, alloc, disk, pick) == Some(want))
 }
 
-/// Whether both are so for each call at which the disk may stop, with this pick of a crash.
+/// Whether both hold for each call at which the disk may stop, with this pick of a crash.
 fn each_is_so(rt: &impl Abort, alloc: Global, pick: u64) -> bool {
     let mut from = filled(rt, alloc, 1);
     let mut right = true;

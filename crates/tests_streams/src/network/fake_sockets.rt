@@ -1,4 +1,4 @@
-//! Sockets that are no sockets: their calls are answered as they are listed.
+//! Sockets that are no sockets: their calls get the answers that are listed.
 
 ghost use Rattle.std.specs.Prelude.{◌≤◌, IfOk};
 
@@ -10,8 +10,8 @@ use std::os::fd::{AsRawFd, RawFd};
 use std::sync::Arc;
 use std::sync::atomic::{AtomicUsize, Ordering};
 
-/// A call of the system, and its answer: how many bytes a read gives, how many a write takes, of at least so many
-/// that there is room for or that are given, or that an accept gives a connection; or how it fails.
+/// A call of the system, and its answer: how many bytes a read gives, out of at least that much room, how many a write
+/// takes, out of at least that many given, or that an accept gives a connection; or how it fails.
 pub(crate) type Step = (u8, Result<usize, ErrorKind>);
 
 /// The calls.
@@ -21,7 +21,7 @@ pub(crate) const WRITE: u8 = b'w';
 
 pub(crate) const ACCEPT: u8 = b'a';
 
-/// How far the count of calls goes on where one is made that is not listed. No list is as long.
+/// How far the count of calls moves on if a call is made that is not listed. No list is as long.
 const ASTRAY: usize = 1000;
 
 /// The calls that fake sockets are to make, in their order, and how many they have made. The bytes of each direction
@@ -33,14 +33,14 @@ pub(crate) struct Wire {
 }
 
 impl Wire {
-    /// A wire on which nothing was done.
+    /// A wire on which nothing has been done.
     pub(crate) fn new(alloc: Global, steps: &[Step]) -> Result<Arc<Wire>, AllocError> {
         let steps = Vec::from_slice(alloc, steps)?;
         let made = AtomicUsize::new(0);
         Ok(Arc::new(alloc, Wire { steps, made })?)
     }
 
-    /// Answers the next call, with room for so many bytes or with so many given.
+    /// Answers the next call, which has room for `size` bytes or gives that many.
     fn answer(&self, call: u8, size: usize) -> io::Result<usize>
         ensures { IfOk result (λ n. n ≤ size) }
     {
@@ -51,7 +51,7 @@ impl Wire {
         }
     }
 
-    /// Notes a call that is none of those that were to be made, and answers it.
+    /// Notes a call that was not among those to be made, and answers it.
     fn stray(&self) -> io::Error {
         self.made.fetch_add(ASTRAY, Ordering::SeqCst);
         io::Error::from(ErrorKind::Other)
@@ -72,7 +72,7 @@ impl Wire {
     }
 }
 
-/// The byte at a place of those that count up.
+/// The byte at a place of the sequence that counts up.
 fn byte_at(place: u64) -> u8 {
     (place % 251) as u8
 }
@@ -84,7 +84,7 @@ pub(crate) fn count_up(room: &mut [u8], place: u64) {
     }
 }
 
-/// Whether the first so many of these are the bytes from a place on.
+/// Whether the first `count` of these bytes are those that count up from a place on.
 pub(crate) fn are_counted(bytes: &[u8], count: usize, place: u64) -> bool {
     for i in 0..bytes.len().min(count) {
         if bytes[i] != byte_at(place.saturating_add(i as u64)) {
@@ -107,7 +107,7 @@ pub(crate) struct FakeStream {
 }
 
 impl FakeStream {
-    /// A connection over which nothing went.
+    /// A connection over which nothing has gone.
     fn new(wire: &Arc<Wire>) -> io::Result<FakeStream> {
         Ok(FakeStream {
             wire: Arc::try_clone(wire)?,
@@ -161,7 +161,7 @@ impl Read for FakeStream {
 }
 
 impl Write for FakeStream {
-    /// Answers a write, unless other bytes are given than those that are next.
+    /// Answers a write, unless other bytes than the next ones are given.
     fn write(&mut self, bytes: &[u8]) -> io::Result<usize> {
         let count = self.wire.answer(WRITE, bytes.len())?;
         if !are_counted(bytes, bytes.len(), self.taken) {

@@ -1,5 +1,5 @@
-//! Tests of links and ports over sockets that are made up: what the system is asked, in which order, and what a call
-//! of it that fails comes to.
+//! Tests of links and ports over sockets that are made up: what the system is asked, in which order, and what comes of
+//! a call of it that fails.
 
 use crate::network::fake_sockets::{ACCEPT, FakeNet, READ, Step, WRITE, Wire};
 use crate::scripts::none_wrong;
@@ -41,7 +41,7 @@ static ROWS: [Row; 12] = [
         "link dial 0; ok take 0 2 1 0; failed take 0 2; ok take 0 2 0 0; ok count 0 1; \
          ok hang 0 0; ok faults 0 1 0",
     ),
-    // Where nothing is left to read, a write is a call. It goes on after a signal, and one that takes nothing fails.
+    // If nothing is left to read, a write is a call. It goes on after a signal, and one that takes nothing fails.
     (
         "",
         &[
@@ -68,21 +68,21 @@ static ROWS: [Row; 12] = [
         "link dial 0; ok take 0 100 100 0; ok give 0 2000 2000 0; ok take 0 100 100 100; \
          ok take 0 100 100 200; ok count 0 0; ok hang 0 0; ok faults 0 0 0",
     ),
-    // where there is no room for the next piece, and when the link is hung up;
+    // if there is no room for the next piece, and when the link is hung up;
     (
         "",
         &[(READ, Ok(2)), (WRITE, Ok(3000)), (WRITE, Ok(3000))],
         "link dial 0; ok take 0 1 1 0; ok give 0 3000 3000 0; ok give 0 3000 3000 3000; \
          ok count 0 0; ok hang 0 0; ok faults 0 0 0",
     ),
-    // a piece that is larger than all the room is not held.
+    // a piece that is larger than the whole room is not held.
     (
         "",
         &[(READ, Ok(2)), (WRITE, Ok(10)), (WRITE, Ok(7))],
         "link dial 0; ok take 0 1 1 0; ok give 0 10 10 0; ok give 0 4097 7 10; ok count 0 0; \
          ok hang 0 0; ok faults 0 0 0",
     ),
-    // What is held goes out whole, also where the system takes it by parts.
+    // What is held goes out whole, even if the system takes it in parts.
     (
         "",
         &[
@@ -93,7 +93,7 @@ static ROWS: [Row; 12] = [
         ],
         "link dial 0; ok take 0 1 1 0; ok give 0 10 10 0; ok count 0 0; ok hang 0 0; ok faults 0 0 0",
     ),
-    // Where it cannot go out, the read or the write that wanted it fails. It stays held, and the next one tries again.
+    // If it cannot go out, the read or the write that needed it fails. It stays held, and the next one tries again.
     (
         "",
         &[
@@ -117,7 +117,7 @@ static ROWS: [Row; 12] = [
         &[(READ, Ok(2)), (WRITE, Err(ConnectionReset))],
         "link dial 0; ok take 0 1 1 0; ok give 0 10 10 0; ok count 0 0; ok hang 0 0; ok faults 0 1 0",
     ),
-    // A connection that broke off is passed over, and want of memory is a fault of accepting.
+    // A connection that broke off is passed over, and running out of memory is a fault of accepting.
     (
         "@",
         &[
@@ -134,13 +134,13 @@ static ROWS: [Row; 12] = [
     ),
 ];
 
-/// Has the one port of a net over a wire do what a row says: what went wrong, or nothing.
+/// Makes the one port of a net over a wire do what a row says, and returns what went wrong, or nothing.
 fn wrong_over(wire: &Arc<Wire>, alloc: Global, row: &Row) -> &'static str {
     let mut net = TcpNet::new(FakeNet(wire));
     meet(&mut net, alloc, "127.0.0.1:1", &(row.0, 1, "ok", row.2))
 }
 
-/// Does what a row says over a wire: what went wrong, or nothing.
+/// Does what a row says over a wire, and returns what went wrong, or nothing.
 fn wrong_of(alloc: Global, row: &Row) -> Result<&'static str, AllocError> {
     let wire = Wire::new(alloc, row.1)?;
     let wrong = wrong_over(&wire, alloc, row);

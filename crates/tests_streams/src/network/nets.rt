@@ -1,5 +1,5 @@
-//! Tests of what no contract says of links, ports and nets in memory: that calls succeed, which of them fail, which
-//! link comes when, and what is read in which piece.
+//! Tests of what no contract says about links, ports and nets in memory: that calls succeed, which of them fail, when
+//! which link comes, and what is read in which piece.
 
 use crate::network::peers::{Peer, Script, Talk, is_same, is_talk, port_script};
 use crate::scripts::none_wrong;
@@ -20,7 +20,7 @@ struct Row {
     kept: &'static [Kept],
 }
 
-/// A peer: what it gives, in which pieces, how many bytes it takes and how many of them by one write, which of its
+/// A peer: what it gives, in which pieces, how many bytes it takes and how many of them in one write, which of its
 /// calls fail, and what is held back. Each is written out whole, since a peer that is made of another one is as long to
 /// prove as that one for each of its fields.
 macro_rules! peer {
@@ -36,8 +36,8 @@ macro_rules! peer {
     };
 }
 
-/// One port at the place, which has these links to accept and of which no call fails: what is done, and how many of
-/// its links then have faults.
+/// One port at the place, which has these links to accept and no call of which fails: what is done, and how many of its
+/// links then have faults.
 macro_rules! accepting {
     ($peers:expr, $script:expr, $faults:expr, $talks:expr) => {
         Row {
@@ -54,7 +54,7 @@ macro_rules! accepting {
 }
 
 static LINKS: [Row; 4] = [
-    // A sink takes so many bytes at once, and only as many as it has room for.
+    // A sink takes a set number of bytes at once, and only as many as it has room for.
     accepting!(
         &[
             peer!("", &[2, 2, 2, 2], 5, 64, [&[], &[], &[]], None),
@@ -77,7 +77,7 @@ static LINKS: [Row; 4] = [
             (None, ["", "", ""], 1),
         ]
     ),
-    // A source gives its bytes by pieces.
+    // A source gives its bytes in pieces.
     accepting!(
         &[peer!("hello, all", &[2, 0], 8, 3, [&[2], &[], &[]], None)],
         "link accept 0; ok read 0 he; ok read 0 l; failed exact 0; ok count 0 1; ok exact 0 lo, ; \
@@ -93,7 +93,7 @@ static LINKS: [Row; 4] = [
         1,
         &[(None, ["hell", "o", "firstlas"], 3)]
     ),
-    // It holds what is behind its gate.
+    // It holds what lies after its gate.
     accepting!(
         &[peer!(
             "hello",
@@ -144,7 +144,7 @@ static PORTS: [Row; 4] = [
             &[(None, ["he", "llo", "he"], 0), (None, ["al", "l", ""], 1)],
         )],
     },
-    // It dials the first of a place. A link waits that nobody can accept where it listens at none.
+    // It dials the first link of a place. If it listens at no place, a link waits that nobody can accept.
     Row {
         ports: &[Script {
             waiting: &[peer!("unheard", &[2, 2, 2, 2], 8, 3, [&[], &[], &[]], None)],
@@ -188,7 +188,7 @@ static PORTS: [Row; 4] = [
             ],
         )],
     },
-    // A net keeps the ports of a place, of which the last has no script.
+    // A net keeps the ports of a place, the last of which has no script.
     Row {
         ports: &[
             Script {
@@ -220,7 +220,7 @@ static PORTS: [Row; 4] = [
             (Some("here"), 0, 0, &[]),
         ],
     },
-    // It fails where that is listed, and at other places.
+    // It fails if that is listed, and at other places.
     Row {
         ports: &[],
         failing: &[1],
@@ -292,7 +292,7 @@ fn net_of(alloc: Global, row: &Row) -> Result<MemNet, NoMemory> {
     Ok(MemNet::new(places, scripts, failing))
 }
 
-/// Does what a row says with its net: what went wrong, or nothing.
+/// Does what a row says with its net, and returns what went wrong, or nothing.
 fn wrong_over(net: &mut MemNet, alloc: Global, row: &Row) -> &'static str {
     let wrong = meet_all(net, alloc, "here", row.met);
     if wrong.is_empty() && !keeps(net, row.kept) {
@@ -302,7 +302,7 @@ fn wrong_over(net: &mut MemNet, alloc: Global, row: &Row) -> &'static str {
     }
 }
 
-/// Does what a row says with a net of it: what went wrong, or nothing.
+/// Does what a row says with a net of it, and returns what went wrong, or nothing.
 fn wrong_of(alloc: Global, row: &Row) -> &'static str {
     match net_of(alloc, row) {
         Ok(mut net) => wrong_over(&mut net, alloc, row),

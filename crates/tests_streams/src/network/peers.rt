@@ -13,7 +13,7 @@ pub(crate) struct Peer {
     pub(crate) pieces: &'static [usize],
     /// How many bytes it takes.
     pub(crate) room: usize,
-    /// How many of them by one write.
+    /// How many of them in one write.
     pub(crate) most: usize,
     /// The numbers of the reads, of the writes, and of the calls of both kinds that fail.
     pub(crate) failing: [&'static [u64]; 3],
@@ -21,7 +21,7 @@ pub(crate) struct Peer {
     pub(crate) gate: Option<Gate>,
 }
 
-/// A peer that gives nothing, and takes eight bytes by three.
+/// A peer that gives nothing, and takes eight bytes, three at a time.
 pub(crate) const PEER: Peer = Peer {
     text: "",
     pieces: &[2, 2, 2, 2],

@@ -13,9 +13,9 @@ fn free_place(rt: &HostRuntime) -> Result<String, Fail> {
     Ok(format!(in rt.alloc(); "127.0.0.1:{port}")?)
 }
 
-/// What is done at a place at which nobody listens before. A port has no link to accept where it listens at no place.
+/// What is done at a place at which nobody listens beforehand. A port has no link to accept if it listens at no place.
 static MET: [Met; 4] = [
-    // Nobody is reached where nobody listens.
+    // Nobody is reached if nobody listens.
     (
         (
             "",
@@ -41,8 +41,8 @@ static MET: [Met; 4] = [
         2,
         1,
     ),
-    // Of two links one breaks, since a socket that is closed with bytes that nobody read resets its connection. That
-    // link alone fails.
+    // One of two links breaks, since a socket that is closed with bytes that nobody has read resets its connection.
+    // That link alone fails.
     (
         (
             "@",

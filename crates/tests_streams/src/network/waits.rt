@@ -1,4 +1,4 @@
-//! Tests of what no contract says of links that wait: when one waits, when it rings, and that two threads wait for
+//! Tests of what no contract says about links that wait: when one waits, when it rings, and that two threads wait for
 //! each other.
 
 use crate::network::peers::{PEER, Peer, Script, Talk, is_talk, port_script};
@@ -29,7 +29,7 @@ const SCRIPT: Script = Script {
     failing: &[],
 };
 
-/// Such a port.
+/// A port of this script.
 fn port(alloc: Global) -> Result<MemPort, NoMemory> {
     let script = port_script(alloc, &SCRIPT)?;
     MemPort::new(alloc, Some(String::from_str(alloc, "here")?), script)
@@ -57,8 +57,8 @@ fn ringing<'a>(alloc: Global, ring: Ring<'a>) -> Result<WaitingPort<'a>, NoMemor
     Ok(WaitingPort::new(port(alloc)?, None, Some(ring)))
 }
 
-/// Two ports: the links of the first wait, if at all, until the bell was rung so often, and each of the second rings
-/// once so many bytes were written to it.
+/// Two ports: the links of the first wait, if at all, until the bell has been rung as often as `wait` says, and each of
+/// the second rings once `written` bytes were written to it.
 fn two_ports<'a>(
     alloc: Global,
     bell: &'a Bell,
@@ -71,7 +71,7 @@ fn two_ports<'a>(
     Ok(ports)
 }
 
-/// What the links of the first port wait for, how many bytes have one of the second ring, what is done, and what has
+/// What the links of the first port wait for, how many bytes make one of the second ring, what is done, and what has
 /// gone over the first link that was hung up at the first port.
 type Wait = (Option<(Before, u64)>, usize, &'static str, Talk);
 
@@ -117,7 +117,7 @@ fn has_first_kept(ports: &[WaitingPort], want: &Talk) -> bool {
     }
 }
 
-/// Does what a row says with two ports: what went wrong, or nothing.
+/// Does what a row says with two ports, and returns what went wrong, or nothing.
 fn wrong_over(ports: &mut [WaitingPort], alloc: Global, row: &Wait) -> &'static str {
     let wrong = meets(ports, alloc, "b", row.2);
     if wrong.is_empty() && !has_first_kept(ports, &row.3) {
@@ -127,7 +127,7 @@ fn wrong_over(ports: &mut [WaitingPort], alloc: Global, row: &Wait) -> &'static 
     }
 }
 
-/// Does what a row says: what went wrong, or nothing.
+/// Does what a row says, and returns what went wrong, or nothing.
 fn wrong_of(alloc: Global, row: &Wait) -> &'static str {
     let bell = Bell::new(3);
     match two_ports(alloc, &bell, &row.0, row.1) {
@@ -157,7 +157,7 @@ fn serve<P: Port>(port: &mut P) {
 /// What goes over a link that is served.
 const SERVED: Talk = (None, ["hello", "", "reply"], 0);
 
-/// Serves two ports by two threads, the first with this hold, where the second rings once it was answered.
+/// Serves two ports in two threads, the first with this hold, while the second rings once it has been answered.
 fn serve_both<R: Threads + Sync>(
     rt: &R,
     alloc: Global,

@@ -3,7 +3,7 @@
 use crate::scripts::{begins, first_number, first_word, initial, word_if};
 use disk_trait::{Disk, DiskFault, Pages};
 
-/// What reading eight bytes at most from a place on comes to, in a word: `ok` where they are this text.
+/// What comes of reading at most eight bytes from a place on, in a word: `ok` if they are this text.
 pub(crate) fn read<P: Pages>(pages: &mut P, at: u64, text: &str) -> &'static str {
     let mut room = [0; 8];
     let count = text.len().min(8);
@@ -13,7 +13,7 @@ pub(crate) fn read<P: Pages>(pages: &mut P, at: u64, text: &str) -> &'static str
     }
 }
 
-/// What asking for the length comes to, in a word: `ok` where it is this.
+/// What comes of asking for the length, in a word: `ok` if it is this.
 pub(crate) fn length<P: Pages>(pages: &mut P, want: u64) -> &'static str {
     match pages.len() {
         Ok(found) => word_if(found == want, "ok"),
@@ -29,7 +29,7 @@ pub(crate) fn word(done: Result<(), DiskFault>) -> &'static str {
     }
 }
 
-/// What a call of a disk comes to, in a word: `write 4 XYZ` writes at a place, `read 4 XYZ` compares what is there,
+/// What comes of a call of a disk, in a word: `write 4 XYZ` writes at a place, `read 4 XYZ` compares what is there,
 /// `length 7` and `faults 3` compare a number, and `sync` makes stable.
 fn outcome<D: Disk>(disk: &mut D, step: &str) -> &'static str {
     let (call, rest) = first_word(step);
@@ -44,8 +44,8 @@ fn outcome<D: Disk>(disk: &mut D, step: &str) -> &'static str {
     }
 }
 
-/// Does the calls of a script on a disk, each behind the word that it has to come to, as `failed read 4 XYZ`. The
-/// first that comes to another one, or nothing.
+/// Does the calls of a script on a disk, each after the word that it has to come to, as `failed read 4 XYZ`. Returns
+/// the first that comes to another one, or nothing.
 pub(crate) fn plays<D: Disk>(disk: &mut D, script: &'static str) -> &'static str {
     for step in script.split("; ") {
         let (want, call) = first_word(step);

@@ -7,7 +7,7 @@ use stream_io::{Failed, Sink, Source, read_whole, write_whole};
 /// The most bytes of a call.
 const MOST: usize = 20_000;
 
-/// What reading once comes to, with room for eight bytes: `ok` where it gives this text.
+/// What comes of reading once, with room for eight bytes: `ok` if it gives this text.
 fn read<S: Source>(source: &mut S, text: &str) -> &'static str {
     let mut room = [0; 8];
     match source.read(&mut room) {
@@ -25,7 +25,8 @@ fn read_four<S: Source>(source: &mut S, text: &str) -> &'static str {
     }
 }
 
-/// What reading once comes to, with this much room: `ok` where it gives so many bytes that count up from a place on.
+/// What comes of reading once, given the room, a count and a place: `ok` if it gives that many bytes, which count up
+/// from the place on.
 fn take<S: Source>(source: &mut S, numbers: &str) -> &'static str {
     let (size, rest) = first_number(numbers);
     let (want, from) = first_number(rest);
@@ -40,7 +41,7 @@ fn take<S: Source>(source: &mut S, numbers: &str) -> &'static str {
     }
 }
 
-/// Whether a write took so many bytes.
+/// Whether a write took this many bytes.
 fn taken(written: Result<usize, Failed>, want: u64) -> &'static str {
     match written {
         Ok(count) => word_if(count as u64 == want, "ok"),
@@ -48,7 +49,7 @@ fn taken(written: Result<usize, Failed>, want: u64) -> &'static str {
     }
 }
 
-/// Writes so many bytes that count up from a place on, of which so many have to be taken.
+/// Writes a number of bytes that count up from a place on, of which a second number has to be taken.
 fn give<K: Sink>(sink: &mut K, numbers: &str) -> &'static str {
     let (size, rest) = first_number(numbers);
     let (want, from) = first_number(rest);
@@ -66,7 +67,7 @@ fn send<K: Sink>(sink: &mut K, text: &str) -> &'static str {
     }
 }
 
-/// What a call of a sink comes to, in a word: `write 3 first`, of which three bytes are taken, `send st`, which is
+/// What comes of a call of a sink, in a word: `write 3 first`, of which three bytes are taken, `send st`, which is
 /// taken whole, `give 9 8 100`, of nine bytes that count up from 100 on and of which eight are taken, and `count 2`,
 /// which compares the count of faults.
 fn said<K: Sink>(sink: &mut K, letter: u8, text: &str) -> &'static str {
@@ -80,9 +81,9 @@ fn said<K: Sink>(sink: &mut K, letter: u8, text: &str) -> &'static str {
     }
 }
 
-/// What a call of a link comes to, in a word: one of a sink, `read he`, which reads once and compares, `exact all`,
-/// which reads four bytes or to the end and compares, and `take 9 8 100`, which reads once to room for nine bytes,
-/// and is given eight that count up from 100 on.
+/// What comes of a call of a link, in a word: one of a sink, `read he`, which reads once and compares, `exact all`,
+/// which reads four bytes or to the end and compares, and `take 9 8 100`, which reads once with room for nine bytes,
+/// and gets eight that count up from 100 on.
 pub(crate) fn done<L: Source + Sink>(link: &mut L, letter: u8, text: &str) -> &'static str {
     match letter {
         b'r' => read(link, text),
@@ -92,14 +93,14 @@ pub(crate) fn done<L: Source + Sink>(link: &mut L, letter: u8, text: &str) -> &'
     }
 }
 
-/// What a call of a sink comes to, in a word, by its name and what that is given.
+/// What comes of a call of a sink, in a word, by its name and what it is given.
 fn outcome<K: Sink>(sink: &mut K, call: &str) -> &'static str {
     let (name, text) = first_word(call);
     said(sink, initial(name), text)
 }
 
-/// Does the calls of a script on a sink, each behind the word that it has to come to, as `failed send st`. The first
-/// that comes to another one, or nothing.
+/// Does the calls of a script on a sink, each after the word that it has to come to, as `failed send st`. Returns the
+/// first that comes to another one, or nothing.
 pub(crate) fn says<K: Sink>(sink: &mut K, script: &'static str) -> &'static str {
     for step in script.split("; ") {
         let (want, call) = first_word(step);

@@ -23,7 +23,7 @@ fn dial<P: Port>(port: &mut P, place: &str) -> Accepted<P::Link> {
     }
 }
 
-/// Hangs the link of this number up.
+/// Hangs up the link of this number.
 fn hang_up<P: Port>(port: &mut P, links: &mut Vec<P::Link>, number: u64) -> &'static str {
     let place = number as usize;
     if place >= links.len() {
@@ -33,13 +33,13 @@ fn hang_up<P: Port>(port: &mut P, links: &mut Vec<P::Link>, number: u64) -> &'st
     "ok"
 }
 
-/// Whether a port counts so many faults, and so many of them in accepting.
+/// Whether a port counts this many faults, and this many of them in accepting.
 fn counts<P: Port>(port: &P, numbers: &str) -> bool {
     let (faults, rest) = first_number(numbers);
     port.faults() == faults && port.accept_faults() == first_number(rest).0
 }
 
-/// What a call of a port comes to, in a word. Where no place to dial is named, it is `near`.
+/// What comes of a call of a port, in a word. If no place to dial is named, it is `near`.
 fn met<P: Port>(
     port: &mut P,
     links: &mut Vec<P::Link>,
@@ -58,7 +58,7 @@ where
     }
 }
 
-/// What a call of a link comes to, in a word.
+/// What comes of a call of a link, in a word.
 fn said<L: Source + Sink>(links: &mut Vec<L>, number: u64, letter: u8, text: &str) -> &'static str {
     match links.get_mut(number as usize) {
         Some(link) => done(link, letter, text),
@@ -66,10 +66,10 @@ fn said<L: Source + Sink>(links: &mut Vec<L>, number: u64, letter: u8, text: &st
     }
 }
 
-/// What a call of a port or of a link comes to, in a word. Its step has the name of the call and a number: that of
-/// the port in `accept 0`, `dial 0 a`, `hang 0 1`, which hangs up link 1, and `faults 0 2 1`, which compares the
-/// counts of faults and of those in accepting; and elsewhere that of the link. Links have their numbers in the order
-/// in which they were made, less those that were hung up.
+/// What comes of a call of a port or of a link, in a word. Its step has the name of the call and a number: that of the
+/// port in `accept 0`, `dial 0 a`, `hang 0 1`, which hangs up link 1, and `faults 0 2 1`, which compares the counts of
+/// faults and of those in accepting; and that of the link in all others. Links have their numbers in the order in which
+/// they were made, less those that were hung up.
 fn outcome<P: Port>(
     ports: &mut [P],
     links: &mut Vec<P::Link>,
@@ -90,8 +90,8 @@ where
     }
 }
 
-/// Does the calls of a script on ports and their links, each behind the word that it has to come to, as
-/// `failed dial 0 a`. The first that comes to another one, or nothing.
+/// Does the calls of a script on ports and their links, each after the word that it has to come to, as `failed dial 0
+/// a`. Returns the first that comes to another one, or nothing.
 pub(crate) fn meets<P: Port>(
     ports: &mut [P],
     alloc: Global,
@@ -111,8 +111,8 @@ where
     ""
 }
 
-/// What is done with a net: where ports are made, at a place, at the near one (`@`) or at none, how many are made,
-/// what that comes to in a word, and what they then do.
+/// What is done with a net: where ports are made, at a place, at the near one (`@`) or at none, how many are made, what
+/// comes of that in a word, and what they then do.
 pub(crate) type Meeting = (&'static str, u32, &'static str, &'static str);
 
 /// The place of a name, if it is one.
@@ -124,8 +124,8 @@ fn place_of<'a>(name: &'a str, near: &'a str) -> Option<&'a str> {
     }
 }
 
-/// Makes ports, has them do their script, and gathers them: the first step that comes to another word than it has to,
-/// or nothing. Where the script names no place to dial, the near one is dialled.
+/// Makes ports, has them do their script, and gathers them. Returns the first step that comes to another word than it
+/// has to, or nothing. If the script names no place to dial, the near one is dialled.
 pub(crate) fn meet<N: Net>(
     net: &mut N,
     alloc: Global,
@@ -148,10 +148,10 @@ where
     }
 }
 
-/// What is done with a net, and how many faults the net and its ports count behind that.
+/// What is done with a net, and how many faults the net and its ports count after that.
 pub(crate) type Met = (Meeting, u64, u64);
 
-/// Does all of this with a net, one after the other: what went wrong, or nothing.
+/// Does all of this with a net, one after the other, and returns what went wrong, or nothing.
 pub(crate) fn meet_all<N: Net>(net: &mut N, alloc: Global, near: &str, rows: &[Met]) -> &'static str
 where
     N::Port: Drop,

@@ -16,7 +16,7 @@ pub(crate) fn call_word(fault: CallFault) -> &'static str {
     }
 }
 
-/// The word for a fault of a call that wants a new name.
+/// The word for a fault of a call that needs a new name.
 fn new_word(fault: NewFault) -> &'static str {
     match fault {
         NewFault::Exists => "exists",
@@ -34,7 +34,7 @@ fn has<S: Store>(store: &mut S, name: &str) -> &'static str {
     }
 }
 
-/// Whether a read up to a limit gives the text behind it, or finds the length there that is over the limit.
+/// Whether a read up to a limit gives the text after it, or finds the length there, which is over the limit.
 fn read_all<S: Store>(store: &mut S, alloc: Global, name: &str, rest: &str) -> &'static str {
     let (limit, text) = first_number(rest);
     match store.read_all(alloc, name, limit) {
@@ -69,7 +69,7 @@ fn write_stable<D: Disk>(disk: &mut D, at: u64, bytes: &[u8]) -> Result<(), Disk
     disk.sync()
 }
 
-/// Takes a disk, writes a text at a place of it and makes that stable, and gives it back.
+/// Takes a disk, writes a text at a place on it and makes it stable, and gives the disk back.
 fn write<S: Store>(store: &mut S, name: &str, rest: &str) -> &'static str {
     let (at, text) = first_number(rest);
     match store.take_disk(name) {
@@ -94,7 +94,7 @@ fn make<S: Store>(store: &mut S, alloc: Global, name: &str, text: &str) -> &'sta
     }
 }
 
-/// What reading pages from their beginning on comes to, and asking for their length, which stands before the text.
+/// What comes of reading pages from their beginning on, and of asking for their length, which stands before the text.
 fn shows<P: Pages>(pages: &mut P, rest: &str) -> &'static str {
     let (number, text) = first_number(rest);
     match read(pages, 0, text) {
@@ -115,7 +115,7 @@ fn look<S: Store>(store: &mut S, alloc: Global, name: &str, rest: &str) -> &'sta
     }
 }
 
-/// What a call that makes a name or writes to it comes to, in a word.
+/// What comes of a call that makes a name or writes to it, in a word.
 fn written<S: Store>(
     store: &mut S,
     alloc: Global,
@@ -131,10 +131,10 @@ fn written<S: Store>(
     }
 }
 
-/// What a call of a store comes to, in a word. Its step has the name of the call and that of the file: `has a`, `read
-/// a 5 first` with a limit, `new a first`, `secret a first`, `write d 5 last` at a place of a disk, `make n first` of
-/// a disk, and `look d 5 fir`, which compares the beginning and the length. `faults 2` and `disks 1` compare the
-/// counts of faults of the store, and of the disks and views that it got back.
+/// What comes of a call of a store, in a word. Its step has the name of the call and the name of the file: `has a`,
+/// `read a 5 first` with a limit, `new a first`, `secret a first`, `write d 5 last` at a place of a disk,
+/// `make n first` of a disk, and `look d 5 fir`, which compares the beginning and the length. `faults 2` and `disks 1`
+/// compare the counts of faults of the store, and of the disks and views that came back to it.
 fn outcome<S: Store>(store: &mut S, alloc: Global, step: &str) -> &'static str {
     let (call, rest) = first_word(step);
     let (name, text) = first_word(rest);
@@ -148,8 +148,8 @@ fn outcome<S: Store>(store: &mut S, alloc: Global, step: &str) -> &'static str {
     }
 }
 
-/// Does the calls of a script on a store, each behind the word that it has to come to, as `exists new a first`. The
-/// first that comes to another one, or nothing.
+/// Does the calls of a script on a store, each after the word that it has to come to, as `exists new a first`. Returns
+/// the first that comes to another one, or nothing.
 pub(crate) fn stores<S: Store>(store: &mut S, alloc: Global, script: &'static str) -> &'static str {
     for step in script.split("; ") {
         let (want, call) = first_word(step);

@@ -11,14 +11,14 @@ use std::test::Fail;
 use stream_host::{FileDisk, HostFile};
 use stream_memory::MemFile;
 
-/// Opens a file that is read and written, and made if it is not there.
+/// Opens a file for reading and writing, and makes it if it is not there.
 fn open(rt: &HostRuntime, name: &str) -> io::Result<File> {
     let mut how = OpenOptions::new();
     how.read(true).write(true).create(true);
     how.open(rt, name)
 }
 
-/// A disk over a file of the machine, whose lock it has.
+/// A disk over a file of the machine, with its lock.
 fn locked(rt: &HostRuntime, name: &str) -> io::Result<FileDisk<HostFile<File>>> {
     FileDisk::locked(open(rt, name)?)
 }
@@ -28,12 +28,12 @@ fn is_locked(rt: &HostRuntime, name: &str) -> io::Result<bool> {
     Ok(FileDisk::locked(open(rt, name)?).is_err())
 }
 
-/// Does the calls of a script on a disk over a file of the machine: the first that went wrong, or nothing.
+/// Does the calls of a script on a disk over a file of the machine, and returns the first that went wrong, or nothing.
 fn wrong_at(mut disk: FileDisk<HostFile<File>>, script: &'static str) -> &'static str {
     plays(&mut disk, script)
 }
 
-/// The same of a disk that locks nothing.
+/// The same with a disk that locks nothing.
 fn wrong_without_lock(
     rt: &HostRuntime,
     name: &str,
@@ -55,7 +55,7 @@ fn a_file_is_a_disk(rt: HostRuntime) -> Result<(), Fail> {
     Ok(remove_file(&rt, name)?)
 }
 
-/// How many bytes a call of a file moves at most, which call of it fails, what is done on a disk over it, and what a
+/// How many bytes at most a call of a file moves, which call of it fails, what is done on a disk over it, and what a
 /// crash of this pick then leaves.
 type Crash = (usize, Option<u64>, &'static str, u64, &'static str);
 
@@ -96,7 +96,7 @@ static CRASHES: [Crash; 6] = [
         7,
         "hbcde",
     ),
-    // A sync that failed is not forgotten.
+    // A failed sync is not forgotten.
     (
         2,
         Some(4),
@@ -123,7 +123,7 @@ fn leaves(alloc: Global, disk: MemDisk, pick: u64, want: &str) -> bool {
     }
 }
 
-/// Does the calls of a row on a disk over a file: what went wrong, or nothing.
+/// Does the calls of a row on a disk over a file, and returns what went wrong, or nothing.
 fn wrong_over(alloc: Global, row: &Crash, below: MemDisk) -> &'static str {
     let mut disk = FileDisk::over(MemFile::new(below, row.0));
     let wrong = plays(&mut disk, row.2);
@@ -135,7 +135,7 @@ fn wrong_over(alloc: Global, row: &Crash, below: MemDisk) -> &'static str {
     }
 }
 
-/// Does what a row says: what went wrong, or nothing.
+/// Does what a row says, and returns what went wrong, or nothing.
 fn wrong_of(alloc: Global, row: &Crash) -> &'static str {
     match disk_of(alloc, row.1) {
         Ok(below) => wrong_over(alloc, row, below),

@@ -1,4 +1,4 @@
-//! Files that are no files: their calls are answered as they are listed.
+//! Files that are no files: their calls get the answers that are listed.
 
 ghost use Rattle.std.specs.Prelude.{◌≤◌, IfOk};
 
@@ -22,15 +22,15 @@ const NAMES: [[&'static str; 3]; 5] = [
     ["/b", "/b.new", "/"],
 ];
 
-/// How far the count of calls goes on where one is made that is not listed. No list is as long.
+/// How far the count of calls moves on if a call is made that is not listed. No list is as long.
 const ASTRAY: usize = 10_000;
 
-/// What a fake file system is to be asked, and how many bytes of that it was asked. Each call is a word of four
-/// bytes: what is done (`m` to look, `c` to make, `o` to open for reading, `u` for writing too, `k` to lock, `r` to
-/// remove, `l` to link to, `s` to sync, `d` to sync data, `g` to read, `w` to write, a digit to write at that place),
-/// to what (`a` the file, `n` the file under the name that it has until it is whole, `i` the folder), the place that
-/// is read or the byte that is written, and a blank where that succeeds, `0` where no byte is moved, `d` where a folder
-/// stands there, or a letter that says how it fails.
+/// What a fake file system is to be asked, and how many bytes of that it was asked. Each call is a word of four bytes:
+/// what is done (`m` to look, `c` to make, `o` to open for reading, `u` for writing too, `k` to lock, `r` to remove,
+/// `l` to link to, `s` to sync, `d` to sync data, `g` to read, `w` to write, a digit to write at that place), to what
+/// (`a` the file, `n` the file under the name that it has until it is whole, `i` the folder), the place that is read or
+/// the byte that is written, and a blank if that succeeds, `0` if no byte is moved, `d` if a folder stands there, or a
+/// letter that says how it fails.
 #[derive(Drop)]
 pub(crate) struct Record {
     words: Vec<u8>,
@@ -74,7 +74,7 @@ impl Record {
         self.asked.load(Ordering::SeqCst) == self.words.len()
     }
 
-    /// The byte at a place of the list, or 0 behind it.
+    /// The byte at a place of the list, or 0 past its end.
     fn byte(&self, at: usize) -> u8 {
         match self.words.get(at) {
             Some(byte) => *byte,
@@ -111,7 +111,7 @@ impl Record {
         }
     }
 
-    /// What is told of a file.
+    /// What is told about a file.
     fn look(&self, what: u8) -> io::Result<Metadata> {
         match self.letter(b'm', what, b' ') {
             b' ' => Ok(Metadata::of_file(self.before.saturating_add(3))),
@@ -141,7 +141,7 @@ impl Record {
     }
 }
 
-/// How a call fails that is answered by this letter.
+/// How a call fails if this letter answers it.
 fn kind_of(letter: u8) -> ErrorKind {
     match letter {
         b'e' => ErrorKind::AlreadyExists,
@@ -169,7 +169,7 @@ pub(crate) struct FakeFile {
 }
 
 impl FakeFile {
-    /// A file that nobody has read.
+    /// A file that has not been read.
     pub(crate) fn new(record: &Arc<Record>, what: u8) -> io::Result<FakeFile> {
         Ok(FakeFile {
             record: Arc::try_clone(record)?,
@@ -277,7 +277,7 @@ impl Lockable for FakeFile {
 }
 
 impl Read for FakeFile {
-    /// Reads behind what was read.
+    /// Reads on after what was read.
     fn read(&mut self, buf: &mut [u8]) -> io::Result<usize> {
         let got = self.read_at(buf, self.place)?;
         self.place = self.place.saturating_add(got as u64);

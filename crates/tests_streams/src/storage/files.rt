@@ -86,7 +86,7 @@ static ROWS: [Row; 40] = [
         "ok new /b xyz",
         "ma ncn  wnx wny wnz sn  la  rn  oi  si  ",
     ),
-    // A disk is locked, and a new one stable before. A disk and a view are of a regular file.
+    // A disk is locked, and a new one is stable before that. A disk and a view are of a regular file.
     (0, "ok make in/a x; ok faults 0", "ca  ka  oi  si  0ax sa  "),
     (0, "exists make in/a x; ok faults 0", "ca e"),
     (0, "memory make in/a x; ok faults 0", "ca m"),
@@ -118,7 +118,7 @@ static ROWS: [Row; 40] = [
         "failed write in/a 0 x; ok disks 1; failed look in/a 3 xyzz; ok disks 2; ok faults 0",
         "ma  ua  ma  ka  0ax sa xma  oa  ma  ga0 ga1 ga2 ga30",
     ),
-    // Want of memory is no fault.
+    // Running out of memory is no fault.
     (
         0,
         "yes has in/a; ok read in/a 3 xyz; ok faults 0",
@@ -141,7 +141,7 @@ static ROWS: [Row; 40] = [
     ),
 ];
 
-/// Does what a row says with a store: what went wrong, or nothing.
+/// Does what a row says with a store, and returns what went wrong, or nothing.
 fn wrong_of(alloc: Global, row: &Row) -> Result<&'static str, AllocError> {
     let record = Record::new(alloc, row.0, 0, row.2)?;
     let wrong = wrong_in(FakeFiles(&record), alloc, &[(Out::Nothing, row.1)]);
@@ -180,7 +180,7 @@ static OVER: [Over; 6] = [
         "ok write 20000000001 abc; ok length 20000000003; ok read 20000000001 yz; failed read 1 a; ok faults 1",
         "ma  1aa 2ab 3ac ma  ga1 ga2 ga?x",
     ),
-    // A sync is of all after growth.
+    // After growth, a sync is of all.
     (
         0,
         "ok length 3; ok write 0 a; ok sync; ok write 1 b; ok sync; ok write 3 c; ok sync; \
@@ -201,13 +201,13 @@ static OVER: [Over; 6] = [
     ),
 ];
 
-/// Does the calls of a script on a disk over the file of a record: the first that went wrong, or nothing.
+/// Does the calls of a script on a disk over the file of a record, and returns the first that went wrong, or nothing.
 fn wrong_at(record: &Arc<Record>, script: &'static str) -> io::Result<&'static str> {
     let file = FakeFile::new(record, b'a')?;
     Ok(plays(&mut FileDisk::unlocked(file), script))
 }
 
-/// Does what a row says with a disk over a file: what went wrong, or nothing.
+/// Does what a row says with a disk over a file, and returns what went wrong, or nothing.
 fn wrong_over(alloc: Global, row: &Over) -> io::Result<&'static str> {
     let record = Record::new(alloc, 0, row.0, row.2)?;
     let wrong = wrong_at(&record, row.1)?;

@@ -25,7 +25,7 @@ pub(crate) enum Out {
 /// What is out meanwhile, and what is done with a store.
 pub(crate) type Step = (Out, &'static str);
 
-/// What is done with the store, where `any`, `test` and `left.new` are files, and `link` leads nowhere.
+/// What is done with the store, in which `any`, `test` and `left.new` are files, and `link` leads nowhere.
 static STEPS: [Step; 6] = [
     // It takes a new file once.
     (
@@ -38,7 +38,7 @@ static STEPS: [Step; 6] = [
         "no has ./all; ok new ./all first; yes has ./all; exists new ./all second; ok read ./all 9 first; \
      ok faults 0",
     ),
-    // What stands at a name takes it, and a file that was left is let alone.
+    // Whatever stands at a name takes it, and a file that was left there is let alone.
     (
         Out::Nothing,
         "yes has link; exists new link first; yes has .; exists new . first; ok faults 0; \
@@ -51,7 +51,7 @@ static STEPS: [Step; 6] = [
         "ok read test 5 first; ok read test 18446744073709551615 first; long read test 4 5; ok faults 2; \
      failed read none 4; ok faults 3; failed read . 4096; ok faults 4",
     ),
-    // A disk of a name is had by nobody else, and views of it are had at once.
+    // Nobody else gets a disk that is out, and several views of it may be out at once.
     (
         Out::Disk,
         "failed write disk 0 abc; exists make disk abc; ok faults 5",
@@ -62,7 +62,7 @@ static STEPS: [Step; 6] = [
     ),
 ];
 
-/// Does the calls of a script while a disk of a new name is out, which nobody gives back.
+/// Does the calls of a script while a disk of a new name is out, which is never given back.
 fn beside_disk<S: Store>(store: &mut S, alloc: Global, script: &'static str) -> &'static str
 where
     S::Disk: Drop,
@@ -84,7 +84,7 @@ where
     }
 }
 
-/// Does all of this with a store: the first that went wrong, or nothing.
+/// Does all of this with a store, and returns the first that went wrong, or nothing.
 fn wrong_of<S: Store>(store: &mut S, alloc: Global, steps: &[Step]) -> &'static str
 where
     S::Disk: Drop,
@@ -103,8 +103,8 @@ where
     ""
 }
 
-/// Does all of this with a store of files, whose calls are proved for any runtime at once: the first that went wrong,
-/// or nothing.
+/// Does all of this with a store of files, whose calls are proved for any runtime at once, and returns the first that
+/// went wrong, or nothing.
 pub(crate) fn wrong_in<R: Files + Drop>(rt: R, alloc: Global, steps: &[Step]) -> &'static str
 where
     R::File: FileExt + Lockable + Send,
@@ -120,7 +120,7 @@ fn prepare(rt: &HostRuntime) -> io::Result<()> {
     symlink(rt, "none", "link")
 }
 
-/// The names of all that there is in the end.
+/// The names of everything that is there in the end.
 const NAMES: [&'static str; 7] = ["any", "test", "left.new", "link", "own", "all", "disk"];
 
 /// Removes them.
@@ -131,7 +131,7 @@ fn remove(rt: &HostRuntime) -> io::Result<()> {
     Ok(())
 }
 
-/// Whether what is the owner's own may be read by nobody else, and what is new by whom any file may.
+/// Whether the owner's own files may be read by nobody else, and a new one by the same readers as any file.
 fn has_modes(rt: &HostRuntime) -> io::Result<bool> {
     let own = [mode(rt, "own")?, mode(rt, "disk")?];
     let is_any = mode(rt, "all")? == mode(rt, "any")?;

@@ -1,5 +1,5 @@
-//! Tests of what no contract says of a store in memory: that calls succeed, which of them fail, and how often that is
-//! counted.
+//! Tests of what no contract says about a store in memory: that calls succeed, which of them fail, and how often
+//! failures are counted.
 
 use crate::scripts::none_wrong;
 use crate::scripts::store_calls::stores;
@@ -28,7 +28,7 @@ static ROWS: [Row; 15] = [
          exists secret n second; ok read n 9 first; failed read c 9; ok faults 3; failed new c none; \
          no has c; ok faults 4",
     ),
-    // Each call fails where its number is listed.
+    // Each call fails if its number is listed.
     (
         &[0],
         [None, None],
@@ -64,7 +64,7 @@ static ROWS: [Row; 15] = [
         [None, None],
         "yes has a; ok read a 9 first; ok new n; ok make m 1; ok write a 0 F; ok look b 0; ok faults 0",
     ),
-    // A disk is taken, written and given back, and has the room that it was made with.
+    // A disk is taken, written and given back, and has the room with which it was made.
     (
         &[],
         [None, None],
@@ -77,7 +77,7 @@ static ROWS: [Row; 15] = [
         [None, None],
         "failed look e; failed write e 0; ok faults 2; yes has b; exists make b 1; ok faults 2",
     ),
-    // The disk of a new name stops where it is set to.
+    // The disk of a new name stops where it was set to.
     (
         &[],
         [Some(0), None],
@@ -96,7 +96,7 @@ static ROWS: [Row; 15] = [
         "ok make n 1234; ok read n 4 1234; ok disks 0; failed write n 0 5; ok write a 0 5; \
          ok new w 1234; ok write w 0 5",
     ),
-    // A view fails where it is set to: at its second call, that for the length.
+    // A view fails where it was set to: at its second call, the one for the length.
     (
         &[],
         [None, Some(1)],
@@ -119,7 +119,7 @@ fn files(alloc: Global, failing: &[u64]) -> Result<MemStore, NoMemory> {
     MemStore::of_files(alloc, files, Vec::from_slice(alloc, failing)?)
 }
 
-/// Has a store stop the disks of new names, and fail views, where that is set.
+/// Makes a store stop the disks of new names, and fail views, if that is set.
 fn set_up(store: &mut MemStore, stops: Option<u64>, fails: Option<u64>) {
     if let Some(call) = stops {
         store.stop_new_disks(call);
@@ -129,7 +129,7 @@ fn set_up(store: &mut MemStore, stops: Option<u64>, fails: Option<u64>) {
     }
 }
 
-/// Does what a row says with a store in memory: the first that went wrong, or nothing.
+/// Does what a row says with a store in memory, and returns the first that went wrong, or nothing.
 fn wrong_of(alloc: Global, row: &Row) -> &'static str {
     match files(alloc, row.0) {
         Ok(mut store) => {

@@ -7,8 +7,8 @@ use std::alloc::Global;
 use std::fmt::Write;
 use stream_io::Source;
 
-/// The text of a reading that is written: the outcome, a number and a text of values, with a tab between each two.
-/// Where memory runs out, it is cut.
+/// The text of a reading that is written: the outcome, a number and a text of values, with a tab between each two. If
+/// memory runs out, it is cut.
 #[derive(Drop)]
 pub(crate) struct Reading {
     alloc: Global,
@@ -18,7 +18,7 @@ pub(crate) struct Reading {
 }
 
 impl Reading {
-    /// A reading of a source that has so many bytes, which is empty yet.
+    /// An empty reading of a source that has `length` bytes.
     pub(crate) fn new(alloc: Global, length: usize) -> Reading {
         Reading {
             alloc,
@@ -28,7 +28,7 @@ impl Reading {
         }
     }
 
-    /// The text, empty where memory ran out.
+    /// The text, or an empty one if memory ran out.
     pub(crate) fn text(&self) -> &str {
         if self.cut { "" } else { &self.text }
     }
@@ -43,7 +43,7 @@ impl Reading {
         self.cut |= write!(self.text, "{number}").is_err();
     }
 
-    /// Adds a blank where a value of this frame stands before.
+    /// Adds a blank if a value of this frame comes before.
     fn add_blank(&mut self) {
         if !self.text.ends_with('\t') {
             self.add(" ");
@@ -62,7 +62,7 @@ impl Reading {
         self.add_number(number as usize);
     }
 
-    /// Adds a value that is bytes, in hexadecimal digits, and `-` where there are none.
+    /// Adds a value that is bytes, in hexadecimal digits, or `-` if there are none.
     fn add_bytes(&mut self, bytes: &[u8]) {
         match hex::encode(self.alloc, bytes) {
             Ok(digits) if digits.is_empty() => self.add_word("-"),
@@ -71,7 +71,7 @@ impl Reading {
         }
     }
 
-    /// Adds the number of a member, behind a comma where one stands before.
+    /// Adds the number of a member, after a comma if one comes before it.
     fn add_member(&mut self, member: u8) {
         if !self.text.ends_with('\t') {
             self.add(",");
@@ -79,7 +79,7 @@ impl Reading {
         self.add_number(usize::from(member));
     }
 
-    /// Adds the numbers of members, with commas between them, and `-` where there are none.
+    /// Adds the numbers of members, with commas between them, or `-` if there are none.
     fn add_members(&mut self, members: Members) {
         for t in 1..=16 {
             if members.has(t) {
@@ -91,7 +91,7 @@ impl Reading {
         }
     }
 
-    /// Adds the outcome, and how many bytes were taken of the source.
+    /// Adds the outcome, and how many bytes were taken from the source.
     fn begin<S: Source>(&mut self, outcome: &str, source: &mut S) {
         let taken = self.length.saturating_sub(left(source));
         self.add(outcome);
@@ -99,7 +99,7 @@ impl Reading {
         self.add("\t");
     }
 
-    /// Adds a fault: its number, its name, and the number that was read where it has one.
+    /// Adds a fault: its number, its name, and the number that was read if it has one.
     fn add_fault(&mut self, fault: FrameFault) {
         self.add(fault_name(fault));
         if let Some(got) = fault_number(fault) {
@@ -195,7 +195,7 @@ impl Reading {
         }
     }
 
-    /// Has a reader read, and adds what came of it.
+    /// Makes a reader read, and adds what came of it.
     pub(crate) fn read<S: Source>(&mut self, params: &Params, reader: &str, source: &mut S) {
         match reader {
             "ask" => self.read_ask(params, source),
@@ -228,7 +228,7 @@ fn fault_number(fault: FrameFault) -> Option<u32> {
     }
 }
 
-/// The number and the name of a fault, as a reading begins with them.
+/// The number and the name of a fault, with which a reading begins.
 fn fault_name(fault: FrameFault) -> &'static str {
     match fault {
         FrameFault::End => "fault\t1\tEnd ",

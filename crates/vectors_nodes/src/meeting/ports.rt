@@ -1,5 +1,6 @@
 //! Ports at which one client is accepted each, and from which the trustees of a dealing are dialled. The last member of
-//! the coalition answers nobody until it was dialled from both ports. They tell contracts nothing of their bytes.
+//! the coalition answers nobody until it was dialled from both ports. The ports tell contracts nothing about their
+//! bytes.
 
 ghost use Rattle.std.specs.Prelude.{◌≡◌, ◌≤◌, Some, codes, length, refl, false, vec_len};
 ghost use Rattle.disk_trait.specs.Faults.{Rose};
@@ -30,7 +31,7 @@ pub(crate) struct Meeting<'a, W: Wait> {
 }
 
 impl<'a, W: Wait> Meeting<'a, W> {
-    /// The share of the trustee whose number this place is, who is dialled.
+    /// The share of the trustee that has this place as its number, and is dialled.
     fn dial(&self, place: &str) -> Option<&'a Share> {
         let member: u8 = place.parse().ok()?;
         let share = self.shares.get(usize::from(member).checked_sub(1)?)?;
@@ -40,7 +41,7 @@ impl<'a, W: Wait> Meeting<'a, W> {
         Some(share)
     }
 
-    /// What the trustee of this share replies to these asks, or nothing where it does not answer. It begins anew each
+    /// What the trustee of this share replies to these asks, or nothing if it does not answer. It begins anew each
     /// time, and answers what it was asked before as it did then.
     fn replies(&self, share: &Share, asks: &[u8]) -> Option<Vec<u8>> {
         if share.member == LAST && !self.bell.hears(BOTH) {
@@ -91,7 +92,7 @@ impl<'a, W: Wait> MeetingLink<'a, W> {
         Failed
     }
 
-    /// Has a trustee answer where all that it gave was read, and says whether it did. A client gives no more.
+    /// Makes a trustee answer if all that it gave was read, and returns whether it did. A client gives no more.
     fn hear(&mut self) -> bool
         ensures { self.new.faults ≡ self.old.faults }
     {
@@ -110,7 +111,7 @@ impl<'a, W: Wait> MeetingLink<'a, W> {
         }
     }
 
-    /// Gives bytes to the front of the room, and says how many.
+    /// Gives bytes to the front of the room, and returns how many.
     fn give(&mut self, out: &mut [u8]) -> usize
         ensures size { result ≤ length out.old }
         ensures faults { self.new.faults ≡ self.old.faults }
@@ -171,7 +172,7 @@ pub(crate) struct MeetingPort<'a, W: Wait> {
 }
 
 impl<'a, W: Wait> MeetingPort<'a, W> {
-    /// A port at which a client waits who asks this.
+    /// A port at which a client waits that asks this.
     pub(crate) fn new(meeting: &'a Meeting<'a, W>, asked: Vec<u8>) -> MeetingPort<'a, W> {
         MeetingPort {
             meeting,
@@ -181,7 +182,7 @@ impl<'a, W: Wait> MeetingPort<'a, W> {
         }
     }
 
-    /// What the client was answered: nothing before its link was hung up.
+    /// What the client was answered, nothing before its link was hung up.
     pub(crate) fn answered(&self) -> &[u8] {
         &self.answered
     }

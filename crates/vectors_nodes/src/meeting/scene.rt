@@ -37,7 +37,7 @@ impl Scene {
         Scene::of_plan(alloc, &params, plan, entropy)
     }
 
-    /// Deals the key of this entropy, of these parameters and for the coalitions of this plan.
+    /// Deals the key of this entropy, with these parameters and for the coalitions of this plan.
     fn of_plan(alloc: Global, params: &Params, plan: Plan, entropy: &[u8]) -> Option<Scene>
         requires { plan.h ≡ params.now.h }
     {

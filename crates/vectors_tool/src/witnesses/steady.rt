@@ -1,5 +1,5 @@
-//! A run over objects in memory for which the premises of the law `laws_commands::laws::steady` hold. Where such a call
-//! answers true it has made one, so the premises can hold together.
+//! A run over objects in memory for which the premises of the law `laws_commands::laws::steady` hold. If a call of
+//! `ran_steadily` answers true it has made one, so the premises can hold together.
 
 ghost use Rattle.std.specs.Prelude.{◌≡◌, ◌≤◌, ℕ, true, IsSome, IsTrue, Ok, length, map, string_bytes};
 ghost use Rattle.tool_base.specs.World.{output_run};
@@ -22,7 +22,7 @@ use tool_words::command_of;
 const ROOM: usize = 4096;
 
 /// Runs the command of these words over a store of these files and a net that offers these places, whose ports have no
-/// links, and says whether the words are a command and its line was printed whole. Where it was, the premises of
+/// links, and tells whether the words are a command and its line was printed whole. If so, the premises of
 /// `laws_commands::laws::steady` hold of the run.
 pub(crate) fn ran_steadily<R: Threads + Wait + Sync>(
     rt: &R,
@@ -58,7 +58,7 @@ fn is_command(alloc: Global, words: &[String]) -> bool
     command_of(alloc, words).is_some()
 }
 
-/// Whether no write to a sink failed, and what was written has the room that it has here.
+/// Whether no write to a sink failed, and what was written fits into the room here.
 fn is_whole(out: &MemSink) -> bool
     ensures count { IsTrue result → ⟦<MemSink as Faults>⟧.count out.now ≡ 0 }
     ensures room { IsTrue result → length (⟦<MemSink as Stream>⟧.talk out.now).written ≤ 4096 }

@@ -6,7 +6,7 @@ use Rattle.reference_value.specs.Stay.{CellsStay}
 use Rattle.node_workers.specs.declared.served.ServedEnd.{ServedEnd}
 use Rattle.aggregator_node.proofs.client.serve_client.Given as goal
 
--- whatever comes of the connection from where it stands comes of it from its start, with the replies so far
+-- whatever comes of the connection from here on comes of it from its start, with the replies so far
 abbrev pub invariant-requests : goal.invariant-requests
 invariant-requests g l =
     let reference : ReferenceState = record { told = g.R.Cells.told l.fn.cells; steady = g.R.Faults.steady l.fn.cells; leaves = g.R.Cells.leaves l.fn.cells } in

@@ -46,7 +46,7 @@ close-requires-clause-all g c =
     joined-all desk c.args.connections c.in-Ok-new.made.0 c.gather-pass.result.0 _ _ c.gather-pass.result.1 (c.gather-pass.ensures.gathered desk c.args.connections _ done)
     ∙ places-many g.X.Cells g.X.Faults g.P.Port.state ports.items cells.items same ∙ sym ports.ok.0 ∙ sym c.len-count.ensures ∙ sym c.in-Ok-new.ensures.numbers.1
 
--- what the workers left, the lock as it was made, and as it was ended
+-- what the workers left, the lock as it was made, and the lock as it was ended
 record Left (g : _) (c : goal.After-close g) : Type 0 where
   gathered : Gathered (desk_state c.args.desk.now) c.args.connections c.in-Ok-new.made.0 c.gather-pass.result.0
       (places_of g.X.Cells g.X.Faults g.P.Port.state c.args.ports.now.items c.args.cells.now.items)

@@ -3,7 +3,7 @@ use Rattle.std.proofs.lemmas.List.{take_at}
 use Rattle.dealer.proofs.Mapped.{length_over}
 use Rattle.dealer.proofs.leaves.room_for_commits.Goals as goal
 
--- the head, and what lies behind it
+-- the head, and what follows it
 pub returns-clause-head : goal.returns-clause-head
 returns-clause-head c =
     let head = c.copy_from_slice.new.self in

@@ -4,7 +4,7 @@ use Rattle.session_core.specs.Asks.{kept_masks}
 use Rattle.session_core.specs.State.{round_of}
 use Rattle.drill.proofs.asks.next_member.Given as goal
 
--- of each member before this one a reply is kept
+-- a reply from each member before this one is kept
 abbrev pub invariant-trustees : goal.invariant-trustees
 invariant-trustees l = (u : ℕ) → 1 ≤ u → u < l.t → Contains (leaf_members l.session.plan l.session.leaf) u
     → kept_masks l.session (round_of l.session) u ≢ None

@@ -6,7 +6,7 @@ use Rattle.drill.specs.Drills.{Seats}
 use Rattle.drill.specs.Tallies.{IsWithin}
 use Rattle.drill.proofs.run.finish_session.Given as goal
 
--- so many steps were taken
+-- `taken` steps were taken
 abbrev pub invariant-steps : goal.invariant-steps
 invariant-steps l = record {
   seated : Seats l.desk (length l.fn.drill.seats.items) l.drill;

@@ -7,7 +7,7 @@ use Rattle.drill.specs.Tallies.{HasCounted, IsWithin}
 use Rattle.drill_schedule.specs.Draws.{state_at}
 use Rattle.drill.proofs.run.play_all.Given as goal
 
--- so many events were played and counted
+-- `done` events were played and counted
 abbrev pub invariant-events : goal.invariant-events
 invariant-events l = record {
   seated : Seats l.desk l.sessions l.drill;

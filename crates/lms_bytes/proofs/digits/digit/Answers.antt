@@ -17,7 +17,7 @@ front d s i n w width len h =
     let inside = within i n w width h in
     rw (get_or_append_left d s 0 (i * w / 8) (omega arith))
 
--- where digit i lies behind n bytes
+-- where digit i lies after n bytes
 behind : (i n w : ℕ) → IsDigitWidth w → 8 * n / w ≤ i → (n ≤ i * w / 8) × ((i - 8 * n / w) * w / 8 ≡ i * w / 8 - n) × ((i - 8 * n / w) % (8 / w) ≡ i % (8 / w))
 behind i n w (inl e) = rw e (λ h. (omega arith, omega arith, omega arith))
 behind i n w (inr (inl e)) = rw e (λ h. (omega arith, omega arith, omega arith))

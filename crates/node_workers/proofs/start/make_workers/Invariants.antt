@@ -3,7 +3,7 @@ use Rattle.node_workers.specs.Starting.{fresh_workers}
 use Rattle.turn_lock.specs.Pass.{first_pass}
 use Rattle.node_workers.proofs.start.make_workers.Given as goal
 
--- the workers so far, and behind them those of the ports that are left, are all workers
+-- the workers so far, followed by those of the ports that are left, are all workers
 abbrev pub invariant-loop-port : goal.invariant-loop-port
 invariant-loop-port g l =
     record {

@@ -4,7 +4,7 @@ use Rattle.lms_bytes.specs.Bytes.{bytes_at}
 use Rattle.mask_prf.proofs.Lengths.{length-check_tag_of}
 use Rattle.reference_value.proofs.leaf.add_member.Goals as goal
 
--- the randomizer's mask is put in front, and the tag behind what is there
+-- the randomizer's mask is put in front, and the tag after what is there
 added : (old masked new random tag : List ℕ) (n size place : ℕ) → size ≡ n → n ≤ place → length tag ≡ 32
     → take (0 + size) masked ≡ random → drop (0 + size) masked ≡ drop (0 + size) old → take (place + length tag) new ≡ take place masked ++ tag
     → take (place + 32) new ≡ random ++ bytes_at old n (place - n) ++ tag

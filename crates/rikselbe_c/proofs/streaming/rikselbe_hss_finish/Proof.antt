@@ -1,4 +1,4 @@
--- A walk: the state is read out of its memory and goes through `finished`. What it lay in is then room.
+-- A walk: the state is read out of its memory and goes through `finished`. The memory it lay in is then room.
 use Rattle.std.proofs.Common.{ℕ, List, [], ◌∷◌, ◌++◌, refl, w32}
 use Rattle.std.proofs.raw_atomic.Walks.{proved}
 use base.Fraction.{full_share}

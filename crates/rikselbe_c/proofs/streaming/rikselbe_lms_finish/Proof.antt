@@ -1,4 +1,4 @@
--- A walk: the state is read out of its memory and goes through `finished`. What it lay in is then room.
+-- A walk: the state is read out of its memory and goes through `finished`. The memory it lay in is then room.
 use Rattle.std.proofs.Common.{ℕ, List, [], ◌∷◌, ◌++◌, refl, w32}
 use Rattle.std.proofs.raw_atomic.Walks.{proved}
 use base.Fraction.{full_share}
@@ -87,7 +87,7 @@ rikselbe_lms_finish_spec 𝓤 𝓛 𝓜 𝓡 wired =
     heard ! (Says s r ends.1.1.0) (λ verified. move ! (2 ∷ []) $
     peeks ! u32 (Is u32) (shows 𝓛 u32) r (u ∷ []) (λ after.
     lands_as ! refl refl ((uint_Lawful 𝓛 w32).typed r _ after).0 $
-    -- [the result; what says the leaf; the tokens; the cell]
+    -- [the result; what tells the leaf; the tokens; the cell]
     returns ! (look_at ! 0 refl) $ free_all ! refl $
     suffices ! _ (ends_at 𝓛 f.ended stayed c (y (block_ptr b o)) u r (tt, (tt, (ends.1.1.0, tt))) (tt, (tt, (tt, tt)))) $
     forget ! 3 refl $ move ! (2 ∷ 1 ∷ 0 ∷ []) $ group ! 3 $ frame ! $ says ! (verified had.key had.message taken) $ done !))))))))))))

@@ -3,7 +3,7 @@ use Rattle.slot_file.specs.Layout.{part, slot_of, slot_size}
 use Rattle.slot_file.proofs.Runs.{in-block-more}
 use Rattle.slot_file.proofs.slot.read_block.Goals as goal
 
--- a range of so many bytes
+-- a range of that many bytes
 range-is : (version size at place : ℕ) (block : List ℕ) → size ≡ at → slot_of version (take (size * place + size - size * place) (drop (size * place) block)) ≡ slot_of version (part (at * place) at block)
 range-is version size at place block is =
     let all : size * place + size - size * place ≡ size = omega arith in

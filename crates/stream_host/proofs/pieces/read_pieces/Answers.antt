@@ -26,7 +26,7 @@ pieces-preserved g c =
           (v.bytes told) (r.bytes (v.stays.told ∙ told));
     }
 
--- where the next place is no number
+-- if the next place is not a number
 pub returns-in_default-clause-bytes : goal.returns-in_default-clause-bytes
 returns-in_default-clause-bytes g c told = tt
 
@@ -47,7 +47,7 @@ returns-in_err-count-clause-untouched g c =
 pub returns-in_err-count-clause-stays : goal.returns-in_err-count-clause-stays
 returns-in_err-count-clause-stays g c = kind-then _ _ _ _ _ _ _ c.pieces.invariant.stays c.in_err-count.ensures.stays
 
--- where the file comes to its end
+-- if the file comes to its end
 pub returns-then-count-eq0-clause-bytes : goal.returns-then-count-eq0-clause-bytes
 returns-then-count-eq0-clause-bytes g c told = tt
 
@@ -62,7 +62,7 @@ returns-then-count-eq0-clause-untouched g c =
 pub returns-then-count-eq0-clause-stays : goal.returns-then-count-eq0-clause-stays
 returns-then-count-eq0-clause-stays g c = kind-then _ _ _ _ _ _ _ c.pieces.invariant.stays c.in_ok-count.ensures.stays
 
--- where the room is full
+-- if the room is full
 pub returns-clause-succeeds : goal.returns-clause-succeeds
 returns-clause-succeeds g c steady told within fits = refl
 

@@ -128,7 +128,7 @@ returns-in_err-count-clause-syncs g c =
 pub returns-in_err-count-clause-stays : goal.returns-in_err-count-clause-stays
 returns-in_err-count-clause-stays g c = kind-then _ _ _ _ _ _ _ c.pieces.invariant.stays c.in_err-count.ensures.stays
 
--- where the next place is no number
+-- if the next place is not a number
 pub returns-in_default-clause-bytes : goal.returns-in_default-clause-bytes
 returns-in_default-clause-bytes g c told within = tt
 
@@ -146,7 +146,7 @@ returns-in_default-clause-syncs g c = c.pieces.invariant.syncs
 pub returns-in_default-clause-stays : goal.returns-in_default-clause-stays
 returns-in_default-clause-stays g c = c.pieces.invariant.stays
 
--- where all is written
+-- if all is written
 pub returns-clause-torn : goal.returns-clause-torn
 returns-clause-torn g c told within = tt
 

@@ -36,7 +36,7 @@ own-number node index left n none =
     let same : index ≡ length front = omega arith in
     ap (slice_get (node_values node)) same ∙ ap (λ l. slice_get l (length front)) (split node) ∙ get-behind front ((out-Node _ node).value ∷ [])
 
--- a number behind it passes one value more
+-- a number after it passes one value more
 passes : {T : Type 0} (node : Node T) (index left : ℕ) → index ≡ length (values_of (out-Node T node).earlier) + left → (left ≡ 0 → ⊥)
     → index ≡ length (node_values node) + (left - 1)
 passes node index left n some =

@@ -1,4 +1,4 @@
-//! Every plan of up to five trustees over 32 leaves, beside a plain search over all leaves.
+//! Every plan of up to five trustees over 32 leaves, compared with a plain search over all leaves.
 
 ghost use Rattle.std.specs.Prelude.{◌≡◌, ◌<◌, IfSome};
 ghost use Rattle.coalition_map.specs.Coalitions.{count_of};
@@ -33,7 +33,7 @@ enum Leaf {
     Burnt,
 }
 
-/// The least leaf of coalition `c` that is as wanted.
+/// The least leaf of coalition `c` that is in the state wanted.
 fn least(plan: &Plan, leaves: &[Leaf; 32], c: u32, wanted: Leaf) -> Option<u32>
     requires { plan.now.h ≡ 5 }
     ensures { IfSome result (λ leaf. leaf < 32) }
@@ -57,7 +57,7 @@ fn plain(plan: &Plan, leaves: &[Leaf; 32], c: u32, message: u32) -> Option<u32>
     }
 }
 
-/// What the plain search answers that is asked for a leaf of coalition `c`, which is burnt then where that is wanted.
+/// The answer of the plain search when it is asked for a leaf of coalition `c`, which is then burnt if that is wanted.
 fn plain_asked(
     plan: &Plan,
     leaves: &mut [Leaf; 32],
@@ -78,7 +78,7 @@ fn plain_asked(
     Ok(leaf)
 }
 
-/// Whether the table answers as the plain search, with the same done to its leaf.
+/// Whether the table answers as the plain search does, with the same done to its leaf.
 fn is_plain(
     table: &mut Table<MemDisk>,
     plan: &Plan,
@@ -96,7 +96,7 @@ fn is_plain(
 }
 
 /// Leases leaves of each coalition in turn until there are none. Each lease is asked for twice, and the leaf of every
-/// third message is burnt between. Whether each answer is the plain one.
+/// third message is burnt in between. Whether each answer is the plain one.
 fn uses_up(table: &mut Table<MemDisk>, plan: &Plan) -> bool
     requires { plan.now.h ≡ 5 }
 {
@@ -113,7 +113,7 @@ fn uses_up(table: &mut Table<MemDisk>, plan: &Plan) -> bool
     !leaves.contains(&Leaf::Free)
 }
 
-/// Whether the table of a plan answers as the plain search.
+/// Whether the table of a plan answers as the plain search does.
 fn answers(rt: &impl Abort, alloc: Global, n: u8, k: u8) -> bool {
     let plan = plan_of(rt, n, k, 5);
     let disk = free_file(rt, alloc, &header(1, 0), 32);

@@ -10,7 +10,7 @@ use leaf_table::{Table, TableFault};
 use std::alloc::Global;
 use std::process::Abort;
 
-/// A disk of which nothing is known: once a call has failed, it shows another byte at one place.
+/// A disk about which nothing is known: once a call has failed, it shows a different byte at one place.
 #[derive(Drop)]
 struct Rotten<D: Disk> {
     disk: D,
@@ -74,8 +74,8 @@ fn tells_on<D: Disk + Drop>(rt: &impl Abort, alloc: Global, disk: D, gates: (u8,
     tells(&mut small(rt, alloc, disk), gates)
 }
 
-/// Leases leaf 1 and burns it, until a call fails. The byte at a place is another one from then on. Whether each later
-/// call tells the two gates of the leaf.
+/// Leases leaf 1 and burns it, until a call fails. From then on the byte at one place is a different one. Whether each
+/// later call tells the two gates of the leaf.
 fn is_told(
     rt: &impl Abort,
     alloc: Global,
@@ -101,7 +101,7 @@ fn a_damaged_slot_is_told(rt: HostRuntime) {
     let torn = is_told(&rt, rt.alloc(), 0, 296, 0xC2, (0, 0xC2));
     // The lease is for another message.
     let foreign = is_told(&rt, rt.alloc(), 3, 260, 0x77, (0xB1, 0));
-    // The leaf is free when it is to be burnt.
+    // The leaf is free when it should be burnt.
     let free = is_told(&rt, rt.alloc(), 4, 256, 0, (0, 0));
     // It is burnt by another member.
     let burnt = is_told(&rt, rt.alloc(), 7, 336, 0x77, (0xB1, 0xC2));

@@ -4,7 +4,7 @@ use Rattle.tool_desk.specs.Files.{reference_name}
 use Rattle.tool_desk.specs.Views.{AddsCells}
 use Rattle.tool_desk.proofs.views.view_others.Given as goal
 
--- so many views were added
+-- that many views were added
 abbrev pub invariant-loop : goal.invariant-loop
 invariant-loop g l =
     let state = g.S.Store.state in

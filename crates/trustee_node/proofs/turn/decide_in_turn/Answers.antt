@@ -18,7 +18,7 @@ use Rattle.trustee_node.proofs.Serving.{idle-again}
 use Rattle.trustee_node.proofs.Turning.{leaves, name_of, not-turned, noted-of, sure, took-gave, turned}
 use Rattle.trustee_node.proofs.turn.decide_in_turn.Goals as goal
 
--- the share of the trustee that was taken
+-- the share of the trustee whose turn was taken
 same-share : (share : Share) (name : Option TrusteeName) (mine : TrusteeName) → Some mine ≡ name → IfSome name (λ n. n.share ≡ share) → mine.share ≡ share
 same-share share name mine named is = subst (λ (o : Option TrusteeName). IfSome o (λ n. n.share ≡ share)) (sym named) is
 

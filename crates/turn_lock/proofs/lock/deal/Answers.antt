@@ -8,7 +8,7 @@ use Rattle.turn_lock.specs.declared.view.Known.{Known}
 use Rattle.turn_lock.specs.declared.view.Opening.{Opening}
 use Rattle.turn_lock.proofs.lock.deal.Goals as goal
 
--- the first seat, but for how many passes are joined in it
+-- the first seat, except for how many passes are joined in it
 still_starting : {T E N : Type 0} (o : Opening E N) (m m' : Me (Option T) (Known E N)) → m ≡ (record (starting o) { parts = m.0.parts }, [])
     → m' ≡ (rest_of m.0, m.1) → m' ≡ (record (starting o) { parts = m.0.parts - 1 }, [])
 still_starting {T} {E} {N} o m m' before split = split ∙ ap (λ (x : Me (Option T) (Known E N)). (rest_of x.0, x.1)) before

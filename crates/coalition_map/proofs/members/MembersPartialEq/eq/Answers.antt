@@ -6,7 +6,7 @@ use Rattle.coalition_map.specs.Members.{member_numbers}
 use Rattle.coalition_map.proofs.MemberLaws.{member_numbers-distinct}
 use Rattle.coalition_map.proofs.members.MembersPartialEq.eq.Goals as goal
 
--- the bits are equal exactly where the lists are
+-- the bits are equal exactly if the lists are
 agree : (b d : ℕ) → b < 2 ^ 16 → d < 2 ^ 16 → eqb b d ≡ pointwise eqb (member_numbers b) (member_numbers d)
 agree b d hb hd =
     let decides = bytes_eq-Decides (member_numbers b) (member_numbers d) in

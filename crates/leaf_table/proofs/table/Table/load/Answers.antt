@@ -11,7 +11,7 @@ use Rattle.slot_file.specs.declared.header.Header.{Header}
 use Rattle.leaf_table.specs.Loading.{entries_of}
 use Rattle.leaf_table.proofs.table.Table.load.Goals as goal
 
--- so many slots has a table of this height
+-- how many slots a table of this height has
 shifted : (h height : ℕ) → h ≡ height → height ≤ 25 → (1 * 2 ^ h) % 2 ^ 32 ≡ 2 ^ height
 shifted h height is within = one_shl h 32 (omega (arith, is, within)) ∙ ap (λ (k : ℕ). 2 ^ k) is
 

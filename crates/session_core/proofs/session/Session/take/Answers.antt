@@ -8,7 +8,7 @@ use Rattle.session_core.proofs.Keeping.{written_back}
 use Rattle.session_core.proofs.Taking.{first-round, second-round, first-whole, second-whole, room-enough, kept-seats}
 use Rattle.session_core.proofs.session.Session.take.Goals as goal
 
--- a session that keeps its seats, or has them with one reply more
+-- a session that keeps its seats, or has them with one more reply
 one-more : (test : Bool) (s : State) (head : ReplyHead) (body : List ℕ) → answers s head body ≡ true → is_filled (seat_of (seats_of s) head.member) ≡ test
     → with_delivery s head body ≡ (if test then s else with_seats s (with_reply (seats_of s) head.member head.code body))
 one-more test s head body mine is = rw (mine, is) refl

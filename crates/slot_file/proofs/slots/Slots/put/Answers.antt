@@ -13,7 +13,7 @@ use Rattle.slot_file.proofs.Kept.{slot-within, gated_stays}
 use Rattle.std.proofs.Common.{refl}
 use Rattle.slot_file.proofs.slots.Slots.put.Goals as goal
 
--- where no put was refused, what holds after a put that succeeded
+-- what holds after a put that succeeded, if no put was refused
 sure-after : {T E X : Type 0} (done : Result T E) (was doubt : Doubt) (slot : ℕ)
     → doubt ≡ (if is_ok done then was else Refused slot) → OnOk done X → IsSure doubt → X
 sure-after (Ok x) was doubt slot is holds sure = holds

@@ -26,7 +26,7 @@ returns-in_err-flush-clause-written g c =
     c.args.bytes.now c.from_residual.result c.from_residual.ensures.0
     (as-before g.L.Stream.talk c.args.self.now c.hold.new.self c.flush.new.self k.link k.ahead k.held c.flush.ensures.same)
 
--- held back behind what went out
+-- held back after what went out
 pub returns-then-hold-2-clause-written : goal.returns-then-hold-2-clause-written
 returns-then-hold-2-clause-written g c =
     let k = c.if-hold.ensures in

@@ -9,7 +9,7 @@ use Rattle.stream_memory.proofs.Outcomes.{end_failed, has_failed, has_not, link_
 use Rattle.stream_memory.proofs.Removed.{given, no_less, room-taken, rooms-left, steady-accepted}
 use Rattle.stream_memory.proofs.kept_port.KeptPort.accept.Goals as goal
 
--- where a port listens and a link waits, one is to come
+-- if a port listens and a link waits, one is to come
 some_wait : (place : Option (String Global)) (many : ℕ) (empty : Bool) → is_some place ≡ true → empty ≡ (many == 0) → empty ≡ false
     → (if is_some place then many else 0) ≡ 0 → ⊥
 some_wait (Some place) many empty there is some none = let never : (0 == 0) ≡ false = ap (λ n. n == 0) (sym none) ∙ sym is ∙ some in cc
@@ -85,7 +85,7 @@ returns-clause-accept_cause c = has_not _ _ _ (link_failed _ _ refl) refl
 pub returns-clause-succeeds : goal.returns-clause-succeeds
 returns-clause-succeeds c steady = link_failed _ _ refl
 
--- where the call fails
+-- if the call fails
 pub returns-in-Err-clause-end : goal.returns-in-Err-clause-end
 returns-in-Err-clause-end c =
     let there = c.is_none.ensures ∙ ap not c.if-is_none.false in

@@ -90,7 +90,7 @@ returns-clause-cause c = never_fails _ _ _ c.in_ok-make.ensures.ok
 pub returns-clause-once : goal.returns-clause-once
 returns-clause-once c = not_once _ _ c.in_ok-make.ensures.ok
 
--- where the call fails
+-- if the call fails
 pub returns-in_err-make : goal.returns-in_err-make
 returns-in_err-make c =
     let is = refusal c.from_residual.result _ c.from_residual.ensures.1 in

@@ -38,7 +38,7 @@ pub returns-clause-port_cause : goal.returns-clause-port_cause
 returns-clause-port_cause c =
     has_not _ _ _ (ok_no _ _ _ refl) (ap (λ (net : MemNet). net.port_faults) c.make_ports.ensures.same)
 
--- where the ports may not be made
+-- if the ports may not be made
 pub returns-in-Err-clause-made : goal.returns-in-Err-clause-made
 returns-in-Err-clause-made c = tt
 
@@ -50,7 +50,7 @@ returns-in-Err-clause-cause c =
     let cause = c.in-Err.ensures.cause in
     rises_by _ _ _ (ap Err c.from.ensures) cause.later cause.failed
 
--- where there is no memory for them
+-- if there is no memory for them
 pub returns-in_err-ports-clause-made : goal.returns-in_err-ports-clause-made
 returns-in_err-ports-clause-made c = if_refused _ _ _ (refusal c.from_residual.result _ c.from_residual.ensures.1)
 

@@ -29,7 +29,7 @@ returns-clause-succeeds g c = λ steady. refl
 pub returns-clause-steady : goal.returns-clause-steady
 returns-clause-steady g c = ap (λ b. b && is_none c.args.self.now.hold) c.in_ok-count.ensures.steady
 
--- where the wait was in vain
+-- if the wait was in vain
 pub returns-in_default-clause-read : goal.returns-in_default-clause-read
 returns-in_default-clause-read g c = rw c.fail.ensures.link (nothing_read _ _ _ c.fail.ensures.vain _ _ _)
 
