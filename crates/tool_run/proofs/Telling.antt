@@ -4,7 +4,7 @@ use Rattle.std.proofs.Common.{◌≡◌, ◌≢◌, ◌==◌, ◌⊎◌, ℕ, ze
 use Rattle.std.proofs.lemmas.Bool.Decides.{nat_tests}
 use Rattle.tool_base.specs.Ending.{Ending, status_of}
 use Rattle.tool_base.specs.World.{OutputRun}
-use Rattle.tool_keys.specs.Told.{ToldBy, all_told, nothing_told}
+use Rattle.tool_keys.specs.Told.{all_told, nothing_told}
 use Rattle.tool_run.specs.Told.{WordsTell}
 use Rattle.tool_run.specs.ToolRun.{EndsSo}
 use Rattle.tool_words.specs.Rows.{row}

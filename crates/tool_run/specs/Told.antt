@@ -1,5 +1,5 @@
 -- What a call of the tool tells of its progress.
-use Rattle.std.specs.Prelude.{◌≡◌, ℕ, Option, Some, None}
+use Rattle.std.specs.Prelude.{◌≡◌, ℕ, Option, Some}
 use Rattle.tool_keys.specs.Told.{ToldBy}
 use Rattle.tool_words.specs.Words.{Row, Deal}
 
