@@ -4,6 +4,7 @@
 
 mod kept;
 mod lock;
+mod patience;
 mod plays;
 mod steps;
 mod view;

@@ -8,6 +8,7 @@ ghost use Rattle.turn_lock.specs.Pass.{first_pass, Takes, IsWornOut, DrawsOne, S
 ghost use Rattle.turn_lock.specs.Pass.{IsWhole};
 
 use crate::kept::Kept;
+use crate::patience::Patience;
 use crate::steps;
 use crate::steps::{Home, Place, WORN_FROM, Words};
 use crate::view::Start;
@@ -52,6 +53,7 @@ pub struct Pass<T: Kept> {
     seat: Place<T>,
     joined: u32,
     greatest: u64,
+    patience: Patience,
 }
 
 impl<T: Kept> Model for Pass<T> {
@@ -121,7 +123,13 @@ impl<T: Kept> TurnLock<T> {
             steps::let_in(&self.table.shared, &mut pass.seat);
             return Err(Worn);
         }
-        Ok(steps::wait(rt, &self.table.shared, &mut pass.seat, ticket))
+        Ok(steps::wait(
+            rt,
+            &self.table.shared,
+            &mut pass.seat,
+            &mut pass.patience,
+            ticket,
+        ))
     }
 
     /// Puts the value back, and passes the turn on. Its entries are then part of the lock's log.
@@ -151,6 +159,7 @@ impl<T: Kept> TurnLock<T> {
             seat,
             joined,
             greatest,
+            patience: _,
         } = other;
         steps::join(&self.table.shared, &mut pass.seat, seat);
         pass.joined += joined;
@@ -179,6 +188,7 @@ impl<T: Kept> TurnLock<T> {
             seat,
             joined: _,
             greatest: _,
+            patience: _,
         } = pass;
         steps::close(table, seat)
     }
@@ -194,6 +204,7 @@ impl<T: Kept> Pass<T> {
             seat,
             joined: 1,
             greatest: 0,
+            patience: Patience::new(),
         }
     }
 }

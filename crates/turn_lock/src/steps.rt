@@ -9,6 +9,7 @@ ghost use Rattle.turn_lock.specs.Plays.{Finds, KnowsAll};
 ghost use Rattle.turn_lock.specs.declared.view.Stage.TheVariants.{Idle, Waiting, Holding};
 
 use crate::kept::Kept;
+use crate::patience::Patience;
 use crate::plays::{Call, Compare, Draw, Look, PassOn, SplitOff, TakeIn, Turns};
 use crate::view::{Known, Start};
 use atomic_table::{Seat, Shared, Table};
@@ -37,10 +38,6 @@ const GATE: usize = PARKING + PARKED;
 /// What each sleeper adds to its word, above the bits that a sleep compares. A word that starts there, or whose turns
 /// reach it, costs wakes that wake nobody.
 const SLEEPER: u64 = 1 << 32;
-
-/// How often the waiter of one of the next tickets looks before it sleeps: for about as long as a sleeper takes to
-/// wake.
-const LOOKS: u32 = 2_000;
 
 /// How many tickets are out at once before anyone who wants another one sleeps at the gate. These few hand the turn on
 /// to each other without a sleep. If all had a ticket, each turn would wait until one more sleeper is awake.
@@ -158,7 +155,13 @@ fn parking_of(ticket: u64) -> usize
 }
 
 /// Waits until the ticket is served, and takes the value out.
-pub fn wait<T: Kept>(rt: &impl Wait, words: &Words<T>, seat: &mut Place<T>, ticket: u64) -> T
+pub fn wait<T: Kept>(
+    rt: &impl Wait,
+    words: &Words<T>,
+    seat: &mut Place<T>,
+    patience: &mut Patience,
+    ticket: u64,
+) -> T
     requires table { (seat.old.table_id ≡ words.now.table_id) × (words.now.table_id.words ≡ 66) }
     requires waits { (seat.old.me.0.stage ≡ Waiting ticket) × (seat.old.me.1 ≡ []) }
     ensures table { seat.new.table_id ≡ seat.old.table_id }
@@ -168,33 +171,42 @@ pub fn wait<T: Kept>(rt: &impl Wait, words: &Words<T>, seat: &mut Place<T>, tick
     ensures reached { seat.old.me.0.floor ≤ T.number result }
     ensures named { Some (T.name result) ≡ seat.old.me.0.opening.name }
 {
-    await_turn(rt, words, seat, ticket);
+    await_turn(rt, words, seat, patience, ticket);
     let taken = words.exchange(seat, VALUE, None);
     let Some(value) = taken else { unreachable!() };
     value
 }
 
-/// Waits until the ticket is served: awake while it is one of the next and for a short time, otherwise asleep.
-fn await_turn<T: Kept>(rt: &impl Wait, words: &Words<T>, seat: &mut Place<T>, ticket: u64)
+/// Waits until the ticket is served: awake while it is one of the next and as long as its patience lasts, otherwise
+/// asleep.
+fn await_turn<T: Kept>(
+    rt: &impl Wait,
+    words: &Words<T>,
+    seat: &mut Place<T>,
+    patience: &mut Patience,
+    ticket: u64,
+)
     requires table { (seat.old.table_id ≡ words.now.table_id) × (words.now.table_id.words ≡ 66) }
     requires waits { (seat.old.me.0.stage ≡ Waiting ticket) × (seat.old.me.1 ≡ []) }
     ensures table { seat.new.table_id ≡ seat.old.table_id }
     ensures finds { Finds T.entries T.number T.name ticket seat.old.me ticket seat.new.me }
 {
-    if watch(words, seat, ticket) != ticket {
+    let is_served = watch(words, seat, patience.looks(), ticket) == ticket;
+    patience.note(is_served);
+    if !is_served {
         sleep(rt, words, seat, ticket);
     }
 }
 
-/// Looks again and again, while the ticket is one of the next, and returns which was served at the last look. A waiter
-/// with a later ticket looks once, since it would only keep a processor from those ahead of it.
-fn watch<T: Kept>(words: &Words<T>, seat: &mut Place<T>, ticket: u64) -> u64
+/// Looks up to `looks` times, while the ticket is one of the next, and returns which was served at the last look. A
+/// waiter with a later ticket looks once, since it would only keep a processor from those ahead of it.
+fn watch<T: Kept>(words: &Words<T>, seat: &mut Place<T>, looks: u32, ticket: u64) -> u64
     requires table { (seat.old.table_id ≡ words.now.table_id) × (words.now.table_id.words ≡ 66) }
     requires waits { (seat.old.me.0.stage ≡ Waiting ticket) × (seat.old.me.1 ≡ []) }
     ensures table { seat.new.table_id ≡ seat.old.table_id }
     ensures finds { Finds T.entries T.number T.name ticket seat.old.me result seat.new.me }
 {
-    'looks: for _ in 0..LOOKS {
+    'looks: for _ in 0..looks {
         let served = look(words, seat, ticket);
         if served == ticket || ticket.wrapping_sub(served) >= ROOM {
             return served;
