@@ -11,19 +11,19 @@ use Rattle.dealer.specs.Told.{told_of, told_parts}
 parts-cut : (part n all : ℕ) → 0 < part → n * part ≡ all → all / part * part ≡ all
 parts-cut part n all some is = rw (← is) (ap (λ (k : ℕ). k * part) (mul-div_cancel n some))
 
--- the leaves of a tree are a part, or parts of 128
-pub parts-all : (h : ℕ) → 2 ^ h / min 128 (2 ^ h) * min 128 (2 ^ h) ≡ 2 ^ h
-parts-all h = elim (cases_lt h 7) [
+-- the leaves of a tree are a part, or parts of 512
+pub parts-all : (h : ℕ) → 2 ^ h / min 512 (2 ^ h) * min 512 (2 ^ h) ≡ 2 ^ h
+parts-all h = elim (cases_lt h 9) [
   | inl low ↦
-      let few = pow_below h 7 low in
+      let few = pow_below h 9 low in
       let some = pow_pos h in
-      parts-cut (min 128 (2 ^ h)) 1 (2 ^ h) (omega arith) (omega arith)
+      parts-cut (min 512 (2 ^ h)) 1 (2 ^ h) (omega arith) (omega arith)
   | inr high ↦
-      let some = pow_pos (h - 7) in
-      let height : h - 7 + 7 ≡ h = omega arith in
-      let is : 2 ^ (h - 7) * 128 ≡ 2 ^ h = sym (pow-add 2 (h - 7) 7) ∙ ap (λ (k : ℕ). 2 ^ k) height in
-      let full : min 128 (2 ^ h) ≡ 128 = omega arith in
-      parts-cut (min 128 (2 ^ h)) (2 ^ (h - 7)) (2 ^ h) (omega arith) (rw full is)
+      let some = pow_pos (h - 9) in
+      let height : h - 9 + 9 ≡ h = omega arith in
+      let is : 2 ^ (h - 9) * 512 ≡ 2 ^ h = sym (pow-add 2 (h - 9) 9) ∙ ap (λ (k : ℕ). 2 ^ k) height in
+      let full : min 512 (2 ^ h) ≡ 512 = omega arith in
+      parts-cut (min 512 (2 ^ h)) (2 ^ (h - 9)) (2 ^ h) (omega arith) (rw full is)
 ]
 
 -- strings, and those after them, joined
@@ -50,7 +50,7 @@ parts-joined f part (suc n) count all =
 -- of all leaves of a tree of height h, `part` make up a part
 pub record AreCut (h all part : ℕ) : Type 0 where
   pub whole : all ≡ 2 ^ h
-  pub size : part ≡ min 128 all
+  pub size : part ≡ min 512 all
 
 pub cut-all : {h all part : ℕ} → AreCut h all part → all / part * part ≡ all
 cut-all {h} cut = rw (cut.size, cut.whole) (parts-all h)

@@ -6,10 +6,10 @@ unfoldable pub told_parts : {P : Type 0} → (P → ℕ → ℕ → P) → ℕ �
 told_parts told part all zero it = it
 told_parts told part all (suc k) it = told (told_parts told part all k it) (suc k * part) all
 
--- what it is once it was told all of a dealing of height h: its leaves are built in parts of 128, or in one part if
+-- what it is once it was told all of a dealing of height h: its leaves are built in parts of 512, or in one part if
 -- there are fewer
 unfoldable pub told_of : {P : Type 0} → (P → ℕ → ℕ → P) → ℕ → P → P
-told_of told h it = let part = min 128 (2 ^ h) in told_parts told part (2 ^ h) (2 ^ h / part) it
+told_of told h it = let part = min 512 (2 ^ h) in told_parts told part (2 ^ h) (2 ^ h / part) it
 
 -- If there is a dealing, all of it was told. If there is none, nothing was, or all of it if memory ran out, which is
 -- what these faults say.

@@ -31,7 +31,7 @@ use std::thread::{Threads, join_mut};
 use stream_io::Progress;
 
 /// How many leaves are built as one part, if there are that many.
-const PART: u32 = 128;
+const PART: u32 = 512;
 
 /// Deals the key that the entropy stands for, which has been tested, with its commitment file if it is asked for. The
 /// largest memory is taken before the first thread is made, since the C library keeps the room of the stacks.

@@ -63,7 +63,7 @@ pub fn deal_committed(
 }
 
 /// Deals the key that the entropy stands for, as `deal_committed` does, with its leaves and their commitments built by
-/// several threads. If no thread can be made, this one builds them. After each part of 128 leaves, or after all if
+/// several threads. If no thread can be made, this one builds them. After each part of 512 leaves, or after all if
 /// there are fewer, `progress` is told how many are built.
 pub fn deal_committed_beside<R: Threads + Sync, P: Progress>(
     rt: &R,

@@ -51,7 +51,7 @@ pub fn deal(alloc: Global, params: &Params, plan: &Plan, entropy: &[u8]) -> Resu
 }
 
 /// Deals the key that the entropy stands for, as `deal` does, with its leaves built by several threads. If no thread
-/// can be made, this one builds them. After each part of 128 leaves, or after all if there are fewer, `progress` is
+/// can be made, this one builds them. After each part of 512 leaves, or after all if there are fewer, `progress` is
 /// told how many are built.
 pub fn deal_beside<R: Threads + Sync, P: Progress>(
     rt: &R,

@@ -205,7 +205,7 @@ fn tells_of_commitments<R: Threads + Sync + Abort>(rt: &R, alloc: Global) -> boo
 #[test]
 fn each_part_is_told_of_once(rt: HostRuntime) {
     assert!(rt; tells_of_parts(&rt, rt.alloc(), (5, 3), 32, 1));
-    assert!(rt; tells_of_parts(&rt, rt.alloc(), (11, 5), 1024, 8));
+    assert!(rt; tells_of_parts(&rt, rt.alloc(), (11, 5), 1024, 2));
     assert!(rt; tells_of_commitments(&rt, rt.alloc()));
 }
 
