@@ -1,3 +1,3 @@
 pub mod Blocks
-pub mod Joined
+pub mod Ends
 pub mod Steps

@@ -6,9 +6,14 @@ use Rattle.lms_bytes.specs.declared.params.Params.{Params}
 use Rattle.lms_bytes.specs.Hash.{hash}
 use Rattle.ots_chain.specs.Chains.{steps, secret_of}
 
--- K from the ends of the p chains, after D_PBLC (RFC 8554 section 4.3, Algorithm 1, step 5, and section 7.1)
+-- what is hashed: I || u32str(q) || u16str(D_PBLC) || the ends of the chains
+-- (RFC 8554 section 4.3, Algorithm 1, step 5, and section 7.1)
+abbrev pub leaf_key_text : List ℕ → ℕ → List ℕ → List ℕ
+leaf_key_text id q ends = id ++ u32str q ++ u16str 0x8080 ++ ends
+
+-- K from the ends of the p chains
 abbrev pub leaf_key_of_ends : Params → List ℕ → ℕ → (ℕ → List ℕ) → List ℕ
-leaf_key_of_ends params id q end = hash params.n (id ++ u32str q ++ u16str 0x8080 ++ joined end params.p)
+leaf_key_of_ends params id q end = hash params.n (leaf_key_text id q (joined end params.p))
 
 -- K of a leaf whose secrets come from the seed (RFC 8554 section 4.3, Algorithm 1, and appendix A)
 abbrev pub seed_leaf_key : Params → List ℕ → ℕ → List ℕ → List ℕ

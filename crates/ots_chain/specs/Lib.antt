@@ -1,3 +1,4 @@
 pub mod Chains
 pub mod LeafKey
+pub mod LeafKeyHash
 pub mod MessageHash

@@ -6,7 +6,7 @@ mod leaf_key;
 mod message_hash;
 
 pub use chains::{chain, secret};
-pub use leaf_key::{leaf_key_from, leaf_key_of};
+pub use leaf_key::{LeafKeyHash, leaf_key_from, leaf_key_of};
 pub use message_hash::MessageHash;
 
 /// The tag of what is hashed for the public value of a leaf (RFC 8554 section 4.3).

@@ -2,6 +2,7 @@
 
 ghost use Rattle.std.specs.Prelude.{◌≡◌, ◌+◌, ◌*◌, ◌<◌, ◌^◌, length, map};
 ghost use Rattle.lms_bytes.specs.Bytes.{bytes_at, joined};
+ghost use Rattle.ots_chain.specs.LeafKey.{seed_leaf_key};
 ghost use Rattle.reference_value.specs.Commitments.{commitments_to, leaf_commitments};
 ghost use Rattle.reference_value.specs.Committing.{AreMembers, cell_commits, mask_with, masked_cell, masked_row};
 ghost use Rattle.reference_value.specs.Committing.{member_mask, member_tag, row_commits};
@@ -14,6 +15,7 @@ use coalition_map::{Members, Plan};
 use lms_bytes::bytes::put;
 use lms_bytes::{KeyId, Params, Val};
 use mask_prf::{COMMITMENT, MacKey, TAG, chain_bytes, chain_commits_bytes, randomizer};
+use ots_chain::LeafKeyHash;
 use sha2::{Digest, Sha256};
 
 /// Which value of a leaf a mask is for.
@@ -86,8 +88,9 @@ fn commit_chain(leaf: &Leaf, i: u16, out: &mut [u8], commits: &mut [u8])
     }
 }
 
-/// Writes the cells of all chains, and the commitments to their masks.
-fn commit_chains(leaf: &Leaf, seed: &Val, out: &mut [u8], commits: &mut [u8])
+/// Writes the cells of all chains, and the commitments to their masks. Gives the public value of the leaf, which is
+/// made of the ends of its chains.
+fn commit_chains(leaf: &Leaf, seed: &Val, out: &mut [u8], commits: &mut [u8]) -> Val
     requires members { AreMembers leaf.now.keys.now leaf.now.members }
     requires seed { length seed.now ≡ leaf.now.params.now.n }
     requires values { length out.old ≡ leaf.now.params.now.n * 2 ^ leaf.now.params.now.w * leaf.now.params.now.p }
@@ -95,16 +98,21 @@ fn commit_chains(leaf: &Leaf, seed: &Val, out: &mut [u8], commits: &mut [u8])
         ≡ 32 * length leaf.now.members * 2 ^ leaf.now.params.now.w * leaf.now.params.now.p }
     ensures cells { out.new ≡ joined (masked_row leaf.now seed.now) leaf.now.params.now.p }
     ensures commits { commits.new ≡ joined (row_commits leaf.now) leaf.now.params.now.p }
+    ensures leaf_key { result ≡ seed_leaf_key leaf.now.params.now leaf.now.id.now leaf.now.q seed.now }
+    ensures length { length result ≡ leaf.now.params.now.n }
 {
     let size = chain_bytes(leaf.params);
     let row = chain_commits_bytes(leaf.params, leaf.members.size());
+    let mut hash = LeafKeyHash::new(leaf.params, leaf.id, leaf.q);
     'chains: for i in 0..leaf.params.p {
         let place = size * i as usize;
         let chain = &mut out[place..place + size];
-        write_chain(leaf.params, leaf.id, leaf.q, i, seed, chain);
+        let end = write_chain(leaf.params, leaf.id, leaf.q, i, seed, chain);
+        hash.take(&end);
         let start = row * i as usize;
         commit_chain(leaf, i, chain, &mut commits[start..start + row]);
     }
+    hash.finish()
 }
 
 /// Writes the check tag of each member for the randomizer `c`.
@@ -123,7 +131,8 @@ fn write_tags(leaf: &Leaf, c: &Val, out: &mut [u8])
 }
 
 /// Writes leaf `q` of the reference of the key with this seed, as `build_leaf` does, and the commitments to its masks,
-/// each as the mask is made. `keys` are those of the trustees, that of trustee 1 first.
+/// each as the mask is made. `keys` are those of the trustees, that of trustee 1 first. Gives the public value K of the
+/// leaf, `n` bytes, as `build_leaf` does.
 #[tactic(auto, unfolding(crate::specs::Dealing::leaf_part, crate::specs::Commitments::leaf_commitments))]
 pub fn build_committed_leaf(
     params: &Params,
@@ -135,7 +144,7 @@ pub fn build_committed_leaf(
     keys: &[MacKey],
     out: &mut [u8],
     commits: &mut [u8],
-)
+) -> Val
     requires height { plan.now.h ≡ params.now.h }
     requires leaf { q < 2 ^ params.now.h }
     requires seed { length seed.now ≡ params.now.n }
@@ -145,6 +154,8 @@ pub fn build_committed_leaf(
     ensures leaf { out.new ≡ leaf_part (dealing_from params.now plan.now id.now seed.now random_key.now keys.now) q }
     ensures commitments { commits.new
         ≡ leaf_commitments (dealing_from params.now plan.now id.now seed.now random_key.now keys.now) q }
+    ensures leaf_key { result ≡ seed_leaf_key params.now id.now q seed.now }
+    ensures length { length result ≡ params.now.n }
 {
     let members = plan.members(plan.coalition_of(q));
     let leaf = Leaf {
@@ -162,5 +173,5 @@ pub fn build_committed_leaf(
     put(value, 0, c.bytes());
     mask_and_commit(&leaf, Masked::Randomizer, value, first);
     write_tags(&leaf, &c, tags);
-    commit_chains(&leaf, seed, chains, others);
+    commit_chains(&leaf, seed, chains, others)
 }

@@ -3,7 +3,8 @@
 ghost use Rattle.std.specs.Prelude.{◌≡◌, ◌+◌, ◌-◌, ◌*◌, ◌<◌, ◌≤◌, ◌^◌, ◌++◌, length, take, drop};
 ghost use Rattle.lms_bytes.specs.Bytes.{bytes_at, joined, xor};
 ghost use Rattle.mask_prf.specs.Masks.{chain_mask_of, check_tag_of, random_mask_of};
-ghost use Rattle.reference_value.specs.Dealing.{dealing_from, leaf_part, values_of_seed};
+ghost use Rattle.ots_chain.specs.LeafKey.{seed_leaf_key};
+ghost use Rattle.reference_value.specs.Dealing.{dealing_from, leaf_part, value_of_seed, values_of_seed};
 ghost use Rattle.reference_value.specs.Masking.{masked_at, masked_chain};
 ghost use Rattle.mask_prf.specs.Lengths.{leaf_length};
 
@@ -11,14 +12,22 @@ use coalition_map::{Members, Plan};
 use lms_bytes::bytes::{part, put};
 use lms_bytes::{KeyId, Params, Val};
 use mask_prf::{MacKey, TAG, chain_bytes, randomizer};
-use ots_chain::{chain, secret};
+use ots_chain::{LeafKeyHash, chain, secret};
 
-/// Writes the values of a chain, from no step to all.
-pub(crate) fn write_chain(params: &Params, id: &KeyId, q: u32, i: u16, seed: &Val, out: &mut [u8])
+/// Writes the values of a chain, from no step to all, and gives the last one, which is the end of the chain.
+pub(crate) fn write_chain(
+    params: &Params,
+    id: &KeyId,
+    q: u32,
+    i: u16,
+    seed: &Val,
+    out: &mut [u8],
+) -> Val
     requires index { i < params.now.p }
     requires seed { length seed.now ≡ params.now.n }
     requires room { length out.old ≡ params.now.n * 2 ^ params.now.w }
-    ensures { out.new ≡ values_of_seed params.now id.now q seed.now i }
+    ensures values { out.new ≡ values_of_seed params.now id.now q seed.now i }
+    ensures end { result ≡ value_of_seed params.now id.now q seed.now i (2 ^ params.now.w - 1) }
 {
     let n = params.n as usize;
     let mut value = secret(params, id, q, i, seed);
@@ -27,19 +36,25 @@ pub(crate) fn write_chain(params: &Params, id: &KeyId, q: u32, i: u16, seed: &Va
         value = chain(params, id, q, i, j, j + 1, &value);
         put(out, n * (j as usize + 1), value.bytes());
     }
+    value
 }
 
-/// Writes the values of all chains.
-fn write_chains(params: &Params, id: &KeyId, q: u32, seed: &Val, out: &mut [u8])
+/// Writes the values of all chains, and gives the public value of the leaf, which is made of their ends.
+fn write_chains(params: &Params, id: &KeyId, q: u32, seed: &Val, out: &mut [u8]) -> Val
     requires seed { length seed.now ≡ params.now.n }
     requires room { length out.old ≡ params.now.n * 2 ^ params.now.w * params.now.p }
-    ensures { out.new ≡ joined (values_of_seed params.now id.now q seed.now) params.now.p }
+    ensures values { out.new ≡ joined (values_of_seed params.now id.now q seed.now) params.now.p }
+    ensures leaf_key { result ≡ seed_leaf_key params.now id.now q seed.now }
+    ensures length { length result ≡ params.now.n }
 {
     let size = chain_bytes(params);
+    let mut hash = LeafKeyHash::new(params, id, q);
     'chains: for i in 0..params.p {
         let place = size * i as usize;
-        write_chain(params, id, q, i, seed, &mut out[place..place + size]);
+        let end = write_chain(params, id, q, i, seed, &mut out[place..place + size]);
+        hash.take(&end);
     }
+    hash.finish()
 }
 
 /// Puts a mask on the value at a place.
@@ -103,7 +118,8 @@ fn add_member(
 }
 
 /// Writes leaf `q` of the reference of the key with this seed: the randomizer, masked, the check tags, and the cells.
-/// `keys` are those of the trustees, that of trustee 1 first.
+/// `keys` are those of the trustees, that of trustee 1 first. Gives the public value K of the leaf, `n` bytes, from the
+/// same chains.
 #[tactic(auto, unfolding(crate::specs::Dealing::leaf_part))]
 pub fn build_leaf(
     params: &Params,
@@ -114,18 +130,20 @@ pub fn build_leaf(
     random_key: &[u8; 32],
     keys: &[[u8; 32]],
     out: &mut [u8],
-)
+) -> Val
     requires height { plan.now.h ≡ params.now.h }
     requires leaf { q < 2 ^ params.now.h }
     requires seed { length seed.now ≡ params.now.n }
     requires keys { length keys.now ≡ plan.now.n }
     requires room { length out.old ≡ leaf_length params.now plan.now.k }
-    ensures { out.new ≡ leaf_part (dealing_from params.now plan.now id.now seed.now random_key.now keys.now) q }
+    ensures leaf { out.new ≡ leaf_part (dealing_from params.now plan.now id.now seed.now random_key.now keys.now) q }
+    ensures leaf_key { result ≡ seed_leaf_key params.now id.now q seed.now }
+    ensures length { length result ≡ params.now.n }
 {
     let members = plan.members(plan.coalition_of(q));
     let c = randomizer(random_key, params, id, q);
     let (front, chains) = out.split_at_mut(params.n as usize + TAG * plan.k() as usize);
-    write_chains(params, id, q, seed, chains);
+    let leaf_key = write_chains(params, id, q, seed, chains);
     put(front, 0, c.bytes());
     let mut place = params.n as usize;
     'trustees: for t in 1..plan.n() + 1 {
@@ -135,4 +153,5 @@ pub fn build_leaf(
             place += TAG;
         }
     }
+    leaf_key
 }

@@ -1,9 +1,14 @@
 use Rattle.std.proofs.Common.{◌∙◌, refl}
-use Rattle.ots_chain.proofs.Joined.{holds_none, holds_more}
+use Rattle.ots_chain.proofs.Ends.{ends_none, ends_more}
 use Rattle.ots_chain.proofs.leaf_key.leaf_key_from.Goals as goal
 
 pub chains-init : goal.chains-init
-chains-init c = holds_none _ _ _ c.begin_leaf_key-hasher.ensures
+chains-init c = ends_none _ _ _ _ _ c.new-hash.ensures
 
 pub chains-preserved : goal.chains-preserved
-chains-preserved c = holds_more _ _ c.bytes.result.now _ c.chains.i (c.bytes.ensures.bytes ∙ (c.chain-end.ensures.value ∙ rw (c.digit-from.ensures, c.value_at-start.ensures, c.greatest_digit-greatest.ensures) refl)) (c.update.ensures _ c.chains.invariant)
+chains-preserved c =
+    ends_more _ _ _ _ c.chain-end.result _ c.chains.i
+    (c.chain-end.ensures.value ∙ rw (c.digit-from.ensures, c.value_at-start.ensures, c.greatest_digit-greatest.ensures) refl) (c.take.ensures _ _ _ _ c.chains.invariant)
+
+pub returns-clause-length : goal.returns-clause-length
+returns-clause-length c = c.finish.ensures.length _ _ _ _ c.chains.invariant

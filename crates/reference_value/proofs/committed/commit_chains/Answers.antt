@@ -1,6 +1,7 @@
 use Rattle.std.proofs.Common.{◌≡◌, ℕ, List, ◌*◌, ◌^◌, ◌∙◌, length, refl, arith, mul-zero}
 use Rattle.lms_bytes.specs.Bytes.{joined}
 use Rattle.lms_bytes.proofs.Joined.{front-all, joined-at, joined-none, joined-same}
+use Rattle.ots_chain.proofs.Ends.{ends_none, ends_more}
 use Rattle.reference_value.specs.Committing.{masked_cell, masked_row, row_commits}
 use Rattle.reference_value.specs.Dealing.{value_of_seed, values_of_seed}
 use Rattle.reference_value.specs.declared.committed.Leaf.{Leaf}
@@ -24,6 +25,7 @@ chains-init c =
     record {
       cells = rw (none, joined-none (masked_row c.args.leaf.now c.args.seed.now)) refl;
       commits = rw (empty, joined-none (row_commits c.args.leaf.now)) refl;
+      ends = ends_none _ _ _ _ _ c.new-hash.ensures;
     }
 
 pub overflow_mul-place : goal.overflow_mul-place
@@ -41,14 +43,14 @@ slice_bounds-chain-end c =
     let within = part-within _ _ c.chains.i c.args.leaf.now.params.now.p (length c.chains.out) c.chain_bytes-size.ensures.length (c.chains.auto.out ∙ c.requires.values) c.chains-test.true in
     omega (arith, within)
 
-pub write_chain-requires-clause-index : goal.write_chain-requires-clause-index
-write_chain-requires-clause-index c = c.chains-test.true
+pub write_chain-end-requires-clause-index : goal.write_chain-end-requires-clause-index
+write_chain-end-requires-clause-index c = c.chains-test.true
 
-pub write_chain-requires-clause-seed : goal.write_chain-requires-clause-seed
-write_chain-requires-clause-seed c = c.requires.seed
+pub write_chain-end-requires-clause-seed : goal.write_chain-end-requires-clause-seed
+write_chain-end-requires-clause-seed c = c.requires.seed
 
-pub write_chain-requires-clause-room : goal.write_chain-requires-clause-room
-write_chain-requires-clause-room c =
+pub write_chain-end-requires-clause-room : goal.write_chain-end-requires-clause-room
+write_chain-end-requires-clause-room c =
     let within = part-within _ _ c.chains.i c.args.leaf.now.params.now.p (length c.chains.out) c.chain_bytes-size.ensures.length (c.chains.auto.out ∙ c.requires.values) c.chains-test.true in
     length_part (c.chain_bytes-size.result * c.chains.i) _ c.chains.out within ∙ c.chain_bytes-size.ensures.length
 
@@ -76,7 +78,7 @@ commit_chain-requires-clause-members c = c.requires.members
 pub commit_chain-requires-clause-values : goal.commit_chain-requires-clause-values
 commit_chain-requires-clause-values c =
     let within = part-within _ _ c.chains.i c.args.leaf.now.params.now.p (length c.chains.out) c.chain_bytes-size.ensures.length (c.chains.auto.out ∙ c.requires.values) c.chains-test.true in
-    c.write_chain.auto.out ∙ (length_part (c.chain_bytes-size.result * c.chains.i) _ c.chains.out within ∙ c.chain_bytes-size.ensures.length)
+    c.write_chain-end.auto.out ∙ (length_part (c.chain_bytes-size.result * c.chains.i) _ c.chains.out within ∙ c.chain_bytes-size.ensures.length)
 
 pub commit_chain-requires-clause-room : goal.commit_chain-requires-clause-room
 commit_chain-requires-clause-room c =
@@ -93,10 +95,11 @@ chains-preserved c =
     let row = rw c.size.ensures.number at c.chain_commits_bytes-row.ensures.length in
     let part = part-within _ _ i count (length c.chains.commits) row (c.chains.auto.commits ∙ c.requires.room) c.chains-test.true in
     record {
-      cells = part-written (masked_row leaf c.args.seed.now) _ i c.chains.out c.commit_chain.new.out cell (c.commit_chain.auto.out ∙ c.write_chain.auto.out)
-          (row-is leaf c.args.seed.now c.write_chain.new.out c.commit_chain.new.out i c.write_chain.ensures c.commit_chain.ensures.masked) c.chains.invariant.cells;
+      cells = part-written (masked_row leaf c.args.seed.now) _ i c.chains.out c.commit_chain.new.out cell (c.commit_chain.auto.out ∙ c.write_chain-end.auto.out)
+          (row-is leaf c.args.seed.now c.write_chain-end.new.out c.commit_chain.new.out i c.write_chain-end.ensures.values c.commit_chain.ensures.masked) c.chains.invariant.cells;
       commits = part-written (row_commits leaf) _ i c.chains.commits c.commit_chain.new.commits part c.commit_chain.auto.commits c.commit_chain.ensures.commits
           c.chains.invariant.commits;
+      ends = ends_more _ _ _ _ c.write_chain-end.result _ i c.write_chain-end.ensures.end (c.take.ensures _ _ _ _ c.chains.invariant.ends);
     }
 
 pub returns-clause-cells : goal.returns-clause-cells
@@ -114,3 +117,6 @@ returns-clause-commits c =
     let all : c.chains.i ≡ params.p = omega arith in
     let room : length c.chains.commits ≡ row * params.p = rw (c.chain_commits_bytes-row.ensures.length, c.size.ensures.number) (omega arith) in
     front-all _ row params.p c.chains.commits room (rw all at c.chains.invariant.commits)
+
+pub returns-clause-length : goal.returns-clause-length
+returns-clause-length c = c.finish.ensures.length _ _ _ _ c.chains.invariant.ends

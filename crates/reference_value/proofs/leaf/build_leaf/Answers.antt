@@ -14,11 +14,11 @@ members-members-requires c = c.coalition_of.ensures.within
 pub split_at_mut-front-requires : goal.split_at_mut-front-requires
 split_at_mut-front-requires c = omega (arith, c.k.ensures.value, c.requires.room)
 
-pub write_chains-requires-clause-seed : goal.write_chains-requires-clause-seed
-write_chains-requires-clause-seed c = c.requires.seed
+pub write_chains-leaf_key-requires-clause-seed : goal.write_chains-leaf_key-requires-clause-seed
+write_chains-leaf_key-requires-clause-seed c = c.requires.seed
 
-pub write_chains-requires-clause-room : goal.write_chains-requires-clause-room
-write_chains-requires-clause-room c = omega (arith, c.split_at_mut-front.ensures.back_len, c.k.ensures.value, c.requires.room)
+pub write_chains-leaf_key-requires-clause-room : goal.write_chains-leaf_key-requires-clause-room
+write_chains-leaf_key-requires-clause-room c = omega (arith, c.split_at_mut-front.ensures.back_len, c.k.ensures.value, c.requires.room)
 
 pub put-requires : goal.put-requires
 put-requires c = omega (arith, ap length c.bytes.ensures.bytes, c.randomizer-c.ensures.length, c.split_at_mut-front.ensures.front_len)
@@ -28,13 +28,13 @@ add_member-requires-clause-behind c = omega (arith, c.trustees.invariant.ends)
 
 pub add_member-requires-clause-chains : goal.add_member-requires-clause-chains
 add_member-requires-clause-chains c =
-    omega (arith, c.trustees.auto.chains, c.write_chains.auto.out, c.split_at_mut-front.ensures.back_len, c.k.ensures.value, c.requires.room)
+    omega (arith, c.trustees.auto.chains, c.write_chains-leaf_key.auto.out, c.split_at_mut-front.ensures.back_len, c.k.ensures.value, c.requires.room)
 
 pub trustees-init : goal.trustees-init
 trustees-init c =
     let none = below-none 1 _ 1 c.members-members.result c.members-members.ensures.subset.ascending (omega arith) in
-    rw none (building-none _ c.args.q c.args.params.now.n c.bytes.result.now [] c.put.new.out c.write_chains.new.out refl (c.bytes.ensures.bytes ∙ c.randomizer-c.ensures.randomizer)
-    (ap length c.bytes.ensures.bytes ∙ c.randomizer-c.ensures.length) c.put.ensures.front c.write_chains.ensures)
+    rw none (building-none _ c.args.q c.args.params.now.n c.bytes.result.now [] c.put.new.out c.write_chains-leaf_key.new.out refl (c.bytes.ensures.bytes ∙ c.randomizer-c.ensures.randomizer)
+    (ap length c.bytes.ensures.bytes ∙ c.randomizer-c.ensures.length) c.put.ensures.front c.write_chains-leaf_key.ensures.values)
 
 pub add_member-requires-clause-room : goal.add_member-requires-clause-room
 add_member-requires-clause-room c =
@@ -61,8 +61,8 @@ trustees-preserved c =
           rw (same, w.place-is, w.front-is, w.chains-is) c.trustees.invariant
     ]
 
-pub returns : goal.returns
-returns c =
+pub returns-clause-leaf : goal.returns-clause-leaf
+returns-clause-leaf c =
     let d = dealing_from c.args.params.now c.args.plan.now c.args.id.now c.args.seed.now c.args.random_key.now c.args.keys.now in
     let all = below-all 1 _ c.trustees.t c.members-members.result c.members-members.ensures.subset.ascending (omega arith) in
     let members = members-are c.args.plan.now c.args.q c.coalition_of.result c.members-members.result c.members-members.ensures.members c.coalition_of.ensures.number in

@@ -1,4 +1,4 @@
-use Rattle.std.proofs.Common.{◌≡◌, ◌+◌, ◌^◌, ◌∙◌, length, sym, ap, arith}
+use Rattle.std.proofs.Common.{◌≡◌, ◌+◌, ◌-◌, ◌^◌, ◌∙◌, length, sym, ap, arith}
 use Rattle.std.proofs.lemmas.Nat.{pow_pos}
 use Rattle.reference_value.specs.Dealing.{value_of_seed}
 use Rattle.reference_value.proofs.Chains.{steps-none, steps-next}
@@ -31,10 +31,15 @@ steps-preserved c =
           c.steps.invariant.front c.put-in-steps.ensures.front;
     }
 
-pub returns : goal.returns
-returns c =
+pub returns-clause-values : goal.returns-clause-values
+returns-clause-values c =
     let params = c.args.params.now in
     let f = value_of_seed params c.args.id.now c.args.q c.args.seed.now c.args.i in
     let some = pow_pos params.w in
     let all : c.steps.j + 1 ≡ 2 ^ params.w = omega arith in
     front-all f params.n (2 ^ params.w) c.steps.out (omega arith) (rw all at c.steps.invariant.front)
+
+pub returns-clause-end : goal.returns-clause-end
+returns-clause-end c =
+    let last : c.steps.j ≡ 2 ^ c.args.params.now.w - 1 = omega arith in
+    rw last at c.steps.invariant.value
