@@ -22,9 +22,9 @@ const RANDOM_KEY: [u8; 32] = [0x4b; 32];
 const KEYS: [[u8; 32]; 5] = [[1; 32], [2; 32], [3; 32], [4; 32], [5; 32]];
 
 /// How many blocks SHA-256 takes in for a leaf of these parameters and three members: for each chain its secret and 15
-/// steps; for each of its 16 values and each member two blocks; and for the randomizer, the masks of it and the tags,
-/// with the blocks of each key.
-const BLOCKS: u32 = 67 * 16 + 67 * 16 * 3 * 2 + 4 + 3 * (2 + 2 + 2);
+/// steps; for each of its 16 values and each member two blocks; for the leaf's public value 34, over the ends of its
+/// chains; and for the randomizer, the masks of it and the tags, with the blocks of each key.
+const BLOCKS: u32 = 67 * 16 + 67 * 16 * 3 * 2 + 34 + 4 + 3 * (2 + 2 + 2);
 
 /// Builds that many leaves, each into the same bytes.
 fn build(params: &Params, plan: &Plan, leaves: u32, out: &mut [u8]) -> u8 {
@@ -38,8 +38,8 @@ fn build(params: &Params, plan: &Plan, leaves: u32, out: &mut [u8]) -> u8 {
     let mut all = 0;
     for count in 0..leaves {
         let q = count % params.leaves();
-        build_leaf(params, &ID, plan, q, &seed, &RANDOM_KEY, &KEYS, out);
-        all ^= last_byte(out);
+        let leaf_key = build_leaf(params, &ID, plan, q, &seed, &RANDOM_KEY, &KEYS, out);
+        all ^= last_byte(out) ^ last_byte(leaf_key.bytes());
     }
     all
 }

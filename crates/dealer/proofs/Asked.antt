@@ -3,22 +3,17 @@ use Rattle.std.proofs.Common.{◌≡◌, ℕ, zero, suc, ◌+◌, ◌*◌, ◌^�
 use Rattle.coalition_map.specs.Coalitions.{PlanNumbers}
 use Rattle.lms_bytes.specs.Bytes.{joined}
 use Rattle.lms_bytes.specs.declared.params.Params.{Params}
-use Rattle.lms_bytes.proofs.Joined.{joined-none, joined-same, joined-suc}
+use Rattle.lms_bytes.proofs.Joined.{joined-none, joined-suc}
 use Rattle.reference_value.specs.Commitments.{commitments}
 use Rattle.reference_value.specs.Dealing.{Dealing}
 use Rattle.dealer.specs.Runs.{HasRoom, asked_length, file_asked, leaf_asked, run_asked}
 use Rattle.dealer.specs.declared.runs.Run.{Run}
+use Rattle.dealer.proofs.Joins.{whole-run}
 
 -- nothing, any number of times
 joined-nothing : (count : ℕ) → joined (λ _. []) count ≡ []
 joined-nothing zero = joined-none (λ _. [])
 joined-nothing (suc count) = rw (joined-suc (λ _. []) count, joined-nothing count) refl
-
--- a run of all leaves has all commitments
-whole-asked : (commit : Bool) (d : Dealing) (run : Run) → run.first ≡ 0 → run.count ≡ 2 ^ d.params.h
-    → run_asked commit d run ≡ joined (leaf_asked commit d) (2 ^ d.params.h)
-whole-asked commit d run first count =
-    rw (first, count) (joined-same (λ i. leaf_asked commit d (0 + i)) (leaf_asked commit d) (2 ^ d.params.h) (λ i _. ap (leaf_asked commit d) (omega arith)))
 
 -- the commitments begin within their file
 pub begins-within : (file : List ℕ) → min (length file) 32 ≤ length file
@@ -47,4 +42,4 @@ pub file-whole : (commit : Bool) (d : Dealing) (run : Run) (file head behind : L
     → head ≡ take (min (length file) 32) file → behind ≡ run_asked commit d run → run.first ≡ 0 → run.count ≡ 2 ^ d.params.h
     → head ++ behind ≡ file_asked commit d
 file-whole commit d run file head behind room cut is first count =
-    file-joined commit d file head behind room cut (is ∙ whole-asked commit d run first count)
+    file-joined commit d file head behind room cut (is ∙ whole-run (leaf_asked commit d) run (2 ^ d.params.h) first count)

@@ -1,21 +1,11 @@
 -- Leaves that several threads build, each a run of them.
-use Rattle.std.proofs.Common.{◌≡◌, ℕ, zero, suc, ◌+◌, ◌^◌, ◌<◌, List, [], ◌++◌, length, map, get_or, refl, sym, ap, ◌∙◌, arith, append-nil, append_assoc, take, take_all, ◌*◌, ◌≤◌}
-use Rattle.std.specs.List.{range_with_len}
+use Rattle.std.proofs.Common.{◌≡◌, ℕ, zero, suc, ◌+◌, ◌^◌, Bool, List, ◌++◌, length, refl, sym, ap, ◌∙◌, arith, append-nil, append_assoc, take, take_all, ◌*◌, ◌≤◌}
 use Rattle.std.proofs.Math.Nat.{mul-add}
-use Rattle.std.proofs.lemmas.List.{ext_get_or}
-use Rattle.std.proofs.lemmas.List.FromFn.{get_or-map-range_with_len, length-map-range_with_len}
 use Rattle.lms_bytes.specs.Bytes.{joined}
 use Rattle.lms_bytes.proofs.Joined.{joined-none, joined-same, joined-suc}
 use Rattle.reference_value.specs.Dealing.{Dealing, leaf_part, reference}
-use Rattle.dealer.specs.Runs.{run_leaves}
+use Rattle.dealer.specs.Runs.{IsRunBuilt, dealt_leaf_key, leaf_asked, run_leaves}
 use Rattle.dealer.specs.declared.runs.Run.{Run}
-
--- a list whose every element is known
-pub mapped-all : (f : ℕ → List ℕ) (n : ℕ) (xs : List (List ℕ)) → length xs ≡ n → ((q : ℕ) → q < n → get_or xs q [] ≡ f q)
-    → xs ≡ map f (range_with_len 0 n)
-mapped-all f n xs size each =
-    ext_get_or [] xs (map f (range_with_len 0 n)) (size ∙ sym (length-map-range_with_len f 0 n))
-    (λ q inside. each q (omega (arith, size)) ∙ sym (get_or-map-range_with_len f 0 n q q [] (omega (arith, size)) (omega arith)))
 
 -- the strings of one run and those of the run after it, joined
 pub runs-joined : (f : ℕ → List ℕ) (first next m n count : ℕ) → next ≡ first + m → m + n ≡ count
@@ -30,17 +20,36 @@ runs-joined f first next m (suc n) count behind all =
     rw (← whole, joined-suc (λ i. f (next + i)) n, joined-suc (λ i. f (first + i)) (m + n), ← before, last)
     (sym (append_assoc (joined (λ i. f (first + i)) m) (joined (λ i. f (next + i)) n) (f (first + (m + n)))))
 
+-- the strings of a run of all leaves are those of all leaves
+pub whole-run : (f : ℕ → List ℕ) (run : Run) (count : ℕ) → run.first ≡ 0 → run.count ≡ count
+    → joined (λ i. f (run.first + i)) run.count ≡ joined f count
+whole-run f run count first all = rw (first, all) (joined-same (λ i. f (0 + i)) f count (λ i _. ap f (omega arith)))
+
 -- a run of all leaves is the reference value
 pub whole-leaves : (d : Dealing) (run : Run) → run.first ≡ 0 → run.count ≡ 2 ^ d.params.h → run_leaves d run ≡ reference d
 unfolding reference
-whole-leaves d run first count =
-    rw (first, count) (joined-same (λ i. leaf_part d (0 + i)) (leaf_part d) (2 ^ d.params.h) (λ i _. ap (leaf_part d) (omega arith)))
+whole-leaves d run first count = whole-run (leaf_part d) run (2 ^ d.params.h) first count
 
 -- what two threads wrote, each a run, is the run that was cut
 pub runs-written : (f : ℕ → List ℕ) (a b : List ℕ) (first front back m n count : ℕ) → front ≡ first → back ≡ first + m → m + n ≡ count
     → a ≡ joined (λ i. f (front + i)) m → b ≡ joined (λ i. f (back + i)) n → a ++ b ≡ joined (λ i. f (first + i)) count
 runs-written f a b first front back m n count here behind all one other =
     rw (one, other, here) (runs-joined f first back m n count behind all)
+
+-- what is built of two runs that were cut is what is built of the run
+pub runs-built : {commit : Bool} {d : Dealing} {run one other : Run} (leaves commits keys leaves' commits' keys' : List ℕ)
+    → one.first ≡ run.first → other.first ≡ run.first + one.count → one.count + other.count ≡ run.count
+    → IsRunBuilt commit d one leaves commits keys → IsRunBuilt commit d other leaves' commits' keys'
+    → IsRunBuilt commit d run (leaves ++ leaves') (commits ++ commits') (keys ++ keys')
+runs-built {commit} {d} {run} {one} {other} leaves commits keys leaves' commits' keys' first next all a b =
+    let join : (f : ℕ → List ℕ) (x y : List ℕ) → x ≡ joined (λ i. f (one.first + i)) one.count → y ≡ joined (λ i. f (other.first + i)) other.count
+    → x ++ y ≡ joined (λ i. f (run.first + i)) run.count =
+    λ f x y. runs-written f x y run.first one.first other.first one.count other.count run.count first next all in
+    record {
+      leaves_are = join (leaf_part d) _ _ a.leaves_are b.leaves_are;
+      commits_are = join (leaf_asked commit d) _ _ a.commits_are b.commits_are;
+      keys_are = join (dealt_leaf_key d) _ _ a.keys_are b.keys_are;
+    }
 
 -- a run whose last leaf was written
 pub run-written : (f : ℕ → List ℕ) (size i count : ℕ) (out : List ℕ) → length out ≡ size * count → i ≡ count → take (size * i) out ≡ joined f i

@@ -29,9 +29,5 @@ at_read P xs i x all read within = subst P (sym read) (all i x within)
 pub over_all : {X : Type 0} (count : ℕ) (out old is : List X) → length out ≡ count → out ≡ is → take count (out ++ drop (length out) old) ≡ is
 over_all count out old is size e = take_at out (drop (length out) old) count size ∙ e
 
-pub all_over : {X : Type 0} (P : X → Type 0) (count : ℕ) (out old : List X) → length out ≡ count → All P out
-    → All P (take count (out ++ drop (length out) old))
-all_over P count out old size all = subst (All P) (sym (take_at out (drop (length out) old) count size)) all
-
 pub length_over : {X : Type 0} (count : ℕ) (out old : List X) → length out ≡ count → length (take count (out ++ drop (length out) old)) ≡ count
 length_over count out old size = ap length (take_at out (drop (length out) old) count size) ∙ size

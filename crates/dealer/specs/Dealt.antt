@@ -1,7 +1,6 @@
 -- What a dealing gives.
-use Rattle.std.specs.Prelude.{◌≡◌, ◌^◌, ℕ, List, map, All}
+use Rattle.std.specs.Prelude.{◌≡◌, ℕ, List, map, All}
 use Rattle.std.specs.List.{range_with_len}
-use Rattle.lms_bytes.specs.declared.params.Params.{Params}
 use Rattle.lms_verify.specs.UndividedKey.{UndividedKey, seed_root}
 use Rattle.merkle_path.specs.Tree.{TreeNodes, tree_of}
 use Rattle.ots_chain.specs.LeafKey.{seed_leaf_key}
@@ -22,10 +21,6 @@ dealt_root d = seed_root d.params d.id d.seed
 -- the tree over K of each leaf (RFC 8554 sections 4.3 and 5.3)
 abbrev pub dealt_tree : Dealing → TreeNodes
 dealt_tree d = tree_of d.params d.id (λ q. seed_leaf_key d.params d.id q d.seed)
-
--- internal: K of each leaf, that of leaf 0 first
-abbrev pub leaf_keys_of : Params → List ℕ → List ℕ → List (List ℕ)
-leaf_keys_of params id seed = map (λ q. seed_leaf_key params id q seed) (range_with_len 0 (2 ^ params.h))
 
 -- the shares are one for each trustee, in ascending order, each with the trustee's own key
 pub record AreShares (d : Dealing) (shares : List Share) : Type 0 where

@@ -2,19 +2,19 @@
 
 ghost use Rattle.std.specs.Prelude.{◌≡◌, ◌<◌, ◌≤◌, All, IfOk, is_some, length};
 ghost use Rattle.reference_value.specs.Dealing as spec;
-ghost use Rattle.dealer.specs.Dealt.{IsDealt, leaf_keys_of};
+ghost use Rattle.dealer.specs.Dealt.{IsDealt};
 ghost use Rattle.dealer.specs.Entropy.{dealing_of};
 ghost use Rattle.dealer.specs.Faults.{IsDealable};
-ghost use Rattle.dealer.specs.Runs.{IsBuilt, file_asked};
+ghost use Rattle.dealer.specs.Runs.{IsBuilt, file_asked, joined_keys};
 ghost use Rattle.dealer.specs.Secrets.{Suit, dealing_with};
 
 use crate::dealing::Dealt;
 use crate::entropy::{Secrets, read_entropy};
-use crate::leaves::{build_tree, leaf_keys, room_asked, room_for_leaves};
+use crate::leaves::{Rows, build_tree, room_for_rows};
 use crate::shares::build_shares;
 use crate::writing::write_leaves;
 use coalition_map::Plan;
-use lms_bytes::{Params, PublicKey, Val};
+use lms_bytes::{Params, PublicKey};
 use memory::NoMemory;
 use std::alloc::Global;
 
@@ -31,51 +31,56 @@ pub(crate) fn build(
     ensures { IfOk result (IsBuilt commit (dealing_of params.now plan.now entropy.now)) }
 {
     let secrets = read_entropy(alloc, params, plan, entropy, commit)?;
-    let (leaves, file) = build_leaves(alloc, params, plan, &secrets)?;
-    let keys = leaf_keys(alloc, params, &secrets.id, &secrets.seed)?;
+    let Rows { leaves, file, keys } = build_leaves(alloc, params, plan, &secrets)?;
     let dealt = finish(alloc, params, plan, &secrets, &keys, leaves)?;
     Ok((dealt, file))
 }
 
-/// The leaves of the masked reference value, with room for the head of their file, and the commitment file if it is
-/// asked for.
+/// What is built of all leaves.
 fn build_leaves(
     alloc: Global,
     params: &Params,
     plan: &Plan,
     secrets: &Secrets,
-) -> Result<(Vec<u8>, Vec<u8>), NoMemory>
+) -> Result<Rows, NoMemory>
     requires suit { Suit params.now plan.now secrets.now }
-    ensures leaves { IfOk result (λ both. both.0.items
+    ensures leaves { IfOk result (λ rows. rows.leaves.items
         ≡ spec.reference (dealing_with params.now plan.now secrets.now)) }
-    ensures file { IfOk result (λ both. both.1.items
+    ensures file { IfOk result (λ rows. rows.file.items
         ≡ file_asked (is_some secrets.now.macs) (dealing_with params.now plan.now secrets.now)) }
+    ensures keys { IfOk result (λ rows. rows.keys.items
+        ≡ joined_keys (dealing_with params.now plan.now secrets.now)) }
 {
-    let mut leaves = room_for_leaves(alloc, params, plan)?;
-    let mut file = room_asked(alloc, params, plan, secrets)?;
-    write_leaves(params, plan, secrets, &mut leaves, &mut file);
-    Ok((leaves, file))
+    let mut rows = room_for_rows(alloc, params, plan, secrets)?;
+    write_leaves(
+        params,
+        plan,
+        secrets,
+        &mut rows.leaves,
+        &mut rows.file,
+        &mut rows.keys,
+    );
+    Ok(rows)
 }
 
-/// The dealing with these public values of the leaves, and these leaves of the masked reference value.
+/// The dealing with these public values of the leaves, `n` bytes each, and these leaves of the masked reference value.
 pub(crate) fn finish(
     alloc: Global,
     params: &Params,
     plan: &Plan,
     secrets: &Secrets,
-    leaf_keys: &[Val],
+    keys: &[u8],
     leaves: Vec<u8>,
 ) -> Result<Dealt, NoMemory>
     requires suit { Suit params.now plan.now secrets.now }
     requires low { params.now.h ≤ 10 }
     requires lengths { All (λ key. length key ≡ 32) secrets.now.keys.items }
-    requires leaf_keys { leaf_keys.now ≡ leaf_keys_of params.now secrets.now.id secrets.now.seed }
-    requires whole { All (λ key. length key ≡ params.now.n) leaf_keys.now }
+    requires keys { keys.now ≡ joined_keys (dealing_with params.now plan.now secrets.now) }
     requires leaves { leaves.items ≡ spec.reference (dealing_with params.now plan.now secrets.now) }
     ensures dealt { IfOk result (IsDealt (dealing_with params.now plan.now secrets.now)) }
     ensures shares { IfOk result (λ dealt. 0 < length dealt.shares.items) }
 {
-    let tree = build_tree(alloc, params, secrets, leaf_keys)?;
+    let tree = build_tree(alloc, params, secrets, keys)?;
     let public = PublicKey {
         params: *params,
         id: secrets.id,

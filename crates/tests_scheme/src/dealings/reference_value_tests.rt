@@ -11,6 +11,7 @@ use disk_trait::{DiskFault, Faults, MemDisk, Pages};
 use lms_bytes::bytes::put;
 use lms_bytes::{MessageId, Val, digit};
 use mask_prf::{chain_mask, check_tag, random_mask, randomizer};
+use ots_chain::leaf_key_of;
 use reference_value::{
     Cells, Paged, RefFault, Whole, build_leaf, join_chains, join_randomizer, leaf_bytes, rank,
 };
@@ -76,23 +77,24 @@ fn pair_of(rt: &impl Abort, dealt: &Dealt) -> (Share, Share) {
     (dealt.shares[0], dealt.shares[1])
 }
 
-/// Builds leaf 7 of a dealing of the bytes that count up from 0.
-fn build(rt: &impl Abort, first: &Share, second: &Share, out: &mut [u8]) {
+/// Builds leaf 7 of a dealing of the bytes that count up from 0, and gives whether its public value is that of the key.
+fn build(rt: &impl Abort, first: &Share, second: &Share, out: &mut [u8]) -> bool {
     let Share { params, plan, .. } = first;
     let seed = Val::cut(&key_from(16), params.n);
     let keys = [first.key, second.key];
     assert!(rt; plan.n() == 2);
     assert!(rt; 7 < params.leaves());
     assert!(rt; out.len() == leaf_bytes(params, plan.k()));
-    build_leaf(params, &first.id, plan, 7, &seed, &key_from(48), &keys, out);
+    let leaf_key = build_leaf(params, &first.id, plan, 7, &seed, &key_from(48), &keys, out);
+    leaf_key == leaf_key_of(params, &first.id, 7, &seed)
 }
 
-/// Whether leaf 7 is that of the reference.
+/// Whether leaf 7 is that of the reference, with its public value.
 fn has_leaf(rt: &impl Abort, dealt: &Dealt) -> bool {
     let (first, second) = pair_of(rt, dealt);
     let mut leaf = [0; 9688];
-    build(rt, &first, &second, &mut leaf);
-    dealt.reference.get(7 * 9688..8 * 9688) == Some(leaf.as_slice())
+    build(rt, &first, &second, &mut leaf)
+        && dealt.reference.get(7 * 9688..8 * 9688) == Some(leaf.as_slice())
 }
 
 #[test]

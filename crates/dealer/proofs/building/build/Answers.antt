@@ -12,11 +12,8 @@ finish-requires-clause-low c = c.requires.dealable.set.height
 pub finish-requires-clause-lengths : goal.finish-requires-clause-lengths
 finish-requires-clause-lengths c = c.in_ok-secrets.ensures.lengths
 
-pub finish-requires-clause-leaf_keys : goal.finish-requires-clause-leaf_keys
-finish-requires-clause-leaf_keys c = c.deref.ensures.value ∙ c.in_ok-keys.ensures.keys
-
-pub finish-requires-clause-whole : goal.finish-requires-clause-whole
-finish-requires-clause-whole c = rw c.deref.ensures.value c.in_ok-keys.ensures.length
+pub finish-requires-clause-keys : goal.finish-requires-clause-keys
+finish-requires-clause-keys c = c.deref.ensures.value ∙ c.in_ok-leaves.ensures.keys
 
 pub finish-requires-clause-leaves : goal.finish-requires-clause-leaves
 finish-requires-clause-leaves c = c.in_ok-leaves.ensures.leaves
@@ -33,9 +30,6 @@ returns-in_err-secrets c = rw (err_from_is_err_and c.from_residual.result c.from
 
 pub returns-in_err-leaves : goal.returns-in_err-leaves
 returns-in_err-leaves c = rw (err_from_is_err_and c.from_residual-in_err-leaves.result c.from_residual-in_err-leaves.ensures.1).1 tt
-
-pub returns-in_err-keys : goal.returns-in_err-keys
-returns-in_err-keys c = rw (err_from_is_err_and c.from_residual-in_err-keys.result c.from_residual-in_err-keys.ensures.1).1 tt
 
 pub returns-in_err-dealt : goal.returns-in_err-dealt
 returns-in_err-dealt c = rw (err_from_is_err_and c.from_residual-in_err-dealt.result c.from_residual-in_err-dealt.ensures.1).1 tt
