@@ -46,6 +46,14 @@ impl Layout {
         }
     }
 
+    /// How long all leaves together are.
+    pub(crate) fn length(&self) -> usize
+        ensures length { result ≡ leaves_length self.now.params self.now.plan }
+        ensures small { result ≤ 2 ^ 50 }
+    {
+        leaf_bytes(&self.params, self.plan.k()) * self.params.leaves() as usize
+    }
+
     /// Where leaf `q` begins, and in it the randomizer.
     pub(crate) fn leaf(&self, q: u32) -> usize
         requires { q < 2 ^ self.now.params.h }

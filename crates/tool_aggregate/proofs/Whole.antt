@@ -198,13 +198,13 @@ module _ {V : Type 0} (p : pages.Ghosts V) (f : faults.Ghosts V) (words : Aggreg
     fresh = faults ∙ is.given.fresh;
   }
 
-  pub all_read : (places : List Place) (own : List (Paged V)) → All (λ one. IsViewOf a (reference_name words.prefix) (state_of (pages_of one))) own
-      → map (λ (place : Place). place.reference) places ≡ map (λ (one : Paged V). record { told = p.told one.pages; steady = f.steady one.pages; leaves = drop 32 (p.reads one.pages) }) own
-      → map (λ (place : Place). place.faults) places ≡ map (λ (one : Paged V). f.count one.pages) own → All (ReadsReference words (from_to a d) header) places
+  pub all_read : (places : List Place) (own : List (Paged V p f)) → All (λ one. IsViewOf a (reference_name words.prefix) (state_of (pages_of one))) own
+      → map (λ (place : Place). place.reference) places ≡ map (λ (one : Paged V p f). record { told = p.told one.pages; steady = f.steady one.pages; leaves = drop 32 (p.reads one.pages) }) own
+      → map (λ (place : Place). place.faults) places ≡ map (λ (one : Paged V p f). f.count one.pages) own → All (ReadsReference words (from_to a d) header) places
   all_read [] own are references faults = All-nil (ReadsReference words (from_to a d) header)
   all_read (place ∷ places) [] are references faults = absurd (cc)
   all_read (place ∷ places) (one ∷ own) are references faults =
-      let Is : Paged V → Type 0 = λ it. IsViewOf a (reference_name words.prefix) (state_of (pages_of it)) in
+      let Is : Paged V p f → Type 0 = λ it. IsViewOf a (reference_name words.prefix) (state_of (pages_of it)) in
       All-cons (ReadsReference words (from_to a d) header) place places
       (one_reads place one.pages (All-head Is one own are) (cc) (cc))
       (all_read places own (All-tail Is one own are) (cc) (cc))

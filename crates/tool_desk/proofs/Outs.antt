@@ -5,6 +5,8 @@ use Rattle.std.proofs.lemmas.List.Elements.{All-cons, All-nil, All-push, All-wea
 use Rattle.std.proofs.lemmas.List.Sums.{sum_by-cons}
 use Rattle.std.specs.Str.{bytes_eq}
 use Rattle.coalition_map.specs.Coalitions.{PlanNumbers}
+use Rattle.disk_trait.specs.declared.disk.Pages as ghosts
+use Rattle.disk_trait.specs.declared.faults.Faults as faults
 use Rattle.lms_bytes.specs.declared.params.Params.{Params}
 use Rattle.reference_value.specs.Paged.{pages_of}
 use Rattle.reference_value.specs.declared.paged.Paged.{Paged}
@@ -102,6 +104,14 @@ all_back a c d count counts out back many = record {
 }
 
 -- one more view came back
+pub back_none : (a : StoreState) → ViewsBack a [] a
+back_none a = record {
+  names = record { file = refl; leaves = λ name image. (λ x. x, λ x. x); out = refl };
+  rise = omega arith;
+  views = λ told. (omega arith);
+  onward = onward_none a;
+}
+
 pub back_more : (a b c : StoreState) (counts : List ℕ) (view : PagesState) → ViewsBack a counts b → ViewEnded b view c → StoreOnward b c → ViewsBack a (view.count ∷ counts) c
 back_more a b c counts view back ended onward = record {
   names = record {
@@ -157,14 +167,14 @@ out_ended a b c d count name view now out viewed onward ended ends = record {
 }
 
 -- ---- cells that are put after others
-module _ {V : Type 0} (pages : V → PagesState) (a : StoreState) (name : List ℕ) (before : List (Paged V)) where
-  abbrev Is : Paged V → Type 0
+module _ {V : Type 0} {p : ghosts.Ghosts V} {f : faults.Ghosts V} (pages : V → PagesState) (a : StoreState) (name : List ℕ) (before : List (Paged V p f)) where
+  abbrev Is : Paged V p f → Type 0
   Is one = IsViewOf a name (pages (pages_of one))
 
   pub adds_none : AddsCells a name pages before before a
   adds_none = record { added = []; items = sym (append-nil before); cells = record { are = All-nil Is; out = out_none a } }
 
-  module _ (after : List (Paged V)) (b : StoreState) (adds : AddsCells a name pages before after b) where
+  module _ (after : List (Paged V p f)) (b : StoreState) (adds : AddsCells a name pages before after b) where
     pub adds_kept : (c : StoreState) → Keeps [] b c → AddsCells a name pages before after c
     adds_kept c keeps = record {
       added = adds.added;
@@ -179,11 +189,11 @@ module _ {V : Type 0} (pages : V → PagesState) (a : StoreState) (name : List �
       cells = record { are = adds.cells.are; out = out_ended a b c d (length adds.added) name view now adds.cells.out viewed onward ended ends };
     }
 
-    pub adds_more : (c : StoreState) (own : Paged V) (view : V) → pages_of own ≡ view → Viewed b name (pages view) c → StoreOnward b c
+    pub adds_more : (c : StoreState) (own : Paged V p f) (view : V) → pages_of own ≡ view → Viewed b name (pages view) c → StoreOnward b c
         → AddsCells a name pages before (after ++ own ∷ []) c
     adds_more c own view of viewed onward = record {
       added = adds.added ++ own ∷ [];
-      items = ap (λ (l : List (Paged V)). l ++ own ∷ []) adds.items ∙ append_assoc before adds.added (own ∷ []);
+      items = ap (λ (l : List (Paged V p f)). l ++ own ∷ []) adds.items ∙ append_assoc before adds.added (own ∷ []);
       cells = record {
         are = All-push Is adds.added own adds.cells.are
             (subst (λ (v : V). IsViewOf a name (pages v)) (sym of) (view_of a b c (length adds.added) name (pages view) adds.cells.out viewed));
@@ -221,7 +231,7 @@ out_unchanged a b unchanged = record {
 }
 
 -- the first cells and those after them
-module _ {V : Type 0} (pages : V → PagesState) (a b c : StoreState) (name : List ℕ) (own : Paged V) (view : V) (of : pages_of own ≡ view) (all : List (Paged V))
+module _ {V : Type 0} {p : ghosts.Ghosts V} {f : faults.Ghosts V} (pages : V → PagesState) (a b c : StoreState) (name : List ℕ) (own : Paged V p f) (view : V) (of : pages_of own ≡ view) (all : List (Paged V p f))
     (viewed : Viewed a name (pages view) b) (onward : StoreOnward a b) (adds : AddsCells b name pages (own ∷ []) all c) where
   abbrev first : ViewsOut a (0 + 1) b
   first = out_more a a b 0 name (pages view) (out_none a) viewed onward
@@ -234,7 +244,7 @@ module _ {V : Type 0} (pages : V → PagesState) (a b c : StoreState) (name : Li
 
   pub all_cells : CellsOut a name pages all c
   all_cells =
-      let Is : Paged V → Type 0 = λ one. IsViewOf a name (pages (pages_of one)) in
+      let Is : Paged V p f → Type 0 = λ one. IsViewOf a name (pages (pages_of one)) in
       record {
         are = subst (All Is) (sym adds.items)
             (All-cons Is own adds.added (subst (λ (v : V). IsViewOf a name (pages v)) (sym of) (view_of a a b 0 name (pages view) (out_none a) viewed))
@@ -242,14 +252,14 @@ module _ {V : Type 0} (pages : V → PagesState) (a b c : StoreState) (name : Li
         out = subst (λ (n : ℕ). ViewsOut a n c) (sym many) both;
       }
 
-  pub keeps_all : (d : StoreState) (count : Paged V → ℕ) → ViewsBack c (map count all) d → Keeps [] a d
+  pub keeps_all : (d : StoreState) (count : Paged V p f → ℕ) → ViewsBack c (map count all) d → Keeps [] a d
   keeps_all d count back = all_back a c d (0 + 1 + length adds.added) (map count all) both back (length-map all count ∙ many)
 
 -- ---- the first cell of several
-pub one_of_set : {V : Type 0} (params : Params) (plan : PlanNumbers) (own : Paged V) (cells : List (Paged V)) → cells ≡ own ∷ []
+pub one_of_set : {V : Type 0} {p : ghosts.Ghosts V} {f : faults.Ghosts V} (params : Params) (plan : PlanNumbers) (own : Paged V p f) (cells : List (Paged V p f)) → cells ≡ own ∷ []
     → own.layout.params ≡ params → own.layout.plan ≡ plan → AreOfSet params plan cells
-one_of_set {V} params plan own cells is set of =
-    let Is : Paged V → Type 0 = λ own. (own.layout.params ≡ params) × (own.layout.plan ≡ plan) in
+one_of_set {V} {p} {f} params plan own cells is set of =
+    let Is : Paged V p f → Type 0 = λ own. (own.layout.params ≡ params) × (own.layout.plan ≡ plan) in
     subst (All Is) (sym is) (All-cons Is own [] (set, of) (All-nil Is))
 
 pub room_for_first : {had room count : ℕ} → 1 ≤ count → had ≡ 0 → room ≡ count → had < room

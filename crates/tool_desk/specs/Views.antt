@@ -50,13 +50,14 @@ pub record ViewsOut (old : StoreState) (count : ℕ) (new : StoreState) : Type 0
   pub views : IsTrue old.told → new.views ≡ old.views + count
 
 -- cells that are read from views of this name, which went out for them
-pub record CellsOut {V : Type 0} (store : StoreState) (name : List ℕ) (pages : V → PagesState) (cells : List (Paged V))
-    (new : StoreState) : Type 0 where
+pub record CellsOut {V : Type 0} {p : pages.Ghosts V} {f : faults.Ghosts V} (store : StoreState) (name : List ℕ)
+    (pages : V → PagesState) (cells : List (Paged V p f)) (new : StoreState) : Type 0 where
   pub are : All (λ one. IsViewOf store name (pages (pages_of one))) cells
   pub out : ViewsOut store (length cells) new
 
 -- the cells have this parameter set and this plan
-abbrev pub AreOfSet : {V : Type 0} → Params → PlanNumbers → List (Paged V) → Type 0
+abbrev pub AreOfSet : {V : Type 0} {p : pages.Ghosts V} {f : faults.Ghosts V}
+    → Params → PlanNumbers → List (Paged V p f) → Type 0
 AreOfSet params plan cells = All (λ own. (own.layout.params ≡ params) × (own.layout.plan ≡ plan)) cells
 
 -- internal: in any run that a call is a part of and in which, before the call, nothing changed except that views went
@@ -66,9 +67,9 @@ WithViewsOut {S} state before after holds = (first last : S) (out : ℕ) → Vie
     → StoreOnward (state after) (state last) → holds (from_to (state first) (state last))
 
 -- internal: cells were put after others
-pub record AddsCells {V : Type 0} (store : StoreState) (name : List ℕ) (pages : V → PagesState)
-    (before after : List (Paged V)) (new : StoreState) : Type 0 where
-  pub added : List (Paged V)
+pub record AddsCells {V : Type 0} {p : pages.Ghosts V} {f : faults.Ghosts V} (store : StoreState) (name : List ℕ)
+    (pages : V → PagesState) (before after : List (Paged V p f)) (new : StoreState) : Type 0 where
+  pub added : List (Paged V p f)
   pub items : after ≡ before ++ added
   pub cells : CellsOut store name pages added new
 

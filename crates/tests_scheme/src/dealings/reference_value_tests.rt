@@ -299,14 +299,15 @@ fn join_watched(
 }
 
 #[test]
-fn pages_are_read_value_by_value(rt: HostRuntime) {
+fn values_of_one_leaf_share_reads(rt: HostRuntime) {
     let (joined, watched) = join_watched(&rt, rt.alloc(), None);
-    assert!(rt; joined == Ok(true) && watched.reads == 200 && watched.bytes == 4800);
+    // A leaf of typecode 5 has 200 chains of two values: 9,600 bytes, of which each read gives 4,096.
+    assert!(rt; joined == Ok(true) && watched.reads == 3 && watched.bytes == 12288);
 }
 
 #[test]
 fn a_read_that_fails_is_a_fault(rt: HostRuntime) {
-    let (joined, watched) = join_watched(&rt, rt.alloc(), Some(5));
+    let (joined, watched) = join_watched(&rt, rt.alloc(), Some(2));
     assert!(rt; joined == Err(RefFault) && watched.faults() == 1);
 }
 

@@ -41,8 +41,8 @@ returns-in-Ok-view_others-clause-cells g c =
     let viewed = c.in-Ok-view_reference.ensures in
     let own = c.new.result in
     let name = reference_name c.args.prefix.now in
-    let items : c.push_reserved.new.self.items ≡ own ∷ [] = c.push_reserved.ensures.items ∙ ap (λ (l : List (Paged g.row.S-View.Denot)). l ++ own ∷ []) c.in-Ok.ensures.items in
-    let adds = subst (λ (l : List (Paged g.row.S-View.Denot)). AddsCells (state c.view_reference.new.store) name pages l c.view_others.new.cells.items (state c.view_others.new.store)) items
+    let items : c.push_reserved.new.self.items ≡ own ∷ [] = c.push_reserved.ensures.items ∙ ap (λ (l : List (Paged g.row.S-View.Denot g.S.View.Pages g.S.View.Faults)). l ++ own ∷ []) c.in-Ok.ensures.items in
+    let adds = subst (λ (l : List (Paged g.row.S-View.Denot g.S.View.Pages g.S.View.Faults)). AddsCells (state c.view_reference.new.store) name pages l c.view_others.new.cells.items (state c.view_others.new.store)) items
     c.in-Ok-view_others.ensures.adds in
     all_cells pages (state c.args.store.now) (state c.view_reference.new.store) (state c.view_others.new.store) name own c.in-Ok-view_reference.viewed.0 c.new.ensures.pages
     c.view_others.new.cells.items viewed.viewed viewed.taken.onward adds
@@ -57,8 +57,8 @@ returns-in-Err-view_others-clause-taken g c =
     let ends = c.end_cells.ensures in
     let own = c.new.result in
     let name = reference_name c.args.prefix.now in
-    let items : c.push_reserved.new.self.items ≡ own ∷ [] = c.push_reserved.ensures.items ∙ ap (λ (l : List (Paged g.row.S-View.Denot)). l ++ own ∷ []) c.in-Ok.ensures.items in
-    let adds = subst (λ (l : List (Paged g.row.S-View.Denot)). AddsCells (state c.view_reference.new.store) name pages l c.view_others.new.cells.items (state c.view_others.new.store)) items others.adds in
+    let items : c.push_reserved.new.self.items ≡ own ∷ [] = c.push_reserved.ensures.items ∙ ap (λ (l : List (Paged g.row.S-View.Denot g.S.View.Pages g.S.View.Faults)). l ++ own ∷ []) c.in-Ok.ensures.items in
+    let adds = subst (λ (l : List (Paged g.row.S-View.Denot g.S.View.Pages g.S.View.Faults)). AddsCells (state c.view_reference.new.store) name pages l c.view_others.new.cells.items (state c.view_others.new.store)) items others.adds in
     refuses state _ _ _ _ _
     (λ first last part.
     let later = onward_on _ _ _ ends.onward part.later in
@@ -86,7 +86,7 @@ pub view_others-requires-clause-fit : goal.view_others-requires-clause-fit
 view_others-requires-clause-fit g c κs within =
     let own = c.new.result in
     one_of_set c.args.files.now.key.params c.in-Ok-view_reference.viewed.1.plan own c.push_reserved.new.self.items
-    (c.push_reserved.ensures.items ∙ ap (λ (l : List (Paged g.row.S-View.Denot)). l ++ own ∷ []) c.in-Ok.ensures.items) c.new.ensures.set c.new.ensures.plan
+    (c.push_reserved.ensures.items ∙ ap (λ (l : List (Paged g.row.S-View.Denot g.S.View.Pages g.S.View.Faults)). l ++ own ∷ []) c.in-Ok.ensures.items) c.new.ensures.set c.new.ensures.plan
 
 pub returns-in-Ok-view_others-clause-key : goal.returns-in-Ok-view_others-clause-key
 returns-in-Ok-view_others-clause-key g c = (c.in_default-test_same_key.ensures.same, c.in_default-test_same_key.ensures.sizes)
