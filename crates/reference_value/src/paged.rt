@@ -33,7 +33,7 @@ pub struct Paged<V: Pages> {
 }
 
 impl<V: Pages> Paged<V> {
-    ghost use Rattle.reference_value.specs.Paged.{count_of, first_of, layout_of, pages_of};
+    ghost use Rattle.reference_value.specs.Paged.{HasRead, count_of, first_of, layout_of, pages_of};
 
     /// The cells on these pages.
     pub fn new(params: &Params, plan: &Plan, pages: V) -> Paged<V>
@@ -65,14 +65,7 @@ impl<V: Pages> Paged<V> {
         ensures value { IsTrue (V.told (pages_of self.old)) → IfOk result (λ v. v
             ≡ bytes_at (drop 32 (V.reads (pages_of self.old))) place (layout_of self.old).params.n) }
         ensures length { IfOk result (λ v. length v ≡ (layout_of self.old).params.n) }
-        ensures succeeds { IsTrue (V.steady (pages_of self.old)) → IsTrue (V.told (pages_of self.old))
-            → length (drop 32 (V.reads (pages_of self.old)))
-            ≡ leaves_length (layout_of self.old).params (layout_of self.old).plan → IsOk result }
-        ensures cause { HasCause (V.count (pages_of self.old)) (V.count (pages_of self.new)) result }
-        ensures same { IsTrue (V.told (pages_of self.old))
-            → V.reads (pages_of self.new) ≡ V.reads (pages_of self.old) }
-        ensures stays { SameKind V.told V.honest V.steady V.room (pages_of self.old) (pages_of self.new) }
-        ensures layout { layout_of self.new ≡ layout_of self.old }
+        ensures reads { HasRead self.old self.new result }
     {
         let mut buffer = [0; 32];
         let value = &mut buffer[..self.layout.params.n as usize];
@@ -89,14 +82,7 @@ impl<V: Pages> Paged<V> {
             ≤ leaves_length (layout_of self.old).params (layout_of self.old).plan }
         ensures bytes { IsTrue (V.told (pages_of self.old))
             → OnOk result (out.new ≡ bytes_at (drop 32 (V.reads (pages_of self.old))) place (length out.old)) }
-        ensures succeeds { IsTrue (V.steady (pages_of self.old)) → IsTrue (V.told (pages_of self.old))
-            → length (drop 32 (V.reads (pages_of self.old)))
-            ≡ leaves_length (layout_of self.old).params (layout_of self.old).plan → IsOk result }
-        ensures cause { HasCause (V.count (pages_of self.old)) (V.count (pages_of self.new)) result }
-        ensures same { IsTrue (V.told (pages_of self.old))
-            → V.reads (pages_of self.new) ≡ V.reads (pages_of self.old) }
-        ensures stays { SameKind V.told V.honest V.steady V.room (pages_of self.old) (pages_of self.new) }
-        ensures layout { layout_of self.new ≡ layout_of self.old }
+        ensures reads { HasRead self.old self.new result }
     {
         let count = out.len();
         if place < self.first || place + count > self.first + self.count {
@@ -112,14 +98,7 @@ impl<V: Pages> Paged<V> {
         ensures begins { OnOk result (first_of self.new ≡ place) }
         ensures count { OnOk result (count_of self.new
             ≡ min 4096 (leaves_length (layout_of self.old).params (layout_of self.old).plan - place)) }
-        ensures succeeds { IsTrue (V.steady (pages_of self.old)) → IsTrue (V.told (pages_of self.old))
-            → length (drop 32 (V.reads (pages_of self.old)))
-            ≡ leaves_length (layout_of self.old).params (layout_of self.old).plan → IsOk result }
-        ensures cause { HasCause (V.count (pages_of self.old)) (V.count (pages_of self.new)) result }
-        ensures same { IsTrue (V.told (pages_of self.old))
-            → V.reads (pages_of self.new) ≡ V.reads (pages_of self.old) }
-        ensures stays { SameKind V.told V.honest V.steady V.room (pages_of self.old) (pages_of self.new) }
-        ensures layout { layout_of self.new ≡ layout_of self.old }
+        ensures reads { HasRead self.old self.new result }
     {
         let count = PIECE.min(self.layout.length() - place);
         let mut piece = [0; PIECE];
