@@ -3,8 +3,8 @@ pub mod Dealt
 pub mod Entropy
 pub mod Faults
 pub mod Files
-pub mod Runs
-pub mod Secrets
+pub mod Material
 pub mod Rehearsal
+pub mod Runs
 pub mod Signing
 pub mod Told

@@ -1,20 +1,20 @@
 //! The dealing with its leaves built by several threads.
 
-ghost use Rattle.std.specs.Prelude.{◌≡◌, ◌+◌, ◌*◌, ◌^◌, ◌≤◌, ⊤, IfOk, is_some, length};
+ghost use Rattle.std.specs.Prelude.{◌≡◌, ◌+◌, ◌^◌, ◌≤◌, ⊤, IfOk};
 ghost use Rattle.std.specs.Thread.{IsSync};
 ghost use Rattle.lms_bytes.specs.Bytes.{joined};
 ghost use Rattle.reference_value.specs.Dealing.{reference};
-ghost use Rattle.mask_prf.specs.Lengths.{leaves_length};
 ghost use Rattle.dealer.specs.Entropy.{dealing_of};
 ghost use Rattle.dealer.specs.Faults.{IsDealable};
-ghost use Rattle.dealer.specs.Runs.{HasRoom, HasRunRoom, IsBuilt, IsRunBuilt, file_asked, joined_keys, leaf_asked};
-ghost use Rattle.dealer.specs.Secrets.{Suit, dealing_with};
+ghost use Rattle.dealer.specs.Material.{AreAllBuilt, HasAllRoom, HasRoomOfRun, IsBuiltRun, are_asked, dealing_with};
+ghost use Rattle.dealer.specs.Runs.{IsBuilt, joined_keys, leaf_asked};
 ghost use Rattle.dealer.specs.Told.{TellsLeaves, told_of};
 
 use crate::building::finish;
 use crate::dealing::Dealt;
-use crate::entropy::{Secrets, read_entropy};
+use crate::entropy::read_entropy;
 use crate::leaves::{Rows, room_for_rows};
+use crate::material::KeyMaterial;
 use crate::runs::{Run, thread_count};
 use crate::writing::{asked_bytes, write_run};
 use coalition_map::Plan;
@@ -45,9 +45,9 @@ pub(crate) fn build_beside<R: Threads + Sync, P: Progress>(
     ensures built { IfOk result (IsBuilt commit (dealing_of params.now plan.now entropy.now)) }
     ensures told { TellsLeaves P.told params.now.h (λ _. ⊤) result progress.old progress.new }
 {
-    let secrets = read_entropy(alloc, params, plan, entropy, commit)?;
-    let Rows { leaves, file, keys } = leaves_beside(rt, progress, alloc, params, plan, &secrets)?;
-    let dealt = finish(alloc, params, plan, &secrets, &keys, leaves)?;
+    let material = read_entropy(alloc, params, plan, entropy, commit)?;
+    let Rows { leaves, file, keys } = leaves_beside(rt, progress, alloc, &material)?;
+    let dealt = finish(alloc, &material, &keys, leaves)?;
     Ok((dealt, file))
 }
 
@@ -56,22 +56,14 @@ fn leaves_beside<R: Threads + Sync, P: Progress>(
     rt: &R,
     progress: &mut P,
     alloc: Global,
-    params: &Params,
-    plan: &Plan,
-    secrets: &Secrets,
+    material: &KeyMaterial,
 ) -> Result<Rows, NoMemory>
-    requires suit { Suit params.now plan.now secrets.now }
-    ensures leaves { IfOk result (λ rows. rows.leaves.items
-        ≡ reference (dealing_with params.now plan.now secrets.now)) }
-    ensures file { IfOk result (λ rows. rows.file.items
-        ≡ file_asked (is_some secrets.now.macs) (dealing_with params.now plan.now secrets.now)) }
-    ensures keys { IfOk result (λ rows. rows.keys.items
-        ≡ joined_keys (dealing_with params.now plan.now secrets.now)) }
-    ensures told { TellsLeaves P.told params.now.h (λ _. ⊥) result progress.old progress.new }
+    ensures built { IfOk result (λ rows. AreAllBuilt material.now rows.leaves.items rows.file.items rows.keys.items) }
+    ensures told { TellsLeaves P.told material.now.params.h (λ _. ⊥) result progress.old progress.new }
 {
-    let mut rows = room_for_rows(alloc, params, plan, secrets)?;
+    let mut rows = room_for_rows(alloc, material)?;
     let (leaves, file, keys) = (&mut rows.leaves, &mut rows.file, &mut rows.keys);
-    write_leaves_beside(rt, progress, params, plan, secrets, leaves, file, keys);
+    write_leaves_beside(rt, progress, material, leaves, file, keys);
     Ok(rows)
 }
 
@@ -80,24 +72,17 @@ fn leaves_beside<R: Threads + Sync, P: Progress>(
 fn write_leaves_beside<R: Threads + Sync, P: Progress>(
     rt: &R,
     progress: &mut P,
-    params: &Params,
-    plan: &Plan,
-    secrets: &Secrets,
+    material: &KeyMaterial,
     out: &mut [u8],
     file: &mut [u8],
     keys: &mut [u8],
 )
-    requires suit { Suit params.now plan.now secrets.now }
-    requires leaves { length out.old ≡ leaves_length params.now plan.now }
-    requires file { HasRoom (is_some secrets.now.macs) params.now plan.now secrets.now.id file.old }
-    requires keys { length keys.old ≡ params.now.n * 2 ^ params.now.h }
-    ensures leaves { out.new ≡ reference (dealing_with params.now plan.now secrets.now) }
-    ensures file { file.new ≡ file_asked (is_some secrets.now.macs) (dealing_with params.now plan.now secrets.now) }
-    ensures keys { keys.new ≡ joined_keys (dealing_with params.now plan.now secrets.now) }
-    ensures told { progress.new ≡ told_of P.told params.now.h progress.old }
+    requires room { HasAllRoom material.now out.old file.old keys.old }
+    ensures built { AreAllBuilt material.now out.new file.new keys.new }
+    ensures told { progress.new ≡ told_of P.told material.now.params.h progress.old }
 {
     let (_, commits) = file.split_at_mut(file.len().min(HEAD));
-    write_parts(rt, progress, params, plan, secrets, out, commits, keys);
+    write_parts(rt, progress, material, out, commits, keys);
 }
 
 /// Writes the leaves of the masked reference value, one after the other, the commitments to their masks if they are
@@ -106,26 +91,23 @@ fn write_leaves_beside<R: Threads + Sync, P: Progress>(
 fn write_parts<R: Threads + Sync, P: Progress>(
     rt: &R,
     progress: &mut P,
-    params: &Params,
-    plan: &Plan,
-    secrets: &Secrets,
+    material: &KeyMaterial,
     out: &mut [u8],
     commits: &mut [u8],
     keys: &mut [u8],
 )
-    requires suit { Suit params.now plan.now secrets.now }
-    requires rooms { HasRunRoom (is_some secrets.now.macs) params.now plan.now.k (2 ^ params.now.h)
-        out.old commits.old keys.old }
-    ensures leaves { out.new ≡ reference (dealing_with params.now plan.now secrets.now) }
-    ensures commits { commits.new ≡ joined (leaf_asked (is_some secrets.now.macs)
-        (dealing_with params.now plan.now secrets.now)) (2 ^ params.now.h) }
-    ensures keys { keys.new ≡ joined_keys (dealing_with params.now plan.now secrets.now) }
-    ensures told { progress.new ≡ told_of P.told params.now.h progress.old }
+    requires rooms { HasRoomOfRun material.now (2 ^ material.now.params.h) out.old commits.old keys.old }
+    ensures leaves { out.new ≡ reference (dealing_with material.now) }
+    ensures commits { commits.new
+        ≡ joined (leaf_asked (are_asked material.now) (dealing_with material.now)) (2 ^ material.now.params.h) }
+    ensures keys { keys.new ≡ joined_keys (dealing_with material.now) }
+    ensures told { progress.new ≡ told_of P.told material.now.params.h progress.old }
 {
+    let KeyMaterial { params, plan, .. } = material;
     let (all, threads) = (params.leaves(), thread_count(rt));
     let count = PART.min(all);
     let size = leaf_bytes(params, plan.k()) * count as usize;
-    let row = asked_bytes(params, plan, secrets) * count as usize;
+    let row = asked_bytes(material) * count as usize;
     let width = params.n as usize * count as usize;
     'parts: for i in 0..all / count {
         let place = size * i as usize;
@@ -136,9 +118,7 @@ fn write_parts<R: Threads + Sync, P: Progress>(
         let values = &mut keys[front..front + width];
         let first = i * count;
         let run = Run { first, count };
-        write_beside(
-            rt, params, plan, secrets, run, threads, leaves, asked, values,
-        );
+        write_beside(rt, material, run, threads, leaves, asked, values);
         progress.built(first + count, all);
     }
 }
@@ -147,52 +127,40 @@ fn write_parts<R: Threads + Sync, P: Progress>(
 /// public values of the leaves, `n` bytes each, by at most `threads` threads.
 fn write_beside<R: Threads + Sync>(
     rt: &R,
-    params: &Params,
-    plan: &Plan,
-    secrets: &Secrets,
+    material: &KeyMaterial,
     run: Run,
     threads: usize,
     out: &mut [u8],
     commits: &mut [u8],
     keys: &mut [u8],
 )
-    requires suit { Suit params.now plan.now secrets.now }
-    requires within { run.first + run.count ≤ 2 ^ params.now.h }
-    requires rooms { HasRunRoom (is_some secrets.now.macs) params.now plan.now.k run.count
-        out.old commits.old keys.old }
-    ensures { IsRunBuilt (is_some secrets.now.macs) (dealing_with params.now plan.now secrets.now) run
-        out.new commits.new keys.new }
+    requires within { run.first + run.count ≤ 2 ^ material.now.params.h }
+    requires rooms { HasRoomOfRun material.now run.count out.old commits.old keys.old }
+    ensures { IsBuiltRun material.now run out.new commits.new keys.new }
 {
     if threads < 2 || run.count < 2 {
-        write_run(params, plan, secrets, run, out, commits, keys);
+        write_run(material, run, out, commits, keys);
         return;
     }
+    let KeyMaterial { params, plan, .. } = material;
     let some = threads / 2;
     let others = threads - some;
     let (first, next) = run.cut(some, threads);
     let (front, back) = out.split_at_mut(leaf_bytes(params, plan.k()) * first.count as usize);
-    let row = asked_bytes(params, plan, secrets);
+    let row = asked_bytes(material);
     let (ahead, behind) = commits.split_at_mut(row * first.count as usize);
     let (lower, upper) = keys.split_at_mut(params.n as usize * first.count as usize);
     join_mut(
         rt,
         &mut ||
-            requires { IsSync R.row × Suit params.now plan.now secrets.now
-                × (first.first + first.count ≤ 2 ^ params.now.h)
-                × HasRunRoom (is_some secrets.now.macs) params.now plan.now.k first.count
-                front.now ahead.now lower.now }
-            ensures { IsRunBuilt (is_some secrets.entry.now.macs)
-                (dealing_with params.entry.now plan.entry.now secrets.entry.now) first
-                front.exit.now ahead.exit.now lower.exit.now }
-        { write_beside(rt, params, plan, secrets, first, some, front, ahead, lower) },
+            requires { IsSync R.row × (first.first + first.count ≤ 2 ^ material.now.params.h)
+                × HasRoomOfRun material.now first.count front.now ahead.now lower.now }
+            ensures { IsBuiltRun material.entry.now first front.exit.now ahead.exit.now lower.exit.now }
+        { write_beside(rt, material, first, some, front, ahead, lower) },
         &mut ||
-            requires { IsSync R.row × Suit params.now plan.now secrets.now
-                × (next.first + next.count ≤ 2 ^ params.now.h)
-                × HasRunRoom (is_some secrets.now.macs) params.now plan.now.k next.count
-                back.now behind.now upper.now }
-            ensures { IsRunBuilt (is_some secrets.entry.now.macs)
-                (dealing_with params.entry.now plan.entry.now secrets.entry.now) next
-                back.exit.now behind.exit.now upper.exit.now }
-        { write_beside(rt, params, plan, secrets, next, others, back, behind, upper) },
+            requires { IsSync R.row × (next.first + next.count ≤ 2 ^ material.now.params.h)
+                × HasRoomOfRun material.now next.count back.now behind.now upper.now }
+            ensures { IsBuiltRun material.entry.now next back.exit.now behind.exit.now upper.exit.now }
+        { write_beside(rt, material, next, others, back, behind, upper) },
     );
 }

@@ -1,32 +1,18 @@
 //! What entropy stands for.
 
-ghost use Rattle.std.specs.Prelude.{◌≡◌, ◌+◌, ◌≤◌, All, IfOk, IfSome, is_some, length, map};
+ghost use Rattle.std.specs.Prelude.{◌≡◌, ◌≤◌, All, IfOk, IfSome, is_some, length, map};
 ghost use Rattle.std.specs.List.{range_with_len};
 ghost use Rattle.dealer.specs.Entropy.{dealing_of, entropy_length, trustee_key};
-ghost use Rattle.dealer.specs.Secrets.{Suit, dealing_with};
+ghost use Rattle.dealer.specs.Material.{are_asked, dealing_with};
 
 use crate::checks::key_at;
+use crate::material::KeyMaterial;
 use coalition_map::Plan;
 use lms_bytes::bytes::part;
-use lms_bytes::{KeyId, Params, Val};
+use lms_bytes::{Params, Val};
 use mask_prf::MacKey;
 use memory::NoMemory;
 use std::alloc::Global;
-
-/// What a key is dealt from.
-#[derive(Drop)]
-pub(crate) struct Secrets {
-    /// The identifier I of the key.
-    pub(crate) id: KeyId,
-    /// The SEED of the key, of the set's hash length.
-    pub(crate) seed: Val,
-    /// The key of the randomizers.
-    pub(crate) random_key: [u8; 32],
-    /// The keys of the trustees, that of trustee 1 first.
-    pub(crate) keys: Vec<[u8; 32]>,
-    /// The same keys, each with its blocks hashed once, if the masks are committed to.
-    pub(crate) macs: Option<Vec<MacKey>>,
-}
 
 /// Reads what the entropy stands for, with keys to commit to the masks with, if that is asked for.
 pub(crate) fn read_entropy(
@@ -35,14 +21,12 @@ pub(crate) fn read_entropy(
     plan: &Plan,
     entropy: &[u8],
     commit: bool,
-) -> Result<Secrets, NoMemory>
+) -> Result<KeyMaterial, NoMemory>
     requires height { plan.now.h ≡ params.now.h }
     requires size { length entropy.now ≡ entropy_length plan.now.n }
-    ensures dealing { IfOk result (λ secrets. dealing_with params.now plan.now secrets
+    ensures dealing { IfOk result (λ material. dealing_with material
         ≡ dealing_of params.now plan.now entropy.now) }
-    ensures suit { IfOk result (Suit params.now plan.now) }
-    ensures lengths { IfOk result (λ secrets. All (λ key. length key ≡ 32) secrets.keys.items) }
-    ensures asked { IfOk result (λ secrets. is_some secrets.macs ≡ commit) }
+    ensures asked { IfOk result (λ material. are_asked material ≡ commit) }
 {
     let keys = read_keys(alloc, plan.n(), entropy)?;
     let macs = macs_asked(alloc, &keys, commit)?;
@@ -50,7 +34,9 @@ pub(crate) fn read_entropy(
     id.copy_from_slice(part(entropy, 0, 16));
     let mut random_key = [0; 32];
     random_key.copy_from_slice(part(entropy, 48, 32));
-    Ok(Secrets {
+    Ok(KeyMaterial {
+        params: *params,
+        plan: *plan,
         id,
         seed: Val::of(part(entropy, 16, params.n as usize)),
         random_key,

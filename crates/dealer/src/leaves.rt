@@ -1,20 +1,19 @@
 //! What is made of all leaves: room for the masked reference value, for the commitments to its masks and for the public
 //! values, and the tree over these.
 
-ghost use Rattle.std.specs.Prelude.{◌≡◌, ◌+◌, ◌*◌, ◌^◌, ◌≤◌, All, IfOk, is_some, length, map, take, vec_capacity};
+ghost use Rattle.std.specs.Prelude.{◌≡◌, ◌+◌, ◌*◌, ◌^◌, ◌≤◌, All, IfOk, length, map, take, vec_capacity};
 ghost use Rattle.std.specs.List.{range_with_len};
-ghost use Rattle.coalition_map.specs.Coalitions.{IsPlan};
-ghost use Rattle.lms_bytes.specs.Bytes.{bytes_at, joined};
+ghost use Rattle.lms_bytes.specs.Bytes.{bytes_at};
 ghost use Rattle.merkle_path.specs.Tree.{tree_of};
-ghost use Rattle.ots_chain.specs.LeafKey.{seed_leaf_key};
 ghost use Rattle.mask_prf.specs.Lengths.{leaves_length};
 ghost use Rattle.share_files.specs.Commits.{commits_head_of, commits_length};
-ghost use Rattle.dealer.specs.Runs.{HasRoom};
+ghost use Rattle.dealer.specs.Material.{HasAllRoom, are_asked, dealing_with};
+ghost use Rattle.dealer.specs.Runs.{HasRoom, dealt_leaf_key, joined_keys};
 
-use crate::entropy::Secrets;
+use crate::material::KeyMaterial;
 use coalition_map::Plan;
 use lms_bytes::bytes::part;
-use lms_bytes::{KeyId, Params, Val};
+use lms_bytes::{Params, Val};
 use memory::NoMemory;
 use merkle_path::Tree;
 use reference_value::leaf_bytes;
@@ -33,20 +32,12 @@ pub(crate) struct Rows {
 }
 
 /// Room for what is built of all leaves, with the head of the commitment file, if it is asked for.
-pub(crate) fn room_for_rows(
-    alloc: Global,
-    params: &Params,
-    plan: &Plan,
-    secrets: &Secrets,
-) -> Result<Rows, NoMemory>
-    requires { plan.now.h ≡ params.now.h }
-    ensures leaves { IfOk result (λ rows. length rows.leaves.items ≡ leaves_length params.now plan.now) }
-    ensures file { IfOk result (λ rows.
-        HasRoom (is_some secrets.now.macs) params.now plan.now secrets.now.id rows.file.items) }
-    ensures keys { IfOk result (λ rows. length rows.keys.items ≡ params.now.n * 2 ^ params.now.h) }
+pub(crate) fn room_for_rows(alloc: Global, material: &KeyMaterial) -> Result<Rows, NoMemory>
+    ensures { IfOk result (λ rows. HasAllRoom material.now rows.leaves.items rows.file.items rows.keys.items) }
 {
+    let KeyMaterial { params, plan, .. } = material;
     let leaves = room_for_leaves(alloc, params, plan)?;
-    let file = room_asked(alloc, params, plan, secrets)?;
+    let file = room_asked(alloc, material)?;
     let keys = vec![in alloc; 0; params.n as usize * params.leaves() as usize]?;
     Ok(Rows { leaves, file, keys })
 }
@@ -54,18 +45,16 @@ pub(crate) fn room_for_rows(
 /// The tree over these public values of the leaves, `n` bytes each.
 pub(crate) fn build_tree(
     alloc: Global,
-    params: &Params,
-    secrets: &Secrets,
+    material: &KeyMaterial,
     keys: &[u8],
 ) -> Result<Tree, NoMemory>
-    requires height { params.now.h ≤ 10 }
-    requires keys { keys.now ≡ joined (λ q. seed_leaf_key params.now secrets.now.id q secrets.now.seed)
-        (2 ^ params.now.h) }
+    requires height { material.now.params.h ≤ 10 }
+    requires keys { keys.now ≡ joined_keys (dealing_with material.now) }
     ensures { IfOk result (λ tree. tree
-        ≡ tree_of params.now secrets.now.id (λ q. seed_leaf_key params.now secrets.now.id q secrets.now.seed)) }
+        ≡ tree_of material.now.params material.now.id (dealt_leaf_key (dealing_with material.now))) }
 {
-    let leaf_keys = split_keys(alloc, params, keys)?;
-    Tree::build(alloc, params, &secrets.id, &leaf_keys)
+    let leaf_keys = split_keys(alloc, &material.params, keys)?;
+    Tree::build(alloc, &material.params, &material.id, &leaf_keys)
 }
 
 /// These public values of all leaves, `n` bytes each, one by one.
@@ -96,50 +85,39 @@ fn room_for_leaves(alloc: Global, params: &Params, plan: &Plan) -> Result<Vec<u8
 }
 
 /// Room for the commitment file with its head, if commitments are asked for.
-fn room_asked(
-    alloc: Global,
-    params: &Params,
-    plan: &Plan,
-    secrets: &Secrets,
-) -> Result<Vec<u8>, NoMemory>
-    requires { plan.now.h ≡ params.now.h }
+fn room_asked(alloc: Global, material: &KeyMaterial) -> Result<Vec<u8>, NoMemory>
     ensures { IfOk result (λ file.
-        HasRoom (is_some secrets.now.macs) params.now plan.now secrets.now.id file.items) }
+        HasRoom (are_asked material.now) material.now.params material.now.plan material.now.id file.items) }
 {
-    if secrets.macs.is_some() {
-        room_for_commits(alloc, params, plan, &secrets.id)
+    if material.macs.is_some() {
+        room_for_commits(alloc, material)
     } else {
         Ok(Vec::new(alloc))
     }
 }
 
-/// Room for the commitment file of a set, a plan and an identifier, with its head.
-fn room_for_commits(
-    alloc: Global,
-    params: &Params,
-    plan: &Plan,
-    id: &KeyId,
-) -> Result<Vec<u8>, NoMemory>
-    requires { plan.now.h ≡ params.now.h }
-    ensures head { IfOk result (λ file. take 32 file.items ≡ commits_head_of params.now plan.now id.now) }
-    ensures length { IfOk result (λ file. length file.items ≡ commits_length params.now plan.now) }
+/// Room for the commitment file of a key, with its head.
+fn room_for_commits(alloc: Global, material: &KeyMaterial) -> Result<Vec<u8>, NoMemory>
+    ensures head { IfOk result (λ file. take 32 file.items
+        ≡ commits_head_of material.now.params material.now.plan material.now.id) }
+    ensures length { IfOk result (λ file.
+        length file.items ≡ commits_length material.now.params material.now.plan) }
 {
+    let KeyMaterial { params, plan, .. } = material;
     let mut file = vec![in alloc; 0; length_of_commits(params, plan.k()) as usize]?;
     let (head, _) = file.split_at_mut(HEAD);
-    head.copy_from_slice(&head_of_commits(params, plan, id));
+    head.copy_from_slice(&head_of_commits(material));
     Ok(file)
 }
 
-/// The head of the commitment file of a set, a plan and an identifier.
-fn head_of_commits(params: &Params, plan: &Plan, id: &KeyId) -> [u8; HEAD]
-    requires height { plan.now.h ≡ params.now.h }
-    requires plan { IsPlan plan.now }
-    ensures { result ≡ commits_head_of params.now plan.now id.now }
+/// The head of the commitment file of a key.
+fn head_of_commits(material: &KeyMaterial) -> [u8; HEAD]
+    ensures { result ≡ commits_head_of material.now.params material.now.plan material.now.id }
 {
     let header = RefHeader {
-        params: *params,
-        plan: *plan,
-        id: *id,
+        params: material.params,
+        plan: material.plan,
+        id: material.id,
     };
     let mut head = [0; HEAD];
     write_commits_head(&header, &mut head);

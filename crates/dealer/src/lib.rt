@@ -13,6 +13,7 @@ mod files;
 pub mod laws;
 mod leaves;
 mod masks;
+mod material;
 mod rehearsed;
 mod runs;
 mod shares;

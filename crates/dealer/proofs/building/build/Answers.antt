@@ -1,32 +1,26 @@
 use Rattle.std.proofs.Common.{◌∙◌}
 use Rattle.std.proofs.lemmas.Result.{err_from_is_err_and}
-use Rattle.dealer.proofs.Built.{built-as}
+use Rattle.dealer.proofs.Built.{built-as, same-set}
 use Rattle.dealer.proofs.building.build.Goals as goal
 
-pub finish-requires-clause-suit : goal.finish-requires-clause-suit
-finish-requires-clause-suit c = c.in_ok-secrets.ensures.suit
-
 pub finish-requires-clause-low : goal.finish-requires-clause-low
-finish-requires-clause-low c = c.requires.dealable.set.height
-
-pub finish-requires-clause-lengths : goal.finish-requires-clause-lengths
-finish-requires-clause-lengths c = c.in_ok-secrets.ensures.lengths
+finish-requires-clause-low c = rw (same-set c.in_ok-material.ensures.dealing) c.requires.dealable.set.height
 
 pub finish-requires-clause-keys : goal.finish-requires-clause-keys
-finish-requires-clause-keys c = c.deref.ensures.value ∙ c.in_ok-leaves.ensures.keys
+finish-requires-clause-keys c = c.deref.ensures.value ∙ c.in_ok-leaves.ensures.keys_are
 
 pub finish-requires-clause-leaves : goal.finish-requires-clause-leaves
-finish-requires-clause-leaves c = c.in_ok-leaves.ensures.leaves
+finish-requires-clause-leaves c = c.in_ok-leaves.ensures.leaves_are
 
 pub returns : goal.returns
 returns c =
-    let e = c.in_ok-secrets.ensures in
+    let e = c.in_ok-material.ensures in
     let leaves = c.in_ok-leaves.ensures in
     let dealt = c.in_ok-dealt.ensures in
-    built-as e.dealing e.asked dealt.dealt leaves.file dealt.shares
+    built-as e.dealing e.asked dealt.dealt leaves.file_is dealt.shares
 
-pub returns-in_err-secrets : goal.returns-in_err-secrets
-returns-in_err-secrets c = rw (err_from_is_err_and c.from_residual.result c.from_residual.ensures.1).1 tt
+pub returns-in_err-material : goal.returns-in_err-material
+returns-in_err-material c = rw (err_from_is_err_and c.from_residual.result c.from_residual.ensures.1).1 tt
 
 pub returns-in_err-leaves : goal.returns-in_err-leaves
 returns-in_err-leaves c = rw (err_from_is_err_and c.from_residual-in_err-leaves.result c.from_residual-in_err-leaves.ensures.1).1 tt

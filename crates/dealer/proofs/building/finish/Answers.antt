@@ -1,13 +1,13 @@
 use Rattle.std.proofs.Common.{◌∙◌, refl}
 use Rattle.std.proofs.lemmas.Result.{err_from_is_err_and}
 use Rattle.ots_chain.specs.LeafKey.{seed_leaf_key}
-use Rattle.dealer.specs.Secrets.{dealing_with}
+use Rattle.dealer.specs.Material.{dealing_with}
 use Rattle.dealer.proofs.Built.{first_node}
 use Rattle.dealer.proofs.building.finish.Goals as goal
 
 pub returns-clause-dealt : goal.returns-clause-dealt
 returns-clause-dealt c =
-    let d = dealing_with c.args.params.now c.args.plan.now c.args.secrets.now in
+    let d = dealing_with c.args.material.now in
     let tree = c.in_ok-tree.ensures in
     let node = rw tree at c.root.ensures.node in
     record {

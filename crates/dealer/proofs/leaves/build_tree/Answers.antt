@@ -11,26 +11,26 @@ use Rattle.dealer.proofs.leaves.build_tree.Goals as goal
 
 pub split_keys-requires : goal.split_keys-requires
 split_keys-requires c =
-    let params = c.args.params.now in
-    let secrets = c.args.secrets.now in
+    let params = c.args.material.now.params in
+    let material = c.args.material.now in
     ap length c.requires.keys
-    ∙ length-joined (λ q. seed_leaf_key params secrets.id q secrets.seed) params.n (2 ^ params.h) (λ q _. length-hash params _)
+    ∙ length-joined (λ q. seed_leaf_key params material.id q material.seed) params.n (2 ^ params.h) (λ q _. length-hash params _)
 
 pub build-requires-clause-leaves : goal.build-requires-clause-leaves
 build-requires-clause-leaves c =
-    ap length (c.deref.ensures.value ∙ c.in_ok-leaf_keys.ensures.keys) ∙ length-map-range_with_len _ 0 (2 ^ c.args.params.now.h)
+    ap length (c.deref.ensures.value ∙ c.in_ok-leaf_keys.ensures.keys) ∙ length-map-range_with_len _ 0 (2 ^ c.args.material.now.params.h)
 
 pub returns : goal.returns
 returns c =
-    let params = c.args.params.now in
-    let secrets = c.args.secrets.now in
+    let params = c.args.material.now.params in
+    let material = c.args.material.now in
     let n = params.n in
-    let f : ℕ → List ℕ = λ q. seed_leaf_key params secrets.id q secrets.seed in
+    let f : ℕ → List ℕ = λ q. seed_leaf_key params material.id q material.seed in
     let key : ℕ → List ℕ = λ q. bytes_at c.args.keys.now (n * q) n in
     let values = c.deref.ensures.value ∙ c.in_ok-leaf_keys.ensures.keys in
     let found : (q : ℕ) → q < 2 ^ params.h → key q ≡ f q =
     λ q inside. rw c.requires.keys (joined-at f n (2 ^ params.h) q (λ k _. length-hash params _) inside) in
-    let same = same_tree params secrets.id (λ q. get_or c.deref.result.now q []) f (record {
+    let same = same_tree params material.id (λ q. get_or c.deref.result.now q []) f (record {
       leaf = λ q inside. rw values (get_or-map-range_with_len key 0 (2 ^ params.h) q q [] inside (omega arith) ∙ found q inside);
     }) in
     subst (λ (t : TreeNodes). IfOk c.build.result (λ tree. tree ≡ t)) same c.build.ensures
