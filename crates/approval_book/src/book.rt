@@ -54,15 +54,15 @@ fn listed_by(slot: &Slot) -> Option<[u8; 36]>
     }
 }
 
-/// The ids that slots list.
+/// The ids that slots of a book list.
 fn listed_in(alloc: Global, slots: &[Slot]) -> Result<Approved, NoMemory>
-    requires { length slots.now ≡ 1024 }
+    requires { length slots.now ≤ 1024 }
     ensures listed { IfOk result (λ approved.
         (id : List ℕ) → is_in (ids_of approved) id ≡ is_listed slots.now id) }
     ensures few { IfOk result (λ approved. length (ids_of approved) ≤ taken_count slots.now) }
     ensures room { IfOk result (λ approved. 1024 ≤ room_of approved) }
 {
-    let mut approved = Approved::with_room(alloc, slots.len())?;
+    let mut approved = Approved::with_room(alloc, SLOTS as usize)?;
     for slot in slots {
         if let Some(id) = listed_by(slot) {
             approved.insert(id);
@@ -114,7 +114,7 @@ impl<D: Disk> Book<D> {
             Ok(slots) => slots,
             Err(refused) => return Err(refused),
         };
-        match listed_in(alloc, slots.slots()) {
+        match listed_in(alloc, slots.front()) {
             Ok(approved) => Ok(Book { slots, approved }),
             Err(NoMemory) => Err((slots.end(), CacheLoad::NoMemory)),
         }
@@ -131,8 +131,8 @@ impl<D: Disk> Book<D> {
     pub fn count(&self) -> u32
         ensures { result ≡ taken_count (state_of self.now).slots }
     {
-        let slots = self.slots.slots();
-        slots.iter().filter(|slot| !slot.is_free()).count() as u32
+        let front = self.slots.front();
+        front.iter().filter(|slot| !slot.is_free()).count() as u32
     }
 
     /// Lists a message. From `Ok` on, each image that a crash may leave lists it.
@@ -201,8 +201,11 @@ impl<D: Disk> Book<D> {
         ensures place { result ≡ first_free (state_of self.now).slots }
         ensures free { IfSome result (IsFreeIn (state_of self.now).slots) }
     {
-        match first_free(self.slots.slots()) {
+        let front = self.slots.front();
+        match first_free(front) {
             Some(place) => Some(place as u32),
+            // The slots behind the front are free.
+            None if front.len() < SLOTS as usize => Some(front.len() as u32),
             None => None,
         }
     }

@@ -37,23 +37,23 @@ doubt-kept count old new doubted put is before settles = record {
 }
 
 module _ {D : Type 0} {p : pages.Ghosts D} {f : faults.Ghosts D} (self : CachedSlots D p f) (new : Slots D p f) (unwritten : Unwritten p f self.slots.disk new.disk) (stays : Stays self.slots new) where
-  pub kept-reads : IsTold new → Shows (header_of new) self.cached.items self.doubt (file_of new)
+  pub kept-reads : IsTold new → Shows (header_of new) self.cached self.doubt (file_of new)
   kept-reads told =
       let was = sym unwritten.stays.told ∙ told in
-      renamed (header_of new) (header_of self.slots) self.cached.items self.doubt (file_of new) stays.header
-      (subst (λ (l : List ℕ). Shows (header_of self.slots) self.cached.items self.doubt l) (sym (unwritten.same was)) (self.reads was))
+      renamed (header_of new) (header_of self.slots) self.cached self.doubt (file_of new) stays.header
+      (subst (λ (l : List ℕ). Shows (header_of self.slots) self.cached self.doubt l) (sym (unwritten.same was)) (self.reads was))
 
-  pub kept-images : IsTold new → IsHonest new → (image : List ℕ) → MayLeave new image → Shows (header_of new) self.cached.items self.doubt image
+  pub kept-images : IsTold new → IsHonest new → (image : List ℕ) → MayLeave new image → Shows (header_of new) self.cached self.doubt image
   kept-images told honest image leaves =
       let was_honest = sym unwritten.stays.honest ∙ honest in
-      renamed (header_of new) (header_of self.slots) self.cached.items self.doubt image stays.header
+      renamed (header_of new) (header_of self.slots) self.cached self.doubt image stays.header
       (self.images (sym unwritten.stays.told ∙ told) was_honest image (unwritten.images was_honest image leaves))
 
 -- a slot in doubt is one of two
 pub neither-not : {D : Type 0} {p : pages.Ghosts D} {f : faults.Ghosts D} (self : CachedSlots D p f) (put : Doubted) (found : Slot) → self.doubt ≡ Some put → IsTold self.slots
-    → found ≡ slot_now self.slots put.slot → found ≢ slot_in self.cached.items put.slot → found ≢ put.after → ⊥
+    → found ≡ slot_now self.slots put.slot → found ≢ slot_in self.cached put.slot → found ≢ put.after → ⊥
 neither-not self put found is told now before after =
-    elim (either (header_of self.slots) self.cached.items self.doubt (file_of self.slots) (self.reads told) put is) [
+    elim (either (header_of self.slots) self.cached self.doubt (file_of self.slots) (self.reads told) put is) [
       | inl same ↦ before (now ∙ same)
       | inr made ↦ after (now ∙ made)
     ]

@@ -38,15 +38,15 @@ module _ {D : Type 0} {p : pages.Ghosts D} {f : faults.Ghosts D} where
     pub put : HasPut place after self.slots new result
 
   pub puts-half : {R E : Type 0} (self : CachedSlots D p f) (place : ℕ) (body : List ℕ) (moment : ℕ) (after : Slot) (new : Slots D p f) (result : Result R E)
-      → self.doubt ≡ None → place < length self.cached.items → IsHalf (slot_in self.cached.items place)
-      → after ≡ with_b (slot_in self.cached.items place) body moment
+      → self.doubt ≡ None → place < length self.cached → IsHalf (slot_in self.cached place)
+      → after ≡ with_b (slot_in self.cached place) body moment
       → HasPut place (with_b (slot_now self.slots place) body moment) self.slots new result → PutsHalf self place after new result
   puts-half self place body moment after new result settled within half is put = record {
-    whole = ap is_damaged is ∙ with_b-whole (slot_in self.cached.items place) body moment half;
+    whole = ap is_damaged is ∙ with_b-whole (slot_in self.cached place) body moment half;
     put =
         put-named place _ after self.slots new result
         (λ told.
-        let has = has-sure (header_of self.slots) self.cached.items self.doubt (file_of self.slots) (self.reads told) settled in
+        let has = has-sure (header_of self.slots) self.cached self.doubt (file_of self.slots) (self.reads told) settled in
         ap (λ (s : Slot). with_b s body moment) (has.shows place within) ∙ sym is) put;
   }
 
@@ -59,13 +59,13 @@ module _ {D : Type 0} {p : pages.Ghosts D} {f : faults.Ghosts D} where
     pub images : IsTold new → IsHonest new → (image : List ℕ) → MayLeave new image → Shows (header_of new) slots doubt image
 
   -- a slot of a cache, and what is put there
-  module _ (self : CachedSlots D p f) (settled : self.doubt ≡ None) (place : ℕ) (within : place < length self.cached.items) (after : Slot)
+  module _ (self : CachedSlots D p f) (settled : self.doubt ≡ None) (place : ℕ) (within : place < length self.cached) (after : Slot)
       (whole : is_damaged after ≡ false) (new : Slots D p f) (stays : Stays self.slots new) where
     abbrev header : Header
     header = header_of self.slots
 
     abbrev items : List Slot
-    items = self.cached.items
+    items = self.cached
 
     told-before : IsTold new → IsTold self.slots
     told-before told = sym stays.disk.told ∙ told
@@ -73,21 +73,22 @@ module _ {D : Type 0} {p : pages.Ghosts D} {f : faults.Ghosts D} where
     has-file : IsTold new → HasSlots header items (file_of self.slots)
     has-file told = has-sure header items self.doubt (file_of self.slots) (self.reads (told-before told)) settled
 
-    pub made-held : {R E : Type 0} (result : Result R E) → is_ok result ≡ true → HasPut place after self.slots new result → HoldsPut new (set items place after) self.doubt
-    made-held (Ok done) is put =
+    pub made-held : {R E : Type 0} (result : Result R E) → is_ok result ≡ true → HasPut place after self.slots new result
+        → (list : List Slot) → list ≡ set items place after → HoldsPut new list self.doubt
+    made-held (Ok done) is put all same =
         let list = set items place after in
         let nowhere : doubt_of new ≡ Nowhere = put.doubt ∙ self.in_doubt.nowhere settled in
         let made : IsTold new → HasSlots header list (file_of new) = λ told.
         let here = ap (λ (h : Header). slot_at h.version place (file_of new)) (sym stays.header) ∙ put.put (told-before told) in
         put-made header items (file_of self.slots) (has-file told) place after (file_of new) (put.file (told-before told)) within whole here in
-        record {
+        rw same (record {
           count = stays.count ∙ self.count ∙ sym (length-set items place after);
           whole = whole-set items place after self.whole whole;
           in_doubt = doubt-sure (length list) (doubt_of new) self.doubt settled nowhere;
           reads = reads-sure new header stays.header list self.doubt settled made;
           images = images-sure new header stays.header list self.doubt settled made nowhere;
-        }
-    made-held (Err fault) is put = absurd (cc)
+        })
+    made-held (Err fault) is put all same = absurd (cc)
 
     pub doubted-held : {R E : Type 0} (result : Result R E) → is_ok result ≡ false → HasPut place after self.slots new result
         → HoldsPut new items (Some (record { slot = place; after = after }))

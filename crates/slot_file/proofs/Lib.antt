@@ -19,7 +19,8 @@ pub mod Held
 mod Read
 mod Same
 mod Sure
-mod CachedRuns
+mod Lists
 mod CachedPuts
 mod CachedLooks
 mod SlotsLooks
+mod CachedRuns

@@ -1,9 +1,6 @@
 -- Why a file is not loaded.
-use Rattle.std.proofs.Common.{◌≡◌, ◌⊎◌, ◌<◌, ◌+◌, ◌-◌, ℕ, List, length, None, Some, false, replicate, inl, inr, refl, sym, ◌∙◌, ap, subst, arith}
-use Rattle.std.proofs.lemmas.List.{length-replicate, with_items_is}
-use Rattle.std.specs.Vec.{with_items}
-use Rattle.std.specs.declared.alloc.Global.{Global}
-use Rattle.std.specs.declared.vec.Vec.{Vec}
+use Rattle.std.proofs.Common.{◌≡◌, ◌⊎◌, ◌<◌, ◌+◌, ◌-◌, ℕ, List, length, None, Some, false, replicate, inl, inr, refl, sym, ◌∙◌, ap, arith}
+use Rattle.std.proofs.lemmas.List.{length-replicate}
 use Rattle.disk_trait.specs.declared.disk.Pages as pages
 use Rattle.disk_trait.specs.declared.faults.Faults as faults
 use Rattle.slot_file.specs.Loading.{LoadRefused, damaged, device, other_file}
@@ -76,28 +73,20 @@ pub record AllRead (header : Header) (count : ℕ) (told : Type 0) (file : List 
   pub whole : IsWhole list
   pub has : told → HasSlots header list file
 
-all-read : {D : Type 0} {p : pages.Ghosts D} {f : faults.Ghosts D} (header : Header) (count : ℕ) (disk : D) (slots : Slots D p f) (list read : List Slot)
-    → IsOpened p f header count disk slots → list ≡ read → length read ≡ count → IsWhole read
-    → (IsTold slots → (k : ℕ) → k < count → slot_now slots k ≡ slot_in read k) → AllRead header count (IsTold slots) (file_of slots) list
-all-read {p} header count disk slots list read opened is size whole shows =
-    let long : length list ≡ count = ap length is ∙ size in
-    let sound : IsWhole list = subst IsWhole (sym is) whole in
+-- the same, if the slots were read into a list of as many free ones
+pub all-read : {D : Type 0} {p : pages.Ghosts D} {f : faults.Ghosts D} (header : Header) (count : ℕ) (disk : D) (slots : Slots D p f) (free list : List Slot)
+    → IsOpened p f header count disk slots → free ≡ replicate count Free → length list ≡ length free → IsWhole list
+    → (IsTold slots → (k : ℕ) → k < length free → slot_now slots k ≡ slot_in list k) → AllRead header count (IsTold slots) (file_of slots) list
+all-read {p} header count disk slots free list opened is size whole shows =
+    let many : length free ≡ count = ap length is ∙ length-replicate count Free in
+    let long : length list ≡ count = size ∙ many in
     record {
       size = long;
-      whole = sound;
+      whole = whole;
       has = λ told_now.
           let told = sym opened.unwritten.stays.told ∙ told_now in
-          let same : (k : ℕ) → k < count → slot_now slots k ≡ slot_in list k = λ k below. shows told_now k below ∙ ap (λ (l : List Slot). slot_in l k) (sym is) in
+          let same : (k : ℕ) → k < count → slot_now slots k ≡ slot_in list k = λ k below. shows told_now k (omega (arith, below, many)) in
           has-read header (header_of slots) list (file_of slots) (file_of slots) count opened.named refl long
           (ap (load_fault header count) (opened.unwritten.same told) ∙ opened.opens told) same
-          (λ k below. ap is_damaged (same k below) ∙ sound k (omega (arith, below, long)));
+          (λ k below. ap is_damaged (same k below) ∙ whole k (omega (arith, below, long)));
     }
-
--- the same, if the slots were read into memory that was taken for that many
-pub all-cached : {D : Type 0} {p : pages.Ghosts D} {f : faults.Ghosts D} (header : Header) (count : ℕ) (disk : D) (slots : Slots D p f) (cached : Vec Slot Global) (free read : List Slot)
-    → IsOpened p f header count disk slots → cached.items ≡ replicate count Free → free ≡ cached.items → length read ≡ length free → IsWhole read
-    → (IsTold slots → (k : ℕ) → k < length free → slot_now slots k ≡ slot_in read k) → AllRead header count (IsTold slots) (file_of slots) (with_items cached read).items
-all-cached header count disk slots cached free read opened is lent size whole shows =
-    let many : length free ≡ count = ap length (lent ∙ is) ∙ length-replicate count Free in
-    all-read header count disk slots (with_items cached read).items read opened (with_items_is cached read (size ∙ ap length lent ∙ sym cached.ok.0)) (size ∙ many) whole
-    (λ told k below. shows told k (omega (arith, below, many)))

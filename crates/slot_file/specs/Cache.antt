@@ -17,10 +17,10 @@ module _ {D : Type 0} {p : pages.Ghosts D} {f : faults.Ghosts D} where
   header_of cache = slots_header cache.slots
 
   abbrev pub state_of : CachedSlots D p f → CacheState
-  state_of cache = record { slots = cache.cached.items; doubt = cache.doubt }
+  state_of cache = record { slots = cache.cached; doubt = cache.doubt }
 
   abbrev pub count_of : CachedSlots D p f → ℕ
-  count_of cache = length cache.cached.items
+  count_of cache = length cache.cached
 
   abbrev pub faults_of : CachedSlots D p f → ℕ
   faults_of cache = f.count (disk_of cache)

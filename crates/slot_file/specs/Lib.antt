@@ -6,6 +6,7 @@ pub mod Files
 pub mod Fresh
 pub mod Gated
 pub mod Layout
+pub mod Lists
 pub mod Opened
 pub mod Runs
 pub mod Slots

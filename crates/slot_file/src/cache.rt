@@ -7,32 +7,34 @@ ghost use Rattle.slot_file.specs.State.{IsWhole, slot_in};
 ghost use Rattle.slot_file.specs.Inside.{IsDoubt, Shows};
 ghost use Rattle.slot_file.specs.Disks.{RisesAt, Unwritten};
 ghost use Rattle.slot_file.specs.Files.{IsHalf, with_b};
+ghost use Rattle.slot_file.specs.Lists.{IsFront};
 ghost use Rattle.slot_file.specs.Slots.{count_of as slots_count, doubt_of, faults_of as slots_faults};
 ghost use Rattle.slot_file.specs.Slots.{header_of as slots_header, MayLeave as MaySlotsLeave, IsTold as AreSlotsTold};
 ghost use Rattle.slot_file.specs.Slots.{IsHonest as AreSlotsHonest, file_of as slots_file};
 
 use crate::doubted::Doubted;
 use crate::faults::{CacheLoad, SettleFault, Settled};
-use crate::reading::{free_slots, look_settled, read_slots, refused_by};
+use crate::reading::{look_settled, read_slots, refused_by};
+use crate::slot_list::SlotList;
 use crate::{Header, Slot, Slots};
 use disk_trait::{Disk, DiskFault};
 use memory::NoMemory;
 use std::alloc::Global;
 
-/// A file of slots, with all of them in memory.
+/// A file of slots, with what they hold in memory.
 #[derive(Drop)]
 pub struct CachedSlots<D: Disk> {
     slots: Slots<D>,
-    cached: Vec<Slot>,
+    cached: SlotList,
     doubt: Option<Doubted>,
-    ghost count: { slots_count slots ≡ length cached.items },
-    ghost whole: { IsWhole cached.items },
-    ghost in_doubt: { IsDoubt (length cached.items) (doubt_of slots) doubt },
+    ghost count: { slots_count slots ≡ length cached },
+    ghost whole: { IsWhole cached },
+    ghost in_doubt: { IsDoubt (length cached) (doubt_of slots) doubt },
     ghost faulted: { slots_faults slots ≡ 0 → doubt ≡ None },
     ghost reads: { AreSlotsTold slots
-        → Shows (slots_header slots) cached.items doubt (slots_file slots) },
+        → Shows (slots_header slots) cached doubt (slots_file slots) },
     ghost images: { AreSlotsTold slots → AreSlotsHonest slots → (image : List ℕ) → MaySlotsLeave slots image
-        → Shows (slots_header slots) cached.items doubt image },
+        → Shows (slots_header slots) cached doubt image },
 }
 
 impl From<DiskFault> for SettleFault {
@@ -69,7 +71,7 @@ impl<D: Disk> CachedSlots<D> {
             Ok(slots) => slots,
             Err((disk, fault)) => return Err((disk, refused_by(fault))),
         };
-        let mut cached = match free_slots(alloc, count) {
+        let mut cached = match SlotList::free(alloc, count) {
             Ok(cached) => cached,
             Err(NoMemory) => return Err((slots.end(), CacheLoad::NoMemory)),
         };
@@ -88,14 +90,23 @@ impl<D: Disk> CachedSlots<D> {
         requires { slot < count_of self.now }
         ensures { result.now ≡ slot_in (state_of self.now).slots slot }
     {
-        &self.cached[slot as usize]
+        self.cached.slot(slot as usize)
+    }
+
+    /// The slots up to the last that was ever taken, disregarding a put in doubt. Those behind it are free.
+    pub fn front(&self) -> &[Slot]
+        ensures { IsFront (state_of self.now).slots result.now }
+    {
+        self.cached.front()
     }
 
     /// All slots, disregarding a put in doubt.
-    pub fn slots(&self) -> &[Slot]
-        ensures { result.now ≡ (state_of self.now).slots }
+    pub fn to_vec(&self, alloc: Global) -> Result<Vec<Slot>, NoMemory>
+        ensures { IfOk result (λ slots. slots.items ≡ (state_of self.now).slots) }
     {
-        self.cached.as_slice()
+        let mut slots = Vec::from_slice(alloc, self.cached.front())?;
+        slots.resize(self.slots.count() as usize, Slot::Free)?;
+        Ok(slots)
     }
 
     /// How many slots there are.
@@ -142,11 +153,11 @@ impl<D: Disk> CachedSlots<D> {
         let slot = doubted.slot;
         let found = look_settled(&mut self.slots, slot)?;
         if found.is_same(&doubted.after) {
-            self.cached[slot as usize] = found;
+            self.cached.set(slot as usize, found);
             self.doubt = None;
             return Ok(Settled::Made);
         }
-        if found.is_same(&self.cached[slot as usize]) {
+        if found.is_same(self.cached.slot(slot as usize)) {
             self.doubt = None;
             return Ok(Settled::NotMade);
         }
@@ -166,7 +177,7 @@ impl<D: Disk> CachedSlots<D> {
     {
         match self.slots.put_a(slot, body) {
             Ok(()) => {
-                self.cached[slot as usize] = Slot::Half(*body);
+                self.cached.set(slot as usize, Slot::Half(*body));
                 Ok(())
             }
             Err(DiskFault) => {
@@ -192,7 +203,7 @@ impl<D: Disk> CachedSlots<D> {
         let after = self.slot(slot).with_b(body, moment);
         match self.slots.put_b(slot, body, moment) {
             Ok(()) => {
-                self.cached[slot as usize] = after;
+                self.cached.set(slot as usize, after);
                 Ok(())
             }
             Err(DiskFault) => {

@@ -1,4 +1,4 @@
-//! Files of slots, and such files with all their slots in memory.
+//! Files of slots, and such files with what their slots hold in memory.
 #![tactic(auto)]
 
 mod cache;
@@ -11,6 +11,7 @@ mod header;
 mod prepared;
 mod reading;
 mod slot;
+mod slot_list;
 mod slots;
 
 pub use cache::CachedSlots;

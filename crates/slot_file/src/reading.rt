@@ -1,6 +1,6 @@
 //! Reading the slots of a file.
 
-ghost use Rattle.std.specs.Prelude.{◌≡◌, ◌≢◌, ◌≤◌, ◌<◌, ◌+◌, ◌^◌, ℕ, length, replicate, Err, IsOk, IfOk, IfErr, OnOk};
+ghost use Rattle.std.specs.Prelude.{◌≡◌, ◌≢◌, ◌≤◌, ◌<◌, ◌+◌, ◌^◌, ℕ, length, Err, IsOk, IfOk, IfErr, OnOk};
 ghost use Rattle.disk_trait.specs.Faults.{HasCause};
 ghost use Rattle.slot_file.specs.Reading.{IsReadRefused, IsRunRefused, LooksOnly, refused_by};
 ghost use Rattle.slot_file.specs.State.{IsWhole, slot_in};
@@ -12,10 +12,9 @@ ghost use Rattle.slot_file.specs.Slots.{IsSteady, IsTold, Stays, count_of, disk_
 ghost use Rattle.slot_file.specs.Slots.{header_of, slot_now};
 
 use crate::faults::CacheLoad;
+use crate::slot_list::SlotList;
 use crate::{Doubt, LoadFault, MOST_IN_RUN, Slot, Slots};
 use disk_trait::{Disk, DiskFault};
-use memory::NoMemory;
-use std::alloc::Global;
 
 /// Why slots are not loaded if their file is refused.
 pub(crate) fn refused_by(fault: LoadFault) -> CacheLoad
@@ -28,13 +27,6 @@ pub(crate) fn refused_by(fault: LoadFault) -> CacheLoad
         | LoadFault::Version { .. }
         | LoadFault::Foreign { .. } => CacheLoad::Slots(fault),
     }
-}
-
-/// `count` free slots.
-pub(crate) fn free_slots(alloc: Global, count: u32) -> Result<Vec<Slot>, NoMemory>
-    ensures { IfOk result (λ slots. slots.items ≡ replicate count Slot.Free) }
-{
-    Ok(vec![in alloc; Slot::Free; count as usize]?)
 }
 
 /// Refuses the first damaged slot of a run, which begins at slot `first`.
@@ -76,9 +68,8 @@ fn read_run<D: Disk>(slots: &mut Slots<D>, first: u32, out: &mut [Slot]) -> Resu
 }
 
 /// Reads all slots, a run of them with each read.
-pub(crate) fn read_slots<D: Disk>(slots: &mut Slots<D>, out: &mut [Slot]) -> Result<(), CacheLoad>
+pub(crate) fn read_slots<D: Disk>(slots: &mut Slots<D>, out: &mut SlotList) -> Result<(), CacheLoad>
     requires count { count_of slots.old ≡ length out.old }
-    requires small { length out.old < 2 ^ 32 }
     ensures shows { IsTold slots.old
         → OnOk result ((slot : ℕ) → slot < length out.old → slot_now slots.old slot ≡ slot_in out.new slot) }
     ensures whole { OnOk result (IsWhole out.new) }
@@ -89,10 +80,14 @@ pub(crate) fn read_slots<D: Disk>(slots: &mut Slots<D>, out: &mut [Slot]) -> Res
     ensures succeeds { IsSteady slots.old → IsTold slots.old → result ≢ Err CacheLoad.Device }
     ensures cause { RisesAt (faults_of slots.old) (faults_of slots.new) result (Err CacheLoad.Device) }
 {
+    let mut run = [Slot::Free; MOST_IN_RUN];
+    let count = slots.count() as usize;
     let mut first = 0;
-    'runs: while first < out.len() {
-        let end = out.len().min(first + MOST_IN_RUN);
-        read_run(slots, first as u32, &mut out[first..end])?;
+    'runs: while first < count {
+        let end = count.min(first + MOST_IN_RUN);
+        let part = &mut run[..end - first];
+        read_run(slots, first as u32, part)?;
+        out.set_run(first, part);
         first = end;
     }
     Ok(())

@@ -48,7 +48,10 @@ pub fn list_slots(alloc: Global, bytes: Vec<u8>, leaves: bool) -> Result<String,
         // The disk in memory does not fail.
         Err(CacheLoad::Device) => unreachable!(),
     };
-    match all_lines(alloc, head.kind, &head.header, cache.slots(), leaves) {
+    let Ok(slots) = cache.to_vec(alloc) else {
+        return Err(ListingFault::NoMemory);
+    };
+    match all_lines(alloc, head.kind, &head.header, &slots, leaves) {
         Ok(text) => Ok(text),
         Err(AllocError) => Err(ListingFault::NoMemory),
     }

@@ -1,5 +1,4 @@
-use Rattle.std.proofs.Common.{◌≡◌, ◌≤◌, ◌<◌, ◌+◌, ◌-◌, ℕ, length, drop, false, sym, ◌∙◌, ap, arith, length-take, length-drop}
-use borrow.Rule.Slice.PartMut.{same_len_mid}
+use Rattle.std.proofs.Common.{◌≡◌, ◌<◌, ◌+◌, ◌-◌, ℕ, length, false, sym, ◌∙◌, ap, arith, length-take}
 use Rattle.slot_file.specs.State.{slot_in}
 use Rattle.slot_file.specs.Copies.{is_damaged}
 use Rattle.slot_file.specs.Layout.{slot_at}
@@ -36,17 +35,16 @@ runs-preserved g c =
     let start = c.args.slots.now in
     let run = c.read_run.new.out in
     let end = c.min-end.result in
-    let within : loop.first ≤ length loop.out = omega arith in
-    let part = c.read_run.auto.out in
-    let size : loop.first + length run ≡ end =
-    omega (arith, part, c.min-end.ensures, length-take (end - loop.first) (drop loop.first loop.out), length-drop loop.first loop.out) in
+    let put = c.set_run.ensures in
+    let size : loop.first + length run ≡ end = omega (arith, c.read_run.auto.out, c.min-end.ensures, c.min-end.array_long, length-take (end - loop.first) loop.run) in
+    let each = each-slot loop.first end loop.out c.set_run.new.self run size put.before put.run in
     let read : IsTold start → (k : ℕ) → k < length run → slot_now start (loop.first + k) ≡ slot_in run k = λ told k below.
     as-it-was start loop.slots so_far.looks told (loop.first + k) _ (c.in_ok-read_run.ensures.shows (so_far.looks.stays.disk.told ∙ told) k below) in
     record {
-      within = omega (arith, c.min-end.ensures, so_far.size);
-      shows = λ told. each-slot loop.first end loop.out run within size (λ k slot. slot_now start k ≡ slot) (so_far.shows told) (read told);
-      whole = each-slot loop.first end loop.out run within size (λ k slot. is_damaged slot ≡ false) so_far.whole c.in_ok-read_run.ensures.whole;
-      size = same_len_mid loop.first (end - loop.first) loop.out run part ∙ so_far.size;
+      within = omega (arith, c.min-end.ensures, c.requires.count, c.count-count.ensures);
+      shows = λ told. each (λ k slot. slot_now start k ≡ slot) (so_far.shows told) (read told);
+      whole = each (λ k slot. is_damaged slot ≡ false) so_far.whole c.in_ok-read_run.ensures.whole;
+      size = put.count ∙ so_far.size;
       looks = looks-then start loop.slots c.read_run.new.slots so_far.looks c.read_run.ensures.looks;
       count = c.in_ok-read_run.ensures.cause.others (read-not _) ∙ so_far.count;
     }
@@ -74,25 +72,22 @@ runs-init g c = record {
 }
 
 pub overflow_add-first : goal.overflow_add-first
-overflow_add-first g c = omega (arith, c.requires.small, c.runs.invariant.within)
+overflow_add-first g c = omega (arith, c.runs-test.true)
 
 pub overflow_cast-first : goal.overflow_cast-first
-overflow_cast-first g c = omega (arith, c.requires.small, c.runs.invariant.within)
+overflow_cast-first g c = omega (arith, c.runs-test.true)
 
 pub read_run-requires-clause-within : goal.read_run-requires-clause-within
 read_run-requires-clause-within g c =
     let loop = c.runs in
-    let long = length-take (c.min-end.result - loop.first) (drop loop.first loop.out) in
-    omega (arith, long, length-drop loop.first loop.out, loop.invariant.size, c.requires.count, loop.invariant.looks.stays.count)
+    omega (arith, length-take (c.min-end.result - loop.first) loop.run, c.min-end.ensures, c.count-count.ensures, loop.invariant.looks.stays.count)
 
 pub read_run-requires-clause-few : goal.read_run-requires-clause-few
-read_run-requires-clause-few g c = omega (arith, c.min-end.ensures, length-take (c.min-end.result - c.runs.first) (drop c.runs.first c.runs.out))
+read_run-requires-clause-few g c = omega (arith, c.min-end.ensures, length-take (c.min-end.result - c.runs.first) c.runs.run)
 
 pub read_run-requires-clause-small : goal.read_run-requires-clause-small
 read_run-requires-clause-small g c =
-    let loop = c.runs in
-    let long = length-take (c.min-end.result - loop.first) (drop loop.first loop.out) in
-    omega (arith, long, length-drop loop.first loop.out, loop.invariant.size, loop.invariant.within, c.requires.small)
+    omega (arith, length-take (c.min-end.result - c.runs.first) c.runs.run, c.min-end.ensures, c.count-count.ensures, c.count-count.auto)
 
 pub returns-in_err-read_run-clause-shows : goal.returns-in_err-read_run-clause-shows
 returns-in_err-read_run-clause-shows g c = λ told. on-err _ _ c.from_residual.ensures.0

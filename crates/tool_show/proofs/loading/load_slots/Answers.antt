@@ -12,7 +12,7 @@ pub returns-in-Ok-load-clause-slots : goal.returns-in-Ok-load-clause-slots
 returns-in-Ok-load-clause-slots c =
     let head = c.args.head.now in
     let bytes = c.args.bytes.now in
-    let slots = c.in-Ok-load.cache.cached.items in
+    let slots = c.in-Ok-load.cache.cached in
     let same = ap (λ (d : MemState). d.bytes) c.in-Ok.ensures in
     let call = c.in-Ok-load.ensures.loaded in
     let own = subst (λ (h : Header). HasSlots h slots c.in-Ok.disk.bytes) c.requires.header (call.file refl) in
@@ -22,7 +22,7 @@ pub returns-in-Ok-load-clause-loads : goal.returns-in-Ok-load-clause-loads
 returns-in-Ok-load-clause-loads c =
     let head = c.args.head.now in
     let bytes = c.args.bytes.now in
-    let slots = c.in-Ok-load.cache.cached.items in
+    let slots = c.in-Ok-load.cache.cached in
     let same = ap (λ (d : MemState). d.bytes) c.in-Ok.ensures in
     let call = c.in-Ok-load.ensures.loaded in
     let own = subst (λ (h : Header). HasSlots h slots c.in-Ok.disk.bytes) c.requires.header (call.file refl) in

@@ -9,7 +9,7 @@ returns-in-Err-clause-event g c = unsettled _ _ c.in-Err.ensures.event
 pub returns-then-lists-clause-event : goal.returns-then-lists-clause-event
 returns-then-lists-clause-event g c =
     let event = c.in_default.ensures.event in
-    let listed : IsTrue (is_listed c.settle.new.self.slots.cached.items c.to_bytes-id.result) =
+    let listed : IsTrue (is_listed c.settle.new.self.slots.cached c.to_bytes-id.result) =
     sym (c.settle.new.self.listed c.to_bytes-id.result) ∙ sym c.lists.ensures ∙ c.if-lists.true in
     rw (← c.to_bytes-id.ensures) (settled _ _ _ event (is_old _ _ (settles-sure _ _ event) listed))
 

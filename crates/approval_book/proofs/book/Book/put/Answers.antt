@@ -8,7 +8,7 @@ use Rattle.approval_book.proofs.book.Book.put.Goals as goal
 
 pub returns-in_default-clause-event : goal.returns-in_default-clause-event
 returns-in_default-clause-event g c =
-    rw (settled-is c.args.self.now.slots.cached.items _ c.requires.settled)
+    rw (settled-is c.args.self.now.slots.cached _ c.requires.settled)
     (full c.requires.absent (sym c.first_free.ensures.place ∙ c.in_default.is))
 
 pub returns-in-Err-clause-event : goal.returns-in-Err-clause-event
@@ -17,13 +17,13 @@ returns-in-Err-clause-event g c =
 
 pub insert-requires : goal.insert-requires
 insert-requires g c =
-    let here = free-in c.args.self.now.slots.cached.items c.in-Some.place (sym c.first_free.ensures.place ∙ c.in-Some.is) in
+    let here = free-in c.args.self.now.slots.cached c.in-Some.place (sym c.first_free.ensures.place ∙ c.in-Some.is) in
     let less = taken_count-less _ _ here c.args.id in
     omega (arith, less, c.args.self.now.few, c.args.self.now.room, c.args.self.now.count)
 
 pub invariant_of-self-2 : goal.invariant_of-self-2
 invariant_of-self-2 g c =
-    let here = free-in c.args.self.now.slots.cached.items c.in-Some.place (sym c.first_free.ensures.place ∙ c.in-Some.is) in
+    let here = free-in c.args.self.now.slots.cached c.in-Some.place (sym c.first_free.ensures.place ∙ c.in-Some.is) in
     let event = c.in_default-put_a.ensures.event in
     let slots = ap (λ (s : CacheState). s.slots) event in
     record {
@@ -35,7 +35,7 @@ invariant_of-self-2 g c =
           ∙ sym (rw slots (is_listed-put _ _ here c.args.id other));
       few =
           let more = taken_count-put _ _ here c.args.id in
-          let same : taken_count c.put_a.new.self.cached.items ≡ taken_count c.args.self.now.slots.cached.items + 1 = rw slots more in
+          let same : taken_count c.put_a.new.self.cached ≡ taken_count c.args.self.now.slots.cached + 1 = rw slots more in
           omega (arith, same, c.insert.ensures.length, c.args.self.now.few);
       room = omega (arith, c.insert.ensures.room, c.args.self.now.room);
       adding = λ put is. absurd (no_doubt _ _ event put is);

@@ -1,6 +1,5 @@
-use Rattle.std.proofs.Common.{◌≡◌, ℕ, List, length, None, refl, sym, ◌∙◌, ap, subst, arith}
+use Rattle.std.proofs.Common.{◌≡◌, ℕ, List, length, None, refl, sym, ◌∙◌, ap, subst}
 use Rattle.std.proofs.lemmas.List.{length-replicate}
-use Rattle.std.specs.Vec.{with_items}
 use Rattle.slot_file.specs.Reading.{IsReadRefused}
 use Rattle.slot_file.specs.State.{HasSlots}
 use Rattle.slot_file.specs.Loading.{no_memory}
@@ -10,7 +9,7 @@ use Rattle.slot_file.specs.declared.slot.Slot.TheVariants.{Free}
 use Rattle.slot_file.specs.declared.slots.Doubt.TheVariants.{Nowhere}
 use Rattle.slot_file.proofs.Unwritten.{unwritten-then}
 use Rattle.slot_file.proofs.Files.{doubt-none}
-use Rattle.slot_file.proofs.Read.{all-cached, refused-file, refused-read}
+use Rattle.slot_file.proofs.Read.{all-read, refused-file, refused-read}
 use Rattle.slot_file.proofs.Sure.{images-sure, reads-sure}
 use Rattle.std.proofs.Common.{◌≢◌, Result, Err}
 use Rattle.slot_file.specs.Disks.{Unwritten}
@@ -43,8 +42,8 @@ other-load fault differs is = differs (ap Err is)
 pub returns-in-Err-clause-refused : goal.returns-in-Err-clause-refused
 returns-in-Err-clause-refused g c = λ told. rw c.refused_by.ensures (refused-file _ _ _ c.in-Err.fault (c.in-Err.ensures.refuses told))
 
-pub returns-in-Err-free_slots-clause-refused : goal.returns-in-Err-free_slots-clause-refused
-returns-in-Err-free_slots-clause-refused g c = λ told. no_memory (c.in-Ok.ensures.opened.opens told)
+pub returns-in-Err-free-clause-refused : goal.returns-in-Err-free-clause-refused
+returns-in-Err-free-clause-refused g c = λ told. no_memory (c.in-Ok.ensures.opened.opens told)
 
 pub invariant_of-result : goal.invariant_of-result
 invariant_of-result g c =
@@ -52,11 +51,9 @@ invariant_of-result g c =
     let opened = c.in-Ok.ensures.opened in
     let start = c.in-Ok.slots in
     let new = c.read_slots.new.slots in
-    let read = c.read_slots.new.out in
-    let cached = c.in-Ok-free_slots.cached in
-    let list = (with_items cached read).items in
+    let list = c.read_slots.new.out in
     let call = c.in-Ok-read_slots.ensures in
-    let all = all-cached header c.args.count c.args.disk start cached _ read opened c.in-Ok-free_slots.ensures c.deref_mut.ensures.value call.size call.whole call.shows in
+    let all = all-read header c.args.count c.args.disk start _ list opened c.in-Ok-free.ensures call.size call.whole call.shows in
     let names : header_of new ≡ header = call.looks.stays.header ∙ opened.named in
     let nowhere : doubt_of new ≡ Nowhere = call.looks.doubt opened.doubt in
     let has : IsTold new → HasSlots header list (file_of new) = λ told_new.
@@ -77,11 +74,9 @@ returns-in-Ok-read_slots-clause-loaded g c =
     let opened = c.in-Ok.ensures.opened in
     let start = c.in-Ok.slots in
     let new = c.read_slots.new.slots in
-    let read = c.read_slots.new.out in
-    let cached = c.in-Ok-free_slots.cached in
-    let list = (with_items cached read).items in
+    let list = c.read_slots.new.out in
     let call = c.in-Ok-read_slots.ensures in
-    let all = all-cached header c.args.count c.args.disk start cached _ read opened c.in-Ok-free_slots.ensures c.deref_mut.ensures.value call.size call.whole call.shows in
+    let all = all-read header c.args.count c.args.disk start _ list opened c.in-Ok-free.ensures call.size call.whole call.shows in
     record {
       file = λ told. subst (HasSlots header list) (opened.unwritten.same told) (all.has (opened.unwritten.stays.told ∙ told));
       settled = refl;
@@ -96,12 +91,12 @@ returns-in-Err-read_slots-clause-refused g c = λ told.
     let opened = c.in-Ok.ensures.opened in
     let fault = c.in-Err-read_slots.fault in
     let told_start = opened.unwritten.stays.told ∙ told in
-    let free = ap length c.deref_mut.ensures.value ∙ ap length c.in-Ok-free_slots.ensures ∙ length-replicate c.args.count Free in
+    let free = ap length c.in-Ok-free.ensures ∙ length-replicate c.args.count Free in
     let first = c.in-Err-read_slots.ensures.refused told_start in
     refused-read _ _ _ fault (opened.opens told)
     (subst (λ (l : List ℕ). IsReadRefused c.args.header.now.version 0 c.args.count l fault) (opened.unwritten.same told)
     (subst (λ (n : ℕ). IsReadRefused c.args.header.now.version 0 n (file_of c.in-Ok.slots) fault) free
-    (subst (λ (h : Header). IsReadRefused h.version 0 (length c.deref_mut.result.now) (file_of c.in-Ok.slots) fault) opened.named first)))
+    (subst (λ (h : Header). IsReadRefused h.version 0 (length c.in-Ok-free.cached) (file_of c.in-Ok.slots) fault) opened.named first)))
 
 pub returns-in-Err-clause-unwritten : goal.returns-in-Err-clause-unwritten
 returns-in-Err-clause-unwritten g c = c.in-Err.ensures.unwritten
@@ -116,20 +111,20 @@ returns-in-Err-clause-cause g c =
 pub returns-in-Err-clause-loaded : goal.returns-in-Err-clause-loaded
 returns-in-Err-clause-loaded g c = tt
 
-pub returns-in-Err-free_slots-clause-loaded : goal.returns-in-Err-free_slots-clause-loaded
-returns-in-Err-free_slots-clause-loaded g c = tt
+pub returns-in-Err-free-clause-loaded : goal.returns-in-Err-free-clause-loaded
+returns-in-Err-free-clause-loaded g c = tt
 
 pub returns-in-Err-read_slots-clause-loaded : goal.returns-in-Err-read_slots-clause-loaded
 returns-in-Err-read_slots-clause-loaded g c = tt
 
-pub returns-in-Err-free_slots-clause-succeeds : goal.returns-in-Err-free_slots-clause-succeeds
-returns-in-Err-free_slots-clause-succeeds g c = λ steady told. no-memory
+pub returns-in-Err-free-clause-succeeds : goal.returns-in-Err-free-clause-succeeds
+returns-in-Err-free-clause-succeeds g c = λ steady told. no-memory
 
-pub returns-in-Err-free_slots-clause-unwritten : goal.returns-in-Err-free_slots-clause-unwritten
-returns-in-Err-free_slots-clause-unwritten g c = subst (Unwritten g.D.Pages g.D.Faults c.args.disk) (sym c.end.ensures) c.in-Ok.ensures.opened.unwritten
+pub returns-in-Err-free-clause-unwritten : goal.returns-in-Err-free-clause-unwritten
+returns-in-Err-free-clause-unwritten g c = subst (Unwritten g.D.Pages g.D.Faults c.args.disk) (sym c.end.ensures) c.in-Ok.ensures.opened.unwritten
 
-pub returns-in-Err-free_slots-clause-cause : goal.returns-in-Err-free_slots-clause-cause
-returns-in-Err-free_slots-clause-cause g c = rises-fine _ _ _ _ no-memory (ap g.D.Faults.count c.end.ensures ∙ c.in-Ok.ensures.opened.faults)
+pub returns-in-Err-free-clause-cause : goal.returns-in-Err-free-clause-cause
+returns-in-Err-free-clause-cause g c = rises-fine _ _ _ _ no-memory (ap g.D.Faults.count c.end.ensures ∙ c.in-Ok.ensures.opened.faults)
 
 pub returns-in-Err-read_slots-clause-succeeds : goal.returns-in-Err-read_slots-clause-succeeds
 returns-in-Err-read_slots-clause-succeeds g c = λ steady told.
@@ -150,8 +145,8 @@ returns-in-Err-read_slots-clause-cause g c =
     (subst (λ (d : _). RisesAt (faults_of c.in-Ok.slots) (g.D.Faults.count d) fault load.Device) (sym c.end-in-Err-read_slots.ensures)
     (rises-as _ _ _ _ _ _ (λ is. ap Err is) (load-fault fault) c.in-Err-read_slots.ensures.cause))
 
-pub read_slots-requires-clause-count : goal.read_slots-requires-clause-count
-read_slots-requires-clause-count g c = c.in-Ok.ensures.opened.size ∙ sym (ap length c.deref_mut.ensures.value ∙ ap length c.in-Ok-free_slots.ensures ∙ length-replicate c.args.count Free)
+pub read_slots-requires : goal.read_slots-requires
+read_slots-requires g c = record { count = c.in-Ok.ensures.opened.size ∙ sym (ap length c.in-Ok-free.ensures ∙ length-replicate c.args.count Free) }
 
 pub returns-in-Ok-read_slots-clause-refused : goal.returns-in-Ok-read_slots-clause-refused
 returns-in-Ok-read_slots-clause-refused g c = λ told. tt
@@ -164,8 +159,3 @@ returns-in-Ok-read_slots-clause-succeeds g c = λ steady told. tt
 
 pub returns-in-Ok-read_slots-clause-cause : goal.returns-in-Ok-read_slots-clause-cause
 returns-in-Ok-read_slots-clause-cause g c = tt
-
-pub read_slots-requires-clause-small : goal.read_slots-requires-clause-small
-read_slots-requires-clause-small g c =
-    let many = ap length c.deref_mut.ensures.value ∙ ap length c.in-Ok-free_slots.ensures ∙ length-replicate c.args.count Free in
-    omega (arith, many, c.ranges.count)

@@ -1,4 +1,4 @@
-use Rattle.std.proofs.Common.{refl, ◌∙◌, ap, arith}
+use Rattle.std.proofs.Common.{refl, ◌∙◌, ap, length, arith}
 use Rattle.slot_file.specs.Files.{with_b}
 use Rattle.slot_file.specs.declared.slot.Slot.{Slot}
 use Rattle.slot_file.proofs.CachedPuts.{doubted-held, made-held, puts-half}
@@ -10,7 +10,7 @@ invariant_of-self g c =
     let self = c.args.self.now in
     let is = c.with_b-after.ensures ∙ ap (λ (s : Slot). with_b s c.args.body.now c.args.moment) c.slot.ensures in
     let half = puts-half self c.args.slot c.args.body.now c.args.moment c.with_b-after.result c.put_b.new.self _ c.requires.settled c.requires.within c.requires.half is c.in-Ok.ensures.made in
-    let held = made-held self c.requires.settled c.args.slot c.requires.within c.with_b-after.result half.whole c.put_b.new.self c.put_b.ensures.stays _ refl half.put in
+    let held = made-held self c.requires.settled c.args.slot c.requires.within c.with_b-after.result half.whole c.put_b.new.self c.put_b.ensures.stays _ refl half.put c.set.new.self c.set.ensures in
     record {
       count = held.count;
       whole = held.whole;
@@ -42,7 +42,7 @@ pub returns-in-Ok-clause-cause : goal.returns-in-Ok-clause-cause
 returns-in-Ok-clause-cause g c = record { later = c.put_b.ensures.cause.later; succeeded = c.in-Ok.ensures.cause.succeeded; failed = tt }
 
 pub returns-in-Ok-clause-stays : goal.returns-in-Ok-clause-stays
-returns-in-Ok-clause-stays g c = (let stays = c.put_b.ensures.stays in record { header = stays.header; count = length-set c.args.self.now.cached.items c.args.slot c.with_b-after.result; disk = stays.disk })
+returns-in-Ok-clause-stays g c = (let stays = c.put_b.ensures.stays in record { header = stays.header; count = ap length c.set.ensures ∙ length-set c.args.self.now.cached c.args.slot c.with_b-after.result; disk = stays.disk })
 
 pub returns-in-Err-clause-cause : goal.returns-in-Err-clause-cause
 returns-in-Err-clause-cause g c = record { later = c.put_b.ensures.cause.later; succeeded = tt; failed = c.in-Err.ensures.cause.failed }

@@ -1,10 +1,9 @@
-use Rattle.std.proofs.Common.{◌≡◌, ℕ, List, None, set, refl, sym, ◌∙◌, ap, subst}
-use Rattle.std.proofs.lemmas.List.{get_or_read, length-set}
+use Rattle.std.proofs.Common.{◌≡◌, ℕ, List, length, None, set, refl, sym, ◌∙◌, ap, subst}
+use Rattle.std.proofs.lemmas.List.{length-set}
 use Rattle.slot_file.specs.State.{HasSlots, slot_in}
 use Rattle.slot_file.specs.Copies.{is_damaged}
 use Rattle.slot_file.specs.Slots.{IsTold, doubt_of, file_of, header_of}
 use Rattle.slot_file.specs.declared.slot.Slot.{Slot}
-use Rattle.slot_file.specs.declared.slot.Slot.TheVariants.{Free}
 use Rattle.slot_file.specs.declared.slots.Doubt.TheVariants.{Nowhere}
 use Rattle.slot_file.proofs.Files.{doubt-none, has-dropped, has-made, whole-set}
 use Rattle.slot_file.proofs.Sure.{images-sure, reads-sure}
@@ -14,6 +13,7 @@ use Rattle.slot_file.specs.Calls.{Settles}
 use Rattle.slot_file.specs.State.{CacheState, settled_with}
 use Rattle.slot_file.specs.declared.faults.SettleFault.{SettleFault}
 use Rattle.slot_file.specs.declared.faults.Settled.{Settled}
+use Rattle.slot_file.proofs.CachedPuts.{HoldsPut}
 use Rattle.slot_file.proofs.CachedLooks.{damaged-not, device-not, doubt-kept, kept-images, kept-reads, neither-not, settled-not, some-of}
 use Rattle.slot_file.proofs.CopyLaws.{device-answer}
 use Rattle.slot_file.proofs.FaultLaws.{rises-failed, rises-fine}
@@ -24,7 +24,7 @@ invariant_of-self-then-is_same g c =
     let self = c.args.self.now in
     let put = c.args.doubted.now in
     let header = header_of self.slots in
-    let items = self.cached.items in
+    let items = self.cached in
     let old = file_of self.slots in
     let new = c.look_settled.new.slots in
     let call = c.in_ok-found.ensures in
@@ -37,13 +37,21 @@ invariant_of-self-then-is_same g c =
     let has = has-made header items self.doubt old (self.reads told) put c.requires within (sym (call.slot told) ∙ same) in
     subst (λ (l : List ℕ). HasSlots header list l) (sym (call.unwritten.same told))
     (subst (λ (s : Slot). HasSlots header (set items put.slot s) old) (sym same) has) in
-    record {
+    let held : HoldsPut new list None = record {
       count = call.stays.count ∙ self.count ∙ sym (length-set items put.slot c.in_ok-found.found);
       whole = whole-set items put.slot c.in_ok-found.found self.whole (ap is_damaged same ∙ self.in_doubt.whole put c.requires);
       in_doubt = doubt-none _ (doubt_of new) nowhere;
-      faulted = λ none. refl;
       reads = reads-sure new header call.stays.header list None refl made;
       images = images-sure new header call.stays.header list None refl made nowhere;
+    } in
+    let all : HoldsPut new c.set.new.self None = rw c.set.ensures held in
+    record {
+      count = all.count;
+      whole = all.whole;
+      in_doubt = all.in_doubt;
+      faulted = λ none. refl;
+      reads = all.reads;
+      images = all.images;
     }
 
 pub invariant_of-self-then-is_same-2 : goal.invariant_of-self-then-is_same-2
@@ -51,13 +59,13 @@ invariant_of-self-then-is_same-2 g c =
     let self = c.args.self.now in
     let put = c.args.doubted.now in
     let header = header_of self.slots in
-    let items = self.cached.items in
+    let items = self.cached in
     let old = file_of self.slots in
     let new = c.look_settled.new.slots in
     let call = c.in_ok-found.ensures in
     let within = self.in_doubt.within put c.requires in
     let nowhere : doubt_of new ≡ Nowhere = call.doubt ∙ self.in_doubt.settles put c.requires in
-    let same : c.in_ok-found.found ≡ slot_in items put.slot = c.if-is_same-2.ensures.0 refl ∙ get_or_read items _ _ within c.index.ensures Free in
+    let same : c.in_ok-found.found ≡ slot_in items put.slot = c.if-is_same-2.ensures.0 refl ∙ c.slot.ensures in
     let made : IsTold new → HasSlots header items (file_of new) = λ told_new.
     let told = sym call.stays.disk.told ∙ told_new in
     let has = has-dropped header items self.doubt old (self.reads told) put c.requires (sym (call.slot told) ∙ same) in
@@ -81,7 +89,7 @@ pub returns-then-is_same-clause-unwritten : goal.returns-then-is_same-clause-unw
 returns-then-is_same-clause-unwritten g c = c.look_settled.ensures.unwritten
 
 pub returns-then-is_same-clause-stays : goal.returns-then-is_same-clause-stays
-returns-then-is_same-clause-stays g c = (let stays = c.look_settled.ensures.stays in record { header = stays.header; count = length-set c.args.self.now.cached.items c.args.doubted.now.slot c.in_ok-found.found; disk = stays.disk })
+returns-then-is_same-clause-stays g c = (let stays = c.look_settled.ensures.stays in record { header = stays.header; count = ap length c.set.ensures ∙ length-set c.args.self.now.cached c.args.doubted.now.slot c.in_ok-found.found; disk = stays.disk })
 
 pub returns-then-is_same-2-clause-unwritten : goal.returns-then-is_same-2-clause-unwritten
 returns-then-is_same-2-clause-unwritten g c = c.look_settled.ensures.unwritten
@@ -131,7 +139,7 @@ returns-clause-cause g c = rises-fine _ _ _ _ (damaged-not _ _ _) c.in_ok-found.
 pub returns-in_err-found-clause-event : goal.returns-in_err-found-clause-event
 returns-in_err-found-clause-event g c =
     let self = c.args.self.now in
-    let before : CacheState = record { slots = self.cached.items; doubt = self.doubt } in
+    let before : CacheState = record { slots = self.cached; doubt = self.doubt } in
     subst (λ (r : Result Settled SettleFault). Settles (header_of self.slots).version before r before) (sym (device-answer _ c.from_residual.ensures.1)) (some-of c.args.doubted.now self.doubt c.requires, refl)
 
 pub returns-then-is_same-2-clause-event : goal.returns-then-is_same-2-clause-event
@@ -140,7 +148,7 @@ returns-then-is_same-2-clause-event g c = (some-of c.args.doubted.now c.args.sel
 pub returns-then-is_same-clause-event : goal.returns-then-is_same-clause-event
 returns-then-is_same-clause-event g c =
     let put = c.args.doubted.now in
-    (put, c.requires, ap (λ (s : Slot). settled_with (set c.args.self.now.cached.items put.slot s)) (c.if-is_same.ensures.0 refl))
+    (put, c.requires, ap settled_with c.set.ensures ∙ ap (λ (s : Slot). settled_with (set c.args.self.now.cached put.slot s)) (c.if-is_same.ensures.0 refl))
 
 pub invariant_of-self : goal.invariant_of-self
 invariant_of-self g c =
@@ -175,7 +183,7 @@ returns-clause-told g c = λ told slot a b.
     let self = c.args.self.now in
     let put = c.args.doubted.now in
     let found = c.in_ok-found.found in
-    let before : found ≢ slot_in self.cached.items put.slot = λ is. false≢true (c.if-is_same-2.ensures.1 (is ∙ sym (get_or_read self.cached.items _ _ (self.in_doubt.within put c.requires) c.index.ensures Free))) in
+    let before : found ≢ slot_in self.cached put.slot = λ is. false≢true (c.if-is_same-2.ensures.1 (is ∙ sym c.slot.ensures)) in
     absurd (neither-not self put found c.requires told (c.in_ok-found.ensures.slot told) before (λ is. false≢true (c.if-is_same.ensures.1 is)))
 
 pub returns-clause-event : goal.returns-clause-event
@@ -183,7 +191,7 @@ returns-clause-event g c =
     let self = c.args.self.now in
     let put = c.args.doubted.now in
     let found = c.in_ok-found.found in
-    let before : found ≢ slot_in self.cached.items put.slot = λ is. false≢true (c.if-is_same-2.ensures.1 (is ∙ sym (get_or_read self.cached.items _ _ (self.in_doubt.within put c.requires) c.index.ensures Free))) in (
+    let before : found ≢ slot_in self.cached put.slot = λ is. false≢true (c.if-is_same-2.ensures.1 (is ∙ sym c.slot.ensures)) in (
       put,
       c.requires,
       refl,
