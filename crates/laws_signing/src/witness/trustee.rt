@@ -18,6 +18,7 @@ use stream_memory::{MemNet, MemStore};
 use tool_base::Ending;
 use tool_trustee::{Clocks, MemClocks, serve_trustee};
 use tool_words::TrusteeWords;
+use turn_lock::TurnsOnly;
 
 /// Room for 65,536 of the longest replies of any parameter set: each has at most 99 bytes beside 8,480 of masks.
 const ROOM: usize = 562_233_344;
@@ -64,7 +65,14 @@ fn is_served<R: Threads + Wait + Sync>(
         (⟦<MemClocks as Clocks>⟧.state time)) }
 {
     let mut time = MemClocks::new(0);
-    let end = serve_trustee(rt, alloc, words, store, net, &mut time);
+    let end = serve_trustee(
+        &TurnsOnly::of(rt),
+        alloc,
+        words,
+        store,
+        net,
+        &mut time,
+    );
     if !is_end(&end) {
         return false;
     }
