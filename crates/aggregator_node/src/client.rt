@@ -64,7 +64,16 @@ pub fn serve_client<R: Cells, D: Disk, P: Port, L: Source + Sink>(
     ensures cells { CellsStay R.Cells.own R.Faults cells.old cells.new }
     ensures pass { IsIdle lock.now desk.now.plan.now pass.new }
 {
-    answer_requests(&TurnsOnly::of(rt), alloc, desk, cells, lock, pass, port, link)
+    answer_requests(
+        &TurnsOnly::of(rt),
+        alloc,
+        desk,
+        cells,
+        lock,
+        pass,
+        port,
+        link,
+    )
 }
 
 /// Serves a client's connection as `serve_client` does. It may wait for turns of a lock, and for nothing else.
@@ -130,7 +139,9 @@ fn answer_next<R: Cells, D: Disk, P: Port, L: Source + Sink>(
         Ok(request) => request,
         Err(fault) => return unread(fault, link),
     };
-    let outcome = sign_in_turns(turns, alloc, desk, cells, lock, pass, port, members, &message);
+    let outcome = sign_in_turns(
+        turns, alloc, desk, cells, lock, pass, port, members, &message,
+    );
     answered(&outcome, write_outcome(&outcome, link))
 }
 

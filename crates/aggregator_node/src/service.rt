@@ -57,7 +57,14 @@ pub fn serve_clients<R: Threads + Wait + Sync, X: Cells + Send, D: Disk + Send, 
         }
     };
     let mut workers = make_workers(&lock, ports, cells, passes, room);
-    run_workers(turns, alloc, desk, &lock, workers.as_mut_slice(), connections);
+    run_workers(
+        turns,
+        alloc,
+        desk,
+        &lock,
+        workers.as_mut_slice(),
+        connections,
+    );
     let (pass, totals) = gather(&lock, workers, ports, cells);
     (lock.close(pass), Ok(totals))
 }

@@ -47,7 +47,17 @@ pub fn sign_one<R: Cells, D: Disk, P: Port>(
     ensures cells { ReferenceCauses R.Cells.own R.Faults cells.old cells.new result }
     ensures pass { IsIdle lock.now desk.now.plan.now pass.new }
 {
-    sign_in_turns(&TurnsOnly::of(rt), alloc, desk, cells, lock, pass, port, members, message)
+    sign_in_turns(
+        &TurnsOnly::of(rt),
+        alloc,
+        desk,
+        cells,
+        lock,
+        pass,
+        port,
+        members,
+        message,
+    )
 }
 
 /// Signs a message as `sign_one` does. It may wait for turns of a lock, and for nothing else.

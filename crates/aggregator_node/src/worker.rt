@@ -44,7 +44,12 @@ pub fn serve<R: Threads + Wait + Sync, X: Cells + Send, D: Disk + Send, P: Port 
 }
 
 /// Runs workers as `serve` does. They may wait for turns of a lock, and for nothing else.
-pub(crate) fn run_workers<R: Threads + Wait + Sync, X: Cells + Send, D: Disk + Send, P: Port + Send>(
+pub(crate) fn run_workers<
+    R: Threads + Wait + Sync,
+    X: Cells + Send,
+    D: Disk + Send,
+    P: Port + Send,
+>(
     turns: &TurnsOnly<R>,
     alloc: Global,
     desk: &Desk,

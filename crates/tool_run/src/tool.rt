@@ -47,7 +47,16 @@ pub fn run_tool<R: Threads + Wait + Sync, P: Progress, S: Store, N: Net, T: Cloc
         result }
     ensures told { WordsTell P.told (command_of (map string_bytes words.now)) result progress.old progress.new }
 {
-    run_in_turns(&TurnsOnly::of(rt), progress, alloc, words, store, net, time, out)
+    run_in_turns(
+        &TurnsOnly::of(rt),
+        progress,
+        alloc,
+        words,
+        store,
+        net,
+        time,
+        out,
+    )
 }
 
 /// Does what the words ask for as `run_tool` does. It may wait for turns of a lock, and for nothing else.

@@ -64,7 +64,14 @@ pub fn serve_ports<
         }
     };
     let mut workers = make_workers(&lock, ports, &mut clocks, passes, room);
-    run_workers(turns, &lock, share, book, workers.as_mut_slice(), connections);
+    run_workers(
+        turns,
+        &lock,
+        share,
+        book,
+        workers.as_mut_slice(),
+        connections,
+    );
     let (pass, totals) = gather(&lock, workers, ports);
     (lock.close(pass), Ok(totals))
 }

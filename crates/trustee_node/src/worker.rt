@@ -43,7 +43,12 @@ pub fn serve<R: Threads + Wait + Sync, D: Disk + Send, C: Clock + Send, P: Port 
 }
 
 /// Runs workers as `serve` does. They may wait for turns of a lock, and for nothing else.
-pub(crate) fn run_workers<R: Threads + Wait + Sync, D: Disk + Send, C: Clock + Send, P: Port + Send>(
+pub(crate) fn run_workers<
+    R: Threads + Wait + Sync,
+    D: Disk + Send,
+    C: Clock + Send,
+    P: Port + Send,
+>(
     turns: &TurnsOnly<R>,
     lock: &TurnLock<Trustee<D>>,
     share: &Share,

@@ -117,11 +117,7 @@ impl<T: Kept> TurnLock<T> {
     }
 
     /// Takes a turn as `take` does, by what may wait for turns alone.
-    pub fn take_turn(
-        &self,
-        turns: &TurnsOnly<impl Wait>,
-        pass: &mut Pass<T>,
-    ) -> Result<T, Worn>
+    pub fn take_turn(&self, turns: &TurnsOnly<impl Wait>, pass: &mut Pass<T>) -> Result<T, Worn>
         requires lock { pass.old.lock ≡ self.now }
         requires idle { pass.old.in_turn ≡ false }
         ensures taken { IfOk result (λ v. Takes (T.entries v) (T.number v) (T.name v) pass.old pass.new) }
