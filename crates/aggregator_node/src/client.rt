@@ -14,7 +14,7 @@ ghost use Rattle.reference_value.specs.Stay.{CellsStay};
 ghost use Rattle.stream_io.specs.Talk.{OnlyWrote, WrotePart};
 
 use crate::failure::failure_of;
-use crate::sign::sign_one;
+use crate::sign::sign_in_turns;
 use aggregator_session::{Desk, SignFault, Signed};
 use disk_trait::{Disk, Faults};
 use leaf_table::Table;
@@ -25,7 +25,7 @@ use session_core::SessionFault;
 use std::alloc::Global;
 use std::sync::Wait;
 use stream_io::{Failed, Port, Sink, Source, Stream};
-use turn_lock::{Pass, TurnLock};
+use turn_lock::{Pass, TurnLock, TurnsOnly};
 
 /// The most frames of one connection.
 const MOST_FRAMES: u32 = 65_536;
@@ -64,9 +64,43 @@ pub fn serve_client<R: Cells, D: Disk, P: Port, L: Source + Sink>(
     ensures cells { CellsStay R.Cells.own R.Faults cells.old cells.new }
     ensures pass { IsIdle lock.now desk.now.plan.now pass.new }
 {
+    answer_requests(
+        &TurnsOnly::of(rt),
+        alloc,
+        desk,
+        cells,
+        lock,
+        pass,
+        port,
+        link,
+    )
+}
+
+/// Serves a client's connection as `serve_client` does. It may wait for turns of a lock, and for nothing else.
+pub(crate) fn answer_requests<R: Cells, D: Disk, P: Port, L: Source + Sink>(
+    turns: &TurnsOnly<impl Wait>,
+    alloc: Global,
+    desk: &Desk,
+    cells: &mut R,
+    lock: &TurnLock<Table<D>>,
+    pass: &mut Pass<Table<D>>,
+    port: &mut P,
+    link: &mut L,
+) -> Served
+    requires ready { IsReady R.Cells.own lock.now desk.now pass.old cells.old }
+    ensures serves { HasServed (desk_state desk.now) (reference_state R.Cells.own R.Faults cells.old)
+        (record { pass = pass.old; port = P.state port.old; faults = R.count cells.old; talk = L.talk link.old })
+        (record { pass = pass.new; port = P.state port.new; faults = R.count cells.new; talk = L.talk link.new })
+        result.frames result.ended }
+    ensures ends { HasEnded desk.now.key.now.params (L.steady link.old) (L.room link.old) result }
+    ensures takes { (L.talk link.old).room ≡ L.room link.old }
+    ensures steady { L.steady link.new ≡ L.steady link.old }
+    ensures cells { CellsStay R.Cells.own R.Faults cells.old cells.new }
+    ensures pass { IsIdle lock.now desk.now.plan.now pass.new }
+{
     let mut frames = 0;
     'requests: for _ in 0..MOST_FRAMES {
-        let step = answer_next(rt, alloc, desk, cells, lock, pass, port, link);
+        let step = answer_next(turns, alloc, desk, cells, lock, pass, port, link);
         frames += step.replies;
         if let Some(ended) = step.ended {
             return Served { frames, ended };
@@ -80,7 +114,7 @@ pub fn serve_client<R: Cells, D: Disk, P: Port, L: Source + Sink>(
 
 /// Reads a request, signs its message, and answers it.
 fn answer_next<R: Cells, D: Disk, P: Port, L: Source + Sink>(
-    rt: &impl Wait,
+    turns: &TurnsOnly<impl Wait>,
     alloc: Global,
     desk: &Desk,
     cells: &mut R,
@@ -105,7 +139,9 @@ fn answer_next<R: Cells, D: Disk, P: Port, L: Source + Sink>(
         Ok(request) => request,
         Err(fault) => return unread(fault, link),
     };
-    let outcome = sign_one(rt, alloc, desk, cells, lock, pass, port, members, &message);
+    let outcome = sign_in_turns(
+        turns, alloc, desk, cells, lock, pass, port, members, &message,
+    );
     answered(&outcome, write_outcome(&outcome, link))
 }
 

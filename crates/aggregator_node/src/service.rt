@@ -7,7 +7,7 @@ ghost use Rattle.aggregator_session.specs.Desks.{ReadsFor, desk_state};
 ghost use Rattle.aggregator_session.specs.Tables.{TableOnward, table_seen};
 
 use crate::gather::gather;
-use crate::worker::serve;
+use crate::worker::run_workers;
 use aggregator_session::Desk;
 use disk_trait::{Disk, Faults};
 use leaf_table::Table;
@@ -18,14 +18,14 @@ use std::alloc::Global;
 use std::sync::Wait;
 use std::thread::Threads;
 use stream_io::{Port, Totals};
-use turn_lock::TurnLock;
+use turn_lock::{TurnLock, TurnsOnly};
 
 /// Serves the clients of a leaf table over ports, with one worker for each port, all side by side, each with cells of
 /// its own. A worker serves one link after the other, until it has served `connections`, there is no further link or
 /// accepting fails; the members of the requests are dialled from the same port. The ports and the cells come back in
 /// their order. If memory runs out before a link is accepted, nothing was served.
 pub fn serve_clients<R: Threads + Wait + Sync, X: Cells + Send, D: Disk + Send, P: Port + Send>(
-    rt: &R,
+    turns: &TurnsOnly<R>,
     alloc: Global,
     desk: &Desk,
     table: Table<D>,
@@ -57,7 +57,14 @@ pub fn serve_clients<R: Threads + Wait + Sync, X: Cells + Send, D: Disk + Send, 
         }
     };
     let mut workers = make_workers(&lock, ports, cells, passes, room);
-    serve(rt, alloc, desk, &lock, workers.as_mut_slice(), connections);
+    run_workers(
+        turns,
+        alloc,
+        desk,
+        &lock,
+        workers.as_mut_slice(),
+        connections,
+    );
     let (pass, totals) = gather(&lock, workers, ports, cells);
     (lock.close(pass), Ok(totals))
 }

@@ -12,12 +12,12 @@ use disk_trait::Disk;
 use leaf_table::Table;
 use lms_bytes::MessageId;
 use std::sync::Wait;
-use turn_lock::{Pass, TurnLock};
+use turn_lock::{Pass, TurnLock, TurnsOnly};
 
 /// The leaf of the members' coalition for this message, leased in a turn of its own. The lock is held for the lease
 /// alone. It takes no memory.
 pub(crate) fn lease_in_turn<D: Disk>(
-    rt: &impl Wait,
+    turns: &TurnsOnly<impl Wait>,
     lock: &TurnLock<Table<D>>,
     pass: &mut Pass<Table<D>>,
     plan: &Plan,
@@ -30,7 +30,7 @@ pub(crate) fn lease_in_turn<D: Disk>(
     ensures leased { IfOk result (λ leaf. map_of pass.new.log leaf ≡ IsLeased (message_id_bytes id.now)) }
     ensures pass { IsIdle lock.now plan.now pass.new }
 {
-    let Ok(mut table) = lock.take(rt, pass) else {
+    let Ok(mut table) = lock.take_turn(turns, pass) else {
         return Err(SignFault::Worn);
     };
     let leased = table.lease(members, id);
@@ -43,7 +43,7 @@ pub(crate) fn lease_in_turn<D: Disk>(
 
 /// Burns a leaf that was leased for this message, in a turn of its own, if a member has spent it. It takes no memory.
 pub(crate) fn burn_spent<D: Disk>(
-    rt: &impl Wait,
+    turns: &TurnsOnly<impl Wait>,
     lock: &TurnLock<Table<D>>,
     pass: &mut Pass<Table<D>>,
     plan: &Plan,
@@ -58,14 +58,14 @@ pub(crate) fn burn_spent<D: Disk>(
     ensures pass { IsIdle lock.now plan.now pass.new }
 {
     if let Some(member) = spent {
-        burn_in_turn(rt, lock, pass, plan, leaf, id, member);
+        burn_in_turn(turns, lock, pass, plan, leaf, id, member);
     }
 }
 
 /// Burns a leaf that was leased for this message, since this member reported it spent, in a turn of its own. What comes
 /// of it changes no answer. It takes no memory.
 fn burn_in_turn<D: Disk>(
-    rt: &impl Wait,
+    turns: &TurnsOnly<impl Wait>,
     lock: &TurnLock<Table<D>>,
     pass: &mut Pass<Table<D>>,
     plan: &Plan,
@@ -79,7 +79,7 @@ fn burn_in_turn<D: Disk>(
     ensures turn { Burning pass.old pass.new leaf id.now (Some member) }
     ensures pass { IsIdle lock.now plan.now pass.new }
 {
-    let Ok(mut table) = lock.take(rt, pass) else {
+    let Ok(mut table) = lock.take_turn(turns, pass) else {
         return;
     };
     let _ = table.burn(leaf, id, member);

@@ -6,7 +6,7 @@ ghost use Rattle.aggregator_node.specs.Ports.{reference_state};
 ghost use Rattle.aggregator_node.specs.Workers.{HasServedLink, IsReady, WorkEnds, Worked, worker_state};
 ghost use Rattle.reference_value.specs.Stay.{CellsStay};
 
-use crate::serve_client;
+use crate::client::answer_requests;
 use aggregator_session::Desk;
 use disk_trait::{Disk, Faults};
 use leaf_table::Table;
@@ -17,12 +17,40 @@ use std::sync::Wait;
 use std::thread;
 use std::thread::Threads;
 use stream_io::{Port, Sink, Stream};
-use turn_lock::{Pass, TurnLock};
+use turn_lock::{Pass, TurnLock, TurnsOnly};
 
 /// Has each worker serve one link after the other, all workers side by side, until each has served `connections`, there
 /// is no further link for it, accepting fails or its pass has no more turns.
 pub fn serve<R: Threads + Wait + Sync, X: Cells + Send, D: Disk + Send, P: Port + Send>(
     rt: &R,
+    alloc: Global,
+    desk: &Desk,
+    lock: &TurnLock<Table<D>>,
+    workers: &mut [Worker<P, Table<D>, X>],
+    connections: u32,
+)
+    requires ready { All (λ worker. IsReady X.Cells.own lock.now desk.now worker.pass worker.own)
+        workers.old }
+    ensures worked { (i : ℕ) (d : _) → i < length workers.old → Worked (desk_state desk.now)
+        (worker_state P.state X.Cells.own X.Faults (slice_index_or workers.old i d))
+        (worker_state P.state X.Cells.own X.Faults (slice_index_or workers.new i d)) }
+    ensures ready { All (λ worker. IsReady X.Cells.own lock.now desk.now worker.pass worker.own)
+        workers.new }
+    ensures most { All (λ worker. worker.connections ≤ connections) workers.new }
+    ensures ends { All (λ worker. WorkEnds connections (worker_state P.state X.Cells.own X.Faults worker))
+        workers.new }
+{
+    run_workers(&TurnsOnly::of(rt), alloc, desk, lock, workers, connections);
+}
+
+/// Runs workers as `serve` does. They may wait for turns of a lock, and for nothing else.
+pub(crate) fn run_workers<
+    R: Threads + Wait + Sync,
+    X: Cells + Send,
+    D: Disk + Send,
+    P: Port + Send,
+>(
+    turns: &TurnsOnly<R>,
     alloc: Global,
     desk: &Desk,
     lock: &TurnLock<Table<D>>,
@@ -52,14 +80,14 @@ pub fn serve<R: Threads + Wait + Sync, X: Cells + Send, D: Disk + Send, P: Port 
             × IsReady X.Cells.own lock.entry.now desk.entry.now worker.exit.now.pass worker.exit.now.own
             × (worker.exit.now.connections ≤ connections)
             × WorkEnds connections (worker_state P.state X.Cells.own X.Faults worker.exit.now) }
-    { work(rt, alloc, desk, lock, worker, connections) };
-    thread::for_each_mut(rt, workers, threads, &serves);
+    { work(turns, alloc, desk, lock, worker, connections) };
+    thread::for_each_mut(turns, workers, threads, &serves);
 }
 
 /// Serves one link after the other, until it has served `connections`, there is no further link, accepting fails or the
 /// pass has no more turns.
 fn work<X: Cells, D: Disk, P: Port>(
-    rt: &impl Wait,
+    turns: &TurnsOnly<impl Wait>,
     alloc: Global,
     desk: &Desk,
     lock: &TurnLock<Table<D>>,
@@ -79,7 +107,7 @@ fn work<X: Cells, D: Disk, P: Port>(
             return;
         };
         let served = serve_link(
-            rt,
+            turns,
             alloc,
             desk,
             &mut worker.own,
@@ -96,7 +124,7 @@ fn work<X: Cells, D: Disk, P: Port>(
 
 /// Serves a link, and hangs it up.
 fn serve_link<X: Cells, D: Disk, P: Port>(
-    rt: &impl Wait,
+    turns: &TurnsOnly<impl Wait>,
     alloc: Global,
     desk: &Desk,
     cells: &mut X,
@@ -114,7 +142,7 @@ fn serve_link<X: Cells, D: Disk, P: Port>(
     ensures ready { IsReady X.Cells.own lock.now desk.now pass.new cells.new }
     ensures cells { CellsStay X.Cells.own X.Faults cells.old cells.new }
 {
-    let served = serve_client(rt, alloc, desk, cells, lock, pass, port, &mut link);
+    let served = answer_requests(turns, alloc, desk, cells, lock, pass, port, &mut link);
     port.hang_up(link);
     served
 }

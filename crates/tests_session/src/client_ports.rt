@@ -20,6 +20,7 @@ use std::sync::Wait;
 use std::thread::Threads;
 use stream_memory::MemPort;
 use trustee_node::Totals;
+use turn_lock::TurnsOnly;
 
 /// A request for the signature of `hello` by trustees 1 and 2.
 const REQUEST: [u8; 15] = [
@@ -187,7 +188,8 @@ fn serve<R: Threads + Wait + Sync + Abort>(
     let desk = scene.desk();
     let mut cells = cells(alloc, &desk)?;
     let table = scene.table(alloc).expect(rt, "a table");
-    let (_, served) = serve_clients(rt, alloc, &desk, table, &mut cells, ports, 5);
+    let turns = TurnsOnly::of(rt);
+    let (_, served) = serve_clients(&turns, alloc, &desk, table, &mut cells, ports, 5);
     served
 }
 

@@ -16,6 +16,7 @@ use tool_base::header_of;
 use tool_trustee::{Clocks, MemClocks};
 use trustee_core::Trustee;
 use trustee_node::{Totals, serve_ports};
+use turn_lock::TurnsOnly;
 
 /// The share of trustee 1 in a dealing of the typecodes 5 and 3 to coalitions of 3 of 5 trustees.
 const SHARE: [u8; 64] = [
@@ -68,7 +69,8 @@ fn an_ask_at_a_port_is_answered(rt: HostRuntime) -> Result<(), NoMemory> {
     let trustee = trustee(alloc, &share).expect(&rt, "trustee");
     let mut ports = two_ports(alloc, &[&ASK, &[]])?;
     let clocks = MemClocks::new(0).clocks(alloc, 2)?;
-    let (_, served) = serve_ports(&rt, alloc, trustee, &share, None, &mut ports, clocks, 5);
+    let turns = TurnsOnly::of(&rt);
+    let (_, served) = serve_ports(&turns, alloc, trustee, &share, None, &mut ports, clocks, 5);
     let totals = Totals {
         connections: 2,
         frames: 1,

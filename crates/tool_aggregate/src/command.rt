@@ -16,11 +16,12 @@ use tool_base::Ending;
 use tool_desk::{KeyFiles, end_cells, read_key_and_tree, view_cells};
 use tool_sign::addresses_of;
 use tool_words::AggregateWords;
+use turn_lock::TurnsOnly;
 
 /// Signs for clients: reads the files of a dealing, with a view of the reference for each worker, and serves clients
 /// with a leaf of the table for each message.
 pub fn aggregate<R: Threads + Wait + Sync, S: Store, N: Net>(
-    rt: &R,
+    turns: &TurnsOnly<R>,
     alloc: Global,
     words: &AggregateWords,
     store: &mut S,
@@ -47,7 +48,7 @@ pub fn aggregate<R: Threads + Wait + Sync, S: Store, N: Net>(
         tree: &files.tree.nodes,
         addresses: &addresses,
     };
-    let end = serve_table(rt, alloc, words, &desk, &mut cells, store, net);
+    let end = serve_table(turns, alloc, words, &desk, &mut cells, store, net);
     end_cells(cells, store);
     end
 }

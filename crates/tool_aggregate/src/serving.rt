@@ -23,10 +23,11 @@ use stream_io::{CallFault, Net, Store};
 use tool_base::{Ending, end_of_service, end_of_slots};
 use tool_sign::table_header;
 use tool_words::AggregateWords;
+use turn_lock::TurnsOnly;
 
 /// Takes the leaf table of the words, serves clients with it over ports, and gives it back.
 pub(crate) fn serve_table<R: Threads + Wait + Sync, X: Cells + Send, S: Store, N: Net>(
-    rt: &R,
+    turns: &TurnsOnly<R>,
     alloc: Global,
     words: &AggregateWords,
     desk: &Desk,
@@ -57,14 +58,14 @@ pub(crate) fn serve_table<R: Threads + Wait + Sync, X: Cells + Send, S: Store, N
             return end_of_slots(fault);
         }
     };
-    let (table, end) = serve_net(rt, alloc, words, desk, table, cells, net);
+    let (table, end) = serve_net(turns, alloc, words, desk, table, cells, net);
     store.return_disk(words.table, table.end());
     end
 }
 
 /// Makes ports, serves clients over them, and gives them back.
 fn serve_net<R: Threads + Wait + Sync, X: Cells + Send, D: Disk + Send, N: Net>(
-    rt: &R,
+    turns: &TurnsOnly<R>,
     alloc: Global,
     words: &AggregateWords,
     desk: &Desk,
@@ -89,7 +90,7 @@ fn serve_net<R: Threads + Wait + Sync, X: Cells + Send, D: Disk + Send, N: Net>(
         Err(CallFault::NoMemory) => return (table, Ending::NoMemory),
     };
     let connections = words.connections;
-    let (table, totals) = serve_clients(rt, alloc, desk, table, cells, &mut ports, connections);
+    let (table, totals) = serve_clients(turns, alloc, desk, table, cells, &mut ports, connections);
     let end = end_of_service(&ports, totals);
     net.gather(ports);
     (table, end)

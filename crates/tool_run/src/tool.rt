@@ -24,6 +24,7 @@ use tool_show::show_file;
 use tool_sign::{hss_sign, sign};
 use tool_trustee::{Clocks, serve_trustee};
 use tool_words::{Command, command_of};
+use turn_lock::TurnsOnly;
 
 /// Does what the words ask for, and answers the status. The words begin with the command. `progress` is told how far a
 /// dealing has come.
@@ -46,13 +47,45 @@ pub fn run_tool<R: Threads + Wait + Sync, P: Progress, S: Store, N: Net, T: Cloc
         result }
     ensures told { WordsTell P.told (command_of (map string_bytes words.now)) result progress.old progress.new }
 {
-    let end = run_words(rt, progress, alloc, words, store, net, time);
+    run_in_turns(
+        &TurnsOnly::of(rt),
+        progress,
+        alloc,
+        words,
+        store,
+        net,
+        time,
+        out,
+    )
+}
+
+/// Does what the words ask for as `run_tool` does. It may wait for turns of a lock, and for nothing else.
+fn run_in_turns<R: Threads + Wait + Sync, P: Progress, S: Store, N: Net, T: Clocks, O: Sink>(
+    turns: &TurnsOnly<R>,
+    progress: &mut P,
+    alloc: Global,
+    words: &[String],
+    store: &mut S,
+    net: &mut N,
+    time: &mut T,
+    out: &mut O,
+) -> u8
+    ensures run { ToolRun (map string_bytes words.now)
+        (record {
+          before = record { store = S.state store.old; net = N.state net.old; time = T.state time.old };
+          after = record { store = S.state store.new; net = N.state net.new; time = T.state time.new };
+          output = output_run O.steady O.room O.talk out.old out.new;
+        })
+        result }
+    ensures told { WordsTell P.told (command_of (map string_bytes words.now)) result progress.old progress.new }
+{
+    let end = run_words(turns, progress, alloc, words, store, net, time);
     finish(alloc, &end, out)
 }
 
 /// Does what the words ask for, and answers how it ends.
 fn run_words<R: Threads + Wait + Sync, P: Progress, S: Store, N: Net, T: Clocks>(
-    rt: &R,
+    turns: &TurnsOnly<R>,
     progress: &mut P,
     alloc: Global,
     words: &[String],
@@ -71,14 +104,14 @@ fn run_words<R: Threads + Wait + Sync, P: Progress, S: Store, N: Net, T: Clocks>
         progress.old progress.new }
 {
     match command_of(alloc, words) {
-        Some(command) => run_command(rt, progress, alloc, &command, store, net, time),
+        Some(command) => run_command(turns, progress, alloc, &command, store, net, time),
         None => Ending::Usage,
     }
 }
 
 /// Does what a command asks for, and answers how it ends.
 fn run_command<R: Threads + Wait + Sync, P: Progress, S: Store, N: Net, T: Clocks>(
-    rt: &R,
+    turns: &TurnsOnly<R>,
     progress: &mut P,
     alloc: Global,
     command: &Command,
@@ -97,12 +130,12 @@ fn run_command<R: Threads + Wait + Sync, P: Progress, S: Store, N: Net, T: Clock
     ensures told { WordsTell P.told (Some (row command.now)) (status_of (ending result)) progress.old progress.new }
 {
     match command {
-        Command::Deal(words) => deal_files(rt, progress, alloc, store, words),
-        Command::Trustee(words) => serve_trustee(rt, alloc, words, store, net, time),
+        Command::Deal(words) => deal_files(turns, progress, alloc, store, words),
+        Command::Trustee(words) => serve_trustee(turns, alloc, words, store, net, time),
         Command::Sign(words) => sign(alloc, words, store, net),
         Command::Blame(words) => blame(alloc, words, store, net),
         Command::HssSign(words) => hss_sign(alloc, words, store, net),
-        Command::Aggregate(words) => aggregate(rt, alloc, words, store, net),
+        Command::Aggregate(words) => aggregate(turns, alloc, words, store, net),
         _ => run_on_store(alloc, command, store),
     }
 }

@@ -22,10 +22,11 @@ use tool_base::{Ending, end_of_service};
 use tool_words::TrusteeWords;
 use trustee_core::{Approved, Trustee};
 use trustee_node::serve_ports;
+use turn_lock::TurnsOnly;
 
 /// Makes ports, serves a trustee over them, and gives them back.
 pub(crate) fn serve_net<R: Threads + Wait + Sync, D: Disk + Send, N: Net, T: Clocks>(
-    rt: &R,
+    turns: &TurnsOnly<R>,
     alloc: Global,
     words: &TrusteeWords,
     trustee: Trustee<D>,
@@ -58,7 +59,7 @@ pub(crate) fn serve_net<R: Threads + Wait + Sync, D: Disk + Send, N: Net, T: Clo
     };
     let connections = words.connections;
     let (trustee, totals) = serve_ports(
-        rt,
+        turns,
         alloc,
         trustee,
         share,

@@ -24,10 +24,11 @@ use stream_io::{CallFault, Net, Store};
 use tool_base::{Ending, end_of_slots, header_of, read_share_file};
 use tool_words::TrusteeWords;
 use trustee_core::Trustee;
+use turn_lock::TurnsOnly;
 
 /// Serves a trustee: reads its share, loads its journal and its book, if there is one, and serves it over ports.
 pub fn serve_trustee<R: Threads + Wait + Sync, S: Store, N: Net, T: Clocks>(
-    rt: &R,
+    turns: &TurnsOnly<R>,
     alloc: Global,
     words: &TrusteeWords,
     store: &mut S,
@@ -56,14 +57,14 @@ pub fn serve_trustee<R: Threads + Wait + Sync, S: Store, N: Net, T: Clocks>(
         }
     };
     let trustee = Trustee::new(share, journal);
-    let (trustee, end) = serve_with_book(rt, alloc, words, trustee, &share, store, net, time);
+    let (trustee, end) = serve_with_book(turns, alloc, words, trustee, &share, store, net, time);
     store.return_disk(words.journal, trustee.end());
     end
 }
 
 /// Loads the book, if there is one, and serves a trustee with it.
 fn serve_with_book<R: Threads + Wait + Sync, S: Store, N: Net, T: Clocks>(
-    rt: &R,
+    turns: &TurnsOnly<R>,
     alloc: Global,
     words: &TrusteeWords,
     trustee: Trustee<S::Disk>,
@@ -84,7 +85,7 @@ fn serve_with_book<R: Threads + Wait + Sync, S: Store, N: Net, T: Clocks>(
     ensures time { T.state time.new ≡ T.state time.old }
 {
     let Some(name) = words.book else {
-        return serve_net(rt, alloc, words, trustee, share, None, net, time);
+        return serve_net(turns, alloc, words, trustee, share, None, net, time);
     };
     let disk = match store.take_disk(name) {
         Ok(disk) => disk,
@@ -98,7 +99,7 @@ fn serve_with_book<R: Threads + Wait + Sync, S: Store, N: Net, T: Clocks>(
         }
     };
     let ids = Some(book.approved());
-    let (trustee, end) = serve_net(rt, alloc, words, trustee, share, ids, net, time);
+    let (trustee, end) = serve_net(turns, alloc, words, trustee, share, ids, net, time);
     store.return_disk(name, book.end());
     (trustee, end)
 }

@@ -15,7 +15,7 @@ use share_files::Share;
 use std::sync::Wait;
 use stream_io::{Failed, Sink, Source, Stream};
 use trustee_core::{Approved, Clock, Trustee};
-use turn_lock::{Pass, TurnLock};
+use turn_lock::{Pass, TurnLock, TurnsOnly};
 
 /// The most frames of one connection.
 const MOST_FRAMES: u32 = 65_536;
@@ -43,6 +43,29 @@ pub fn serve_connection<D: Disk, C: Clock, L: Source + Sink>(
     ensures answers { IsTrue (L.steady link.old) → result.ended ≢ ServedEnd.Frame FrameFault.ReadFault }
     ensures steady { L.steady link.new ≡ L.steady link.old }
 {
+    answer_asks(&TurnsOnly::of(rt), lock, pass, share, book, clock, link)
+}
+
+/// Serves a connection as `serve_connection` does. It may wait for turns of a lock, and for nothing else.
+pub(crate) fn answer_asks<D: Disk, C: Clock, L: Source + Sink>(
+    turns: &TurnsOnly<impl Wait>,
+    lock: &TurnLock<Trustee<D>>,
+    pass: &mut Pass<Trustee<D>>,
+    share: &Share,
+    book: Option<&Approved>,
+    clock: &mut C,
+    link: &mut L,
+) -> Served
+    requires { IsIdle lock.now share.now pass.old }
+    ensures conversation { Conversation share.now (option_map (λ b. ids_of b.now) book.entry)
+        (record { pass = pass.old; clock = clock_state C.told C.answers clock.old })
+        (record { pass = pass.new; clock = clock_state C.told C.answers clock.new })
+        (record { steady = L.steady link.old; talk = L.talk link.old }) (L.talk link.new) result }
+    ensures pass { IsIdle lock.now share.now pass.new }
+    ensures clock { C.told clock.new ≡ C.told clock.old }
+    ensures answers { IsTrue (L.steady link.old) → result.ended ≢ ServedEnd.Frame FrameFault.ReadFault }
+    ensures steady { L.steady link.new ≡ L.steady link.old }
+{
     let mut frames = 0;
     for _ in 0..MOST_FRAMES {
         let ask = match next_ask(&share.params, link) {
@@ -53,7 +76,7 @@ pub fn serve_connection<D: Disk, C: Clock, L: Source + Sink>(
             }
         };
         let moment = clock.now();
-        let answer = decide_in_turn(rt, lock, pass, share, book, &ask, moment);
+        let answer = decide_in_turn(turns, lock, pass, share, book, &ask, moment);
         if let Err(Failed) = write_reply(share, &ask, &answer, link) {
             let ended = ServedEnd::WriteFailed;
             return Served { frames, ended };

@@ -9,7 +9,7 @@ ghost use Rattle.trustee_node.specs.Ports.{ServedPorts, ports_run};
 ghost use Rattle.trustee_node.specs.Trustees.{trustee_state};
 
 use crate::gather::gather;
-use crate::serve;
+use crate::worker::run_workers;
 use disk_trait::Disk;
 use memory::NoMemory;
 use node_workers::{Worker, make_workers};
@@ -19,7 +19,7 @@ use std::sync::Wait;
 use std::thread::Threads;
 use stream_io::{Port, Totals};
 use trustee_core::{Approved, Clock, Trustee};
-use turn_lock::TurnLock;
+use turn_lock::{TurnLock, TurnsOnly};
 
 /// Serves a trustee over ports, with a worker for each port, all side by side, each with a clock of its own. A worker
 /// serves one link after another, until it has served `connections`, there is no further link or accepting fails. A
@@ -31,7 +31,7 @@ pub fn serve_ports<
     C: Clock + Send + Drop,
     P: Port + Send,
 >(
-    rt: &R,
+    turns: &TurnsOnly<R>,
     alloc: Global,
     trustee: Trustee<D>,
     share: &Share,
@@ -64,7 +64,14 @@ pub fn serve_ports<
         }
     };
     let mut workers = make_workers(&lock, ports, &mut clocks, passes, room);
-    serve(rt, &lock, share, book, workers.as_mut_slice(), connections);
+    run_workers(
+        turns,
+        &lock,
+        share,
+        book,
+        workers.as_mut_slice(),
+        connections,
+    );
     let (pass, totals) = gather(&lock, workers, ports);
     (lock.close(pass), Ok(totals))
 }

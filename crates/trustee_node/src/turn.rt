@@ -12,7 +12,7 @@ use lms_bytes::Ask;
 use share_files::Share;
 use std::sync::Wait;
 use trustee_core::{Approved, Denial, Grant, Trustee, decide_approved};
-use turn_lock::{Pass, TurnLock};
+use turn_lock::{Pass, TurnLock, TurnsOnly};
 
 /// What came of an ask.
 #[derive(Drop)]
@@ -50,7 +50,7 @@ impl Answer {
 /// Decides on an ask at a moment, in seconds since the start of 1970. The lock is held for the decision alone. The
 /// randomizer and the digest of a round-two ask have `n` bytes. It takes no memory.
 pub(crate) fn decide_in_turn<D: Disk>(
-    rt: &impl Wait,
+    turns: &TurnsOnly<impl Wait>,
     lock: &TurnLock<Trustee<D>>,
     pass: &mut Pass<Trustee<D>>,
     share: &Share,
@@ -65,7 +65,7 @@ pub(crate) fn decide_in_turn<D: Disk>(
     ensures ask { IsGrantOf result ask.now }
     ensures pass { IsIdle lock.now share.now pass.new }
 {
-    let Ok(mut trustee) = lock.take(rt, pass) else {
+    let Ok(mut trustee) = lock.take_turn(turns, pass) else {
         return Answer::Worn;
     };
     let decided = decide_approved(book, &mut trustee, ask, moment);

@@ -9,7 +9,7 @@ ghost use Rattle.trustee_node.specs.Connections.{clock_state};
 ghost use Rattle.trustee_node.specs.Turns.{IsIdle};
 ghost use Rattle.trustee_node.specs.Workers.{ServesLink, WorkEnds, Worked, worker_state};
 
-use crate::connection::serve_connection;
+use crate::connection::answer_asks;
 use disk_trait::Disk;
 use node_workers::{Served, Worker, next_link};
 use share_files::Share;
@@ -18,12 +18,38 @@ use std::thread;
 use std::thread::Threads;
 use stream_io::{Port, Stream};
 use trustee_core::{Approved, Clock, Trustee};
-use turn_lock::{Pass, TurnLock};
+use turn_lock::{Pass, TurnLock, TurnsOnly};
 
 /// Has each worker serve one link after another, all side by side, until each has served `connections`, there is no
 /// further link for it, accepting fails or its pass has no more turns. It takes no memory.
 pub fn serve<R: Threads + Wait + Sync, D: Disk + Send, C: Clock + Send, P: Port + Send>(
     rt: &R,
+    lock: &TurnLock<Trustee<D>>,
+    share: &Share,
+    book: Option<&Approved>,
+    workers: &mut [Worker<P, Trustee<D>, C>],
+    connections: u32,
+)
+    requires { All (λ worker. IsIdle lock.now share.now worker.pass) workers.old }
+    ensures worked { (i : ℕ) (d : _) → i < length workers.old
+        → Worked share.now (option_map (λ b. ids_of b.now) book.entry)
+        (worker_state P.state C.told C.answers (slice_index_or workers.old i d))
+        (worker_state P.state C.told C.answers (slice_index_or workers.new i d)) }
+    ensures pass { All (λ worker. IsIdle lock.now share.now worker.pass) workers.new }
+    ensures most { All (λ worker. worker.connections ≤ connections) workers.new }
+    ensures ends { All (λ worker. WorkEnds connections (worker_state P.state C.told C.answers worker)) workers.new }
+{
+    run_workers(&TurnsOnly::of(rt), lock, share, book, workers, connections);
+}
+
+/// Runs workers as `serve` does. They may wait for turns of a lock, and for nothing else.
+pub(crate) fn run_workers<
+    R: Threads + Wait + Sync,
+    D: Disk + Send,
+    C: Clock + Send,
+    P: Port + Send,
+>(
+    turns: &TurnsOnly<R>,
     lock: &TurnLock<Trustee<D>>,
     share: &Share,
     book: Option<&Approved>,
@@ -50,14 +76,14 @@ pub fn serve<R: Threads + Wait + Sync, D: Disk + Send, C: Clock + Send, P: Port 
             (worker_state P.state C.told C.answers worker.exit.now)
             × IsIdle lock.entry.now share.entry.now worker.exit.now.pass × (worker.exit.now.connections ≤ connections)
             × WorkEnds connections (worker_state P.state C.told C.answers worker.exit.now) }
-    { work(rt, lock, share, book, worker, connections) };
-    thread::for_each_mut(rt, workers, threads, &serves);
+    { work(turns, lock, share, book, worker, connections) };
+    thread::for_each_mut(turns, workers, threads, &serves);
 }
 
 /// Serves one link after another, until it has served `connections`, there is no further link, accepting fails or the
 /// pass has no more turns.
 fn work<D: Disk, C: Clock, P: Port>(
-    rt: &impl Wait,
+    turns: &TurnsOnly<impl Wait>,
     lock: &TurnLock<Trustee<D>>,
     share: &Share,
     book: Option<&Approved>,
@@ -77,7 +103,7 @@ fn work<D: Disk, C: Clock, P: Port>(
             return;
         };
         let served = serve_link(
-            rt,
+            turns,
             lock,
             &mut worker.pass,
             share,
@@ -94,7 +120,7 @@ fn work<D: Disk, C: Clock, P: Port>(
 
 /// Serves a link, and hangs it up.
 fn serve_link<D: Disk, C: Clock, P: Port>(
-    rt: &impl Wait,
+    turns: &TurnsOnly<impl Wait>,
     lock: &TurnLock<Trustee<D>>,
     pass: &mut Pass<Trustee<D>>,
     share: &Share,
@@ -113,7 +139,7 @@ fn serve_link<D: Disk, C: Clock, P: Port>(
     ensures clock { C.told clock.new ≡ C.told clock.old }
     ensures onward { PortOnward (P.state port.old) (P.state port.new) }
 {
-    let served = serve_connection(rt, lock, pass, share, book, clock, &mut link);
+    let served = answer_asks(turns, lock, pass, share, book, clock, &mut link);
     port.hang_up(link);
     served
 }

@@ -7,7 +7,9 @@ mod lock;
 mod patience;
 mod plays;
 mod steps;
+mod turns_only;
 mod view;
 
 pub use kept::Kept;
 pub use lock::{Pass, TurnLock, Worn};
+pub use turns_only::TurnsOnly;

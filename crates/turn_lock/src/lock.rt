@@ -11,6 +11,7 @@ use crate::kept::Kept;
 use crate::patience::Patience;
 use crate::steps;
 use crate::steps::{Home, Place, WORN_FROM, Words};
+use crate::turns_only::TurnsOnly;
 use crate::view::Start;
 use memory::NoMemory;
 use std::alloc::Global;
@@ -112,10 +113,22 @@ impl<T: Kept> TurnLock<T> {
         ensures draws { DrawsOne self.now pass.old pass.new }
         ensures stays { SameDone pass.old pass.new }
     {
+        self.take_turn(&TurnsOnly::of(rt), pass)
+    }
+
+    /// Takes a turn as `take` does, by what may wait for turns alone.
+    pub fn take_turn(&self, turns: &TurnsOnly<impl Wait>, pass: &mut Pass<T>) -> Result<T, Worn>
+        requires lock { pass.old.lock ≡ self.now }
+        requires idle { pass.old.in_turn ≡ false }
+        ensures taken { IfOk result (λ v. Takes (T.entries v) (T.number v) (T.name v) pass.old pass.new) }
+        ensures worn { IfErr result (λ _. IsWornOut pass.old pass.new) }
+        ensures draws { DrawsOne self.now pass.old pass.new }
+        ensures stays { SameDone pass.old pass.new }
+    {
         if pass.greatest >= WORN_FROM {
             return Err(Worn);
         }
-        steps::enter(rt, &self.table.shared, &mut pass.seat);
+        steps::enter(turns.rt, &self.table.shared, &mut pass.seat);
         let ticket = steps::draw(&self.table.shared, &mut pass.seat);
         pass.greatest = ticket;
         if ticket >= WORN_FROM {
@@ -124,7 +137,7 @@ impl<T: Kept> TurnLock<T> {
             return Err(Worn);
         }
         Ok(steps::wait(
-            rt,
+            turns.rt,
             &self.table.shared,
             &mut pass.seat,
             &mut pass.patience,

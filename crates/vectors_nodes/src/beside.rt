@@ -14,6 +14,7 @@ use std::sync::Wait;
 use std::thread::Threads;
 use stream_memory::{Before, Bell, Hold, MemPort, PortScript, Ring, WaitingPort};
 use trustee_node::serve_ports;
+use turn_lock::TurnsOnly;
 
 /// The bytes of an ask of round one, and of the reply to it.
 const ASK: usize = 64;
@@ -90,7 +91,8 @@ fn serve(
 {
     let clocks = clocks_of(alloc)?;
     let trustee = trustee(alloc, share)?;
-    let (_, served) = serve_ports(threads, alloc, trustee, share, None, ports, clocks, 1);
+    let turns = TurnsOnly::of(threads);
+    let (_, served) = serve_ports(&turns, alloc, trustee, share, None, ports, clocks, 1);
     served.ok()?;
     Some(())
 }

@@ -27,6 +27,7 @@ use std::sync::Wait;
 use std::thread::Threads;
 use stream_io::Port;
 use stream_memory::{Bell, MemSink, MemSource};
+use turn_lock::TurnsOnly;
 
 /// The trustees 3, 4 and 5.
 const COALITION: u16 = 0b11100;
@@ -132,7 +133,8 @@ fn serve_with<R: Threads + Wait + Sync, X: Cells + Send, D: Disk + Send + Drop, 
     requires cells { All (ReadsFor X.Cells.own desk.now) cells.old.items }
     requires two { (vec_len cells.old ≡ 2) × (vec_len ports.old ≡ 2) }
 {
-    let (table, served) = serve_clients(rt, alloc, desk, table, cells, ports, 1);
+    let turns = TurnsOnly::of(rt);
+    let (table, served) = serve_clients(&turns, alloc, desk, table, cells, ports, 1);
     match served {
         Ok(_) => Some(table),
         Err(_) => None,

@@ -12,6 +12,7 @@ use std::thread::Threads;
 use steady::ran_steadily;
 use stream_memory::MemStore;
 use tool_words::{Command, SignWords, TrusteeWords, command_of};
+use turn_lock::TurnsOnly;
 use vectors_scripts::{Files, file, made, push_file, words_of};
 
 /// The words of `trustee` here.
@@ -44,7 +45,8 @@ fn serve<R: Threads + Wait + Sync>(
     words: &TrusteeWords,
 ) -> Result<bool, NoMemory> {
     let files = files_of(alloc, store, TRUSTEE_FILES)?;
-    served_steadily(threads, alloc, words, files, file(store, "asks"))
+    let turns = TurnsOnly::of(threads);
+    served_steadily(&turns, alloc, words, files, file(store, "asks"))
 }
 
 /// Runs a trustee on both asks of a session, over a journal with no entry.

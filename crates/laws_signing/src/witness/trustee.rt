@@ -18,6 +18,7 @@ use stream_memory::{MemNet, MemStore};
 use tool_base::Ending;
 use tool_trustee::{Clocks, MemClocks, serve_trustee};
 use tool_words::TrusteeWords;
+use turn_lock::TurnsOnly;
 
 /// Room for 65,536 of the longest replies of any parameter set: each has at most 99 bytes beside 8,480 of masks.
 const ROOM: usize = 562_233_344;
@@ -27,7 +28,7 @@ const ROOM: usize = 562_233_344;
 /// `tool_trustee::laws::steady_trustee` hold of the run: store and net tell their content and do not fail, and the link
 /// has room for all replies.
 pub fn served_steadily<R: Threads + Wait + Sync>(
-    rt: &R,
+    turns: &TurnsOnly<R>,
     alloc: Global,
     words: &TrusteeWords,
     files: Vec<(String, Vec<u8>)>,
@@ -41,13 +42,13 @@ pub fn served_steadily<R: Threads + Wait + Sync>(
 {
     let mut store = MemStore::of_files(alloc, files, Vec::new(alloc))?;
     let mut net = waiting_net(alloc, words.place, asks, ROOM)?;
-    Ok(is_served(rt, alloc, words, asks, &mut store, &mut net))
+    Ok(is_served(turns, alloc, words, asks, &mut store, &mut net))
 }
 
 /// Serves a trustee over objects that do not fail, and tells whether it came to its end, and the first link of the
 /// first port that the net kept gave just these asks.
 fn is_served<R: Threads + Wait + Sync>(
-    rt: &R,
+    turns: &TurnsOnly<R>,
     alloc: Global,
     words: &TrusteeWords,
     asks: &[u8],
@@ -64,7 +65,7 @@ fn is_served<R: Threads + Wait + Sync>(
         (⟦<MemClocks as Clocks>⟧.state time)) }
 {
     let mut time = MemClocks::new(0);
-    let end = serve_trustee(rt, alloc, words, store, net, &mut time);
+    let end = serve_trustee(turns, alloc, words, store, net, &mut time);
     if !is_end(&end) {
         return false;
     }

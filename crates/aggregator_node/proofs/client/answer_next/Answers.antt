@@ -53,8 +53,8 @@ pub returns-clause-answers : goal.returns-clause-answers
 returns-clause-answers g c =
     let read = c.in-Ok.ensures in
     let w = c.write_outcome.ensures in
-    let s = c.sign_one-outcome.ensures in
-    let result = c.sign_one-outcome.result in
+    let s = c.sign_in_turns-outcome.ensures in
+    let result = c.sign_in_turns-outcome.result in
     let given = c.deref.result.now in
     let desk = desk_state c.args.desk.now in
     let reference = reference_of g.R.Cells g.R.Faults c.args.cells.now in
@@ -65,9 +65,9 @@ returns-clause-answers g c =
       talk = g.L.Stream.talk c.args.link.now;
     } in
     let after : Stand = record {
-      pass = c.sign_one-outcome.new.pass;
-      port = g.P.Port.state c.sign_one-outcome.new.port;
-      faults = g.R.Faults.count c.sign_one-outcome.new.cells;
+      pass = c.sign_in_turns-outcome.new.pass;
+      port = g.P.Port.state c.sign_in_turns-outcome.new.port;
+      faults = g.R.Faults.count c.sign_in_turns-outcome.new.cells;
       talk = g.L.Stream.talk c.next_request.new.source;
     } in
     let request : Request = record { members = c.in-Ok.request.0; message = c.in-Ok.request.1.items; outcome = signature_in result; added = s.shows.added } in
@@ -97,26 +97,26 @@ returns-clause-answers g c =
 pub returns-clause-room : goal.returns-clause-room
 returns-clause-room g c =
     room-wrote (g.met.L.Sink.rooms c.args.link.now) (g.met.L.Sink.rooms c.next_request.new.source) c.in-Ok.ensures.only.room (g.L.Sink.room c.write_outcome.new.sink) _
-    (longest_reply c.args.desk.now.key.now.params) c.write_outcome.ensures.room (frame-length _ _ c.sign_one-outcome.result c.sign_one-outcome.ensures.accepted)
+    (longest_reply c.args.desk.now.key.now.params) c.write_outcome.ensures.room (frame-length _ _ c.sign_in_turns-outcome.result c.sign_in_turns-outcome.ensures.accepted)
 
 pub returns-clause-ends : goal.returns-clause-ends
 returns-clause-ends g c =
     let read = c.in-Ok.ensures in
-    step-answered c.write_outcome.result (signature_in c.sign_one-outcome.result) c.answered.result.replies c.answered.result.ended c.answered.ensures
+    step-answered c.write_outcome.result (signature_in c.sign_in_turns-outcome.result) c.answered.result.replies c.answered.result.ended c.answered.ensures
     (λ steady fits. c.write_outcome.ensures.succeeds (read.steady ∙ steady)
-    (room-fits (g.met.L.Sink.rooms c.args.link.now) (g.met.L.Sink.rooms c.next_request.new.source) read.only.room (frame-length _ _ c.sign_one-outcome.result c.sign_one-outcome.ensures.accepted) fits))
+    (room-fits (g.met.L.Sink.rooms c.args.link.now) (g.met.L.Sink.rooms c.next_request.new.source) read.only.room (frame-length _ _ c.sign_in_turns-outcome.result c.sign_in_turns-outcome.ensures.accepted) fits))
 
 pub returns-clause-steady : goal.returns-clause-steady
 returns-clause-steady g c = c.write_outcome.ensures.steady ∙ c.in-Ok.ensures.steady
 
 pub returns-clause-cells : goal.returns-clause-cells
-returns-clause-cells g c = c.sign_one-outcome.ensures.cells.stays
+returns-clause-cells g c = c.sign_in_turns-outcome.ensures.cells.stays
 
 pub returns-clause-pass : goal.returns-clause-pass
-returns-clause-pass g c = c.sign_one-outcome.ensures.pass
+returns-clause-pass g c = c.sign_in_turns-outcome.ensures.pass
 
-pub sign_one-outcome-requires-clause-ready : goal.sign_one-outcome-requires-clause-ready
-sign_one-outcome-requires-clause-ready g c κs within = c.requires.ready
+pub sign_in_turns-outcome-requires-clause-ready : goal.sign_in_turns-outcome-requires-clause-ready
+sign_in_turns-outcome-requires-clause-ready g c κs within = c.requires.ready
 
 pub write_outcome-requires : goal.write_outcome-requires
-write_outcome-requires g c = signature-fits c.args.desk.now.key.now c.deref.result.now c.sign_one-outcome.result c.sign_one-outcome.ensures.accepted
+write_outcome-requires g c = signature-fits c.args.desk.now.key.now c.deref.result.now c.sign_in_turns-outcome.result c.sign_in_turns-outcome.ensures.accepted

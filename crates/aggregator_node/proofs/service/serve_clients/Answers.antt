@@ -12,8 +12,8 @@ use Rattle.turn_lock.specs.Pass.{first_pass}
 use Rattle.aggregator_session.specs.Tables.{name_of, table_seen}
 use Rattle.aggregator_node.proofs.service.serve_clients.Goals as goal
 
-pub serve-requires-clause-ready : goal.serve-requires-clause-ready
-serve-requires-clause-ready g c κs within =
+pub run_workers-requires-clause-ready : goal.run_workers-requires-clause-ready
+run_workers-requires-clause-ready g c κs within =
     let port = g.P.Port.state in
     let desk = c.args.desk.now in
     let first = first_pass c.in-Ok-new.made.0 in
@@ -30,7 +30,7 @@ pub gather-pass-requires-clause-idle : goal.gather-pass-requires-clause-idle
 gather-pass-requires-clause-idle g c κs within =
     let workers = c.make_workers-workers.result in
     idle-after (worker_state g.P.Port.state g.X.Cells g.X.Faults) c.args.desk.now c.in-Ok-new.made.0 workers.items c.as_mut_slice.result.now c.as_mut_slice.ensures.value
-    c.serve.new.workers workers.len c.serve.auto.workers workers.ok.0 g.X.Cells (λ worker. worker.own) c.serve.ensures.ready
+    c.run_workers.new.workers workers.len c.run_workers.auto.workers workers.ok.0 g.X.Cells (λ worker. worker.own) c.run_workers.ensures.ready
 
 pub close-requires-clause-all : goal.close-requires-clause-all
 close-requires-clause-all g c =
@@ -39,9 +39,9 @@ close-requires-clause-all g c =
     let ports = c.args.ports.now in
     let cells = c.args.cells.now in
     let same : length ports.items ≡ length cells.items = sym ports.ok.0 ∙ sym c.requires.many ∙ cells.ok.0 in
-    let e = c.serve.ensures in
+    let e = c.run_workers.ensures in
     let done = done-of g.P.Port.state g.X.Cells g.X.Faults c.args.desk.now c.args.connections c.in-Ok-new.made.0 ports.items cells.items workers.items c.as_mut_slice.result.now
-    c.serve.new.workers workers.len c.make_workers-workers.ensures.workers same c.as_mut_slice.ensures.value c.serve.auto.workers
+    c.run_workers.new.workers workers.len c.make_workers-workers.ensures.workers same c.as_mut_slice.ensures.value c.run_workers.auto.workers
     workers.ok.0 c.ranges.connections.fits e.worked e.most e.ends in
     joined-all desk c.args.connections c.in-Ok-new.made.0 c.gather-pass.result.0 _ _ c.gather-pass.result.1 (c.gather-pass.ensures.gathered desk c.args.connections _ done)
     ∙ places-many g.X.Cells g.X.Faults g.P.Port.state ports.items cells.items same ∙ sym ports.ok.0 ∙ sym c.len-count.ensures ∙ sym c.in-Ok-new.ensures.numbers.1
@@ -61,9 +61,9 @@ left g c =
     let ports = c.args.ports.now in
     let cells = c.args.cells.now in
     let same : length ports.items ≡ length cells.items = sym ports.ok.0 ∙ sym c.requires.many ∙ cells.ok.0 in
-    let e = c.serve.ensures in
+    let e = c.run_workers.ensures in
     let done = done-of g.P.Port.state g.X.Cells g.X.Faults c.args.desk.now c.args.connections c.in-Ok-new.made.0 ports.items cells.items workers.items c.as_mut_slice.result.now
-    c.serve.new.workers workers.len c.make_workers-workers.ensures.workers same c.as_mut_slice.ensures.value c.serve.auto.workers
+    c.run_workers.new.workers workers.len c.make_workers-workers.ensures.workers same c.as_mut_slice.ensures.value c.run_workers.auto.workers
     workers.ok.0 c.ranges.connections.fits e.worked e.most e.ends in
     let opening = c.in-Ok-new.ensures.opening in
     let end = c.close.ensures in

@@ -6,13 +6,13 @@ as-wide fits same = omega (arith, fits, same)
 
 pub returns-clause-served : goal.returns-clause-served
 returns-clause-served g c =
-    let s = c.serve_client-served.ensures in
+    let s = c.answer_requests-served.ensures in
     let h = c.hang_up.ensures in
     let room = s.takes in
     record {
-      talk = g.P.Link.Stream.talk c.serve_client-served.new.link;
+      talk = g.P.Link.Stream.talk c.answer_requests-served.new.link;
       requests = s.serves.requests;
-      done = g.P.Port.state c.serve_client-served.new.port;
+      done = g.P.Port.state c.answer_requests-served.new.port;
       serves = s.serves.serves;
       ends = record {
         most = s.ends.most;
@@ -25,4 +25,4 @@ returns-clause-served g c =
     }
 
 pub returns-clause-takes : goal.returns-clause-takes
-returns-clause-takes g c = c.serve_client-served.ensures.takes
+returns-clause-takes g c = c.answer_requests-served.ensures.takes

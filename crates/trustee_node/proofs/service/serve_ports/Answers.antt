@@ -13,8 +13,8 @@ use Rattle.trustee_node.proofs.Starting.{begun-of}
 use Rattle.turn_lock.specs.Pass.{first_pass}
 use Rattle.trustee_node.proofs.service.serve_ports.Goals as goal
 
-pub serve-requires-after_bounds : goal.serve-requires-after_bounds
-serve-requires-after_bounds g c κs within =
+pub run_workers-requires-after_bounds : goal.run_workers-requires-after_bounds
+run_workers-requires-after_bounds g c κs within =
     let clock = g.C.Clock in
     let port = g.P.Port.state in
     let same : length c.args.ports.now.items ≡ length c.args.clocks.items = sym c.args.ports.now.ok.0 ∙ sym c.requires.clocks ∙ c.args.clocks.ok.0 in
@@ -29,7 +29,7 @@ gather-pass-requires-clause-idle g c κs within =
     let clock = g.C.Clock in
     let workers = c.make_workers-workers.result in
     idle-after (worker_state g.P.Port.state clock.told clock.answers) c.args.share.now c.in-Ok-new.made.0 workers.items c.as_mut_slice.result.now c.as_mut_slice.ensures.value
-    c.serve.new.workers workers.len c.serve.auto.workers workers.ok.0 c.serve.ensures.pass
+    c.run_workers.new.workers workers.len c.run_workers.auto.workers workers.ok.0 c.run_workers.ensures.pass
 
 pub close-requires-clause-all : goal.close-requires-clause-all
 close-requires-clause-all g c =
@@ -38,9 +38,9 @@ close-requires-clause-all g c =
     let workers = c.make_workers-workers.result in
     let share = c.args.share.now in
     let ids = option_map (λ b. ids_of b.now) c.args.book in
-    let e = c.serve.ensures in
+    let e = c.run_workers.ensures in
     let done = done-of port clock.told clock.answers share ids c.args.connections c.in-Ok-new.made.0 c.args.ports.now.items c.args.clocks.items workers.items c.as_mut_slice.result.now
-    c.serve.new.workers workers.len c.make_workers-workers.ensures.workers (sym c.args.ports.now.ok.0 ∙ sym c.requires.clocks ∙ c.args.clocks.ok.0) c.as_mut_slice.ensures.value c.serve.auto.workers
+    c.run_workers.new.workers workers.len c.make_workers-workers.ensures.workers (sym c.args.ports.now.ok.0 ∙ sym c.requires.clocks ∙ c.args.clocks.ok.0) c.as_mut_slice.ensures.value c.run_workers.auto.workers
     workers.ok.0 c.ranges.connections.fits e.worked e.most e.ends in
     let olds = map port c.args.ports.now.items in
     let clocks = map (clock_state clock.told clock.answers) c.args.clocks.items in
@@ -59,9 +59,9 @@ returns-clause-served g c =
     let workers = c.make_workers-workers.result in
     let share = c.args.share.now in
     let ids = option_map (λ b. ids_of b.now) c.args.book in
-    let e = c.serve.ensures in
+    let e = c.run_workers.ensures in
     let done = done-of port clock.told clock.answers share ids c.args.connections c.in-Ok-new.made.0 c.args.ports.now.items c.args.clocks.items workers.items c.as_mut_slice.result.now
-    c.serve.new.workers workers.len c.make_workers-workers.ensures.workers (sym c.args.ports.now.ok.0 ∙ sym c.requires.clocks ∙ c.args.clocks.ok.0) c.as_mut_slice.ensures.value c.serve.auto.workers
+    c.run_workers.new.workers workers.len c.make_workers-workers.ensures.workers (sym c.args.ports.now.ok.0 ∙ sym c.requires.clocks ∙ c.args.clocks.ok.0) c.as_mut_slice.ensures.value c.run_workers.auto.workers
     workers.ok.0 c.ranges.connections.fits e.worked e.most e.ends in
     let olds = map port c.args.ports.now.items in
     let clocks = map (clock_state clock.told clock.answers) c.args.clocks.items in

@@ -55,18 +55,18 @@ pub give-requires-clause-named : goal.give-requires-clause-named
 give-requires-clause-named g c =
     let d = c.decide_approved-decided.ensures in
     let left = leaves _ c.args.ask.now c.args.moment c.in-Ok.trustee c.decide_approved-decided.new.trustee c.decide_approved-decided.result d.event d.denied d.decided in
-    ap Some left.name ∙ c.in-Ok.ensures.taken.named ∙ sym c.take.ensures.stays.same.name
+    ap Some left.name ∙ c.in-Ok.ensures.taken.named ∙ sym c.take_turn.ensures.stays.same.name
 
 pub returns-in_default-clause-turn : goal.returns-in_default-clause-turn
 returns-in_default-clause-turn g c =
     let old = c.args.pass.now in
-    let serves = not-turned c.args.share.now _ c.args.lock.now old c.take.new.pass c.args.ask.now c.args.moment c.in_default.ensures.worn c.take.ensures.draws c.take.ensures.stays in
+    let serves = not-turned c.args.share.now _ c.args.lock.now old c.take_turn.new.pass c.args.ask.now c.args.moment c.in_default.ensures.worn c.take_turn.ensures.draws c.take_turn.ensures.stays in
     record { seen = entries_in old.log; added = []; serves = serves }
 
 pub returns-clause-turn : goal.returns-clause-turn
 returns-clause-turn g c =
     let old = c.args.pass.now in
-    let mid = c.take.new.pass in
+    let mid = c.take_turn.new.pass in
     let new = c.give.new.pass in
     let trustee = c.in-Ok.trustee in
     let later = c.decide_approved-decided.new.trustee in
@@ -79,11 +79,11 @@ returns-clause-turn g c =
     let answer = book_answer_in result in
     let left = leaves _ c.args.ask.now c.args.moment trustee later result d.event d.denied d.decided in
     let taken = c.in-Ok.ensures.taken in
-    let stays = c.take.ensures.stays in
+    let stays = c.take_turn.ensures.stays in
     let gives = c.give.ensures.gives in
     let drawn = c.give.ensures.stays in
     let share = same-share c.args.share.now old.name (name_of trustee) taken.named c.requires.pass.2 in
-    let turn = took-gave c.args.lock.now (name_of trustee) old mid new (notes_of trustee) (notes_of later) number last taken c.take.ensures.draws stays gives drawn left.count in
+    let turn = took-gave c.args.lock.now (name_of trustee) old mid new (notes_of trustee) (notes_of later) number last taken c.take_turn.ensures.draws stays gives drawn left.count in
     let named : new.name ≡ Some (name_of trustee) = drawn.same.name ∙ stays.same.name ∙ sym taken.named in
     let event = event-of (share_of trustee) c.args.share.now _ before c.args.ask.now c.args.moment answer after share d.event in
     let noted = noted-of _ c.args.ask.now c.args.moment trustee later result d.event d.denied d.decided d.notes in
@@ -96,11 +96,11 @@ returns-clause-turn g c =
 
 pub returns-in_default-clause-pass : goal.returns-in_default-clause-pass
 returns-in_default-clause-pass g c =
-    idle-again c.args.lock.now c.args.share.now c.args.pass.now c.take.new.pass c.requires.pass c.take.ensures.stays.same c.in_default.ensures.worn.turn
+    idle-again c.args.lock.now c.args.share.now c.args.pass.now c.take_turn.new.pass c.requires.pass c.take_turn.ensures.stays.same c.in_default.ensures.worn.turn
 
 pub returns-clause-pass : goal.returns-clause-pass
 returns-clause-pass g c =
     let old = c.args.pass.now in
-    let mid = c.take.new.pass in
+    let mid = c.take_turn.new.pass in
     let new = c.give.new.pass in
-    idle-again c.args.lock.now c.args.share.now old new c.requires.pass (same-then old mid new c.take.ensures.stays.same c.give.ensures.stays.same) c.give.ensures.gives.turn
+    idle-again c.args.lock.now c.args.share.now old new c.requires.pass (same-then old mid new c.take_turn.ensures.stays.same c.give.ensures.stays.same) c.give.ensures.gives.turn

@@ -3,7 +3,7 @@ use Rattle.aggregator_node.specs.Signing.{too_long}
 use Rattle.aggregator_node.proofs.Showing.{shows}
 use Rattle.aggregator_node.proofs.Signing.{cells-of, leased-as, port-of, refused-as}
 use Rattle.aggregator_session.proofs.Signing.{cells-signed, port-signed, signed-accepted}
-use Rattle.aggregator_node.proofs.sign.sign_one.Goals as goal
+use Rattle.aggregator_node.proofs.sign.sign_in_turns.Goals as goal
 
 pub returns-then-message-clause-signs : goal.returns-then-message-clause-signs
 returns-then-message-clause-signs g c = too_long c.if-message.true refl

@@ -3,7 +3,7 @@ use Rattle.std.specs.Option.{option_map}
 use Rattle.trustee_core.specs.Approved.{ids_of}
 use Rattle.trustee_node.specs.Turns.{IsIdle}
 use Rattle.trustee_node.specs.Workers.{WorkEnds, Worked, worker_state}
-use Rattle.trustee_node.proofs.worker.serve.Goals as goal
+use Rattle.trustee_node.proofs.worker.run_workers.Goals as goal
 
 -- what a call says of its argument before it and after it, said of what stands in the lists
 changed : {T : Type 0} (Q : T → T → Type 0) (before after old new : T) → before ≡ old → after ≡ new → Q before after → Q old new

@@ -5,7 +5,7 @@ use Rattle.aggregator_node.proofs.Answering.{same_cells}
 use Rattle.aggregator_node.proofs.Replying.{frames-below, frames-full, frames-most, frames-one, full-read, full-written, room-left, room-more, room-start}
 use Rattle.aggregator_node.proofs.Serving.{leads-end, leads-full, leads-more, leads-none}
 use Rattle.node_workers.specs.declared.served.ServedEnd.{ServedEnd}
-use Rattle.aggregator_node.proofs.client.serve_client.Goals as goal
+use Rattle.aggregator_node.proofs.client.answer_requests.Goals as goal
 
 pub returns-in-Some-clause-serves : goal.returns-in-Some-clause-serves
 returns-in-Some-clause-serves g c =

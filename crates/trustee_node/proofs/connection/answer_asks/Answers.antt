@@ -6,7 +6,7 @@ use Rattle.trustee_node.proofs.Conversing.{dated-none, fresh-is, length-more, re
 use Rattle.trustee_node.proofs.Ending.{ends-full, ends-unread, ends-unwritten, ends-worn}
 use Rattle.trustee_node.proofs.Serving.{serves-none}
 use Rattle.trustee_node.proofs.Turning.{turn_of}
-use Rattle.trustee_node.proofs.connection.serve_connection.Goals as goal
+use Rattle.trustee_node.proofs.connection.answer_asks.Goals as goal
 
 pub loop-init : goal.loop-init
 loop-init g c =

@@ -1,7 +1,7 @@
 use Rattle.std.proofs.Common.{◌≤◌, ◌<◌, ℕ, get_or, subst, arith}
 use Rattle.aggregator_session.specs.Desks.{desk_state}
 use Rattle.aggregator_node.specs.Workers.{IsReady, WorkEnds, Worked, worker_state}
-use Rattle.aggregator_node.proofs.worker.serve.Goals as goal
+use Rattle.aggregator_node.proofs.worker.run_workers.Goals as goal
 
 pub returns-clause-worked : goal.returns-clause-worked
 returns-clause-worked g c i d lt =

@@ -4,7 +4,7 @@ use Rattle.trustee_core.specs.Approved.{ids_of}
 use Rattle.trustee_node.specs.Connections.{clock_state}
 use Rattle.trustee_node.specs.Turns.{IsIdle, Turn, with_code}
 use Rattle.trustee_node.proofs.Asking.{Heard, Replied}
-use Rattle.trustee_node.proofs.connection.serve_connection.Given as goal
+use Rattle.trustee_node.proofs.connection.answer_asks.Given as goal
 
 -- each ask that was read had its turn and its whole reply
 abbrev pub invariant-loop : goal.invariant-loop

@@ -4,7 +4,7 @@ use Rattle.aggregator_node.specs.Clients.{HasServed, ReferenceState, Request, Se
 use Rattle.aggregator_node.specs.Turns.{IsIdle}
 use Rattle.reference_value.specs.Stay.{CellsStay}
 use Rattle.node_workers.specs.declared.served.ServedEnd.{ServedEnd}
-use Rattle.aggregator_node.proofs.client.serve_client.Given as goal
+use Rattle.aggregator_node.proofs.client.answer_requests.Given as goal
 
 -- whatever comes of the connection from here on comes of it from its start, with the replies so far
 abbrev pub invariant-requests : goal.invariant-requests
