@@ -5,3 +5,5 @@ pub mod Images
 pub mod MemDisk
 pub mod MemDiskFields
 pub mod MemDiskLaws
+pub mod Rooms
+pub mod Stopped

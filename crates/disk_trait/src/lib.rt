@@ -5,8 +5,10 @@ mod disk;
 mod faults;
 mod generator;
 mod mem_disk;
+mod stopped;
 
 pub use disk::{Disk, DiskFault, Pages};
 pub use faults::Faults;
 pub use generator::Generator;
 pub use mem_disk::MemDisk;
+pub use stopped::Stopped;

@@ -8,6 +8,8 @@ mod entries;
 #[cfg(test)]
 mod slots;
 #[cfg(test)]
+mod stops;
+#[cfg(test)]
 mod trustees;
 #[cfg(test)]
 mod turns;
