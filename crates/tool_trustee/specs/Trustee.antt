@@ -48,8 +48,8 @@ pub record HasNoBook (words : TrusteeWords) (before after : Outside) (name : Lis
   pub absent : IsTrue before.store.told → IsTrue before.store.steady
       → (bytes_eq name words.journal ≡ true) ⊎ (before.store.file name ≡ None)
 
--- Each entry of the journal, and the one in doubt, was there before or is that of an ask of one of these turns, which no
--- book denied and which passed the tests before the journal.
+-- Each entry of the journal, and the one in doubt, was there before or is that of an ask of one of these turns, one
+-- that no book denied and that passed the tests before the journal.
 pub record OnlyAsked (share : Share) (ids : Option (List (List ℕ))) (old : List Entry) (new : JournalState)
     (turns : List Turn) : Type 0 where
   pub entries : (entry : Entry) → Contains new.entries entry → Contains old entry ⊎ IsAsked share ids turns entry
