@@ -52,7 +52,7 @@ module _ (member round : ℕ) (words : SignWords) (store : StoreRun) (net : NetR
   begin-loses _ (blame.no_task files header end has are lacks) same is = session-loses (Err end) [] (sessions.no_task end (tasks.no_task files header end has lacks) same) (ap err_of is)
 
   names-heard : (reads : CellsRead) (view : Bool) (session : State) (digest : List ℕ) (end : Ending) → NamesEnd reads view session digest end → end ≡ missing member round → ⊥
-  names-heard reads view session digest _ (named members are) is = absurd (cc)
+  names-heard reads view session digest _ (named members ascending are) is = absurd (cc)
   names-heard reads view session digest _ (unread rose never) is = absurd (cc)
 
   -- what is told as a missing reply was a missing reply

@@ -4,3 +4,4 @@ pub mod Kept
 pub mod Committed
 pub mod Liars
 pub mod Naming
+mod Remade

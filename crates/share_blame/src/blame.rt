@@ -1,6 +1,7 @@
 //! The members whose masks are not those that the dealer committed to.
 
 ghost use Rattle.std.specs.Prelude.{◌≡◌, ◌≢◌, ◌↔◌, ◌*◌, ◌<◌, ◌^◌, Contains, IsTrue, IfOk, IsOk, length};
+ghost use Rattle.std.specs.List.Sorted.{IsStrictlyIncreasing};
 ghost use Rattle.coalition_map.specs.Coalitions.{leaf_members};
 ghost use Rattle.disk_trait.specs.Faults.{HasCause};
 ghost use Rattle.lms_bytes.specs.Digits.{digit_of};
@@ -20,7 +21,8 @@ use reference_value::RefFault;
 use session_core::Session;
 
 /// The members whose kept masks are not those that the dealer committed to: of round one, and of round two at the
-/// digits of the digest, of `n` bytes. For each mask that is kept, only its commitment is read. It takes no memory.
+/// digits of the digest, of `n` bytes. They ascend, each once. For each mask that is kept, only its commitment is read.
+/// It takes no memory.
 pub fn blamed<V: Pages>(
     commits: &mut Commits<V>,
     params: &Params,
@@ -32,6 +34,7 @@ pub fn blamed<V: Pages>(
     requires digest { length digest.now ≡ params.now.n }
     ensures blamed { IsTrue (V.told (pages_of commits.old))
         → IfOk result (AreBlamed (leaves_on V.Pages.own (pages_of commits.old)) session.now digest.now) }
+    ensures ascending { IfOk result IsStrictlyIncreasing }
     ensures looks { Looks V.Pages.own V.Faults params.now session.now.plan commits.old commits.new result }
 {
     let q = session.leaf();

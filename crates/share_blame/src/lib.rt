@@ -2,11 +2,13 @@
 #![tactic(auto)]
 
 mod blame;
+mod commit_file;
 mod commits;
 mod faults;
 pub mod laws;
 mod places;
 
 pub use blame::blamed;
+pub use commit_file::commitments;
 pub use commits::Commits;
-pub use faults::CommitsFault;
+pub use faults::{CommitFault, CommitsFault};

@@ -93,7 +93,8 @@ impl<D: Disk> CachedSlots<D> {
         self.cached.slot(slot as usize)
     }
 
-    /// The slots up to the last that was ever taken, disregarding a put in doubt. Those behind it are free.
+    /// Slots from the first on, disregarding a put in doubt. Those behind them are free. How many they are is not
+    /// promised: all slots would do.
     pub fn front(&self) -> &[Slot]
         ensures { IsFront (state_of self.now).slots result.now }
     {

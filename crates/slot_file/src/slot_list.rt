@@ -12,10 +12,10 @@ use std::marker::Model;
 /// A slot behind the front of a list.
 static FREE: Slot = Slot::Free;
 
-/// A number of slots. Those behind the last that was ever taken are free, and nothing is written to memory for them.
+/// A number of slots. Those behind the front are free, and nothing is written to memory for them.
 #[derive(Drop)]
 pub(crate) struct SlotList {
-    /// The slots up to the last that was ever taken, with room for all.
+    /// Slots from the first on, with room for all.
     front: Vec<Slot>,
     /// How many slots there are.
     count: usize,
@@ -53,7 +53,7 @@ impl SlotList {
         }
     }
 
-    /// The slots up to the last that was ever taken. Those behind it are free.
+    /// Slots from the first on. Those behind them are free.
     pub(crate) fn front(&self) -> &[Slot]
         ensures { IsFront self.now result.now }
     {

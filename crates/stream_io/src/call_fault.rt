@@ -19,6 +19,12 @@ pub enum CallFault {
     NoMemory,
 }
 
+/// Why there are no ports.
+pub type PortsFault = CallFault;
+
+/// Why there is no view.
+pub type ViewFault = CallFault;
+
 impl From<Failed> for CallFault {
     ghost from_gives = { λ _ fault. fault ≡ CallFault.Failed };
 

@@ -14,7 +14,7 @@ mod store;
 mod stream;
 mod totals;
 
-pub use call_fault::CallFault;
+pub use call_fault::{CallFault, PortsFault, ViewFault};
 pub use failed::Failed;
 pub use net::Net;
 pub use port::{Accepted, Port};

@@ -52,7 +52,7 @@ module _ (o : Origins) (words : SignWords) (store : StoreRun) (net : NetRun) whe
   begin-comes come _ (blame.no_task keys header end has are lacks) = lacks-comes o asked store source come.task keys header end lacks
 
   names-comes : (reads : CellsRead) (steady : Bool) (session : State) (digest : List ℕ) (end : Ending) → UnreadCommits reads steady → NamesEnd reads steady session digest end → Comes o end
-  names-comes reads steady session digest _ unread (names.named members are) = tt
+  names-comes reads steady session digest _ unread (names.named members ascending are) = tt
   names-comes reads steady session digest _ unread (names.unread rose never) = unread rose never
 
   told-comes : (reads : CellsRead) (steady : Bool) (message : List ℕ) (session : Option State) (answer told : Result Signature Ending) → UnreadCommits reads steady

@@ -1,5 +1,6 @@
 -- The members that commitments blame, as the end of a command.
 use Rattle.std.specs.Prelude.{◌≡◌, ◌≢◌, ℕ, Bool, List, Option, Some, Result, Ok, Err, IsTrue}
+use Rattle.std.specs.List.Sorted.{IsStrictlyIncreasing}
 use Rattle.aggregator_session.specs.Runs.{CellsRead}
 use Rattle.disk_trait.specs.Faults.{Rose}
 use Rattle.share_blame.specs.Blamed.{AreBlamed}
@@ -10,10 +11,12 @@ use Rattle.tool_base.specs.Ending as ending
 use Rattle.tool_base.specs.Ending.{Ending, status_of}
 use Rattle.tool_base.specs.declared.unsigned.Unsigned.TheVariants.{Blamed}
 
--- The end of a session that is compared with commitments: just the members that they blame are named, or a commitment
--- was not read. Then the count of the view rose, and the view is not steady or does not tell its content.
+-- The end of a session that is compared with commitments: just the members that they blame are named, in ascending
+-- order and each once, or a commitment was not read. Then the count of the view rose, and the view is not steady or
+-- does not tell its content.
 pub data NamesEnd (reads : CellsRead) (steady : Bool) (session : State) (digest : List ℕ) : Ending → Type 0 where
-  named : (members : List ℕ) → (IsTrue reads.told → AreBlamed reads.leaves session digest members)
+  named : (members : List ℕ) → IsStrictlyIncreasing members
+      → (IsTrue reads.told → AreBlamed reads.leaves session digest members)
       → NamesEnd reads steady session digest (ending.NotSigned (Blamed members))
   unread : Rose reads.before reads.now → (IsTrue reads.told → IsTrue steady → ⊥)
       → NamesEnd reads steady session digest ending.DeviceFailed

@@ -1,9 +1,10 @@
 -- Nothing is bound that was not asked for.
-use Rattle.std.proofs.Common.{◌≡◌, ◌≢◌, ◌⊎◌, List, [], None, Option, inl, inr, refl, sym, ◌∙◌, subst}
+use Rattle.std.proofs.Common.{◌≡◌, ◌≢◌, ◌⊎◌, ℕ, List, [], None, Option, inl, inr, refl, sym, ◌∙◌, subst}
 use Rattle.std.specs.Prelude.{Contains}
 use Rattle.std.proofs.lemmas.List.Elements.{All-contains, All-map, All-nil, Contains-append_cases}
 use Rattle.opening_journal.specs.Entries.{JournalState}
 use Rattle.opening_journal.specs.declared.entry.Entry.{Entry}
+use Rattle.share_files.specs.declared.share.Share.{Share}
 use Rattle.tool_trustee.specs.Trustee.{OnlyAsked}
 use Rattle.trustee_core.specs.Notes.{doubted, first_notes, made}
 use Rattle.trustee_core.specs.declared.note.Note.{Note}
@@ -29,13 +30,13 @@ no_doubts notes state is none entry at =
       | inr in_doubt ↦ none-left state.doubt entry none in_doubt
     ]
 
-module _ (old new : TrusteeState) (doubt : Option Entry) (turns : List Turn) (settled : (entry : Entry) → Contains old.notes (Doubted entry) → ⊥) where
-  from-there : (entry : Entry) → ComesFrom old turns entry → Contains old.entries entry ⊎ IsAsked turns entry
+module _ (share : Share) (ids : Option (List (List ℕ))) (old new : TrusteeState) (doubt : Option Entry) (turns : List Turn) (settled : (entry : Entry) → Contains old.notes (Doubted entry) → ⊥) where
+  from-there : (entry : Entry) → ComesFrom share ids old turns entry → Contains old.entries entry ⊎ IsAsked share ids turns entry
   from-there entry (was_there at) = inl at
   from-there entry (was_in_doubt at) = absurd (settled entry at)
   from-there entry (is_asked at) = inr at
 
-  pub only_asked : doubt ≡ new.doubt → AllComeFrom old new turns → OnlyAsked old.entries (record { entries = new.entries; doubt = doubt }) turns
+  pub only_asked : doubt ≡ new.doubt → AllComeFrom share ids old new turns → OnlyAsked share ids old.entries (record { entries = new.entries; doubt = doubt }) turns
   only_asked is all = record {
     entries = λ entry at. from-there entry (all.entries entry at);
     doubt = λ entry some. from-there entry (all.doubt entry (sym is ∙ some));

@@ -104,7 +104,7 @@ module _ (words : TrusteeWords) (a b c e : StoreState) (net_old net_new : NetSta
       ids = ids;
       book = has_book share words.book ids has;
       net = net;
-      asked_for = only_asked old new doubt (turns_in net.served.runs) settled doubt_is net.served.asked_for;
+      asked_for = only_asked share ids old new doubt (turns_in net.served.runs) settled doubt_is net.served.asked_for;
     }) (all_stay names there)
 
     pub ends_whole : (end : Ending) (names : List (List ℕ))

@@ -48,14 +48,16 @@ pub record HasNoBook (words : TrusteeWords) (before after : Outside) (name : Lis
   pub absent : IsTrue before.store.told → IsTrue before.store.steady
       → (bytes_eq name words.journal ≡ true) ⊎ (before.store.file name ≡ None)
 
--- each entry of the journal, and the one in doubt, was there before or belongs to one of these turns' asks
-pub record OnlyAsked (old : List Entry) (new : JournalState) (turns : List Turn) : Type 0 where
-  pub entries : (entry : Entry) → Contains new.entries entry → Contains old entry ⊎ IsAsked turns entry
-  pub doubt : (entry : Entry) → new.doubt ≡ Some entry → Contains old entry ⊎ IsAsked turns entry
+-- Each entry of the journal, and the one in doubt, was there before or is that of an ask of one of these turns, one
+-- that no book denied and that passed the tests before the journal.
+pub record OnlyAsked (share : Share) (ids : Option (List (List ℕ))) (old : List Entry) (new : JournalState)
+    (turns : List Turn) : Type 0 where
+  pub entries : (entry : Entry) → Contains new.entries entry → Contains old entry ⊎ IsAsked share ids turns entry
+  pub doubt : (entry : Entry) → new.doubt ≡ Some entry → Contains old entry ⊎ IsAsked share ids turns entry
 
 -- The trustee of the words was served, from the entries of its journal to those that the journal has at the end. An
 -- entry is in doubt only if the disk has failed, and the disk's faults are among those of the store's disks. Nothing is
--- bound that was not asked for, whatever the disk does.
+-- bound that was not asked for, and nothing that the book denied, whatever the disk does.
 pub record ServedTrustee (words : TrusteeWords) (before after : Outside) (end : Ending) : Type 0 where
   pub share : Share
   pub old : TrusteeState
@@ -74,7 +76,8 @@ pub record ServedTrustee (words : TrusteeWords) (before after : Outside) (end : 
   pub ids : Option (List (List ℕ))
   pub book : HasBook (store_of before after) share words.book ids
   pub net : ServedNet words (service_of share old new) ids before.net after.net before.time end
-  pub asked_for : OnlyAsked old.entries (record { entries = new.entries; doubt = doubt }) (turns_in net.served.runs)
+  pub asked_for : OnlyAsked share ids old.entries (record { entries = new.entries; doubt = doubt })
+      (turns_in net.served.runs)
 
 -- how the command ends, with the names that it touched
 pub data TrusteeEnds (words : TrusteeWords) (before after : Outside) : Ending → List (List ℕ) → Type 0 where

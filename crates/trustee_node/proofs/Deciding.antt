@@ -1,5 +1,5 @@
 -- What a decision met and added.
-use Rattle.std.proofs.Common.{◌≡◌, ℕ, List, [], ◌∷◌, ◌++◌, Option, None, Some, IfSome, is_some, Result, refl, sym, ◌∙◌, ap, subst, inl, inr, append-nil}
+use Rattle.std.proofs.Common.{◌≡◌, ◌≢◌, ◌⊎◌, ℕ, List, [], ◌∷◌, ◌++◌, Option, None, Some, IfSome, is_some, Result, refl, sym, ◌∙◌, ap, subst, inl, inr, append-nil}
 use Rattle.std.proofs.lemmas.Bool.{false≢true}
 use mathlib.Core.List.{IsPrefix}
 use Rattle.trustee_core.specs.Approvals.{BookAnswer, BookDecides, Decided, IsDenied, decided, denied}
@@ -11,9 +11,11 @@ use Rattle.opening_journal.specs.declared.entry.Entry.{Entry}
 use Rattle.opening_journal.specs.declared.entry.Entry.TheVariants.{Bound, Opened}
 use Rattle.opening_journal.specs.declared.faults.Entered.{Entered}
 use Rattle.opening_journal.specs.declared.faults.JournalFault.{JournalFault}
+use Rattle.opening_journal.specs.declared.faults.JournalFault.TheVariants as journal
 use Rattle.share_files.specs.declared.share.Share.{Share}
 use Rattle.trustee_core.specs.Decisions.{Answer, Decides, FailsTest, HasTag, IsForLeaf, Refused, answer_of, bad_check, first, foreign_key, no_such_leaf, not_member, second, tested, too_long}
 use Rattle.trustee_core.specs.declared.refusal.Refusal.{Refusal}
+use Rattle.trustee_core.specs.declared.refusal.Refusal.TheVariants.{Journal}
 use Rattle.trustee_node.specs.Turns.{Answers, InTurn, ReachesJournal, device, is_code, step, torn}
 use Rattle.node_workers.proofs.Prefixes.{prefix-is}
 
@@ -48,6 +50,14 @@ tests-sound share ask why (no_such_leaf key beyond) = refl
 tests-sound share ask why (not_member key leaf out) = refl
 tests-sound share ask why (too_long key leaf member long) = refl
 tests-sound share ask why (bad_check pair own some differs) = refl
+
+-- a test that fails does not say that the disk failed
+tests-other : (share : Share) (ask : Ask) (why : Refusal) → FailsTest share ask why → Decided (Refused why) ≢ Decided (Refused (Journal journal.Device))
+tests-other share ask why (foreign_key differs) = λ device. absurd (cc)
+tests-other share ask why (no_such_leaf key beyond) = λ device. absurd (cc)
+tests-other share ask why (not_member key leaf out) = λ device. absurd (cc)
+tests-other share ask why (too_long key leaf member long) = λ device. absurd (cc)
+tests-other share ask why (bad_check pair own some differs) = λ device. absurd (cc)
 
 module _ (share : Share) (ids : Option (List (List ℕ))) (before : JournalState) (ask : Ask) (moment : ℕ) where
   met : (seen added : List Entry) (answer : BookAnswer) (after : JournalState) → SettlesTo before seen
@@ -118,6 +128,19 @@ module _ (share : Share) (ids : Option (List (List ℕ))) (before : JournalState
           met entries [] _ after settles (device (reaches-second pair some tag)) (sym (append-nil entries)) (λ _. refl)
       opens-met result after (damaged entry a b is neither) =
           met-same _ (torn _ a b (reaches-second pair some tag)) (λ no. absurd (no-doubt-is before entry no is))
+
+  -- the ask goes to the journal, or nothing changes and the answer does not say that the disk failed
+  abbrev ReachesOr : BookAnswer → JournalState → Type 0
+  ReachesOr answer after = ReachesJournal share ids ask ⊎ ((after ≡ before) × (answer ≢ Decided (Refused (Journal journal.Device))))
+
+  decides-reaches : (IsDenied ids ask → ⊥) → (answer : Answer) (after : JournalState) → Decides share before ask moment answer after → ReachesOr (Decided answer) after
+  decides-reaches approved answer after (tested why fails) = inr (refl, tests-other share ask why fails)
+  decides-reaches approved answer after (first result new own none does) = inl (reaches-first approved own none)
+  decides-reaches approved answer after (second result new pair own some tag does) = inl (reaches-second approved own pair some tag)
+
+  pub book-reaches : (answer : BookAnswer) (after : JournalState) → BookDecides share ids before ask moment answer after → ReachesOr answer after
+  book-reaches answer after (denied is) = inr (refl, λ device. absurd (cc))
+  book-reaches answer after (decided given new approved decides) = decides-reaches approved given new decides
 
   decides-met : (IsDenied ids ask → ⊥) → (answer : Answer) (after : JournalState) → Decides share before ask moment answer after
       → Met share ids before ask moment (Decided answer) after

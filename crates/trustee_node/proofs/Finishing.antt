@@ -38,34 +38,34 @@ pub record ClosedBy (lock : Lock Note TrusteeName) (pass : Seen Note TrusteeName
   pub whole : IsWhole lock pass
 
 -- each note of the last log was in the first one, or is of the turns
-module _ (lock : Lock Note TrusteeName) (old new : TrusteeState) (pass : Seen Note TrusteeName) (turns : List Turn)
-    (opened : OpenedBy lock old) (closed : ClosedBy lock pass new) (by : NotedBy (first_pass lock) pass turns) where
-  note-from : (note : Note) → Contains pass.log note → Contains old.notes note ⊎ IsNoteOf pass.log turns note
+module _ (share : Share) (ids : Option (List (List ℕ))) (lock : Lock Note TrusteeName) (old new : TrusteeState) (pass : Seen Note TrusteeName) (turns : List Turn)
+    (opened : OpenedBy lock old) (closed : ClosedBy lock pass new) (by : NotedBy share ids (first_pass lock) pass turns) where
+  note-from : (note : Note) → Contains pass.log note → Contains old.notes note ⊎ IsNoteOf share ids pass.log turns note
   note-from note at = elim (counted-in-one pass.log lock.opening_log pass.own note closed.whole.entries at) [
     | inl before ↦ inl (subst (λ (l : List Note). Contains l note) opened.log before)
-    | inr own ↦ inr (All-contains (IsNoteOf pass.log turns) by.noted note by.each (subst (λ (l : List Note). Contains l note) by.are own))
+    | inr own ↦ inr (All-contains (IsNoteOf share ids pass.log turns) by.noted note by.each (subst (λ (l : List Note). Contains l note) by.are own))
   ]
 
-  doubted-of : (note : Note) (entry : Entry) → note ≡ Doubted entry → IsNoteOf pass.log turns note → ComesFrom old turns entry
+  doubted-of : (note : Note) (entry : Entry) → note ≡ Doubted entry → IsNoteOf share ids pass.log turns note → ComesFrom share ids old turns entry
   doubted-of note entry is (asked_made own at) = absurd (cc)
-  doubted-of note entry is (asked_doubted own at) = (let same : own ≡ entry = cc in is_asked (subst (IsAsked turns) same at))
+  doubted-of note entry is (asked_doubted own at) = (let same : own ≡ entry = cc in is_asked (subst (IsAsked share ids turns) same at))
   doubted-of note entry is (turned_out own at) = absurd (cc)
 
-  doubted-from : (entry : Entry) → Contains pass.log (Doubted entry) → ComesFrom old turns entry
+  doubted-from : (entry : Entry) → Contains pass.log (Doubted entry) → ComesFrom share ids old turns entry
   doubted-from entry at = elim (note-from (Doubted entry) at) [ inl before ↦ was_in_doubt before | inr own ↦ doubted-of (Doubted entry) entry refl own ]
 
-  made-of : (note : Note) (entry : Entry) → note ≡ Made entry → IsNoteOf pass.log turns note → ComesFrom old turns entry
-  made-of note entry is (asked_made own at) = (let same : own ≡ entry = cc in is_asked (subst (IsAsked turns) same at))
+  made-of : (note : Note) (entry : Entry) → note ≡ Made entry → IsNoteOf share ids pass.log turns note → ComesFrom share ids old turns entry
+  made-of note entry is (asked_made own at) = (let same : own ≡ entry = cc in is_asked (subst (IsAsked share ids turns) same at))
   made-of note entry is (asked_doubted own at) = absurd (cc)
   made-of note entry is (turned_out own at) = (let same : own ≡ entry = cc in doubted-from entry (subst (λ (e : Entry). Contains pass.log (Doubted e)) same at))
 
-  made-from : (entry : Entry) → Contains pass.log (Made entry) → ComesFrom old turns entry
+  made-from : (entry : Entry) → Contains pass.log (Made entry) → ComesFrom share ids old turns entry
   made-from entry at = elim (note-from (Made entry) at) [
     | inl before ↦ was_there (subst (λ (l : List Entry). Contains l entry) opened.entries (made-contained old.notes entry before))
     | inr own ↦ made-of (Made entry) entry refl own
   ]
 
-  all-from : AllComeFrom old new turns
+  all-from : AllComeFrom share ids old new turns
   all-from = record {
     entries = λ entry at.
         made-from entry (subst (λ (l : List Note). Contains l (Made entry)) closed.log
@@ -109,6 +109,6 @@ module _ (share : Share) (ids : Option (List (List ℕ))) (asked : ℕ) (lock : 
             let own = all.own (sym number ∙ zero) in
             ap (count_by test) last_entries ∙ entries-counted test pass.log lock.opening_log pass.own closed.whole.entries
             ∙ (λ i. count_by test (first_entries i) + count_by test (own i));
-        asked_for = all-from lock old new pass (turns_in all.runs) opened closed all.notes;
+        asked_for = all-from share ids lock old new pass (turns_in all.runs) opened closed all.notes;
         totals_are = all.totals_are;
       }

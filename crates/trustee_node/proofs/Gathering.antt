@@ -161,7 +161,7 @@ module _ (share : Share) (ids : Option (List (List ℕ))) where
           draws = subst (Draws (first_pass lock) worker.pass) turns w.serves.draws;
           faults = subst (Faults (first_pass lock) worker.pass) turns w.serves.faults;
           own = λ zero. w.serves.own zero ∙ ap added_by turns;
-          notes = subst (NotedBy (first_pass lock) worker.pass) turns w.serves.notes;
+          notes = subst (NotedBy share ids (first_pass lock) worker.pass) turns w.serves.notes;
           most = (let short = few lock port clock worker done in let all = ap length turns in omega (arith, short, all));
           joined = w.serves.joined;
           totals_are = record {
@@ -203,7 +203,7 @@ module _ (share : Share) (ids : Option (List (List ℕ))) where
               let before : entries_in old.own ≡ added_by (turns_in a.runs) = a.own (omega (arith, zero, floor)) in
               let here : entries_in worker.pass.own ≡ added_by served = w.serves.own (omega (arith, zero, floor)) in
               ap entries_in met.own ∙ entries-append old.own worker.pass.own ∙ (λ i. before i ++ here i) ∙ sym (flat_map-append (λ (t : Turn). t.added) (turns_in a.runs) served) ∙ ap added_by turns;
-          notes = subst (NotedBy start new) turns (noted-join start old worker.pass new (turns_in a.runs) served refl met.own left right a.notes w.serves.notes);
+          notes = subst (NotedBy share ids start new) turns (noted-join share ids start old worker.pass new (turns_in a.runs) served refl met.own left right a.notes w.serves.notes);
           most = (
               let short = few lock port clock worker done in
               let before = a.most in

@@ -1,20 +1,23 @@
 -- What turns note.
-use Rattle.std.proofs.Common.{◌≡◌, ◌+◌, ℕ, Bool, false, cond, List, [], ◌∷◌, ◌++◌, All, inl, inr, refl, sym, ap, ◌∙◌, subst, arith, append_assoc, append-nil}
+use Rattle.std.proofs.Common.{◌≡◌, ◌≢◌, ◌+◌, ℕ, Bool, false, cond, Option, List, [], ◌∷◌, ◌++◌, All, inl, inr, refl, sym, ap, ◌∙◌, subst, arith, append_assoc, append-nil}
 use Rattle.std.specs.Prelude.{Contains, count_by}
-use Rattle.std.proofs.lemmas.List.{map-append}
 use Rattle.std.proofs.lemmas.List.Elements.{All-append, All-cons, All-contains, All-nil, All-weaker, Contains-append_cases, Contains-append_left, Contains-append_right, Contains-push}
 use Rattle.std.proofs.lemmas.List.Sums.{sum_by-cons}
 use mathlib.Core.List.{IsPrefix}
+use Rattle.lms_bytes.specs.declared.ask.Ask.{Ask}
 use Rattle.opening_journal.specs.declared.entry.Entry.{Entry}
-use Rattle.trustee_core.specs.Decisions.{Answer}
+use Rattle.opening_journal.specs.declared.faults.JournalFault.TheVariants as journal
+use Rattle.share_files.specs.declared.share.Share.{Share}
+use Rattle.trustee_core.specs.Decisions.{Answer, Refused}
 use Rattle.trustee_core.specs.Notes.{MayNote, entries_in, entry_of, own_doubted, own_made}
 use Rattle.trustee_core.specs.Notes.{turned_out as came_out}
 use Rattle.trustee_core.specs.declared.kept.TrusteeName.{TrusteeName}
 use Rattle.trustee_core.specs.declared.note.Note.{Note}
 use Rattle.trustee_core.specs.declared.note.Note.TheVariants.{Made, Doubted}
+use Rattle.trustee_core.specs.declared.refusal.Refusal.TheVariants as refusal
 use Rattle.trustee_core.proofs.NoteLists.{entries-append}
 use Rattle.turn_lock.specs.Pass.{Seen}
-use Rattle.trustee_node.specs.Turns.{IsAsked, IsNoteOf, NotedBy, Turn, asked_by, asked_doubted, asked_made, turned_out}
+use Rattle.trustee_node.specs.Turns.{IsAsked, IsNoteOf, NotedBy, ReachesJournal, Turn, asked_doubted, asked_made, turned_out}
 use Rattle.node_workers.proofs.Prefixes.{prefix-same, prefix-then}
 
 pub entries-prefix : (xs ys : List Note) → IsPrefix xs ys → IsPrefix (entries_in xs) (entries_in ys)
@@ -23,64 +26,76 @@ entries-prefix xs ys p = (entries_in p.0, sym (entries-append xs p.0) ∙ ap ent
 contains-later : (xs ys : List Note) (note : Note) → IsPrefix xs ys → Contains xs note → Contains ys note
 contains-later xs ys note p at = subst (λ (l : List Note). Contains l note) p.1 (Contains-append_left xs p.0 note at)
 
-asked-append : (turns more : List Turn) → asked_by (turns ++ more) ≡ asked_by turns ++ asked_by more
-asked-append turns more = map-append (λ (turn : Turn). entry_of turn.ask turn.moment) turns more
+-- what turns noted
+module _ (share : Share) (ids : Option (List (List ℕ))) where
+  asked-left : (turns more : List Turn) (entry : Entry) → IsAsked share ids turns entry → IsAsked share ids (turns ++ more) entry
+  asked-left turns more entry at = record {
+    turn = at.turn;
+    is_one = Contains-append_left turns more at.turn at.is_one;
+    reaches = at.reaches;
+    entry_is = at.entry_is;
+  }
 
-asked-left : (turns more : List Turn) (entry : Entry) → IsAsked turns entry → IsAsked (turns ++ more) entry
-asked-left turns more entry at =
-    subst (λ (l : List Entry). Contains l entry) (sym (asked-append turns more)) (Contains-append_left (asked_by turns) (asked_by more) entry at)
+  asked-right : (turns more : List Turn) (entry : Entry) → IsAsked share ids more entry → IsAsked share ids (turns ++ more) entry
+  asked-right turns more entry at = record {
+    turn = at.turn;
+    is_one = Contains-append_right turns more at.turn at.is_one;
+    reaches = at.reaches;
+    entry_is = at.entry_is;
+  }
 
-asked-right : (turns more : List Turn) (entry : Entry) → IsAsked more entry → IsAsked (turns ++ more) entry
-asked-right turns more entry at =
-    subst (λ (l : List Entry). Contains l entry) (sym (asked-append turns more)) (Contains-append_right (asked_by turns) (asked_by more) entry at)
+  -- the ask of the only turn
+  asked-here : (turn : Turn) → ReachesJournal share ids turn.ask → IsAsked share ids (turn ∷ []) (entry_of turn.ask turn.moment)
+  asked-here turn reaches = record { turn = turn; is_one = Contains-push [] turn; reaches = reaches; entry_is = refl }
 
--- what one turn noted, in a log that goes on from what it met
-pub note-of : (turn : Turn) (notes log : List Note) → IsPrefix notes log → (answer : Answer) (note : Note) → MayNote notes turn.ask turn.moment answer note → IsNoteOf log (turn ∷ []) note
-note-of turn notes log p answer note own_made = asked_made (entry_of turn.ask turn.moment) (Contains-push [] (entry_of turn.ask turn.moment))
-note-of turn notes log p answer note (own_doubted is) = asked_doubted (entry_of turn.ask turn.moment) (Contains-push [] (entry_of turn.ask turn.moment))
-note-of turn notes log p answer note (came_out entry at) = turned_out entry (contains-later notes log (Doubted entry) p at)
+  -- what one turn noted whose ask went to the journal, in a log that goes on from what it met
+  pub note-of : (turn : Turn) (notes log : List Note) → ReachesJournal share ids turn.ask → IsPrefix notes log
+      → (answer : Answer) (note : Note) → MayNote notes turn.ask turn.moment answer note → IsNoteOf share ids log (turn ∷ []) note
+  note-of turn notes log reaches p answer note own_made = asked_made (entry_of turn.ask turn.moment) (asked-here turn reaches)
+  note-of turn notes log reaches p answer note (own_doubted is) = asked_doubted (entry_of turn.ask turn.moment) (asked-here turn reaches)
+  note-of turn notes log reaches p answer note (came_out entry at) = turned_out entry (contains-later notes log (Doubted entry) p at)
 
-note-left : (log last : List Note) (turns more : List Turn) → IsPrefix log last → (note : Note) → IsNoteOf log turns note → IsNoteOf last (turns ++ more) note
-note-left log last turns more p note (asked_made entry at) = asked_made entry (asked-left turns more entry at)
-note-left log last turns more p note (asked_doubted entry at) = asked_doubted entry (asked-left turns more entry at)
-note-left log last turns more p note (turned_out entry at) = turned_out entry (contains-later log last (Doubted entry) p at)
+  note-left : (log last : List Note) (turns more : List Turn) → IsPrefix log last → (note : Note) → IsNoteOf share ids log turns note → IsNoteOf share ids last (turns ++ more) note
+  note-left log last turns more p note (asked_made entry at) = asked_made entry (asked-left turns more entry at)
+  note-left log last turns more p note (asked_doubted entry at) = asked_doubted entry (asked-left turns more entry at)
+  note-left log last turns more p note (turned_out entry at) = turned_out entry (contains-later log last (Doubted entry) p at)
 
-note-right : (log last : List Note) (turns more : List Turn) → IsPrefix log last → (note : Note) → IsNoteOf log more note → IsNoteOf last (turns ++ more) note
-note-right log last turns more p note (asked_made entry at) = asked_made entry (asked-right turns more entry at)
-note-right log last turns more p note (asked_doubted entry at) = asked_doubted entry (asked-right turns more entry at)
-note-right log last turns more p note (turned_out entry at) = turned_out entry (contains-later log last (Doubted entry) p at)
+  note-right : (log last : List Note) (turns more : List Turn) → IsPrefix log last → (note : Note) → IsNoteOf share ids log more note → IsNoteOf share ids last (turns ++ more) note
+  note-right log last turns more p note (asked_made entry at) = asked_made entry (asked-right turns more entry at)
+  note-right log last turns more p note (asked_doubted entry at) = asked_doubted entry (asked-right turns more entry at)
+  note-right log last turns more p note (turned_out entry at) = turned_out entry (contains-later log last (Doubted entry) p at)
 
-both-notes : (left right last : List Note) (turns more : List Turn) (noted later : List Note) → IsPrefix left last → IsPrefix right last
-    → All (IsNoteOf left turns) noted → All (IsNoteOf right more) later → All (IsNoteOf last (turns ++ more)) (noted ++ later)
-both-notes left right last turns more noted later p q a b =
-    let Is = IsNoteOf last (turns ++ more) in
-    All-append Is noted later
-    (All-weaker (IsNoteOf left turns) Is (λ note is. note-left left last turns more p note is) noted a)
-    (All-weaker (IsNoteOf right more) Is (λ note is. note-right right last turns more q note is) later b)
+  both-notes : (left right last : List Note) (turns more : List Turn) (noted later : List Note) → IsPrefix left last → IsPrefix right last
+      → All (IsNoteOf share ids left turns) noted → All (IsNoteOf share ids right more) later → All (IsNoteOf share ids last (turns ++ more)) (noted ++ later)
+  both-notes left right last turns more noted later p q a b =
+      let Is = IsNoteOf share ids last (turns ++ more) in
+      All-append Is noted later
+      (All-weaker (IsNoteOf share ids left turns) Is (λ note is. note-left left last turns more p note is) noted a)
+      (All-weaker (IsNoteOf share ids right more) Is (λ note is. note-right right last turns more q note is) later b)
 
-pub noted-none : (pass : Seen Note TrusteeName) → NotedBy pass pass []
-noted-none pass = record { noted = []; are = sym (append-nil pass.own); each = All-nil (IsNoteOf pass.log []); log = prefix-same pass.log }
+  pub noted-none : (pass : Seen Note TrusteeName) → NotedBy share ids pass pass []
+  noted-none pass = record { noted = []; are = sym (append-nil pass.own); each = All-nil (IsNoteOf share ids pass.log []); log = prefix-same pass.log }
 
-pub noted-then : (old mid new : Seen Note TrusteeName) (turns more : List Turn) → NotedBy old mid turns → NotedBy mid new more → NotedBy old new (turns ++ more)
-noted-then old mid new turns more a b = record {
-  noted = a.noted ++ b.noted;
-  are = b.are ∙ ap (λ (n : List Note). n ++ b.noted) a.are ∙ append_assoc old.own a.noted b.noted;
-  each = both-notes mid.log new.log new.log turns more a.noted b.noted b.log (prefix-same new.log) a.each b.each;
-  log = prefix-then old.log mid.log new.log a.log b.log;
-}
+  pub noted-then : (old mid new : Seen Note TrusteeName) (turns more : List Turn) → NotedBy share ids old mid turns → NotedBy share ids mid new more → NotedBy share ids old new (turns ++ more)
+  noted-then old mid new turns more a b = record {
+    noted = a.noted ++ b.noted;
+    are = b.are ∙ ap (λ (n : List Note). n ++ b.noted) a.are ∙ append_assoc old.own a.noted b.noted;
+    each = both-notes mid.log new.log new.log turns more a.noted b.noted b.log (prefix-same new.log) a.each b.each;
+    log = prefix-then old.log mid.log new.log a.log b.log;
+  }
 
--- passes that are joined
-pub noted-join : (start old other new : Seen Note TrusteeName) (turns more : List Turn) → start.own ≡ [] → new.own ≡ old.own ++ other.own
-    → IsPrefix old.log new.log → IsPrefix other.log new.log → NotedBy start old turns → NotedBy start other more → NotedBy start new (turns ++ more)
-noted-join start old other new turns more none sum left right a b =
-    let first : old.own ≡ a.noted = a.are ∙ ap (λ (n : List Note). n ++ a.noted) none in
-    let second : other.own ≡ b.noted = b.are ∙ ap (λ (n : List Note). n ++ b.noted) none in
-    record {
-      noted = a.noted ++ b.noted;
-      are = sum ∙ (λ i. first i ++ second i) ∙ ap (λ (n : List Note). n ++ (a.noted ++ b.noted)) (sym none);
-      each = both-notes old.log other.log new.log turns more a.noted b.noted left right a.each b.each;
-      log = prefix-then start.log old.log new.log a.log left;
-    }
+  -- passes that are joined
+  pub noted-join : (start old other new : Seen Note TrusteeName) (turns more : List Turn) → start.own ≡ [] → new.own ≡ old.own ++ other.own
+      → IsPrefix old.log new.log → IsPrefix other.log new.log → NotedBy share ids start old turns → NotedBy share ids start other more → NotedBy share ids start new (turns ++ more)
+  noted-join start old other new turns more none sum left right a b =
+      let first : old.own ≡ a.noted = a.are ∙ ap (λ (n : List Note). n ++ a.noted) none in
+      let second : other.own ≡ b.noted = b.are ∙ ap (λ (n : List Note). n ++ b.noted) none in
+      record {
+        noted = a.noted ++ b.noted;
+        are = sum ∙ (λ i. first i ++ second i) ∙ ap (λ (n : List Note). n ++ (a.noted ++ b.noted)) (sym none);
+        each = both-notes old.log other.log new.log turns more a.noted b.noted left right a.each b.each;
+        log = prefix-then start.log old.log new.log a.log left;
+      }
 
 -- the only item of a list
 one-is : {A : Type 0} (x y : A) → Contains (x ∷ []) y → y ≡ x
@@ -116,6 +131,19 @@ made-contained (Doubted first ∷ notes) entry at = elim (Contains-append_cases 
   | inl here ↦ (let is = one-is (Doubted first) (Made entry) here in absurd (cc))
   | inr later ↦ made-contained notes entry later
 ]
+
+-- What one turn noted that made no entry and was not answered that the disk failed: only what the log has in doubt. For
+-- an ask that did not go to the journal.
+pub note-still : (share : Share) (ids : Option (List (List ℕ))) (turns : List Turn) (notes log added : List Note) (ask : Ask) (moment : ℕ) (answer : Answer)
+    → entries_in added ≡ [] → answer ≢ Refused (refusal.Journal journal.Device) → IsPrefix notes log
+    → (note : Note) → Contains added note → MayNote notes ask moment answer note → IsNoteOf share ids log turns note
+note-still share ids turns notes log added ask moment answer none other p note at own_made =
+    absurd (none-in (entry_of ask moment) (subst (λ (l : List Entry). Contains l (entry_of ask moment)) none (made-contained added (entry_of ask moment) at)))
+  where
+    none-in : (entry : Entry) → Contains [] entry → ⊥
+    none-in entry at = All-contains (λ (e : Entry). ⊥) [] entry (All-nil (λ (e : Entry). ⊥)) at
+note-still share ids turns notes log added ask moment answer none other p note at (own_doubted is) = absurd (other is)
+note-still share ids turns notes log added ask moment answer none other p note at (came_out entry doubted) = turned_out entry (contains-later notes log (Doubted entry) p doubted)
 
 -- an entry as it is counted among notes
 made_and : (Entry → Bool) → Note → Bool

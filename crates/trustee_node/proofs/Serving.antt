@@ -68,7 +68,7 @@ module _ (share : Share) (ids : Option (List (List ℕ))) where
     served = ended (entries_in pass.log) (entries_in pass.log) (prefix-same (entries_in pass.log));
     floor = omega arith;
     own = λ _. sym (append-nil (entries_in pass.own));
-    notes = noted-none pass;
+    notes = noted-none share ids pass;
     draws = draws-none pass;
     faults = faults-none pass;
     same = record { lock = refl; name = refl };
@@ -85,7 +85,7 @@ module _ (share : Share) (ids : Option (List (List ℕ))) where
         let first = a.own (omega arith) in
         b.own zero ∙ ap (λ (o : List Entry). o ++ added_by more) first ∙ append_assoc (entries_in old.own) (added_by turns) (added_by more)
         ∙ ap (λ (e : List Entry). entries_in old.own ++ e) (sym (flat_map-append (λ (t : Turn). t.added) turns more));
-    notes = noted-then old mid new turns more a.notes b.notes;
+    notes = noted-then share ids old mid new turns more a.notes b.notes;
     draws = draws-then old mid new turns more a.draws b.draws;
     faults = faults-then old mid new turns more b.floor b.same.name a.faults b.faults;
     same = same-then old mid new a.same b.same;

@@ -1,7 +1,8 @@
 -- One turn of a pass.
-use Rattle.std.proofs.Common.{◌≡◌, ◌≢◌, ◌⊎◌, ◌+◌, ◌-◌, ◌^◌, ◌≤◌, ◌<◌, ℕ, false, List, [], ◌∷◌, ◌++◌, length, drop, None, Option, Result, Ok, Err, IsTrue, refl, sym, ap, ◌∙◌, subst, arith, inl, inr, append-nil, All}
+use Rattle.std.proofs.Common.{◌≡◌, ◌≢◌, ◌⊎◌, ◌+◌, ◌-◌, ◌^◌, ◌≤◌, ◌<◌, ℕ, false, List, [], ◌∷◌, ◌++◌, length, drop, get_or, None, Option, Result, Ok, Err, IsTrue, refl, sym, ap, ◌∙◌, subst, arith, inl, inr, append-nil, All}
 use Rattle.std.proofs.Math.Seq.{drop-append_seam}
-use Rattle.std.proofs.lemmas.List.Elements.{All-nil, All-weaker}
+use Rattle.std.proofs.lemmas.List.{append_cancel_left}
+use Rattle.std.proofs.lemmas.List.Elements.{All-contains_itself, All-nil, All-weaker}
 use Rattle.opening_journal.specs.declared.faults.JournalFault.TheVariants as journal
 use mathlib.Core.List.{IsPrefix}
 use native.Mathlib.Decide.{dec_le}
@@ -29,8 +30,8 @@ use Rattle.trustee_core.specs.declared.trustee.Trustee.{Trustee}
 use Rattle.turn_lock.specs.Lock.{Lock}
 use Rattle.turn_lock.specs.Pass.{DrawsOne, Gives, IsWornOut, SameDone, SameDrawn, SamePass, Seen, Takes}
 use Rattle.trustee_node.specs.Turns.{HasSteadyDisk, InTurn, IsNoteOf, NoTurn, Outcome, Serves, TellsDisk, Turn, ended, is_code, next, worn}
-use Rattle.trustee_node.proofs.Deciding.{book-met}
-use Rattle.trustee_node.proofs.Noting.{entries-prefix, note-of}
+use Rattle.trustee_node.proofs.Deciding.{book-met, book-reaches}
+use Rattle.trustee_node.proofs.Noting.{entries-prefix, note-of, note-still}
 use Rattle.trustee_core.proofs.NoteLists.{entries-append}
 use Rattle.node_workers.proofs.Prefixes.{prefix-is, prefix-same, prefix-then}
 use Rattle.node_workers.proofs.Onward.{same-then}
@@ -183,24 +184,28 @@ module _ {D : Type 0} {p : pages.Ghosts D} {f : counting.Ghosts D} where
   pub sure : (trustee : Trustee D p f) → faults_of (journal_of trustee) ≡ 0 → (state_of (journal_of trustee)).doubt ≡ None
   sure trustee none = (holds (journal_of trustee)).cause none
 
--- what a decision noted, whatever it answered
-pub record Noted (ask : Ask) (moment : ℕ) (old new : List Note) : Type 0 where
+-- a note of a decision with this answer
+abbrev MayBe : Ask → ℕ → BookAnswer → List Note → Note → Type 0
+MayBe ask moment given old note = (answer : Answer) × (given ≡ Decided answer) × MayNote old ask moment answer note
+
+-- what a decision noted that answered this
+pub record Noted (ask : Ask) (moment : ℕ) (given : BookAnswer) (old new : List Note) : Type 0 where
   pub added : List Note
   pub are : new ≡ old ++ added
-  pub each : All (λ (note : Note). (answer : Answer) × MayNote old ask moment answer note) added
+  pub each : All (MayBe ask moment given old) added
 
-noted-none : (ask : Ask) (moment : ℕ) (old new : List Note) → new ≡ old → Noted ask moment old new
-noted-none ask moment old new is = record {
+noted-none : (ask : Ask) (moment : ℕ) (given : BookAnswer) (old new : List Note) → new ≡ old → Noted ask moment given old new
+noted-none ask moment given old new is = record {
   added = [];
   are = is ∙ sym (append-nil old);
-  each = All-nil (λ (note : Note). (answer : Answer) × MayNote old ask moment answer note);
+  each = All-nil (MayBe ask moment given old);
 }
 
-noted-some : (ask : Ask) (moment : ℕ) (answer : Answer) (old new : List Note) → Notes ask moment answer old new → Noted ask moment old new
-noted-some ask moment answer old new is = record {
+noted-some : (ask : Ask) (moment : ℕ) (given : BookAnswer) (answer : Answer) (old new : List Note) → given ≡ Decided answer → Notes ask moment answer old new → Noted ask moment given old new
+noted-some ask moment given answer old new same is = record {
   added = is.added;
   are = is.are;
-  each = All-weaker (MayNote old ask moment answer) (λ (note : Note). (answer : Answer) × MayNote old ask moment answer note) (λ note may. (answer, may)) is.added is.each;
+  each = All-weaker (MayNote old ask moment answer) (MayBe ask moment given old) (λ note may. (answer, same, may)) is.added is.each;
 }
 
 module _ {D : Type 0} {p : pages.Ghosts D} {f : counting.Ghosts D} where
@@ -209,13 +214,14 @@ module _ {D : Type 0} {p : pages.Ghosts D} {f : counting.Ghosts D} where
       → (IsDenied ids ask → new ≡ old)
       → ((IsDenied ids ask → ⊥) → (core : Result Grant Refusal) × (result ≡ as_denial core) × DecidedOn old new core)
       → ((answer : Answer) → book_answer_in result ≡ Decided answer → Notes ask moment answer (notes_of old) (notes_of new))
-      → Noted ask moment (notes_of old) (notes_of new)
+      → Noted ask moment (book_answer_in result) (notes_of old) (notes_of new)
   noted-of ids ask moment old new result event stays decides notes =
       elim (denied-or (share_of old) ids (state_of (journal_of old)) ask moment (book_answer_in result) (state_of (journal_of new)) event) [
-        | inl out ↦ noted-none ask moment (notes_of old) (notes_of new) (ap (λ (t : Trustee D p f). notes_of t) (stays out.0))
+        | inl out ↦ noted-none ask moment (book_answer_in result) (notes_of old) (notes_of new) (ap (λ (t : Trustee D p f). notes_of t) (stays out.0))
         | inr approved ↦
             let d = decides approved in
-            noted-some ask moment (answer_in d.0) (notes_of old) (notes_of new) (notes (answer_in d.0) (ap book_answer_in d.1 ∙ as-core d.0))
+            let same = ap book_answer_in d.1 ∙ as-core d.0 in
+            noted-some ask moment (book_answer_in result) (answer_in d.0) (notes_of old) (notes_of new) same (notes (answer_in d.0) same)
       ]
 
 -- a turn was taken at one state of the trustee, with this number, and given at another
@@ -262,15 +268,32 @@ added-notes notes later added is = ap (drop (length notes)) is ∙ drop-append_s
 abbrev pub turn_of : Ask → ℕ → List Entry → Outcome → List Entry → Turn
 turn_of ask moment seen outcome added = record { ask = ask; moment = moment; seen = seen; outcome = outcome; added = added }
 
+-- notes that come after others and say of no entry that it was made
+none-made : (notes later added : List Note) → later ≡ notes ++ added → entries_in later ≡ entries_in notes → entries_in added ≡ []
+none-made notes later added are same =
+    append_cancel_left (entries_in notes) (entries_in added) [] (sym (entries-append notes added) ∙ sym (ap entries_in are) ∙ same ∙ sym (append-nil (entries_in notes)))
+
 -- what a turn may note
-turn-notes : (turn : Turn) (notes later log : List Note) (noted : Noted turn.ask turn.moment notes later) → later ≡ log → All (IsNoteOf log (turn ∷ [])) noted.added
-turn-notes turn notes later log noted is =
-    All-weaker (λ (note : Note). (answer : Answer) × MayNote notes turn.ask turn.moment answer note) (IsNoteOf log (turn ∷ []))
-    (λ note may. note-of turn notes log (noted.added, sym noted.are ∙ is) may.0 note may.1) noted.added noted.each
+turn-notes : (share : Share) (ids : Option (List (List ℕ))) (turn : Turn) (given : BookAnswer) (before after : JournalState) (notes later log : List Note)
+    (noted : Noted turn.ask turn.moment given notes later) → later ≡ log → entries_in notes ≡ before.entries → entries_in later ≡ after.entries
+    → BookDecides share ids before turn.ask turn.moment given after → All (IsNoteOf share ids log (turn ∷ [])) noted.added
+turn-notes share ids turn given before after notes later log noted is mine theirs decides =
+    let begins : IsPrefix notes log = (noted.added, sym noted.are ∙ is) in
+    elim (book-reaches share ids before turn.ask turn.moment given after decides) [
+      | inl reaches ↦
+          All-weaker (MayBe turn.ask turn.moment given notes) (IsNoteOf share ids log (turn ∷ []))
+          (λ note may. note-of share ids turn notes log reaches begins may.0 note may.2) noted.added noted.each
+      | inr still ↦
+          let none = none-made notes later noted.added noted.are (theirs ∙ ap (λ (s : JournalState). s.entries) still.0 ∙ sym mine) in
+          λ k d lt.
+          let may = noted.each k d lt in
+          note-still share ids (turn ∷ []) notes log noted.added turn.ask turn.moment may.0 none
+          (λ device. still.1 (may.1 ∙ ap Decided device)) begins (get_or noted.added k d) (All-contains_itself noted.added k d lt) may.2
+    ]
 
 -- a turn in which the trustee decided
 pub turned : (share : Share) (ids : Option (List (List ℕ))) (old new : Seen Note TrusteeName) (before after : JournalState) (notes later : List Note) (number : ℕ) (ask : Ask) (moment : ℕ) (answer : BookAnswer)
-    → Turned old new notes later number → entries_in notes ≡ before.entries → entries_in later ≡ after.entries → Noted ask moment notes later → (number ≡ 0 → before.doubt ≡ None)
+    → Turned old new notes later number → entries_in notes ≡ before.entries → entries_in later ≡ after.entries → Noted ask moment answer notes later → (number ≡ 0 → before.doubt ≡ None)
     → BookDecides share ids before ask moment answer after
     → (answer ≡ Decided (Refused (refusal.Journal journal.Device)) → Rose number new.floor)
     → (HasSteadyDisk new.name → is_code 6 (InTurn answer) ≡ 0)
@@ -300,7 +323,7 @@ turned share ids old new before after notes later number ask moment answer t min
         notes = record {
           noted = noted.added;
           are = own;
-          each = turn-notes turn notes later new.log noted (sym t.log);
+          each = turn-notes share ids turn answer before after notes later new.log noted (sym t.log) mine theirs decides;
           log = prefix-then old.log notes new.log t.begins (noted.added, sym noted.are ∙ sym t.log);
         };
         draws = record {
@@ -343,7 +366,7 @@ not-turned share ids lock old new ask moment out one done =
       notes = record {
         noted = [];
         are = done.own ∙ sym (append-nil old.own);
-        each = All-nil (IsNoteOf new.log (turn ∷ []));
+        each = All-nil (IsNoteOf share ids new.log (turn ∷ []));
         log = prefix-is old.log new.log (sym out.log);
       };
       draws = record {

@@ -57,7 +57,7 @@ pub record Gathered (share : Share) (ids : Option (List (List ℕ))) (asked : �
   pub draws : Draws (first_pass lock) pass (turns_in runs)
   pub faults : Faults (first_pass lock) pass (turns_in runs)
   pub own : pass.floor ≡ 0 → entries_in pass.own ≡ added_by (turns_in runs)
-  pub notes : NotedBy (first_pass lock) pass (turns_in runs)
+  pub notes : NotedBy share ids (first_pass lock) pass (turns_in runs)
   pub most : length (turns_in runs) ≤ 2 ^ 48 * length runs
   pub joined : pass.joined ≡ length runs
   pub totals_are : HasTotals runs totals

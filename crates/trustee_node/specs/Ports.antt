@@ -71,17 +71,19 @@ pub record HasTotals (runs : List PortRun) (totals : Totals) : Type 0 where
   pub frames : totals.frames ≡ min (sum_by (λ (run : PortRun). frames_of run.served) runs) (2 ^ 32 - 1)
 
 -- an entry that was there, that was in doubt at some time before, or that one of these turns asked for
-pub data ComesFrom (old : TrusteeState) (turns : List Turn) (entry : Entry) : Type 0 where
-  was_there : Contains old.entries entry → ComesFrom old turns entry
-  was_in_doubt : Contains old.notes (Doubted entry) → ComesFrom old turns entry
-  is_asked : IsAsked turns entry → ComesFrom old turns entry
+pub data ComesFrom (share : Share) (ids : Option (List (List ℕ))) (old : TrusteeState) (turns : List Turn)
+    (entry : Entry) : Type 0 where
+  was_there : Contains old.entries entry → ComesFrom share ids old turns entry
+  was_in_doubt : Contains old.notes (Doubted entry) → ComesFrom share ids old turns entry
+  is_asked : IsAsked share ids turns entry → ComesFrom share ids old turns entry
 
--- nothing is bound that was not asked for, whatever the number of faults: each entry, and the one in doubt, comes from
--- there
-pub record AllComeFrom (old new : TrusteeState) (turns : List Turn) : Type 0 where
-  pub entries : (entry : Entry) → Contains new.entries entry → ComesFrom old turns entry
-  pub doubt : (entry : Entry) → new.doubt ≡ Some entry → ComesFrom old turns entry
-  pub notes : (entry : Entry) → Contains new.notes (Doubted entry) → ComesFrom old turns entry
+-- Nothing is bound that was not asked for, nor what the book denied or a test refused, whatever the number of faults:
+-- each entry, and the one in doubt, comes from there.
+pub record AllComeFrom (share : Share) (ids : Option (List (List ℕ))) (old new : TrusteeState) (turns : List Turn)
+    : Type 0 where
+  pub entries : (entry : Entry) → Contains new.entries entry → ComesFrom share ids old turns entry
+  pub doubt : (entry : Entry) → new.doubt ≡ Some entry → ComesFrom share ids old turns entry
+  pub notes : (entry : Entry) → Contains new.notes (Doubted entry) → ComesFrom share ids old turns entry
 
 -- ports before and after, in one order, and the clock of each, by which its asks were dated
 pub record PortsRun : Type 0 where
@@ -105,5 +107,5 @@ pub record ServedPorts (share : Share) (ids : Option (List (List ℕ))) (asked :
   pub codes : HasCodes old new (turns_in runs)
   pub adds : new.faults ≡ 0 → (test : Entry → Bool)
       → count_by test new.entries ≡ count_by test old.entries + count_by test (added_by (turns_in runs))
-  pub asked_for : AllComeFrom old new (turns_in runs)
+  pub asked_for : AllComeFrom share ids old new (turns_in runs)
   pub totals_are : HasTotals runs totals

@@ -1,6 +1,6 @@
 -- Turns of a trustee under a lock: what each ask met, how it was answered, and what it added.
 use Rattle.std.specs.Prelude.{◌≡◌, ◌<◌, ◌≤◌, ◌+◌, ◌-◌, ◌^◌, ◌==◌, ◌++◌, ℕ, Bool, true, false, List, [], ◌∷◌, length}
-use Rattle.std.specs.Prelude.{All, Contains, map}
+use Rattle.std.specs.Prelude.{All, Contains}
 use Rattle.std.specs.Prelude.{Option, IfSome, IsSomeAnd, IsTrue, if◌then◌else◌}
 use Rattle.std.specs.List.{flat_map, sum_by}
 use Rattle.opening_journal.specs.declared.faults.JournalFault.TheVariants as journal
@@ -115,26 +115,28 @@ pub record Faults (old new : Seen Note TrusteeName) (turns : List Turn) : Type 0
   pub first : new.floor ≡ 0 → with_code 7 turns ≡ 0
   pub told : TellsDisk new.name → with_code 7 turns ≡ 0
 
--- the entries of these turns' asks, each at its moment
-abbrev pub asked_by : List Turn → List Entry
-asked_by turns = map (λ (turn : Turn). entry_of turn.ask turn.moment) turns
-
--- one of these turns asked for the entry
-abbrev pub IsAsked : List Turn → Entry → Type 0
-IsAsked turns entry = Contains (asked_by turns) entry
+-- One of these turns asked for the entry, and its ask goes to the journal: no book denies it, and it passes the tests
+-- that need no journal. What a denied ask names, or one that fails a test, is not asked for.
+pub record IsAsked (share : Share) (ids : Option (List (List ℕ))) (turns : List Turn) (entry : Entry) : Type 0 where
+  pub turn : Turn
+  pub is_one : Contains turns turn
+  pub reaches : ReachesJournal share ids turn.ask
+  pub entry_is : entry_of turn.ask turn.moment ≡ entry
 
 -- A note that these turns may have added to this log: an entry that one of them asked for was made or is in doubt, or
 -- one that the log has in doubt turned out to be made.
-pub data IsNoteOf (log : List Note) (turns : List Turn) : Note → Type 0 where
-  asked_made : (entry : Entry) → IsAsked turns entry → IsNoteOf log turns (Made entry)
-  asked_doubted : (entry : Entry) → IsAsked turns entry → IsNoteOf log turns (Doubted entry)
-  turned_out : (entry : Entry) → Contains log (Doubted entry) → IsNoteOf log turns (Made entry)
+pub data IsNoteOf (share : Share) (ids : Option (List (List ℕ))) (log : List Note) (turns : List Turn)
+    : Note → Type 0 where
+  asked_made : (entry : Entry) → IsAsked share ids turns entry → IsNoteOf share ids log turns (Made entry)
+  asked_doubted : (entry : Entry) → IsAsked share ids turns entry → IsNoteOf share ids log turns (Doubted entry)
+  turned_out : (entry : Entry) → Contains log (Doubted entry) → IsNoteOf share ids log turns (Made entry)
 
 -- What these turns noted, whatever the number of faults. The log goes on from the one before.
-pub record NotedBy (old new : Seen Note TrusteeName) (turns : List Turn) : Type 0 where
+pub record NotedBy (share : Share) (ids : Option (List (List ℕ))) (old new : Seen Note TrusteeName)
+    (turns : List Turn) : Type 0 where
   pub noted : List Note
   pub are : new.own ≡ old.own ++ noted
-  pub each : All (IsNoteOf new.log turns) noted
+  pub each : All (IsNoteOf share ids new.log turns) noted
   pub log : IsPrefix old.log new.log
 
 -- What became of a pass in these turns. With no fault they added what their answers say, and nothing else.
@@ -143,7 +145,7 @@ pub record Serves (share : Share) (ids : Option (List (List ℕ))) (old new : Se
   pub served : ServedTurns share ids (entries_in old.log) turns (entries_in new.log)
   pub floor : old.floor ≤ new.floor
   pub own : new.floor ≡ 0 → entries_in new.own ≡ entries_in old.own ++ added_by turns
-  pub notes : NotedBy old new turns
+  pub notes : NotedBy share ids old new turns
   pub draws : Draws old new turns
   pub faults : Faults old new turns
   pub same : SamePass old new

@@ -1,5 +1,7 @@
 use Rattle.std.proofs.Common.{◌≤◌, ◌∙◌, ap, arith, drop, refl, sym}
 use Rattle.coalition_map.specs.Coalitions.{PlanNumbers}
+use Rattle.coalition_map.proofs.MemberLaws.{IsAscendingIn-trustees_from, IsStrictlyIncreasing-from_IsAscendingIn}
+use Rattle.coalition_map.specs.Members.{member_numbers}
 use Rattle.share_blame.specs.Blamed.{IsBlamed}
 use Rattle.share_blame.specs.Commits.{PagesStay, leaves_on, pages_of}
 use Rattle.share_blame.proofs.Naming.{below-more, below-none, below-other, named-all, named-more, named-none, named-other}
@@ -63,3 +65,9 @@ returns-clause-blamed g c = λ told.
     let numbers = ap (λ (p : PlanNumbers). p.n) c.requires.commits.plan in
     rw c.of_bits.ensures (named-all (leaves_on g.V.Pages (pages_of c.args.commits.now)) c.args.session.now c.args.digest.now c.trustees.t c.trustees.bits
     c.leaf-q.ensures.session (omega (arith, c.n-t-end.ensures.value, numbers, c.trustees.auto.t-end)) (c.trustees.invariant.named told))
+
+pub returns-clause-ascending : goal.returns-clause-ascending
+unfolding member_numbers
+returns-clause-ascending g c =
+    let ascending = IsStrictlyIncreasing-from_IsAscendingIn 1 17 (member_numbers c.trustees.bits) (IsAscendingIn-trustees_from 1 16 c.trustees.bits) in
+    rw c.of_bits.ensures ascending
