@@ -1,9 +1,10 @@
 -- The index beside the slots, through leases and burnings.
-use Rattle.std.proofs.Common.{◌≡◌, ◌≢◌, ◌⊎◌, ◌↔◌, ℕ, zero, suc, ◌+◌, ◌%◌, ◌<◌, ◌≤◌, Bool, true, false, not, cond, List, [], ◌∷◌, length, set, take, refl, sym, ◌∙◌, ap, subst, inl, inr, arith, true≢false}
+use Rattle.std.proofs.Common.{◌≡◌, ◌≢◌, ◌⊎◌, ◌↔◌, ℕ, zero, suc, ◌+◌, ◌%◌, ◌<◌, ◌≤◌, Bool, true, false, not, cond, List, [], ◌∷◌, ◌++◌, length, set, take, refl, sym, ◌∙◌, ap, subst, inl, inr, arith, true≢false}
 use Rattle.std.specs.Ordering.{eq_by_cmp}
 use Rattle.std.specs.List.{list_any, Contains}
 use Rattle.std.specs.List.Sorted.{IsPermutation}
 use Rattle.std.proofs.lemmas.Cmp.{eq_by_cmp_equiv}
+use Rattle.std.proofs.lemmas.List.Elements.{Contains-append_left, Contains-push, Contains-push_cases}
 use Rattle.std.proofs.lemmas.List.Sorted.{Contains-permutation, IsPermutation-sym}
 use Rattle.std.proofs.lemmas.Map.Views.{Contains-from_any, list_any-from_Contains, tells_apart}
 use Rattle.leaf_table.proofs.Orders.{gone, key_cmp, listed-exact, listed-total, pair_cmp}
@@ -152,6 +153,16 @@ module _ (plan : PlanNumbers) (slots : List Slot) (leaf : ℕ) (within : leaf < 
         ];
         few = omega (arith, less, lists.few, taken-set slots leaf slot within, ap marks half);
       }
+
+-- what is there once an item was added at the end
+pub pushed : (old : List Listed) (item other : Listed) → Contains (old ++ item ∷ []) other ↔ ((other ≡ item) ⊎ Contains old other)
+pushed old item other = (
+  (λ has. elim (Contains-push_cases old item other has) [ inl there ↦ inr there | inr same ↦ inl (sym same) ]),
+  (λ cases. elim cases [
+    | inl same ↦ subst (Contains (old ++ item ∷ [])) (sym same) (Contains-push old item)
+    | inr there ↦ Contains-append_left old (item ∷ []) other there
+  ]),
+)
 
 -- the leases of the first slots are listed
 pub record ListsBelow (plan : PlanNumbers) (slots : List Slot) (end : ℕ) (leases : List Listed) : Type 0 where

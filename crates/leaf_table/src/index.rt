@@ -39,13 +39,13 @@ fn leases_of<D: Disk>(
     ensures room { IfOk result (λ leases. count_of slots.now ≤ leases.room) }
 {
     let count = slots.count();
-    let mut leases = SortedList::with_room(alloc, count as usize)?;
+    let mut leases = Vec::with_capacity(alloc, count as usize)?;
     'leaves: for leaf in 0..count {
         if let Slot::Half(id) = slots.slot(leaf) {
-            leases.insert(((plan.coalition_of(leaf), *id), leaf));
+            leases.push_reserved(((plan.coalition_of(leaf), *id), leaf));
         }
     }
-    Ok(leases)
+    Ok(SortedList::of_items(leases))
 }
 
 /// The least free leaf of coalition `c`, by a walk over its leaves above `after`, up to which none is free. A leaf that

@@ -1,2 +1,3 @@
 pub mod Exact
 mod Places
+mod Sorting

@@ -2,7 +2,7 @@
 
 ghost use Rattle.std.specs.Prelude.{◌≡◌, ◌≢◌, ◌+◌, ◌≤◌, ◌<◌, ◌↔◌, ◌∷◌, [], false, length, IsTrue, IfOk, IfErr};
 ghost use Rattle.std.specs.Prelude.{MatchOption, All};
-ghost use Rattle.std.specs.List.{AllWithin, HoldsAt};
+ghost use Rattle.std.specs.List.{AllWithin, Contains, HoldsAt};
 ghost use Rattle.std.specs.List.Sorted.{IsPermutation, IsPartitionPoint};
 ghost use Rattle.sorted_list.specs.Sorted.{Holds, IsAscending, IsLeastFrom, Takes};
 
@@ -29,6 +29,8 @@ impl<T: Ord + Copy> Model for SortedList<T> {
 }
 
 impl<T: Ord + Copy> SortedList<T> {
+    ghost use Rattle.std.specs.Prelude.{vec_capacity};
+
     /// A list with no item, and with room for `room` items.
     pub fn with_room(alloc: Global, room: usize) -> Result<SortedList<T>, NoMemory>
         ensures empty { IfOk result (λ list. list.items ≡ []) }
@@ -37,6 +39,18 @@ impl<T: Ord + Copy> SortedList<T> {
         Ok(SortedList {
             items: Vec::with_capacity(alloc, room)?,
         })
+    }
+
+    /// The list of these items, of equal ones one, by one sort. It takes no memory.
+    pub fn of_items(mut items: Vec<T>) -> SortedList<T>
+        ensures among { (item : T) → Contains result.items item → Contains items.items item }
+        ensures complete { (item : T) → Contains items.items item → Holds T.cmp result.items item }
+        ensures length { length result.items ≤ length items.items }
+        ensures room { result.room ≡ vec_capacity items }
+    {
+        items.sort_unstable();
+        items.dedup();
+        SortedList { items }
     }
 
     /// The items, in ascending order.

@@ -51,3 +51,17 @@ fn keeps<T: Ord + Copy>(alloc: Global, items: &[T; 3], below: T, behind: T) -> b
 fn items_are_ascending_and_each_is_there_once(rt: HostRuntime) {
     assert!(rt; keeps(rt.alloc(), &[3, 5, 7], 4, 8));
 }
+
+/// Whether the list of these items has those, in this order, and finds an item of them.
+fn sorts<T: Ord + Copy>(alloc: Global, items: &[T], sorted: &[T; 4]) -> bool {
+    let Ok(items) = Vec::from_slice(alloc, items) else {
+        return false;
+    };
+    let list = SortedList::of_items(items);
+    has(&list, sorted) & list.holds(&sorted[2])
+}
+
+#[test]
+fn items_are_put_in_order_and_equal_ones_become_one(rt: HostRuntime) {
+    assert!(rt; sorts(rt.alloc(), &[7, 3, 5, 3, 9, 5], &[3, 5, 7, 9]));
+}
