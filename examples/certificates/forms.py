@@ -31,6 +31,8 @@ def _teach():
 
 _teach()
 ALGORITHM = algos.SignedDigestAlgorithm({"algorithm": HSS}).dump()
+# the parameters are NULL or absent (RFC 5754, section 2)
+SHA256 = algos.DigestAlgorithm({"algorithm": "sha256"}).native
 
 
 class Refused(Exception):
@@ -309,7 +311,27 @@ def request(content):
         raise Refused(f"this is no PKCS#10 request: {str(fault).splitlines()[0]}") from None
 
 
-# Tests of what was read. Each refuses with the first reason; the signature is tested by the caller, last.
+# Tests of what was read. Each refuses with the first reason.
+
+
+def test(it, ca, at, is_accepted, content=None, revocations=None):
+    """Refuses a certificate, revocation list or message unless all about it is right at a moment, under the certificate
+    of its issuer or signer. is_accepted(key, message, signature) verifies an HSS signature. The content is that of a
+    message; a revocation list goes with a certificate, which it must not name.
+    """
+    key = key_of(ca)
+    if isinstance(it, x509.Certificate):
+        test_certificate(it, ca, at)
+    elif isinstance(it, crl.CertificateList):
+        test_revocations(it, ca, at)
+    else:
+        test_message(it, ca, at, content)
+    want(is_accepted(key, signed_bytes(it), signature(it)), "the signature is not accepted")
+    if revocations is not None:
+        test_revocations(revocations, ca, at)
+        want(is_accepted(key, signed_bytes(revocations), signature(revocations)),
+             "the signature of the revocation list is not accepted")
+        want(not is_revoked(revocations, it), "the certificate is revoked")
 
 
 def test_algorithms(*found):
@@ -389,8 +411,7 @@ def test_message(it, signer, at, content):
     signed = it["content"]
     info = signed["signer_infos"][0]
     want((signed["version"].native, info["version"].native) == ("v1", "v1"), "the message is not of version 1")
-    digest = algos.DigestAlgorithm({"algorithm": "sha256"}).dump()
-    want([each.dump() for each in (*signed["digest_algorithms"], info["digest_algorithm"])] == [digest] * 2,
+    want([each.native for each in (*signed["digest_algorithms"], info["digest_algorithm"])] == [SHA256] * 2,
          "the digest is not SHA-256")
     test_algorithms(info["signature_algorithm"])
     tbs = signer["tbs_certificate"]
@@ -415,6 +436,6 @@ def test_message(it, signer, at, content):
          "the content is another one")
     if "cms_algorithm_protection" in found:
         guard = found["cms_algorithm_protection"][0]
-        want(guard["digest_algorithm"].dump() == digest and guard["mac_algorithm"].native is None
+        want(guard["digest_algorithm"].native == SHA256 and guard["mac_algorithm"].native is None
              and guard["signature_algorithm"].untag().dump() == ALGORITHM, "the signed algorithms are other ones")
     test_moment("the signer's certificate", tbs["validity"]["not_before"].native, tbs["validity"]["not_after"].native, at)
