@@ -5,6 +5,7 @@ and reads the DER. An HSS key or signature has the bytes of RFC 8554, section 6,
 """
 import datetime
 import hashlib
+import re
 import secrets
 
 from asn1crypto import algos, cms, core, crl, csr, keys, pem, x509
@@ -71,6 +72,8 @@ def name(words):
         kind, equals, value = word.partition("=")
         want(equals and value and kind in NAMES, f"{word} is no part of a name: {', '.join(NAMES)} may be named, as CN=Root")
         want(NAMES[kind] not in parts, f"{kind} is named twice")
+        want(kind != "C" or re.fullmatch("[A-Z]{2}", value), "C is a country of two letters, such as SE")
+        want(kind != "serialNumber" or re.fullmatch("[A-Za-z0-9 '()+,./:=?-]+", value), "serialNumber has a letter that may not be there")
         parts[NAMES[kind]] = value
     return x509.Name.build(parts)
 
@@ -111,6 +114,13 @@ def extension_of(certificate, kind):
         if it["extn_id"].native == kind:
             return it["extn_value"].parsed
     return None
+
+
+def issuer_id(ca):
+    """The extension that names the key of an issuer."""
+    own = extension_of(ca, "key_identifier")
+    want(own is not None, "the issuer's certificate has no key identifier")
+    return extension("authority_key_identifier", {"key_identifier": own.native})
 
 
 def usage(certificate):
@@ -163,16 +173,19 @@ def issued(ca, info, subject, begin, end, dns=(), is_authority=False, crl_url=No
     uses = {"key_cert_sign", "crl_sign"} if is_authority else {"digital_signature"}
     constraints = {"ca": True, "path_len_constraint": 0} if is_authority else {"ca": False}
     extensions = [
-        extension("authority_key_identifier", {"key_identifier": extension_of(ca, "key_identifier").native}),
+        issuer_id(ca),
         extension("basic_constraints", constraints, True),
         extension("key_usage", x509.KeyUsage(uses), True),
     ]
-    if dns:
-        names = [x509.GeneralName("dns_name", it) for it in dns]
-        extensions.append(extension("subject_alt_name", names, not subject.native))
-    if crl_url:
-        place = x509.DistributionPointName("full_name", [x509.GeneralName("uniform_resource_identifier", crl_url)])
-        extensions.append(extension("crl_distribution_points", [{"distribution_point": place}]))
+    try:
+        if dns:
+            names = [x509.GeneralName("dns_name", it) for it in dns]
+            extensions.append(extension("subject_alt_name", names, not subject.native))
+        if crl_url:
+            place = x509.DistributionPointName("full_name", [x509.GeneralName("uniform_resource_identifier", crl_url)])
+            extensions.append(extension("crl_distribution_points", [{"distribution_point": place}]))
+    except ValueError as fault:
+        raise Refused(f"this is no DNS name, or no URL: {str(fault).splitlines()[0]}") from None
     return _certificate(tbs["subject"], subject, info, begin, end, extensions)
 
 
@@ -180,6 +193,7 @@ def revocations(ca, number, begin, end, entries):
     """The draft of a revocation list: entries are serial number, moment, and a reason or None."""
     want("crl_sign" in usage(ca), "the issuer's key is not one for revocation lists")
     want(begin < end, "the list is over before it begins")
+    want(number >= 0, "the number of a list is not negative")
     revoked = []
     for serial, at, reason in entries:
         entry = {"user_certificate": serial, "revocation_date": time(at)}
@@ -192,10 +206,7 @@ def revocations(ca, number, begin, end, entries):
         "issuer": ca["tbs_certificate"]["subject"],
         "this_update": time(begin),
         "next_update": time(end),
-        "crl_extensions": [
-            extension("authority_key_identifier", {"key_identifier": extension_of(ca, "key_identifier").native}),
-            extension("crl_number", number),
-        ],
+        "crl_extensions": [issuer_id(ca), extension("crl_number", number)],
     }
     if revoked:
         tbs["revoked_certificates"] = revoked
