@@ -1,6 +1,6 @@
 /* A boot loader in miniature: no C library, and no system call but the one that ends it. It verifies the image that is
  * linked into it. Its exit status is 0 if the signature is accepted, and otherwise the lowest byte of the answer. It runs
- * on Linux on x86-64, ARM of 32 and 64 bits, and RISC-V.
+ * on Linux on x86-64, aarch64 and RISC-V; examples/cortex-m is a loader for a board without any system.
  *
  *     cc -ffreestanding -fno-stack-protector -nostdlib -static -I include -DIMAGE='"image.h"' \
  *         examples/boot.c crates/rikselbe_c/out/librikselbe_c.a -o boot
@@ -45,9 +45,6 @@ static void end(long status) {
 #elif defined(__riscv)
     register long a0 __asm__("a0") = status, a7 __asm__("a7") = 93;
     __asm__ volatile("ecall" : : "r"(a0), "r"(a7));
-#elif defined(__arm__)
-    register long r0 __asm__("r0") = status, r7 __asm__("r7") = 1;
-    __asm__ volatile("svc 0" : : "r"(r0), "r"(r7));
 #else
 #error "say here how a program ends on this processor, and below how it begins"
 #endif
@@ -69,6 +66,4 @@ __asm__(".globl _start\n_start: xor %ebp, %ebp\n and $-16, %rsp\n call boot\n");
 __asm__(".globl _start\n_start: mov x29, #0\n mov x30, #0\n bl boot\n");
 #elif defined(__riscv)
 __asm__(".globl _start\n_start: .option push\n .option norelax\n la gp, __global_pointer$\n .option pop\n call boot\n");
-#elif defined(__arm__)
-__asm__(".globl _start\n.type _start, %function\n_start: bl boot\n");
 #endif

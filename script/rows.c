@@ -2,7 +2,7 @@
  * answer that is not the right one, and how many there were. Its status is 0 if all were right.
  *
  * The rows are in the file that it is given. If ROWS is defined when it is compiled, the rows in the file of that name
- * are in the program itself, which then needs neither a file nor memory for them. */
+ * are in the program itself, in its section SECTION; it then needs neither a file nor memory for them. */
 #include <stdio.h>
 #include <stdlib.h>
 #include <string.h>
@@ -10,8 +10,11 @@
 #include "rikselbe.h"
 
 #ifdef ROWS
+#ifndef SECTION
+#define SECTION ".rodata"
+#endif
 extern const uint8_t rows[];
-__asm__(".section .rodata\n.balign 8\n.globl rows\nrows:\n.incbin \"" ROWS "\"\n.text\n");
+__asm__(".section " SECTION ", \"a\"\n.balign 8\n.globl rows\nrows:\n.incbin \"" ROWS "\"\n.text\n");
 
 static const uint8_t *rows_of(int count, char **words) {
     (void)count;
