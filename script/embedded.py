@@ -66,8 +66,8 @@ def hss_answer(line):
     return 0x100 * int(found[3]) + (0x20 if found[1] == "sig" else 0x10) + int(found[2])
 
 
-def hss_rows():
-    """Key, message, signature and answer of each row of the HSS data, whose lines are in the program's output."""
+def hss_lines():
+    """Name, key, message and signature of each row of the HSS data, and the program's line for it."""
     rows = [(str(number), None) for number in range(4)]
     rows += [(row.split()[0], row.split()[1:]) for row in read("hss.changes").decode().splitlines()]
     with open(f"{DATA}/../stdout", encoding="utf-8") as file:
@@ -83,7 +83,13 @@ def hss_rows():
                 bytes_of.append(numbers[0])
             else:
                 bytes_of[numbers[0]] = numbers[1]
-        yield f"{number} {change}", *map(bytes, parts.values()), hss_answer(lines[first + 2 * place])
+        yield f"{number} {change}", *map(bytes, parts.values()), lines[first + 2 * place]
+
+
+def hss_rows():
+    """Key, message, signature and answer of each row of the HSS data."""
+    for *row, line in hss_lines():
+        yield *row, hss_answer(line)
 
 
 def all_rows():
