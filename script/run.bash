@@ -47,6 +47,35 @@ is_command() {
     return 1
 }
 
+# Prints how many open files a command needs that serves, if its words say: the standard streams, its file, a book and
+# the socket that listens, and what each worker has at once. With a trustee that is one connection; with an aggregator it
+# is a client, the reference, and one connection to each of K trustees. This script itself needs ten.
+files_needed() {
+    local members=0 need
+    [[ ${5-} =~ ^[0-9]{1,2}$ ]] || return
+    case $1 in
+    trustee) need=$((5 + ($# > 6) + 10#$5)) ;;
+    aggregate)
+        members=$(od -An -tu1 -j6 -N1 -- "$2.ref" 2>/dev/null) || return
+        need=$((5 + 10#$5 * (2 + members))) ;;
+    *) return ;;
+    esac
+    echo $((need > 10 ? need : 10))
+}
+
+# Raises the limit on open files to what a command needs that serves. If it is not to be had, the command ends: workers
+# would wait for what others hold.
+want_files() {
+    local need limit
+    need=$(files_needed "$@")
+    limit=$(ulimit -Sn)
+    [ -n "$need" ] && [ "$limit" != unlimited ] && [ "$limit" -lt "$need" ] || return 0
+    ulimit -Sn "$need" 2>/dev/null && return
+    say "this needs $need open files, and the limit is $(ulimit -Hn): raise it, or name fewer workers"
+    printf 'error 17 network\n'
+    exit 17
+}
+
 # Answers a call for help, and words that are not a command, before anything is built or run.
 words_first() {
     case ${1-} in
@@ -58,7 +87,7 @@ words_first() {
     --version) return ;;
     '') ;;
     *)
-        is_command "$1" && return
+        is_command "$1" && { want_files "$@"; return; }
         printf 'rikselbe: %s is not a command\n\n' "$1" >&2 ;;
     esac
     list_commands >&2
@@ -191,15 +220,21 @@ say_of_entropy() {
     [ "$has" = "$want" ] || say "$2 has $has bytes, and a key for $trustees trustees is dealt from $want"
 }
 
-# Says, once, that a process listens at a place, as soon as it does, if that is within a minute.
+# Says, once, that a process listens at a place, as soon as it does, if that is within a minute. A second later, says so
+# if it has fewer threads than workers. Each worker ends after so many connections: if these are few, it may have ended.
 say_when_listening() {
-    local port=${3##*:} it
+    local port=${3##*:} it threads
     [[ $port =~ ^[0-9]{1,5}$ ]] || return
     for it in $(seq 600); do
         sleep 0.1
         kill -0 "$1" 2>/dev/null || return
-        ! is_listening "$port" "$1" || { say "the $2 starts at $3"; return; }
+        ! is_listening "$port" "$1" || { say "the $2 starts at $3"; break; }
     done
+    [[ $it != 600 && $4 =~ ^[0-9]{1,2}$ && $5 =~ ^[0-9]{6,}$ ]] || return
+    sleep 1
+    threads=("/proc/$1/task"/*)
+    kill -0 "$1" 2>/dev/null && [ ${#threads[@]} -lt $((10#$4)) ] || return
+    say "only ${#threads[@]} of $4 workers could be started: tasks or memory may be limited"
 }
 
 # Runs the program, and ends with its status.
@@ -222,7 +257,7 @@ run_program() {
         if command -v setpriv >/dev/null && setpriv --pdeathsig KILL true 2>/dev/null; then
             started=(setpriv --pdeathsig KILL)
         else
-            (say_when_listening $$ "$serving" "$4" >/dev/null &)
+            (say_when_listening $$ "$serving" "$4" "$5" "$6" >/dev/null &)
             exec "$program" "$@"
         fi
     fi
@@ -231,7 +266,7 @@ run_program() {
     "${started[@]}" "$program" "$@" <&0 &
     program_at=$!
     trap 'kill "$program_at" 2>/dev/null' HUP INT TERM
-    [ -z "$serving" ] || (say_when_listening "$program_at" "$serving" "$4" </dev/null >/dev/null &)
+    [ -z "$serving" ] || (say_when_listening "$program_at" "$serving" "$4" "$5" "$6" </dev/null >/dev/null &)
     while wait "$program_at"; status=$?; kill -0 "$program_at" 2>/dev/null; do :; done
     say_of_status "$status" "$@"
     exit "$status"

@@ -13,19 +13,21 @@ use crate::fault_count::FaultCount;
 use crate::tcp_port::{Place, TcpPort};
 use disk_trait::Faults;
 use std::alloc::{AllocError, Global};
+use std::io::Eprint;
 use std::net::{Net as Sockets, TcpListener};
 use std::sync::Arc;
+use std::time::Clock;
 use stream_io::{CallFault, Net, Port};
 
 /// The net of a runtime's sockets. It tells nothing but its counts of faults.
 #[derive(Drop)]
-pub struct TcpNet<R: Sockets + Copy> {
+pub struct TcpNet<R: Sockets + Clock + Eprint + Copy> {
     rt: R,
     faults: FaultCount,
     port_faults: FaultCount,
 }
 
-impl<R: Sockets + Copy + Send> TcpNet<R>
+impl<R: Sockets + Clock + Eprint + Copy + Send> TcpNet<R>
 where
     R::Stream: Send,
     R::Listener: Send + Sync,
@@ -80,7 +82,7 @@ fn share<L: Drop>(place: &Option<Arc<Place<L>>>) -> Result<Option<Arc<Place<L>>>
 }
 
 /// A port that listens at this place, or only dials.
-fn new_port<R: Sockets + Copy>(
+fn new_port<R: Sockets + Clock + Eprint + Copy>(
     rt: R,
     place: Option<Arc<Place<R::Listener>>>,
 ) -> BufferedPort<TcpPort<R>>
@@ -90,7 +92,7 @@ fn new_port<R: Sockets + Copy>(
 }
 
 /// Makes `count` ports, which listen at one place by one socket, or only dial.
-fn make_ports<R: Sockets + Copy>(
+fn make_ports<R: Sockets + Clock + Eprint + Copy>(
     rt: R,
     alloc: Global,
     name: Option<&str>,
@@ -117,14 +119,14 @@ fn some_failed<P: Faults>(ports: &[P]) -> bool
 }
 
 /// Whether one of these ports failed to accept.
-fn some_unaccepted<R: Sockets + Copy>(ports: &[BufferedPort<TcpPort<R>>]) -> bool
+fn some_unaccepted<R: Sockets + Clock + Eprint + Copy>(ports: &[BufferedPort<TcpPort<R>>]) -> bool
     ensures some { IsTrue result → All (λ port. (buffered_port_state port).accept_count ≡ 0) ports.now → ⊥ }
     ensures none { IsFalse result → All (λ port. (buffered_port_state port).accept_count ≡ 0) ports.now }
 {
     ports.iter().any(|port| port.below().has_not_accepted())
 }
 
-impl<R: Sockets + Copy> Faults for TcpNet<R> {
+impl<R: Sockets + Clock + Eprint + Copy> Faults for TcpNet<R> {
     ghost count = { λ s. s.faults };
 
     ghost steady = { λ _. false };
@@ -134,7 +136,7 @@ impl<R: Sockets + Copy> Faults for TcpNet<R> {
     }
 }
 
-impl<R: Sockets + Copy + Send> Net for TcpNet<R>
+impl<R: Sockets + Clock + Eprint + Copy + Send> Net for TcpNet<R>
 where
     R::Stream: Send,
     R::Listener: Send + Sync,

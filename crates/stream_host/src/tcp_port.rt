@@ -1,19 +1,22 @@
 //! Ports over sockets.
 
-ghost use Rattle.std.specs.Prelude.{◌≡◌, ◌≢◌, ◌↔◌, IsTrue, false, option_map, refl, string_bytes};
+ghost use Rattle.std.specs.Prelude.{◌≡◌, ◌≢◌, ◌↔◌, IsTrue, false, option_map, refl, string_bytes, ⊤};
 ghost use Rattle.std.specs.Arc.{arc_value};
 ghost use Rattle.stream_host.specs.TcpPort.{port_state};
 ghost use Rattle.stream_host.specs.Untold.{untold_port, untold_talk};
 ghost use Rattle.stream_io.specs.Net.{KeepsTalk, PortOnward};
 
 use crate::fault_count::FaultCount;
+use crate::raw_port::{News, RawPort, next_link};
+use crate::refused::{Refused, refusal_of};
 use crate::tcp_link::TcpLink;
 use disk_trait::Faults;
-use std::io;
-use std::io::ErrorKind;
+use std::io::{Eprint, ErrorKind};
 use std::marker::Model;
 use std::net::{Net as Sockets, OpenListener, TcpStream};
 use std::sync::Arc;
+use std::time::{Clock, Duration};
+use std::{io, thread};
 use stream_io::{Accepted, Failed, Port};
 
 /// A place at which all its ports listen by one socket. Contracts see its name, which is `host:port`.
@@ -43,14 +46,14 @@ impl<L: Drop> Place<L> {
 /// What links over sockets are accepted at, and dialled from. It tells nothing but its place and its counts of faults.
 /// If it listens it never comes to an end: it waits if no link is there yet.
 #[derive(Drop)]
-pub struct TcpPort<R: Sockets + Copy> {
+pub struct TcpPort<R: Sockets + Clock + Eprint + Copy> {
     rt: R,
     place: Option<Arc<Place<R::Listener>>>,
     faults: FaultCount,
     accept_faults: FaultCount,
 }
 
-impl<R: Sockets + Copy> TcpPort<R> {
+impl<R: Sockets + Clock + Eprint + Copy> TcpPort<R> {
     /// A port that listens at this place, or only dials.
     pub(crate) fn new(rt: R, place: Option<Arc<Place<R::Listener>>>) -> TcpPort<R>
         ensures { port_state result ≡ untold_port (option_map arc_value place) 0 0 }
@@ -79,36 +82,64 @@ impl<R: Sockets + Copy> TcpPort<R> {
     }
 }
 
-/// How many connections in a row that broke off are passed over: an error that lasts ends the port, and does not spin.
-const MOST_BROKEN: u32 = 65_536;
+/// How long a pause is: nobody who connects notices a tenth of a second, and ten calls in each cost nothing. What was
+/// short is there again once another connection has ended.
+const PAUSE_MILLISECONDS: u64 = 100;
 
-/// The next connection at a socket. One that broke off before it was accepted is passed over: that is not the fault of
-/// the socket, nor of anyone else.
-pub fn next_stream<L: OpenListener>(socket: &L) -> io::Result<L::Stream> {
-    for _ in 0..MOST_BROKEN {
-        match socket.accept() {
-            Ok((stream, _)) => return Ok(stream),
-            Err(error) if is_of_connection(error.kind()) => {}
-            Err(error) => return Err(error),
+/// A socket that listens, and the last error that it met.
+#[derive(Drop)]
+struct Listening<'a, R: Sockets + Copy> {
+    rt: R,
+    place: &'a Place<R::Listener>,
+    error: io::Error,
+}
+
+impl<'a, R: Sockets + Copy> Listening<'a, R> {
+    /// The socket of a place, which has met no error yet.
+    fn new(rt: R, place: &'a Place<R::Listener>) -> Listening<'a, R> {
+        let error = io::Error::from(ErrorKind::Other);
+        Listening { rt, place, error }
+    }
+}
+
+/// It tells nothing of what its calls make of it.
+impl<R: Sockets + Clock + Eprint + Copy> RawPort for Listening<'_, R> {
+    type Link = R::Stream;
+
+    ghost accepts = { λ _ _ _. ⊤ };
+
+    ghost pauses = { λ _ _. ⊤ };
+
+    ghost tells = { λ _ _ _. ⊤ };
+
+    fn accept_once(&mut self) -> Result<R::Stream, Refused> {
+        let place = self.place;
+        match place.socket.accept() {
+            Ok((stream, _)) => Ok(stream),
+            Err(error) => {
+                self.error = error;
+                Err(refusal_of(error.raw_os_error().unwrap_or(0).unsigned_abs()))
+            }
         }
     }
-    Err(io::Error::from(ErrorKind::Other))
+
+    fn pause(&mut self) {
+        thread::sleep(&self.rt, Duration::from_millis(PAUSE_MILLISECONDS));
+    }
+
+    /// Says so on standard error. If it cannot be said, that is ignored.
+    fn tell(&mut self, news: News) {
+        let place = self.place;
+        let _ = eprintln!(self.rt;
+            "rikselbe: a worker at {} {}: {}",
+            place.name,
+            news.words(),
+            self.error
+        );
+    }
 }
 
-/// Whether an error of `accept` is about the connection that waited, as accept(2) describes it, or about a signal.
-fn is_of_connection(kind: ErrorKind) -> bool {
-    matches!(
-        kind,
-        ErrorKind::Interrupted
-            | ErrorKind::ConnectionAborted
-            | ErrorKind::NetworkDown
-            | ErrorKind::NetworkUnreachable
-            | ErrorKind::HostUnreachable
-            | ErrorKind::Unsupported
-    )
-}
-
-impl<R: Sockets + Copy> Faults for TcpPort<R> {
+impl<R: Sockets + Clock + Eprint + Copy> Faults for TcpPort<R> {
     ghost count = { λ s. s.faults };
 
     ghost steady = { λ _. false };
@@ -118,7 +149,7 @@ impl<R: Sockets + Copy> Faults for TcpPort<R> {
     }
 }
 
-impl<R: Sockets + Copy> Port for TcpPort<R>
+impl<R: Sockets + Clock + Eprint + Copy> Port for TcpPort<R>
 where
     R::Stream: Send,
 {
@@ -134,9 +165,9 @@ where
         let Some(place) = &self.place else {
             return Accepted::End;
         };
-        match next_stream(&place.socket) {
-            Ok(stream) => Accepted::Link(TcpLink::new(stream)),
-            Err(_) => {
+        match next_link(&mut Listening::new(self.rt, place)) {
+            Some(stream) => Accepted::Link(TcpLink::new(stream)),
+            None => {
                 self.faults.add(1);
                 self.accept_faults.add(1);
                 Accepted::Failed

@@ -3,16 +3,19 @@
 ghost use Rattle.std.specs.Prelude.{◌≤◌, IfOk};
 
 use std::alloc::{AllocError, Global};
+use std::fmt::Display;
 use std::io;
-use std::io::{ErrorKind, Read, Write};
+use std::io::{Eprint, ErrorKind, Read, Write};
 use std::net::{Net, OpenListener, OpenStream, SocketAddr};
 use std::os::fd::{AsRawFd, RawFd};
 use std::sync::Arc;
 use std::sync::atomic::{AtomicUsize, Ordering};
+use std::time::{Clock, Duration};
 
 /// A call of the system, and its answer: how many bytes a read gives, out of at least that much room, how many a write
-/// takes, out of at least that many given, or that an accept gives a connection; or how it fails.
-pub(crate) type Step = (u8, Result<usize, ErrorKind>);
+/// takes, out of at least that many given, or that an accept gives a connection; or the number of its error. A pause
+/// has that many milliseconds.
+pub(crate) type Step = (u8, Result<usize, i32>);
 
 /// The calls.
 pub(crate) const READ: u8 = b'r';
@@ -21,8 +24,13 @@ pub(crate) const WRITE: u8 = b'w';
 
 pub(crate) const ACCEPT: u8 = b'a';
 
+pub(crate) const PAUSE: u8 = b'p';
+
+/// A line on standard error.
+pub(crate) const SAY: u8 = b's';
+
 /// How far the count of calls moves on if a call is made that is not listed. No list is as long.
-const ASTRAY: usize = 1000;
+const ASTRAY: usize = 1_000_000;
 
 /// The calls that fake sockets are to make, in their order, and how many they have made. The bytes of each direction
 /// count up, from 0 to 250 and from 0 again.
@@ -46,8 +54,20 @@ impl Wire {
     {
         match self.steps.get(self.made.fetch_add(1, Ordering::SeqCst)) {
             Some((made, Ok(count))) if *made == call && *count <= size => Ok(*count),
-            Some((made, Err(kind))) if *made == call => Err(io::Error::from(*kind)),
+            Some((made, Err(number))) if *made == call => Err(io::Error::from_raw_os_error(
+                *number,
+            )),
             _ => Err(self.stray()),
+        }
+    }
+
+    /// Notes a call whose answer is not looked at, which is as long as it has to be.
+    fn note(&self, call: u8, size: usize) {
+        match self.answer(call, size) {
+            Ok(count) if count == size => {}
+            _ => {
+                let _ = self.stray();
+            }
         }
     }
 
@@ -134,6 +154,37 @@ impl Net for FakeNet<'_> {
     /// Connects to any place.
     fn connect(&self, _place: SocketAddr) -> io::Result<FakeStream> {
         FakeStream::new(self.0)
+    }
+}
+
+impl Clock for FakeNet<'_> {
+    /// No time passes.
+    fn monotonic(&self) -> io::Result<Duration> {
+        Ok(Duration::ZERO)
+    }
+
+    /// No time passes.
+    fn since_1970(&self) -> io::Result<Duration> {
+        Ok(Duration::ZERO)
+    }
+
+    /// Notes a pause, which has no other unit than milliseconds.
+    fn sleep(&self, duration: Duration) {
+        let milliseconds = usize::try_from(duration.as_millis()).unwrap_or(usize::MAX);
+        self.0.note(PAUSE, milliseconds);
+    }
+}
+
+impl Eprint for FakeNet<'_> {
+    /// Notes a call that is never made.
+    fn eprint<D: Display + Drop>(&self, _value: D) -> io::Result<()> {
+        Err(self.0.stray())
+    }
+
+    /// Notes a line.
+    fn eprintln<D: Display + Drop>(&self, _value: D) -> io::Result<()> {
+        self.0.note(SAY, 0);
+        Ok(())
     }
 }
 

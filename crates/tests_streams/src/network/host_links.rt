@@ -1,21 +1,26 @@
 //! Tests of links and ports over sockets that are made up: what the system is asked, in which order, and what comes of
 //! a call of it that fails.
 
-use crate::network::fake_sockets::{ACCEPT, FakeNet, READ, Step, WRITE, Wire};
+use crate::network::fake_sockets::{ACCEPT, FakeNet, PAUSE, READ, SAY, Step, WRITE, Wire};
 use crate::scripts::none_wrong;
 use crate::scripts::port_calls::meet;
 use std::alloc::{AllocError, Global};
-use std::io::ErrorKind::{
-    ConnectionAborted, ConnectionReset, HostUnreachable, Interrupted, NetworkDown,
-    NetworkUnreachable, OutOfMemory, Unsupported,
-};
 use std::sync::Arc;
 use stream_host::TcpNet;
+
+/// Numbers of errors, as Linux has them in its headers.
+const EINTR: i32 = 4;
+
+const ECONNABORTED: i32 = 103;
+
+const ECONNRESET: i32 = 104;
+
+const EMFILE: i32 = 24;
 
 /// The place of a port or none, what the system is asked, and what the port and its links are asked.
 type Row = (&'static str, &'static [Step], &'static str);
 
-static ROWS: [Row; 12] = [
+static ROWS: [Row; 14] = [
     // Many small reads are one call. For a large room nothing is copied, and for none nothing is asked.
     (
         "",
@@ -33,9 +38,9 @@ static ROWS: [Row; 12] = [
     (
         "",
         &[
-            (READ, Err(Interrupted)),
+            (READ, Err(EINTR)),
             (READ, Ok(1)),
-            (READ, Err(ConnectionReset)),
+            (READ, Err(ECONNRESET)),
             (READ, Ok(0)),
         ],
         "link dial 0; ok take 0 2 1 0; failed take 0 2; ok take 0 2 0 0; ok count 0 1; \
@@ -45,10 +50,10 @@ static ROWS: [Row; 12] = [
     (
         "",
         &[
-            (WRITE, Err(Interrupted)),
+            (WRITE, Err(EINTR)),
             (WRITE, Ok(1)),
             (WRITE, Ok(2)),
-            (WRITE, Err(ConnectionReset)),
+            (WRITE, Err(ECONNRESET)),
             (WRITE, Ok(0)),
         ],
         "link dial 0; ok give 0 3 1 0; ok give 0 2 2 1; failed give 0 1 0 3; failed give 0 1 0 3; \
@@ -88,7 +93,7 @@ static ROWS: [Row; 12] = [
         &[
             (READ, Ok(2)),
             (WRITE, Ok(3)),
-            (WRITE, Err(Interrupted)),
+            (WRITE, Err(EINTR)),
             (WRITE, Ok(7)),
         ],
         "link dial 0; ok take 0 1 1 0; ok give 0 10 10 0; ok count 0 0; ok hang 0 0; ok faults 0 0 0",
@@ -98,7 +103,7 @@ static ROWS: [Row; 12] = [
         "",
         &[
             (READ, Ok(2)),
-            (WRITE, Err(ConnectionReset)),
+            (WRITE, Err(ECONNRESET)),
             (WRITE, Ok(10)),
             (READ, Ok(1)),
         ],
@@ -114,44 +119,158 @@ static ROWS: [Row; 12] = [
     // Bytes that are lost when a link is hung up are a fault of its port.
     (
         "",
-        &[(READ, Ok(2)), (WRITE, Err(ConnectionReset))],
+        &[(READ, Ok(2)), (WRITE, Err(ECONNRESET))],
         "link dial 0; ok take 0 1 1 0; ok give 0 10 10 0; ok count 0 0; ok hang 0 0; ok faults 0 1 0",
     ),
-    // A connection that broke off is passed over, and running out of memory is a fault of accepting.
+    // Each error that is of one connection is passed over at once: EPERM, EINTR, ENONET, EPROTO, ENOPROTOOPT,
+    // EOPNOTSUPP, ENETDOWN, ENETUNREACH, ECONNABORTED, ETIMEDOUT, EHOSTDOWN and EHOSTUNREACH.
     (
         "@",
         &[
-            (ACCEPT, Err(Interrupted)),
-            (ACCEPT, Err(ConnectionAborted)),
-            (ACCEPT, Err(NetworkDown)),
-            (ACCEPT, Err(NetworkUnreachable)),
-            (ACCEPT, Err(HostUnreachable)),
-            (ACCEPT, Err(Unsupported)),
+            (ACCEPT, Err(1)),
+            (ACCEPT, Err(4)),
+            (ACCEPT, Err(64)),
+            (ACCEPT, Err(71)),
+            (ACCEPT, Err(92)),
+            (ACCEPT, Err(95)),
+            (ACCEPT, Err(100)),
+            (ACCEPT, Err(101)),
+            (ACCEPT, Err(103)),
+            (ACCEPT, Err(110)),
+            (ACCEPT, Err(112)),
+            (ACCEPT, Err(113)),
             (ACCEPT, Ok(0)),
-            (ACCEPT, Err(OutOfMemory)),
         ],
-        "link accept 0; ok hang 0 0; failed accept 0; ok faults 0 1 1",
+        "link accept 0; ok hang 0 0; ok faults 0 0 0",
+    ),
+    // After each shortage (ENOMEM, ENFILE, EMFILE and ENOBUFS) there is a pause, and before the first of them it is said
+    // that the worker waits: once for each link.
+    (
+        "@",
+        &[
+            (ACCEPT, Err(12)),
+            (SAY, Ok(0)),
+            (PAUSE, Ok(100)),
+            (ACCEPT, Err(23)),
+            (PAUSE, Ok(100)),
+            (ACCEPT, Err(ECONNABORTED)),
+            (ACCEPT, Err(24)),
+            (PAUSE, Ok(100)),
+            (ACCEPT, Err(105)),
+            (PAUSE, Ok(100)),
+            (ACCEPT, Ok(0)),
+            (ACCEPT, Ok(0)),
+            (ACCEPT, Err(ECONNABORTED)),
+            (ACCEPT, Err(EMFILE)),
+            (SAY, Ok(0)),
+            (PAUSE, Ok(100)),
+            (ACCEPT, Ok(0)),
+        ],
+        "link accept 0; link accept 0; link accept 0; ok hang 0 0; ok hang 0 0; ok hang 0 0; ok faults 0 0 0",
+    ),
+    // Any other error is a fault of accepting, and that is said: EBADF, EAGAIN, EINVAL, ENOSYS, ENOTSOCK.
+    (
+        "@",
+        &[
+            (ACCEPT, Err(9)),
+            (SAY, Ok(0)),
+            (ACCEPT, Err(11)),
+            (SAY, Ok(0)),
+            (ACCEPT, Err(ECONNABORTED)),
+            (ACCEPT, Err(22)),
+            (SAY, Ok(0)),
+            (ACCEPT, Err(EMFILE)),
+            (SAY, Ok(0)),
+            (PAUSE, Ok(100)),
+            (ACCEPT, Err(38)),
+            (SAY, Ok(0)),
+            (ACCEPT, Err(88)),
+            (SAY, Ok(0)),
+        ],
+        "failed accept 0; failed accept 0; failed accept 0; failed accept 0; failed accept 0; ok faults 0 5 5",
     ),
 ];
 
-/// Makes the one port of a net over a wire do what a row says, and returns what went wrong, or nothing.
-fn wrong_over(wire: &Arc<Wire>, alloc: Global, row: &Row) -> &'static str {
+/// Makes the one port of a net over a wire do what a script says, and returns what went wrong, or nothing.
+fn wrong_over(
+    wire: &Arc<Wire>,
+    alloc: Global,
+    place: &'static str,
+    script: &'static str,
+) -> &'static str {
     let mut net = TcpNet::new(FakeNet(wire));
-    meet(&mut net, alloc, "127.0.0.1:1", &(row.0, 1, "ok", row.2))
+    meet(&mut net, alloc, "127.0.0.1:1", &(place, 1, "ok", script))
 }
 
-/// Does what a row says over a wire, and returns what went wrong, or nothing.
-fn wrong_of(alloc: Global, row: &Row) -> Result<&'static str, AllocError> {
-    let wire = Wire::new(alloc, row.1)?;
-    let wrong = wrong_over(&wire, alloc, row);
+/// Does what a script says over a wire on which these calls are to be made, and returns what went wrong, or nothing.
+fn wrong_of(
+    alloc: Global,
+    place: &'static str,
+    steps: &[Step],
+    script: &'static str,
+) -> Result<&'static str, AllocError> {
+    let wire = Wire::new(alloc, steps)?;
+    let wrong = wrong_over(&wire, alloc, place, script);
     Ok(wire.wrong(wrong))
 }
 
 /// What links and ports ask of sockets that are made up.
 #[test]
 fn a_link_makes_few_calls_of_the_system(rt: HostRuntime) {
-    for row in &ROWS {
-        let wrong = wrong_of(rt.alloc(), row).unwrap_or("no memory");
-        none_wrong(&rt, wrong, row.2);
+    for (place, steps, script) in &ROWS {
+        let wrong = wrong_of(rt.alloc(), place, steps, script).unwrap_or("no memory");
+        none_wrong(&rt, wrong, script);
     }
+}
+
+/// Adds steps to others, this many times.
+fn repeat(steps: &mut Vec<Step>, count: u32, more: &[Step]) -> Result<(), AllocError> {
+    for _ in 0..count {
+        for step in more {
+            steps.push(*step)?;
+        }
+    }
+    Ok(())
+}
+
+/// What the system is asked for a link that comes with the last call of as many as are made for one, and for one that
+/// would come with the next call. Each call is followed by these steps, the first one of each link by these others.
+fn steps_at_the_limit(
+    alloc: Global,
+    first: &[Step],
+    others: &[Step],
+) -> Result<Vec<Step>, AllocError> {
+    let mut steps = Vec::new(alloc);
+    repeat(&mut steps, 1, first)?;
+    repeat(&mut steps, 65_534, others)?;
+    steps.push((ACCEPT, Ok(0)))?;
+    repeat(&mut steps, 1, first)?;
+    repeat(&mut steps, 65_535, others)?;
+    steps.push((SAY, Ok(0)))?;
+    Ok(steps)
+}
+
+/// The calls of the first error of a link, and of each other one.
+type Lasting = (&'static [Step], &'static [Step]);
+
+static LASTING: [Lasting; 2] = [
+    (
+        &[(ACCEPT, Err(ECONNABORTED))],
+        &[(ACCEPT, Err(ECONNABORTED))],
+    ),
+    (
+        &[(ACCEPT, Err(EMFILE)), (SAY, Ok(0)), (PAUSE, Ok(100))],
+        &[(ACCEPT, Err(EMFILE)), (PAUSE, Ok(100))],
+    ),
+];
+
+/// 65,536 calls are made for a link, and not one more.
+#[test]
+fn a_port_gives_up(rt: HostRuntime) -> Result<(), AllocError> {
+    for (first, others) in &LASTING {
+        let steps = steps_at_the_limit(rt.alloc(), first, others)?;
+        let script = "link accept 0; failed accept 0; ok hang 0 0; ok faults 0 1 1";
+        none_wrong(&rt, wrong_of(rt.alloc(), "@", &steps, script)?, script);
+    }
+    Ok(())
 }
