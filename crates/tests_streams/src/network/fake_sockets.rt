@@ -54,7 +54,9 @@ impl Wire {
     {
         match self.steps.get(self.made.fetch_add(1, Ordering::SeqCst)) {
             Some((made, Ok(count))) if *made == call && *count <= size => Ok(*count),
-            Some((made, Err(number))) if *made == call => Err(io::Error::from_raw_os_error(*number)),
+            Some((made, Err(number))) if *made == call => Err(io::Error::from_raw_os_error(
+                *number,
+            )),
             _ => Err(self.stray()),
         }
     }

@@ -254,7 +254,10 @@ fn steps_at_the_limit(
 type Lasting = (&'static [Step], &'static [Step]);
 
 static LASTING: [Lasting; 2] = [
-    (&[(ACCEPT, Err(ECONNABORTED))], &[(ACCEPT, Err(ECONNABORTED))]),
+    (
+        &[(ACCEPT, Err(ECONNABORTED))],
+        &[(ACCEPT, Err(ECONNABORTED))],
+    ),
     (
         &[(ACCEPT, Err(EMFILE)), (SAY, Ok(0)), (PAUSE, Ok(100))],
         &[(ACCEPT, Err(EMFILE)), (PAUSE, Ok(100))],
