@@ -1,6 +1,7 @@
 //! Dealings that several files of tests need, and tests of what is dealt and of what it is dealt from.
 
 mod coalition_map_tests;
+mod commitments_tests;
 mod dealer_tests;
 mod mask_prf_tests;
 mod reference_value_tests;
