@@ -195,20 +195,103 @@ say_of_members() {
 say_of_status() {
     local status=$1 text
     shift
-    [ "$status" != 0 ] && [ "$status" != 1 ] || return
-    [ "$status" != 2 ] || { explain_command "$1" >&2 || list_commands >&2; return; }
+    [ "$status" != 0 ] || return
+    [ "$status" != 1 ] || { say_of_signature "$@"; return; }
+    [ "$status" != 2 ] || { say_of_words "$@" || explain_command "$1" >&2 || list_commands >&2; return; }
     text=$(sed -n "/of blame/!s/^$status //p" "$share/statuses.txt")
     [ "$status $1" != '8 blame' ] || text=$(sed -n 's/^8 of blame: //p' "$share/statuses.txt")
     [ -n "$text" ] || return
     say "$text"
     case $status in
-    3) each_file say_of_file "$@" 2>&1 | awk '!($0 in said); { said[$0] }' >&2 ;;
+    3) { each_file say_of_file "$@"; each_file say_of_room "$@"; } 2>&1 | awk '!($0 in said); { said[$0] }' >&2 ;;
+    4 | 13) each_file say_of_kind "$@" ;;
     5) say_of_entropy "$@" ;;
+    6) say_of_trustees "$@" ;;
     8) [ "$1" != sign ] || [ ! -e "$2.commit" ] || say "rikselbe blame with the same words says who it was" ;;
     10) each_file say_of_room "$@" 2>&1 | awk '!($0 in said); { said[$0] }' >&2 ;;
+    15) each_file say_of_output "$@" ;;
     17) say_of_place "${4-}" ;;
     18) if [ "$1" = hss ]; then say_of_members "${3-}"; else say_of_members "${2-}"; fi ;;
     esac
+}
+
+# Says so if a file that is named as a signature cannot be one: it begins with a leaf and an LM-OTS code, or for HSS with
+# how many levels are signed below the first.
+say_of_signature() {
+    local name=$4 what=signature head
+    [ "$1" != hss ] || name=$5 what='HSS signature'
+    head=$(od -An -v -tx1 -N12 -- "$name" 2>/dev/null | tr -d ' \n')
+    if [ "$1" = hss ]; then [[ $head =~ ^0000000[0-7]0[01]......0000000[1-8] ]] && return
+    else [[ $head =~ ^0[01]......0000000[1-8] ]] && return
+    fi
+    say "$name is no $what: were the words given in another order? They are KEY MESSAGE SIGNATURE"
+}
+
+# Says which of the words of a command is wrong, and why; status 1 if that is not one word.
+say_of_words() {
+    local name=$1 line words word at=0 least most given=() seen=' '
+    shift
+    [ "$name" != hss ] || { name="hss ${1-}"; shift; }
+    line=$(grep -m1 "^$name " "$share/commands.txt") || return
+    read -ra words <<<"${line#"$name "}"
+    least=0
+    for word in "${words[@]}"; do [[ $word == \[* ]] || least=$((least + 1)); done
+    most=${#words[@]}
+    [[ ${words[most - 1]} != *.. ]] || most=99
+    [ $# -ge "$least" ] && [ $# -le "$most" ] || { say "$name has $# words in place of ${line#"$name "}"; return 1; }
+    for word; do
+        given=("${words[at < ${#words[@]} ? at : ${#words[@]} - 1]}")
+        at=$((at + 1))
+        case ${given[0]} in
+        WORKERS) is_number "$word" 1 64 || { say "WORKERS is $word, and has to be a number of 1 to 64"; return 0; } ;;
+        CONNECTIONS | NUMBER | SESSIONS | EVENTS)
+            is_number "$word" 0 4294967295 || { say "${given[0]} is $word, and has to be a number of at most 4294967295"; return 0; } ;;
+        LMS | OTS | N | K) is_number "$word" 0 4294967295 || { say "${given[0]} is $word, and has to be a number"; return 0; } ;;
+        MEMBER=*)
+            [[ $word =~ ^0*([0-9]{1,2})=.*:.+$ ]] || { say "$word has to be MEMBER=HOST:PORT, such as 1=127.0.0.1:4711"; return 0; }
+            [[ $seen != *" ${BASH_REMATCH[1]} "* ]] || { say "trustee ${BASH_REMATCH[1]} is named twice"; return 0; }
+            seen+="${BASH_REMATCH[1]} " ;;
+        esac
+    done
+    return 1
+}
+
+# Whether a word is a number in a range.
+is_number() { [[ $1 =~ ^[0-9]{1,10}$ ]] && [ $((10#$1)) -ge "$2" ] && [ $((10#$1)) -le "$3" ]; }
+
+# Says what a file is that was read or changed, by what `show` says of it.
+say_of_kind() {
+    local line
+    [ "$1" != '>' ] && [ -f "$2" ] || return 0
+    if line=$("$program" show "$2" 2>/dev/null); then say "$2: ${line%%$'\n'*}"
+    else say "$2 is no file of a key, journal, leaf table or book that can be read"
+    fi
+}
+
+# Says which outputs are there, and that an earlier try may have left them.
+say_of_output() {
+    [ "$1" = '>' ] || return 0
+    local it
+    for it in $2; do
+        [ ! -e "$it" ] || say "$it is there, of $(date -r "$it" '+%Y-%m-%d %H:%M'). If an earlier try of the same command left it, remove it and try again"
+    done
+}
+
+# Says how each trustee that is named can be reached, by a connection that says nothing.
+say_of_trustees() {
+    local word place host port said
+    for word; do
+        [[ $word =~ ^[0-9]+=(.+):([0-9]+)$ ]] || continue
+        place=${word#*=} host=${BASH_REMATCH[1]} port=${BASH_REMATCH[2]}
+        if said=$(LC_ALL=C timeout 3 bash -c 'exec 3<>"/dev/tcp/$0/$1"' "$host" "$port" 2>&1); then
+            say "trustee ${word%%=*} at $place can be reached: it closed the connection, sent no reply, or is no trustee"
+        elif [ $? = 124 ]; then say "trustee ${word%%=*} at $place: no answer in 3 seconds"
+        elif [[ $said == *'not known'* || $said == *'name resolution'* || $said == *'nvalid host'* ]]; then
+            say "trustee ${word%%=*} at $place: there is no such name"
+        elif [[ $said == *refused* ]]; then say "trustee ${word%%=*} at $place: the connection is refused; nothing listens there"
+        else say "trustee ${word%%=*} at $place: $(sed -n 's/.*: //p' <<<"$said" | tail -n 1)"
+        fi
+    done
 }
 
 # Says how long the entropy of a dealing has to be, if it has another length. A rehearsal deals to two trustees.
