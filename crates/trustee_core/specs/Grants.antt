@@ -7,6 +7,7 @@ use Rattle.lms_bytes.specs.declared.params.Params.{Params}
 use Rattle.mask_prf.specs.Masks.{chain_mask_of, random_mask_of}
 use Rattle.share_files.specs.declared.share.Share.{Share}
 use Rattle.trustee_core.specs.declared.grant.Grant.{Grant}
+use Rattle.trustee_core.specs.declared.masks.GrantMasks.{GrantMasks}
 
 abbrev pub ask_of : Grant → Ask
 ask_of grant = grant.ask
@@ -23,3 +24,11 @@ mask_at share leaf (Some second) i =
 
 abbrev pub mask_of : Share → Ask → ℕ → List ℕ
 mask_of share ask i = mask_at share ask.leaf ask.second i
+
+-- the share of the trustee that granted
+abbrev pub granted_by : GrantMasks → Share
+granted_by masks = masks.share
+
+-- the ask that it granted
+abbrev pub ask_in : GrantMasks → Ask
+ask_in masks = masks.ask

@@ -1,8 +1,10 @@
 //! Grants, and the masks that they give.
 
 ghost use Rattle.std.specs.Prelude.{◌≡◌, ◌<◌, length, IfSome};
-ghost use Rattle.trustee_core.specs.Grants.{ask_of, mask_of, masks_of};
+ghost use Rattle.trustee_core.specs.Grants.{ask_in, ask_of, granted_by, mask_of, masks_of};
 
+use crate::keeper::KeyKeeper;
+use crate::masks::GrantMasks;
 use lms_bytes::{Ask, Params, Val, digit};
 use mask_prf::{chain_mask, random_mask};
 use share_files::Share;
@@ -19,6 +21,15 @@ impl Grant {
         ensures { result.now ≡ ask_of self.now }
     {
         &self.ask
+    }
+
+    /// Its masks. The key is hashed once for all of them. The share is that of the trustee that granted.
+    pub fn masks(&self, share: &KeyKeeper) -> GrantMasks
+        requires digest { IfSome (ask_of self.now).second (λ second. length second.digest ≡ share.now.params.n) }
+        ensures share { granted_by result ≡ share.now }
+        ensures ask { ask_in result ≡ ask_of self.now }
+    {
+        GrantMasks::of(share, &self.ask)
     }
 }
 

@@ -16,6 +16,7 @@ ghost use Rattle.trustee_core.specs.declared.note.Note.TheVariants.{Doubted};
 
 use crate::MESSAGE_LIMIT;
 use crate::grant::Grant;
+use crate::keeper::KeyKeeper;
 use crate::note::NoteLog;
 use crate::refusal::Refusal;
 use disk_trait::Disk;
@@ -64,6 +65,20 @@ impl<D: Disk> Trustee<D> {
             journal,
             log,
         }
+    }
+
+    /// The trustee of the share that is kept, as `new` makes it.
+    pub fn of_keeper(share: &KeyKeeper, journal: Journal<D>) -> Trustee<D>
+        requires header { header_of journal ≡ journal_header share.now }
+        requires params { params_of journal ≡ share.now.params }
+        ensures share { share_of result ≡ share.now }
+        ensures journal { journal_of result ≡ journal }
+        ensures notes { notes_of result ≡ first_notes (state_of journal) }
+        ensures restarts { IsTold journal → (state_of journal).doubt ≡ None → (earlier : JournalState)
+            → StandsFor share.now.params.n (2 ^ share.now.params.h) (D.reads (disk_of journal)) earlier
+            → Lives share.now earlier [] (state_of journal) }
+    {
+        Trustee::new(*share.share(), journal)
     }
 
     /// Decides on an ask at a moment, in seconds since the start of 1970. The randomizer and the digest of a round-two
