@@ -14,7 +14,7 @@ use std::alloc::Global;
 use std::process::Abort;
 use tool_base::header_of;
 use tool_trustee::{Clocks, MemClocks};
-use trustee_core::Trustee;
+use trustee_core::{KeyKeeper, Trustee};
 use trustee_node::{Totals, serve_ports};
 use turn_lock::TurnsOnly;
 
@@ -70,7 +70,8 @@ fn an_ask_at_a_port_is_answered(rt: HostRuntime) -> Result<(), NoMemory> {
     let mut ports = two_ports(alloc, &[&ASK, &[]])?;
     let clocks = MemClocks::new(0).clocks(alloc, 2)?;
     let turns = TurnsOnly::of(&rt);
-    let (_, served) = serve_ports(&turns, alloc, trustee, &share, None, &mut ports, clocks, 5);
+    let keeper = KeyKeeper::of(&share);
+    let (_, served) = serve_ports(&turns, alloc, trustee, &keeper, None, &mut ports, clocks, 5);
     let totals = Totals {
         connections: 2,
         frames: 1,

@@ -2,6 +2,7 @@
 #![tactic(auto)]
 
 mod clocks;
+mod keeping;
 pub mod laws;
 mod loads;
 mod nets;

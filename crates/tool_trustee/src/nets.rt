@@ -13,14 +13,13 @@ ghost use Rattle.trustee_node.specs.Trustees.{trustee_state};
 use crate::clocks::Clocks;
 use disk_trait::Disk;
 use memory::NoMemory;
-use share_files::Share;
 use std::alloc::Global;
 use std::sync::Wait;
 use std::thread::Threads;
 use stream_io::{CallFault, Net};
 use tool_base::{Ending, end_of_service};
 use tool_words::TrusteeWords;
-use trustee_core::{Approved, Trustee};
+use trustee_core::{Approved, KeyKeeper, Trustee};
 use trustee_node::serve_ports;
 use turn_lock::TurnsOnly;
 
@@ -30,7 +29,7 @@ pub(crate) fn serve_net<R: Threads + Wait + Sync, D: Disk + Send, N: Net, T: Clo
     alloc: Global,
     words: &TrusteeWords,
     trustee: Trustee<D>,
-    share: &Share,
+    share: &KeyKeeper,
     book: Option<&Approved>,
     net: &mut N,
     time: &mut T,

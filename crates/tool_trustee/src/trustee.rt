@@ -12,21 +12,21 @@ ghost use Rattle.trustee_core.specs.Trustee.{share_of};
 ghost use Rattle.trustee_node.specs.Trustees.{trustee_state};
 
 use crate::clocks::Clocks;
+use crate::keeping::{header_of, load_journal, read_keeper};
 use crate::loads::end_of_journal;
 use crate::nets::serve_net;
 use approval_book::Book;
-use opening_journal::Journal;
-use share_files::Share;
 use std::alloc::Global;
 use std::sync::Wait;
 use std::thread::Threads;
 use stream_io::{CallFault, Net, Store};
-use tool_base::{Ending, end_of_slots, header_of, read_share_file};
+use tool_base::{Ending, end_of_slots};
 use tool_words::TrusteeWords;
-use trustee_core::Trustee;
+use trustee_core::{KeyKeeper, Trustee};
 use turn_lock::TurnsOnly;
 
-/// Serves a trustee: reads its share, loads its journal and its book, if there is one, and serves it over ports.
+/// Serves a trustee: reads its share, loads its journal and its book, if there is one, and serves it over ports. The key
+/// stays with the keeper of the share.
 pub fn serve_trustee<R: Threads + Wait + Sync, S: Store, N: Net, T: Clocks>(
     turns: &TurnsOnly<R>,
     alloc: Global,
@@ -40,7 +40,7 @@ pub fn serve_trustee<R: Threads + Wait + Sync, S: Store, N: Net, T: Clocks>(
         (record { store = S.state store.new; net = N.state net.new; time = T.state time.new })
         (ending result) }
 {
-    let share = match read_share_file(alloc, store, words.share) {
+    let share = match read_keeper(alloc, store, words.share) {
         Ok(share) => share,
         Err(end) => return end,
     };
@@ -48,15 +48,14 @@ pub fn serve_trustee<R: Threads + Wait + Sync, S: Store, N: Net, T: Clocks>(
         Ok(disk) => disk,
         Err(fault) => return end_of_call(fault),
     };
-    let header = header_of(&share, 2);
-    let journal = match Journal::load(alloc, disk, &header, &share.params) {
+    let journal = match load_journal(alloc, disk, &share) {
         Ok(journal) => journal,
         Err((disk, fault)) => {
             store.return_disk(words.journal, disk);
             return end_of_journal(fault);
         }
     };
-    let trustee = Trustee::new(share, journal);
+    let trustee = Trustee::of_keeper(&share, journal);
     let (trustee, end) = serve_with_book(turns, alloc, words, trustee, &share, store, net, time);
     store.return_disk(words.journal, trustee.end());
     end
@@ -68,7 +67,7 @@ fn serve_with_book<R: Threads + Wait + Sync, S: Store, N: Net, T: Clocks>(
     alloc: Global,
     words: &TrusteeWords,
     trustee: Trustee<S::Disk>,
-    share: &Share,
+    share: &KeyKeeper,
     store: &mut S,
     net: &mut N,
     time: &mut T,

@@ -1,7 +1,12 @@
 //! Connections.
 
-ghost use Rattle.std.specs.Prelude.{◌≡◌, ◌≢◌, IsTrue};
+ghost use Rattle.std.specs.Prelude.{◌≡◌, ◌≢◌, IsTrue, IfOk, Err};
 ghost use Rattle.std.specs.Option.{option_map};
+ghost use Rattle.round_frames.specs.Asks.{HasSizes, asks};
+ghost use Rattle.round_frames.specs.Frames.{frame_of};
+ghost use Rattle.round_frames.specs.Reads.{Reads};
+ghost use Rattle.stream_io.specs.Store.{RisesWhere};
+ghost use Rattle.stream_io.specs.Talk.{OnlyRead};
 ghost use Rattle.trustee_core.specs.Approved.{ids_of};
 ghost use Rattle.trustee_node.specs.Connections.{Conversation, clock_state};
 ghost use Rattle.trustee_node.specs.Turns.{IsIdle};
@@ -9,12 +14,13 @@ ghost use Rattle.trustee_node.specs.Turns.{IsIdle};
 use crate::reply::write_reply;
 use crate::turn::decide_in_turn;
 use disk_trait::{Disk, Faults};
+use lms_bytes::Ask;
 use node_workers::{Served, ServedEnd, end_by};
 use round_frames::{FrameFault, next_ask};
 use share_files::Share;
 use std::sync::Wait;
 use stream_io::{Failed, Sink, Source, Stream};
-use trustee_core::{Approved, Clock, Trustee};
+use trustee_core::{Approved, Clock, KeyKeeper, Trustee};
 use turn_lock::{Pass, TurnLock, TurnsOnly};
 
 /// The most frames of one connection.
@@ -43,15 +49,24 @@ pub fn serve_connection<D: Disk, C: Clock, L: Source + Sink>(
     ensures answers { IsTrue (L.steady link.old) → result.ended ≢ ServedEnd.Frame FrameFault.ReadFault }
     ensures steady { L.steady link.new ≡ L.steady link.old }
 {
-    answer_asks(&TurnsOnly::of(rt), lock, pass, share, book, clock, link)
+    answer_asks(
+        &TurnsOnly::of(rt),
+        lock,
+        pass,
+        &KeyKeeper::of(share),
+        book,
+        clock,
+        link,
+    )
 }
 
-/// Serves a connection as `serve_connection` does. It may wait for turns of a lock, and for nothing else.
+/// Serves a connection as `serve_connection` does. It may wait for turns of a lock, and for nothing else, and it does
+/// not have the key.
 pub(crate) fn answer_asks<D: Disk, C: Clock, L: Source + Sink>(
     turns: &TurnsOnly<impl Wait>,
     lock: &TurnLock<Trustee<D>>,
     pass: &mut Pass<Trustee<D>>,
-    share: &Share,
+    share: &KeyKeeper,
     book: Option<&Approved>,
     clock: &mut C,
     link: &mut L,
@@ -68,7 +83,7 @@ pub(crate) fn answer_asks<D: Disk, C: Clock, L: Source + Sink>(
 {
     let mut frames = 0;
     for _ in 0..MOST_FRAMES {
-        let ask = match next_ask(&share.params, link) {
+        let ask = match next_own_ask(share, link) {
             Ok(ask) => ask,
             Err(fault) => {
                 let ended = end_by(fault);
@@ -91,4 +106,18 @@ pub(crate) fn answer_asks<D: Disk, C: Clock, L: Source + Sink>(
         frames,
         ended: ServedEnd::Full,
     }
+}
+
+/// Reads the next ask, of the share's parameter set.
+fn next_own_ask<S: Source>(share: &KeyKeeper, source: &mut S) -> Result<Ask, FrameFault>
+    ensures told { IsTrue (S.talk source.old).told → Reads (S.talk source.old) (S.talk source.new) result
+        (frame_of (asks share.now.params) (S.talk source.old).left) }
+    ensures only { OnlyRead (S.talk source.old) (S.talk source.new) }
+    ensures cause { RisesWhere (result ≡ Err FrameFault.ReadFault) (S.talk source.old).count (S.talk source.new).count }
+    ensures answers { IsTrue (S.steady source.old) → result ≢ Err FrameFault.ReadFault }
+    ensures steady { S.steady source.new ≡ S.steady source.old }
+    ensures no_memory { result ≢ Err FrameFault.NoMemory }
+    ensures sizes { IfOk result (HasSizes share.now.params) }
+{
+    next_ask(share.params(), source)
 }

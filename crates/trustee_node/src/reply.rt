@@ -4,7 +4,7 @@ ghost use Rattle.std.specs.Prelude.{◌≡◌, ◌<◌, ◌≤◌, ◌+◌, ◌+
 ghost use Rattle.lms_bytes.specs.Bytes.{joined};
 ghost use Rattle.round_frames.specs.Asks.{HasSizes};
 ghost use Rattle.round_frames.specs.Replies.{IsHead};
-ghost use Rattle.trustee_core.specs.Grants.{ask_of, mask_of, masks_of};
+ghost use Rattle.trustee_core.specs.Grants.{ask_in, ask_of, granted_by, mask_of, masks_of};
 ghost use Rattle.trustee_node.specs.Replies.{HasDigest, IsGrantOf, KeepsFew, body_in, c_of, kept_by, outcome_in};
 ghost use Rattle.trustee_node.specs.Replies.{longest_reply, masks_joined, reply_bytes, reply_head, round_of};
 ghost use Rattle.round_frames.specs.Sending.{Sends, sink_state};
@@ -12,20 +12,18 @@ ghost use Rattle.round_frames.specs.Sending.{Sends, sink_state};
 use crate::turn::Answer;
 use disk_trait::Faults;
 use lms_bytes::bytes::put;
-use lms_bytes::{Ask, Params, ReplyHead, Val, digit};
-use mask_prf::MacKey;
+use lms_bytes::{Ask, Params, ReplyHead, Val};
 use opening_journal::JournalFault;
 use round_frames::put_reply_head;
-use share_files::Share;
 use stream_io::{Failed, Sink, Stream, write_whole};
-use trustee_core::{Denial, Grant, Refusal, mask_count};
+use trustee_core::{Denial, Grant, GrantMasks, KeyKeeper, Refusal};
 
 /// How many bytes of a reply are written at once: usually all of them.
 const ROOM: usize = 4096;
 
 /// Writes the reply to an ask: its head, followed by the masks of a grant, or by what a refusal keeps.
 pub(crate) fn write_reply<K: Sink>(
-    share: &Share,
+    share: &KeyKeeper,
     ask: &Ask,
     answer: &Answer,
     link: &mut K,
@@ -38,12 +36,12 @@ pub(crate) fn write_reply<K: Sink>(
 {
     let head = head_of(share, ask, answer);
     let mut room = [0; ROOM];
-    let front = put_reply_head(&share.params, &head, &mut room);
+    let front = put_reply_head(share.params(), &head, &mut room);
     write_body(share, answer, &mut room, front, link)
 }
 
 /// The head of the reply to an ask.
-fn head_of(share: &Share, ask: &Ask, answer: &Answer) -> ReplyHead
+fn head_of(share: &KeyKeeper, ask: &Ask, answer: &Answer) -> ReplyHead
     requires { HasSizes share.now.params ask.now }
     ensures head { result ≡ reply_head share.now ask.now (outcome_in answer.now) }
     ensures written { IsHead share.now.params result }
@@ -51,10 +49,10 @@ fn head_of(share: &Share, ask: &Ask, answer: &Answer) -> ReplyHead
     ReplyHead {
         key: ask.key,
         leaf: ask.leaf,
-        member: share.member,
+        member: share.member(),
         message: ask.message,
         round: round_of(ask),
-        c: randomizer_of(&share.params, ask),
+        c: randomizer_of(share.params(), ask),
         code: answer.code(),
     }
 }
@@ -89,7 +87,7 @@ fn zeros(params: &Params) -> Val
 
 /// Writes the front of the room, and what follows it.
 fn write_body<K: Sink>(
-    share: &Share,
+    share: &KeyKeeper,
     answer: &Answer,
     room: &mut [u8; ROOM],
     front: usize,
@@ -102,7 +100,7 @@ fn write_body<K: Sink>(
     ensures keeps { KeepsFew answer.now }
 {
     match answer {
-        Answer::Decided(Ok(grant)) => write_masks(share, grant, room, front, link),
+        Answer::Decided(Ok(grant)) => write_granted(share, grant, room, front, link),
         Answer::Decided(Err(Denial::Core(why))) => write_kept(why, room, front, link),
         Answer::Decided(Err(Denial::NotApproved { .. })) => write_whole(link, &room[..front]),
         Answer::Worn => write_whole(link, &room[..front]),
@@ -182,9 +180,9 @@ struct Batch {
     length: usize,
 }
 
-/// Writes the front of the room, and the masks of a grant, as much at a time as there is room for.
-fn write_masks<K: Sink>(
-    share: &Share,
+/// Writes the front of the room, and the masks of a grant.
+fn write_granted<K: Sink>(
+    share: &KeyKeeper,
     grant: &Grant,
     room: &mut [u8; ROOM],
     front: usize,
@@ -195,13 +193,27 @@ fn write_masks<K: Sink>(
     ensures sends { Sends (take front room.old ++ masks_joined share.now (ask_of grant.now))
         (sink_state K.talk K.steady K.room link.old) (sink_state K.talk K.steady K.room link.new) result }
 {
-    let count = mask_count(&share.params, grant);
     // The key is hashed once for all masks.
-    let key = MacKey::new(&share.key);
+    let masks = grant.masks(share);
+    write_masks(&masks, room, front, link)
+}
+
+/// Writes the front of the room, and all these masks, as much at a time as there is room for.
+fn write_masks<K: Sink>(
+    masks: &GrantMasks,
+    room: &mut [u8; ROOM],
+    front: usize,
+    link: &mut K,
+) -> Result<(), Failed>
+    requires front { front ≤ 99 }
+    ensures sends { Sends (take front room.old ++ masks_joined (granted_by masks.now) (ask_in masks.now))
+        (sink_state K.talk K.steady K.room link.old) (sink_state K.talk K.steady K.room link.new) result }
+{
+    let count = masks.count();
     let mut unwritten = front;
     let mut next = 0;
     'batches: while next < count {
-        let batch = put_masks(&key, share, grant, next, &mut room[unwritten..]);
+        let batch = put_masks(masks, next, &mut room[unwritten..]);
         if let Err(failed) = write_whole(link, &room[..unwritten + batch.length]) {
             return Err(failed);
         }
@@ -211,45 +223,25 @@ fn write_masks<K: Sink>(
     Ok(())
 }
 
-/// Mask `i` of an ask that was granted, `n` bytes, by the share's key.
-fn mask(key: &MacKey, share: &Share, ask: &Ask, i: u16) -> Val
-    requires key { key.now ≡ share.now.key }
-    requires mask { i < masks_of share.now.params ask.now }
-    requires digest { IfSome ask.now.second (λ second. length second.digest ≡ share.now.params.n) }
-    ensures mask { result ≡ mask_of share.now ask.now i }
-    ensures length { length result ≡ share.now.params.n }
-{
-    let Share { params, id, .. } = share;
-    match &ask.second {
-        None => key.random_mask(params, id, ask.leaf),
-        Some(second) => {
-            let step = digit(params, &second.digest, i);
-            key.chain_mask(params, id, ask.leaf, i, step)
-        }
-    }
-}
-
 /// Puts masks of a grant at the front of the room, from mask `from` on, as many as there is room for.
-fn put_masks(key: &MacKey, share: &Share, grant: &Grant, from: u16, room: &mut [u8]) -> Batch
-    requires key { key.now ≡ share.now.key }
-    requires from { from < masks_of share.now.params (ask_of grant.now) }
-    requires digest { IfSome (ask_of grant.now).second (λ second. length second.digest ≡ share.now.params.n) }
+fn put_masks(masks: &GrantMasks, from: u16, room: &mut [u8]) -> Batch
+    requires from { from < masks_of (granted_by masks.now).params (ask_in masks.now) }
     requires room { 32 ≤ length room.old }
     ensures later { from < result.next }
-    ensures within { result.next ≤ masks_of share.now.params (ask_of grant.now) }
+    ensures within { result.next ≤ masks_of (granted_by masks.now).params (ask_in masks.now) }
     ensures length { result.length ≤ length room.old }
-    ensures bytes { joined (mask_of share.now (ask_of grant.now)) from ++ take result.length room.new
-        ≡ joined (mask_of share.now (ask_of grant.now)) result.next }
+    ensures bytes { joined (mask_of (granted_by masks.now) (ask_in masks.now)) from ++ take result.length room.new
+        ≡ joined (mask_of (granted_by masks.now) (ask_in masks.now)) result.next }
 {
-    let n = share.params.n as usize;
-    let count = mask_count(&share.params, grant);
+    let n = masks.mask_length();
+    let count = masks.count();
     let mut length = 0;
     for i in from..count {
         let is_full = length + n > room.len();
         if is_full {
             return Batch { next: i, length };
         }
-        put(room, length, mask(key, share, grant.ask(), i).bytes());
+        put(room, length, masks.mask(i).bytes());
         length += n;
     }
     Batch {

@@ -13,12 +13,11 @@ use crate::worker::run_workers;
 use disk_trait::Disk;
 use memory::NoMemory;
 use node_workers::{Worker, make_workers};
-use share_files::Share;
 use std::alloc::Global;
 use std::sync::Wait;
 use std::thread::Threads;
 use stream_io::{Port, Totals};
-use trustee_core::{Approved, Clock, Trustee};
+use trustee_core::{Approved, Clock, KeyKeeper, Trustee};
 use turn_lock::{TurnLock, TurnsOnly};
 
 /// Serves a trustee over ports, with a worker for each port, all side by side, each with a clock of its own. A worker
@@ -34,7 +33,7 @@ pub fn serve_ports<
     turns: &TurnsOnly<R>,
     alloc: Global,
     trustee: Trustee<D>,
-    share: &Share,
+    share: &KeyKeeper,
     book: Option<&Approved>,
     ports: &mut Vec<P>,
     mut clocks: Vec<C>,

@@ -9,9 +9,8 @@ ghost use Rattle.trustee_node.specs.Turns.{IsIdle, code_of, is_worn};
 
 use disk_trait::Disk;
 use lms_bytes::Ask;
-use share_files::Share;
 use std::sync::Wait;
-use trustee_core::{Approved, Denial, Grant, Trustee, decide_approved};
+use trustee_core::{Approved, Denial, Grant, KeyKeeper, Trustee, decide_approved};
 use turn_lock::{Pass, TurnLock, TurnsOnly};
 
 /// What came of an ask.
@@ -53,7 +52,7 @@ pub(crate) fn decide_in_turn<D: Disk>(
     turns: &TurnsOnly<impl Wait>,
     lock: &TurnLock<Trustee<D>>,
     pass: &mut Pass<Trustee<D>>,
-    share: &Share,
+    share: &KeyKeeper,
     book: Option<&Approved>,
     ask: &Ask,
     moment: u64,

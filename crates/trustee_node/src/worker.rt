@@ -17,7 +17,7 @@ use std::sync::Wait;
 use std::thread;
 use std::thread::Threads;
 use stream_io::{Port, Stream};
-use trustee_core::{Approved, Clock, Trustee};
+use trustee_core::{Approved, Clock, KeyKeeper, Trustee};
 use turn_lock::{Pass, TurnLock, TurnsOnly};
 
 /// Has each worker serve one link after another, all side by side, until each has served `connections`, there is no
@@ -39,10 +39,17 @@ pub fn serve<R: Threads + Wait + Sync, D: Disk + Send, C: Clock + Send, P: Port 
     ensures most { All (λ worker. worker.connections ≤ connections) workers.new }
     ensures ends { All (λ worker. WorkEnds connections (worker_state P.state C.told C.answers worker)) workers.new }
 {
-    run_workers(&TurnsOnly::of(rt), lock, share, book, workers, connections);
+    run_workers(
+        &TurnsOnly::of(rt),
+        lock,
+        &KeyKeeper::of(share),
+        book,
+        workers,
+        connections,
+    );
 }
 
-/// Runs workers as `serve` does. They may wait for turns of a lock, and for nothing else.
+/// Runs workers as `serve` does. They may wait for turns of a lock, and for nothing else, and they do not have the key.
 pub(crate) fn run_workers<
     R: Threads + Wait + Sync,
     D: Disk + Send,
@@ -51,7 +58,7 @@ pub(crate) fn run_workers<
 >(
     turns: &TurnsOnly<R>,
     lock: &TurnLock<Trustee<D>>,
-    share: &Share,
+    share: &KeyKeeper,
     book: Option<&Approved>,
     workers: &mut [Worker<P, Trustee<D>, C>],
     connections: u32,
@@ -85,7 +92,7 @@ pub(crate) fn run_workers<
 fn work<D: Disk, C: Clock, P: Port>(
     turns: &TurnsOnly<impl Wait>,
     lock: &TurnLock<Trustee<D>>,
-    share: &Share,
+    share: &KeyKeeper,
     book: Option<&Approved>,
     worker: &mut Worker<P, Trustee<D>, C>,
     connections: u32,
@@ -123,7 +130,7 @@ fn serve_link<D: Disk, C: Clock, P: Port>(
     turns: &TurnsOnly<impl Wait>,
     lock: &TurnLock<Trustee<D>>,
     pass: &mut Pass<Trustee<D>>,
-    share: &Share,
+    share: &KeyKeeper,
     book: Option<&Approved>,
     clock: &mut C,
     port: &mut P,

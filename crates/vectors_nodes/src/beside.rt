@@ -13,6 +13,7 @@ use std::io;
 use std::sync::Wait;
 use std::thread::Threads;
 use stream_memory::{Before, Bell, Hold, MemPort, PortScript, Ring, WaitingPort};
+use trustee_core::KeyKeeper;
 use trustee_node::serve_ports;
 use turn_lock::TurnsOnly;
 
@@ -92,7 +93,8 @@ fn serve(
     let clocks = clocks_of(alloc)?;
     let trustee = trustee(alloc, share)?;
     let turns = TurnsOnly::of(threads);
-    let (_, served) = serve_ports(&turns, alloc, trustee, share, None, ports, clocks, 1);
+    let keeper = KeyKeeper::of(share);
+    let (_, served) = serve_ports(&turns, alloc, trustee, &keeper, None, ports, clocks, 1);
     served.ok()?;
     Some(())
 }

@@ -2,7 +2,7 @@ use Rattle.std.proofs.Common.{◌≡◌, ◌^◌, ℕ, List, ◌∷◌, Some, Is
 use Rattle.opening_journal.proofs.Held.{holds}
 use Rattle.opening_journal.specs.Entries.{HasEntries, JournalState}
 use Rattle.opening_journal.specs.Journal.{Keeps, disk_of, faults_of, state_of}
-use Rattle.opening_journal.specs.Loading.{IsJournalFile, LoadRefused}
+use Rattle.opening_journal.specs.Loading.{LoadRefused}
 use Rattle.share_files.specs.declared.share.Share.{Share}
 use Rattle.stream_io.specs.Store.{Handed, Taken, handed, pages_state}
 use Rattle.tool_base.proofs.Runs.{unchanged_none, unchanged_on, onward_none, onward_on, part_of}
@@ -29,7 +29,7 @@ pub returns-in-Err : goal.returns-in-Err
 returns-in-Err g c =
     let state = g.S.Store.state in
     let first = c.args.store.now in
-    let last = c.read_share_file.new.store in
+    let last = c.read_keeper.new.store in
     let unchanged = c.in-Err.ensures.unchanged in
     run_unread (trustee_words c.args.words.now) (state first) (state last) _ _ unchanged _
     (c.in-Err.ensures.refused first last (part_of _ _ _ _ (unchanged_none _) (onward_none _)))
@@ -42,14 +42,14 @@ returns-in-Err-take_disk g c =
     let read = c.in-Ok.ensures in
     let take = c.in-Err-take_disk.ensures in
     let is = c.in-Err-take_disk.is in
-    let later : IsUnchanged (state c.read_share_file.new.store) (state last) = record { same = take.refused; onward = take.onward } in
+    let later : IsUnchanged (state c.read_keeper.new.store) (state last) = record { same = take.refused; onward = take.onward } in
     run_untaken (trustee_words c.args.words.now) (state first) (state last) _ _ (unchanged_on _ _ _ read.unchanged later) c.in-Ok.share c.in-Err-take_disk.fault _ c.end_of_call.ensures
     (read.share first last (part_of _ _ _ _ (unchanged_none _) take.onward))
     (λ failed. let rose = take.cause.rose (cc) in let begins = read.unchanged.onward.count in omega (arith, rose, begins))
     (λ failed told steady. rw (← read.unchanged.same.names.file) (take.absent (rw read.unchanged.onward.told told) (rw read.unchanged.onward.steady steady) (cc)))
 
-pub returns-in-Err-load : goal.returns-in-Err-load
-returns-in-Err-load g c =
+pub returns-in-Err-load_journal : goal.returns-in-Err-load_journal
+returns-in-Err-load_journal g c =
     let state = g.S.Store.state in
     let disks = g.S.Disk in
     let pages = pages_state disks.Pages.told disks.Pages.honest disks.Faults.steady disks.Faults.count disks.Pages.room disks.Pages.reads disks.Pages.may_leave in
@@ -59,19 +59,19 @@ returns-in-Err-load g c =
     let share = c.in-Ok.share in
     let read = c.in-Ok.ensures in
     let disk = pages c.in-Ok-take_disk.disk in
-    let now = pages c.in-Err-load.disk in
-    let load = c.in-Err-load.ensures in
+    let now = pages c.in-Err-load_journal.disk in
+    let load = c.in-Err-load_journal.ensures in
     let out = c.in-Ok-take_disk.ensures in
     let taken = taken_unchanged first _ _ name disk read.unchanged out.taken in
     let goes = onward_on _ _ _ read.unchanged.onward out.onward in
     let step = c.return_disk.ensures.returned in
     let comes = c.return_disk.ensures.onward in
     let kind = load.unwritten.stays in
-    let refused : IsTrue disk.told → LoadRefused (journal_header share) (2 ^ share.params.h) disk.reads c.in-Err-load.fault =
-    λ told. subst (λ h. LoadRefused h (2 ^ share.params.h) disk.reads c.in-Err-load.fault) c.header_of-header.ensures (load.refused told) in
+    let refused : IsTrue disk.told → LoadRefused (journal_header share) (2 ^ share.params.h) disk.reads c.in-Err-load_journal.fault =
+    load.refused in
     let fails : FailsToLoad (journal_header share) (2 ^ share.params.h) (from_to first last) name (ending c.end_of_journal.result) =
     subst (FailsToLoad (journal_header share) (2 ^ share.params.h) (from_to first last) name) (sym c.end_of_journal.ensures)
-    (journal_not_loaded first _ last name disk now taken goes step comes kind.told kind.honest kind.steady (journal_header share) (2 ^ share.params.h) refl c.in-Err-load.fault refused load.succeeds load.cause) in
+    (journal_not_loaded first _ last name disk now taken goes step comes kind.told kind.honest kind.steady (journal_header share) (2 ^ share.params.h) refl c.in-Err-load_journal.fault refused load.succeeds load.cause) in
     run_refused (trustee_words c.args.words.now) first last _ _ share _ (read.share c.args.store.now c.return_disk.new.self (part_of _ _ _ _ (unchanged_none _) (onward_on _ _ _ out.onward comes)))
     fails (stays first _ last name disk now taken goes step comes kind.told kind.honest kind.steady load.unwritten.same load.unwritten.images)
     now (back first _ last name disk now taken goes step comes kind.told kind.honest kind.steady)
@@ -86,9 +86,9 @@ return_disk-requires-2 g c =
     let now = pages c.end.result in
     let out = c.in-Ok-take_disk.ensures in
     let served = c.serve_with_book-trustee.ensures in
-    let loaded = c.in-Ok-load.ensures.loaded in
+    let loaded = c.in-Ok-load_journal.ensures.loaded in
     let kind = loaded.unwritten.stays in
-    let journal_is = c.new-trustee.ensures.journal in
+    let journal_is = c.of_keeper-trustee.ensures.journal in
     let named = served.name in
     let end_is = c.end.ensures.disk in
     let told : now.told ≡ disk.told = ap disks.Pages.told end_is ∙ ap (λ (n : TrusteeName). n.told) named ∙ ap (λ j. disks.Pages.told (disk_of j)) journal_is ∙ kind.told in
@@ -119,9 +119,9 @@ returns g c =
     let now = pages c.end.result in
     let out = c.in-Ok-take_disk.ensures in
     let served = c.serve_with_book-trustee.ensures in
-    let loaded = c.in-Ok-load.ensures.loaded in
+    let loaded = c.in-Ok-load_journal.ensures.loaded in
     let kind = loaded.unwritten.stays in
-    let journal_is = c.new-trustee.ensures.journal in
+    let journal_is = c.of_keeper-trustee.ensures.journal in
     let named = served.name in
     let ended = c.end.ensures in
     let end_is = ended.disk in
@@ -136,19 +136,19 @@ returns g c =
     let steady : now.steady ≡ disk.steady = ap disks.Faults.steady end_is ∙ ap (λ (n : TrusteeName). n.steady) named ∙ ap (λ j. disks.Faults.steady (disk_of j)) journal_is ∙ kind.steady in
     let round = whole first out_state served_state last name touched disk now taken goes keeps step comes told honest steady in
     let later = onward_on _ _ _ out.onward (onward_on _ _ _ keeps.back.onward comes) in
-    let trustee = c.new-trustee.result in
+    let trustee = c.of_keeper-trustee.result in
     let done = c.serve_with_book-trustee.result.0 in
-    let share_is : share_of done ≡ share = ap (λ (n : TrusteeName). n.share) named ∙ c.new-trustee.ensures.share in
-    let journal = c.in-Ok-load.journal in
+    let share_is : share_of done ≡ share = ap (λ (n : TrusteeName). n.share) named ∙ c.of_keeper-trustee.ensures.share in
+    let journal = c.in-Ok-load_journal.journal in
     let count = 2 ^ share.params.h in
     let old = trustee_state trustee in
     let new = trustee_state done in
     let same = done ≡ trustee in
     let is_journal : IsTrue disk.told → IsJournal share old.entries disk.reads = λ t. record {
-      loads = subst (λ h. IsJournalFile h count disk.reads) c.header_of-header.ensures (loaded.file t);
+      loads = loaded.file t;
       entries_are = ap (λ j. (state_of j).entries) journal_is ∙ ap (λ (j : JournalState). j.entries) (loaded.entries t);
       has = subst (HasEntries share.params.n count disk.reads) (ap (λ j. (state_of j).entries) (sym journal_is))
-          (has_entries share journal (loaded.named ∙ c.header_of-header.ensures) loaded.sized (holds journal) disk.reads (ap (λ (j : JournalState). j.doubt) (loaded.entries t))
+          (has_entries share journal loaded.named loaded.sized (holds journal) disk.reads (ap (λ (j : JournalState). j.doubt) (loaded.entries t))
           (subst (Keeps journal) (loaded.unwritten.same t) ((holds journal).reads (subst (λ b. IsTrue b) (sym kind.told) t))));
     } in
     let before : Outside = record { store = first; net = g.N.Net.state c.args.net.now; time = g.T.Clocks.state c.args.time.now } in
@@ -178,7 +178,7 @@ returns g c =
       touched = name ∷ touched;
       ends = ends_whole words first out_state served_state last _ _ _ _ _ touched disk now taken goes keeps step comes told honest steady
           share old new (state_of (journal_of done)).doubt same trustee_is stays_journal fresh (λ t. subst (λ b. IsTrue b) (sym told_first) (taken.given.told t)) (λ s. subst (λ b. IsTrue b) (sym steady_first) (taken.given.steady s)) named (λ t. taken.kind t ∙ handed_first) left ended.holds.cause
-          (no_doubts (notes_of trustee) (state_of journal) c.new-trustee.ensures.notes ((holds journal).cause (loaded.faults ∙ taken.given.fresh))) refl
+          (no_doubts (notes_of trustee) (state_of journal) c.of_keeper-trustee.ensures.notes ((holds journal).cause (loaded.faults ∙ taken.given.fresh))) refl
           (omega (arith, rises, counted)) _ touched served.ended.cause;
       keeps = round.keeps;
       net = served.net;
@@ -191,21 +191,14 @@ return_disk-requires g c =
     let pages = pages_state disks.Pages.told disks.Pages.honest disks.Faults.steady disks.Faults.count disks.Pages.room disks.Pages.reads disks.Pages.may_leave in
     let name = c.args.words.now.journal.now in
     let disk = pages c.in-Ok-take_disk.disk in
-    let now = pages c.in-Err-load.disk in
+    let now = pages c.in-Err-load_journal.disk in
     let out = c.in-Ok-take_disk.ensures in
-    let kind = c.in-Err-load.ensures.unwritten.stays in
+    let kind = c.in-Err-load_journal.ensures.unwritten.stays in
     let same : handed disk ≡ handed now = handed_same disk now kind.told kind.honest kind.steady in
     record { out = λ is_told. out_here _ _ name disk (taken_out _ _ name disk out.taken out.onward) is_told ∙ ap Some same }
 
-pub load-requires : goal.load-requires
-load-requires g c = record {
-  version = ap (λ header. header.version) c.header_of-header.ensures;
-  lms = ap (λ header. header.lms) c.header_of-header.ensures;
-  ots = ap (λ header. header.ots) c.header_of-header.ensures;
-}
-
-pub new-trustee-requires : goal.new-trustee-requires
-new-trustee-requires g c = record {
-  header = c.in-Ok-load.ensures.loaded.named ∙ c.header_of-header.ensures;
-  params = c.in-Ok-load.ensures.loaded.sized;
+pub of_keeper-trustee-requires : goal.of_keeper-trustee-requires
+of_keeper-trustee-requires g c = record {
+  header = c.in-Ok-load_journal.ensures.loaded.named;
+  params = c.in-Ok-load_journal.ensures.loaded.sized;
 }

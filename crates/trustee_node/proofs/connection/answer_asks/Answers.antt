@@ -36,7 +36,7 @@ returns-in-Err-clause-conversation g c =
     let v = c.loop.invariant in
     let r = c.in-Err.ensures in
     ends-unread _ _ _ _ _ _ (g.L.Faults.steady c.args.link.now) _ _ _ v.heard v.replied v.fresh v.frames v.many
-    (g.L.Stream.talk c.next_ask.new.source) c.in-Err.fault c.end_by-ended.result c.end_by-ended.ensures c.loop-test.true
+    (g.L.Stream.talk c.next_own_ask.new.source) c.in-Err.fault c.end_by-ended.result c.end_by-ended.ensures c.loop-test.true
     r.told r.only r.cause (λ steady. r.answers (v.steady ∙ steady)) r.no_memory
 
 pub returns-in-Err-clause-answers : goal.returns-in-Err-clause-answers
@@ -57,7 +57,7 @@ returns-in-Err-write_reply-clause-conversation g c =
     (heard-more _ _ turn _ _ _ new _ _ _ _ v.heard v.clock_told d.ensures.turn.serves m.answer m.later r.told r.only w.sends.only w.length)
     (worn-few d.result) (r.cause.same (λ is. absurd (cc))) w.sends.wrote w.sends.cause.later w.sends.cause.failed
     (λ steady fits. true≢false (sym (w.sends.succeeds (r.steady ∙ (v.steady ∙ steady))
-    (subst (λ (n : ℕ). length (reply_bytes c.args.share.now c.in-Ok.ask (outcome_in d.result)) ≤ n) (g.met.L.Sink.rooms c.next_ask.new.source) fits))))
+    (subst (λ (n : ℕ). length (reply_bytes c.args.share.now c.in-Ok.ask (outcome_in d.result)) ≤ n) (g.met.L.Sink.rooms c.next_own_ask.new.source) fits))))
 
 pub returns-then-is_worn-clause-conversation : goal.returns-then-is_worn-clause-conversation
 returns-then-is_worn-clause-conversation g c =
@@ -72,7 +72,7 @@ returns-then-is_worn-clause-conversation g c =
     (heard-more _ _ turn _ _ _ new _ _ _ _ v.heard v.clock_told d.ensures.turn.serves m.answer m.later r.told r.only w.sends.only w.length)
     (worn-is d.result (sym c.is_worn.ensures ∙ c.if-is_worn.true))
     (replied-more _ _ turn _ _ _ _ _ _ v.replied v.heard.told r.only (r.cause.same (λ is. absurd (cc))) w.sends.wrote w.sends.cause.succeeded
-    (g.met.L.Sink.rooms c.next_ask.new.source) (g.met.L.Sink.rooms c.write_reply.new.link) w.sends.room)
+    (g.met.L.Sink.rooms c.next_own_ask.new.source) (g.met.L.Sink.rooms c.write_reply.new.link) w.sends.room)
 
 pub loop-preserved : goal.loop-preserved
 loop-preserved g c =
@@ -87,7 +87,7 @@ loop-preserved g c =
       turns = v.turns ++ turn ∷ [];
       heard = heard-more _ _ turn _ _ _ new _ _ _ _ v.heard v.clock_told d.ensures.turn.serves m.answer m.later r.told r.only w.sends.only w.length;
       replied = replied-more _ _ turn _ _ _ _ _ _ v.replied v.heard.told r.only (r.cause.same (λ is. absurd (cc))) w.sends.wrote w.sends.cause.succeeded
-          (g.met.L.Sink.rooms c.next_ask.new.source) (g.met.L.Sink.rooms c.write_reply.new.link) w.sends.room;
+          (g.met.L.Sink.rooms c.next_own_ask.new.source) (g.met.L.Sink.rooms c.write_reply.new.link) w.sends.room;
       pass = d.ensures.pass;
       fresh = worn-more v.turns turn 0 v.fresh (fresh-is d.result (sym c.is_worn.ensures ∙ c.if-is_worn.false));
       frames = (let a = v.frames in omega (arith, a));

@@ -1,6 +1,6 @@
 use Rattle.std.proofs.Common.{◌≡◌, ◌≤◌, ◌++◌, length, take}
 use Rattle.lms_bytes.specs.Bytes.{joined}
-use Rattle.trustee_core.specs.Grants.{ask_of, mask_of}
+use Rattle.trustee_core.specs.Grants.{ask_in, granted_by, mask_of}
 use Rattle.trustee_node.proofs.reply.put_masks.Given as goal
 
 -- the masks from `from` up to `i` are in the room
@@ -12,5 +12,5 @@ invariant-loop-i l =
       first : l.i ≡ l.from → l.length ≡ 0;
       size : length l.room ≡ length l.initial.room;
       small : l.length ≤ length l.initial.room;
-      bytes : joined (mask_of l.share (ask_of l.grant)) l.from ++ take l.length l.room ≡ joined (mask_of l.share (ask_of l.grant)) l.i;
+      bytes : joined (mask_of (granted_by l.masks) (ask_in l.masks)) l.from ++ take l.length l.room ≡ joined (mask_of (granted_by l.masks) (ask_in l.masks)) l.i;
     }

@@ -1,6 +1,6 @@
 use Rattle.std.proofs.Common.{◌≤◌, ◌-◌, take}
 use Rattle.round_frames.specs.Sending.{sink_state}
-use Rattle.trustee_core.specs.Grants.{ask_of, mask_of}
+use Rattle.trustee_core.specs.Grants.{ask_in, granted_by, mask_of}
 use Rattle.trustee_node.proofs.Batches.{Batched}
 use Rattle.trustee_node.proofs.reply.write_masks.Given as goal
 
@@ -11,7 +11,7 @@ invariant-batches g l =
     record {
       within : l.next ≤ l.count;
       small : l.unwritten ≤ 99;
-      batched : Batched (mask_of l.share (ask_of l.grant)) (take l.front l.fn.room) (state l.initial.link) (state l.link) l.unwritten l.room l.next;
+      batched : Batched (mask_of (granted_by l.masks) (ask_in l.masks)) (take l.front l.fn.room) (state l.initial.link) (state l.link) l.unwritten l.room l.next;
     }
 
 abbrev pub decreases-batches : goal.decreases-batches
