@@ -25,8 +25,8 @@ use tool_words::TrusteeWords;
 use trustee_core::{KeyKeeper, Trustee};
 use turn_lock::TurnsOnly;
 
-/// Serves a trustee: reads its share, loads its journal and its book, if there is one, and serves it over ports. The key
-/// stays with the keeper of the share.
+/// Serves a trustee: reads its share, loads its journal and its book, if there is one, and serves it over ports. The
+/// key stays with the keeper of the share.
 pub fn serve_trustee<R: Threads + Wait + Sync, S: Store, N: Net, T: Clocks>(
     turns: &TurnsOnly<R>,
     alloc: Global,

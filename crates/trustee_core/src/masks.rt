@@ -8,8 +8,8 @@ use lms_bytes::{Ask, Val, digit};
 use mask_prf::MacKey;
 use share_files::Share;
 
-/// The masks of a grant, each made when it is asked for. Only a grant makes them: the leaf, the round and the digest are
-/// those of its ask. They cannot be copied.
+/// The masks of a grant, each made when it is asked for. Only a grant makes them: the leaf, the round and the digest
+/// are those of its ask. They cannot be copied.
 #[derive(Drop)]
 pub struct GrantMasks {
     key: MacKey,

@@ -143,7 +143,7 @@ static ROWS: [Row; 14] = [
         ],
         "link accept 0; ok hang 0 0; ok faults 0 0 0",
     ),
-    // After each shortage (ENOMEM, ENFILE, EMFILE and ENOBUFS) there is a pause, and before the first of them it is said
+    // After each shortage (ENOMEM, ENFILE, EMFILE and ENOBUFS) there is a pause; before the first of them it is said
     // that the worker waits: once for each link.
     (
         "@",
