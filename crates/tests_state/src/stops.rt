@@ -28,7 +28,10 @@ fn keeps_what_it_had(rt: &impl Abort, alloc: Global) -> bool {
     let mut disk = Stopped::after(empty(rt, alloc, 0), 2);
     let is_written = disk.write_at(0, b"before").is_ok() && disk.sync().is_ok();
     let is_refused = disk.write_at(0, b"behind").is_err() && disk.sync().is_err();
-    is_written && is_refused && disk.faults() == 2 && disk.into_disk().bytes() == b"before".as_slice()
+    is_written
+        && is_refused
+        && disk.faults() == 2
+        && disk.into_disk().bytes() == b"before".as_slice()
 }
 
 #[test]
