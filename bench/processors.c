@@ -1,6 +1,6 @@
-/* What verification costs on a Cortex-M3 in qemu: for each accepted LMS row that script/embedded.py packs, the thousands of
- * instructions of a whole call, by a timer of the board that counts them (-icount), and the bytes of the stack that it
- * touches, found on a stack that was painted before. */
+/* What verification costs on a Cortex-M3 in qemu: for each accepted LMS row that script/embedded.py packs, the
+ * thousands of instructions of a whole call, by a timer of the board that counts them (-icount), and the bytes of the
+ * stack that it touches, found on a stack that was painted before. */
 #include "board.h"
 #include "rikselbe.h"
 

@@ -1,6 +1,6 @@
 /* A boot loader in miniature: no C library, and no system call but the one that ends it. It verifies the image that is
- * linked into it. Its exit status is 0 if the signature is accepted, and otherwise the lowest byte of the answer. It runs
- * on Linux on x86-64, aarch64 and RISC-V; examples/cortex-m is a loader for a board without any system.
+ * linked into it. Its exit status is 0 if the signature is accepted, and otherwise the lowest byte of the answer. It
+ * runs on Linux on x86-64, aarch64 and RISC-V; examples/cortex-m is a loader for a board without any system.
  *
  *     cc -ffreestanding -fno-stack-protector -nostdlib -static -I include -DIMAGE='"image.h"' \
  *         examples/boot.c crates/rikselbe_c/out/librikselbe_c.a -o boot
@@ -34,8 +34,8 @@ void *memset(void *to, int byte, size_t length) {
     return to;
 }
 
-/* Ends the program with a status: the one thing here that depends on the processor, with the entry below. A loader of its
- * own board starts the image in place of it, or stops. */
+/* Ends the program with a status: the one thing here that depends on the processor, with the entry below. A loader of
+ * its own board starts the image in place of it, or stops. */
 static void end(long status) {
 #if defined(__x86_64__)
     __asm__ volatile("syscall" : : "a"(60L), "D"(status));

@@ -1,5 +1,6 @@
-/* Rikselbe's verifier of LMS and HSS signatures (RFC 8554, NIST SP 800-208) in portable C, with the calls of rikselbe.h.
- * script/verifier made this file; do not edit it. docs/EMBEDDING.md says how, what is proved, and what is trusted.
+/* Rikselbe's verifier of LMS and HSS signatures (RFC 8554, NIST SP 800-208) in portable C, with the calls of
+ * rikselbe.h. script/verifier made this file; do not edit it. docs/EMBEDDING.md says how, what is proved, and what is
+ * trusted.
  *
  * It takes a compiler for C99 whose `unsigned char` has 8 bits, with pointers of at most 64 bits that convert to
  * uintptr_t and back; the processor may have 32 or 64 bits, and pointers that are handed in need no alignment but

@@ -93,15 +93,17 @@ def hss_rows():
 
 
 def all_rows():
-    """Kind (lms or hss), name, key, message, signature, answer and leaf of each row; the leaf is None if there is none."""
+    """Kind (lms or hss), name, key, message, signature, answer and leaf of each row; the leaf is None if there is
+    none."""
     yield from (("lms", *row) for row in lms_rows())
     yield from (("hss", *row, None) for row in hss_rows())
 
 
 def packed():
-    """All rows in one string of bytes, as script/rows.c reads them: how many there are, and for each its kind, its three
-    lengths, the answer and the leaf, each in 4 bytes, the lowest first, and its key, message and signature, filled up with
-    zeros to a multiple of 4. A row without a leaf has 0xdeadbeef, which a call has to leave as it was."""
+    """All rows in one string of bytes, as script/rows.c reads them: how many there are, and for each its kind, its
+    three lengths, the answer and the leaf, each in 4 bytes, the lowest first, and its key, message and signature,
+    filled up with zeros to a multiple of 4. A row without a leaf has 0xdeadbeef, which a call has to leave as it
+    was."""
     rows = list(all_rows())
     parts = [struct.pack("<I", len(rows))]
     for kind, _, key, message, signature, answer, leaf in rows:
@@ -138,8 +140,8 @@ def write(folder, name, content):
 
 
 class Target:
-    """A compiler with the words that it needs, what is linked to each program (the library, or C that stands for it), and
-    the command that runs a program."""
+    """A compiler with the words that it needs, what is linked to each program (the library, or C that stands for it),
+    and the command that runs a program."""
 
     def __init__(self, name, compiler, linked, runner=()):
         self.name, self.compiler, self.linked, self.runner = name, list(compiler), list(linked), list(runner)

@@ -1,5 +1,5 @@
-/* Runs the rows that script/embedded.py packs through every call of rikselbe.h, whole and cut in several ways, prints each
- * answer that is not the right one, and how many there were. Its status is 0 if all were right.
+/* Runs the rows that script/embedded.py packs through every call of rikselbe.h, whole and cut in several ways, prints
+ * each answer that is not the right one, and how many there were. Its status is 0 if all were right.
  *
  * The rows are in the file that it is given. If ROWS is defined when it is compiled, the rows in the file of that name
  * are in the program itself, in its section SECTION; it then needs neither a file nor memory for them. */

@@ -1,5 +1,5 @@
-/* The loader: finds the image and the signature in the slot, verifies them under the key that it has itself, and says what
- * it found. Whatever bytes the slot holds, it reads nothing outside of it. */
+/* The loader: finds the image and the signature in the slot, verifies them under the key that it has itself, and says
+ * what it found. Whatever bytes the slot holds, it reads nothing outside of it. */
 #include "board.h"
 #include "rikselbe.h"
 
