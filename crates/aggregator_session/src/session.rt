@@ -1,7 +1,7 @@
 //! A session over links.
 
-ghost use Rattle.std.specs.Prelude.{◌≡◌, ◌⊎◌, ◌+◌, ◌*◌, ◌<◌, ◌≤◌, ◌++◌, [], All, Contains, length};
-ghost use Rattle.std.specs.Prelude.{IfOk, IfSome, IsSome, IsTrue, None, OnOk, map};
+ghost use Rattle.std.specs.Prelude.{◌≡◌, ◌⊎◌, ◌+◌, ◌*◌, ◌^◌, ◌<◌, ◌≤◌, ◌++◌, [], All, Contains, length};
+ghost use Rattle.std.specs.Prelude.{IfOk, IsTrue, None, OnOk, map};
 ghost use Rattle.aggregator_session.specs.Causes.{DialCauses, LinkCauses, PortCauses, ReferenceCauses, asks_length};
 ghost use Rattle.std.specs.Vec.{vec_capacity, vec_len};
 ghost use Rattle.aggregator_session.specs.Runs.{AskedAgain, First, HasCalled, HasRun, SameSession, Second, SignRun};
@@ -11,15 +11,14 @@ ghost use Rattle.aggregator_session.specs.Tasks.{AddsAsked, AreAsked, HangsUpAll
 ghost use Rattle.coalition_map.specs.Coalitions.{leaf_members};
 ghost use Rattle.session_core.specs.Asks.{IsAskOf};
 ghost use Rattle.session_core.specs.State.{SameAsk};
-ghost use Rattle.session_core.specs.Verdicts.{AreMasks, digest_of};
+ghost use Rattle.session_core.specs.Verdicts.{AreMasks};
 
 use crate::asks::ask_member;
 use crate::desk::{Desk, place_of};
 use crate::fault::{SignFault, Why};
 use coalition_map::Plan;
 use disk_trait::Faults;
-use lms_bytes::{Ask, Params, PublicKey, Val};
-use ots_chain::MessageHash;
+use lms_bytes::{Ask, Params, Val};
 use reference_value::Cells;
 use session_core::Session;
 use std::alloc::{AllocError, Global};
@@ -70,6 +69,7 @@ fn take_memory<L>(
     desk: &Desk,
     leaf: u32,
 ) -> Result<(Vec<u8>, Vec<u8>, Vec<L>), AllocError>
+    requires { leaf < 2 ^ desk.now.plan.now.h }
     ensures members { IfOk result (λ memory. memory.0.items ≡ leaf_members desk.now.plan.now leaf) }
     ensures room { IfOk result (λ memory.
         length memory.1.items ≡ desk.now.key.now.params.p * desk.now.key.now.params.n) }
@@ -85,10 +85,10 @@ fn take_memory<L>(
 
 /// The members of a leaf, in ascending order.
 fn members_of(alloc: Global, plan: &Plan, leaf: u32) -> Result<Vec<u8>, AllocError>
+    requires { leaf < 2 ^ plan.now.h }
     ensures { IfOk result (λ list. list.items ≡ leaf_members plan.now leaf) }
 {
-    // Leaf q belongs to coalition q mod B.
-    let members = plan.members(leaf % plan.count());
+    let members = plan.members_of(leaf);
     let mut list = Vec::with_capacity(alloc, members.size() as usize)?;
     'trustees: for t in 1..plan.n() + 1 {
         if members.has(t) {
@@ -96,19 +96,6 @@ fn members_of(alloc: Global, plan: &Plan, leaf: u32) -> Result<Vec<u8>, AllocErr
         }
     }
     Ok(list)
-}
-
-/// The digest of the message under the randomizer of a session in round two.
-fn digest_of(key: &PublicKey, session: &Session, message: &[u8]) -> Val
-    requires key { session.now.key ≡ key.now }
-    requires round { IsSome session.now.c }
-    requires c { IfSome session.now.c (λ c. length c ≡ key.now.params.n) }
-    ensures { result ≡ digest_of session.now message.now }
-{
-    let Some(c) = session.randomizer() else {
-        unreachable!()
-    };
-    MessageHash::of(&key.params, &key.id, session.leaf(), &c, message)
 }
 
 /// Hangs up all links, the first one first.
@@ -144,7 +131,7 @@ fn ask_all<R: Cells, P: Port>(
 {
     dial_all(task, cells, port, session, links, room)?;
     session.turn(cells)?;
-    let digest = digest_of(task.desk.key, session, task.message);
+    let digest = session.digest(task.message);
     ask_again(task, &digest, cells, session, links, room)?;
     Ok(session.finish_with(alloc, cells, task.desk.tree, &digest)?)
 }

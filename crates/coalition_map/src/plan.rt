@@ -200,12 +200,21 @@ impl Plan {
         q % self.count
     }
 
+    /// The members of leaf `q`: those of its coalition.
+    pub fn members_of(&self, q: u32) -> Members
+        requires { q < 2 ^ self.now.h }
+        ensures members { result ≡ leaf_members self.now q }
+        ensures subset { IsSubset 1 (self.now.n + 1) self.now.k result }
+    {
+        self.members(self.coalition_of(q))
+    }
+
     /// Whether trustee `t` is in the coalition of leaf `q`.
     pub fn is_member(&self, q: u32, t: u8) -> bool
         requires { q < 2 ^ self.now.h }
         ensures { IsTrue result ↔ Contains (leaf_members self.now q) t }
     {
-        self.members(self.coalition_of(q)).has(t)
+        self.members_of(q).has(t)
     }
 
     /// The least leaf of coalition `c` above `after`, or its least leaf of all.

@@ -1,6 +1,6 @@
 //! What a session asks next.
 
-ghost use Rattle.std.specs.Prelude.{◌≡◌, ◌≢◌, ◌<◌, ◌≤◌, ℕ, length, Contains, None, IfNone, IfSome, IsSome, IsTrue};
+ghost use Rattle.std.specs.Prelude.{◌≡◌, ◌≢◌, ◌<◌, ◌≤◌, ℕ, Contains, None, IfNone, IfSome, IsTrue};
 ghost use Rattle.coalition_map.specs.Coalitions.{leaf_members};
 ghost use Rattle.drill.specs.Courses.{AllKept, IsNext};
 ghost use Rattle.drill.specs.Drills.{IsSized};
@@ -10,8 +10,7 @@ ghost use Rattle.session_core.specs.State.{round_of};
 ghost use Rattle.session_core.specs.Verdicts.{digest_of};
 
 use crate::desk::Desk;
-use lms_bytes::{Ask, Val};
-use ots_chain::MessageHash;
+use lms_bytes::Ask;
 use reference_value::Whole;
 use session_core::Session;
 
@@ -53,21 +52,6 @@ pub(crate) fn next_member(session: &Session) -> Option<u8>
     None
 }
 
-/// The digest of the message under the session's randomizer, or zeros in round one, which no ask has.
-fn digest_of(desk: &Desk, session: &Session, message: &[u8]) -> Val
-    requires { session.now.key ≡ desk.now.dealt.public }
-    ensures length { length result ≡ 32 }
-    ensures digest { IsSome session.now.c → result ≡ digest_of session.now message.now }
-{
-    let params = desk.params();
-    // A randomizer has the length of a hash value.
-    let _round = session.round();
-    match session.randomizer() {
-        None => Val::cut(&[0; 32], params.n),
-        Some(c) => MessageHash::of(params, &desk.key().id, session.leaf(), &c, message),
-    }
-}
-
 /// The ask of the present round to a member.
 fn ask_of(desk: &Desk, session: &Session, member: u8, message: &[u8]) -> Ask
     requires key { session.now.key ≡ desk.now.dealt.public }
@@ -78,7 +62,7 @@ fn ask_of(desk: &Desk, session: &Session, member: u8, message: &[u8]) -> Ask
         (tag_in session.now.key.params session.now.plan desk.now.dealt.reference.items session.now.leaf member)
         (digest_of session.now message.now) }
 {
-    let digest = digest_of(desk, session, message);
+    let digest = session.digest(message);
     // A randomizer has the length of a hash value.
     let _round = session.round();
     let mut cells = Whole::new(desk.params(), &desk.plan, &desk.dealt.reference);

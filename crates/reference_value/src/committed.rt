@@ -157,7 +157,7 @@ pub fn build_committed_leaf(
     ensures leaf_key { result ≡ seed_leaf_key params.now id.now q seed.now }
     ensures length { length result ≡ params.now.n }
 {
-    let members = plan.members(plan.coalition_of(q));
+    let members = plan.members_of(q);
     let leaf = Leaf {
         params,
         id,

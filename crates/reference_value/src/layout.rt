@@ -16,7 +16,7 @@ pub fn rank(plan: &Plan, q: u32, t: u8) -> usize
     ensures value { result ≡ rank_of plan.now q t }
     ensures within { result < plan.now.k }
 {
-    let members = plan.members(plan.coalition_of(q));
+    let members = plan.members_of(q);
     let mut before = 0;
     'others: for other in 1..t {
         if members.has(other) {

@@ -140,7 +140,7 @@ pub fn build_leaf(
     ensures leaf_key { result ≡ seed_leaf_key params.now id.now q seed.now }
     ensures length { length result ≡ params.now.n }
 {
-    let members = plan.members(plan.coalition_of(q));
+    let members = plan.members_of(q);
     let c = randomizer(random_key, params, id, q);
     let (front, chains) = out.split_at_mut(params.n as usize + TAG * plan.k() as usize);
     let leaf_key = write_chains(params, id, q, seed, chains);

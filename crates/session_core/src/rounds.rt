@@ -82,13 +82,15 @@ impl Session {
         ensures finishes { Finishes R.Cells.own R.Faults cells.old cells.new self.now tree.now message.now result }
         ensures onward { CellsOnward R.Cells.own R.Faults cells.old cells.new }
     {
-        let digest = self.digest_of(message);
+        let digest = self.digest(message);
         self.finish_with(alloc, cells, tree, &digest)
     }
 
-    /// The digest of a message under the session's randomizer.
-    fn digest_of(&self, message: &[u8]) -> Val
-        ensures { result ≡ digest_of self.now message.now }
+    /// The digest Q of a message under the session's randomizer (RFC 8554 section 4.5), of `n` bytes. In round one there
+    /// is none, and zeros take its place.
+    pub fn digest(&self, message: &[u8]) -> Val
+        ensures digest { result ≡ digest_of self.now message.now }
+        ensures length { length result ≡ self.now.key.params.n }
     {
         let c = self.asked_c();
         MessageHash::of(&self.key.params, &self.key.id, self.leaf, &c, message)

@@ -58,7 +58,7 @@ impl Session {
         requires leaf { leaf < 2 ^ key.now.params.h }
         ensures { IfOk result (λ session. session ≡ started key.now plan.now leaf message.now) }
     {
-        let members = plan.members(plan.coalition_of(leaf));
+        let members = plan.members_of(leaf);
         Ok(Session {
             key: *key,
             plan: *plan,
@@ -100,7 +100,7 @@ impl Session {
     pub fn members(&self) -> Members
         ensures { result ≡ leaf_members self.now.plan self.now.leaf }
     {
-        self.plan.members(self.plan.coalition_of(self.leaf))
+        self.plan.members_of(self.leaf)
     }
 
     /// The ask of the present round to a member. The digest, of `n` bytes, is read in round two alone.

@@ -12,8 +12,7 @@ ghost use Rattle.tool_sign.specs.Sessions.{answer_by};
 
 use aggregator_session::Ended;
 use disk_trait::Pages;
-use lms_bytes::{PublicKey, Val};
-use ots_chain::MessageHash;
+use lms_bytes::PublicKey;
 use session_core::Session;
 use share_blame::{Commits, blamed};
 use tool_base::{Ending, Unsigned};
@@ -69,24 +68,9 @@ pub fn name_blamed<V: Pages>(
         (V.steady (pages_of commits.old)) session.now (digest_of session.now message.now) (ending result) }
     ensures stays { PagesStay V.Pages.own V.Faults (pages_of commits.old) (pages_of commits.new) }
 {
-    let digest = session_digest(key, session, message);
+    let digest = session.digest(message);
     match blamed(commits, &key.params, session, &digest) {
         Ok(members) => Ending::NotSigned(Unsigned::Blamed { members }),
         Err(_) => Ending::DeviceFailed,
     }
-}
-
-/// The digest of the message under the joined randomizer of a session. A session in round one has none, and zeros take
-/// its place: no mask is compared at a digest there.
-fn session_digest(key: &PublicKey, session: &Session, message: &[u8]) -> Val
-    requires { session.now.key ≡ key.now }
-    ensures digest { result ≡ digest_of session.now message.now }
-    ensures length { length result ≡ key.now.params.n }
-{
-    let q = session.leaf();
-    let c = match session.randomizer() {
-        Some(c) => c,
-        None => Val::cut(&[0; 32], key.params.n),
-    };
-    MessageHash::of(&key.params, &key.id, q, &c, message)
 }

@@ -63,7 +63,7 @@ returns-in_err-ask_again-clause-run g c =
 pub finish_with-requires-clause-digest : goal.finish_with-requires-clause-digest
 finish_with-requires-clause-digest g c =
     let a = c.ask_again.ensures in
-    let digest = c.digest_of-digest.ensures ∙ same-digest c.turn.new.self c.ask_again.new.session c.args.task.now.message.now a.same in
+    let digest = c.digest-digest.ensures.digest ∙ same-digest c.turn.new.self c.ask_again.new.session c.args.task.now.message.now a.same in
     (c.args.task.now.message.now, digest)
 
 pub returns-in_err-finish_with-clause-run : goal.returns-in_err-finish_with-clause-run
@@ -77,7 +77,7 @@ returns-in_err-finish_with-clause-run g c =
     let later = stays-then stays a.cells.stays in
     let count = g.R.Faults.count in
     let le = le_trans (count-on _ _ _ (ap count d.cells) t.onward.count) a.count in
-    let digest = c.digest_of-digest.ensures ∙ same-digest c.turn.new.self c.ask_again.new.session c.args.task.now.message.now a.same in
+    let digest = c.digest-digest.ensures.digest ∙ same-digest c.turn.new.self c.ask_again.new.session c.args.task.now.message.now a.same in
     run-err c.from_residual-in_err-finish_with.result p.0 _ p.1 p.2 (judged_in_two _ _ c.turn.new.self c.ask_again.new.session c.in_err-finish_with.field-0.0
     (opens-by g.R.Cells d.cells c.args.session.now c.dial_all.new.session c.turn.new.self c.requires.task.stands.all
     d.run c.in_ok-dial_all.was c.in_ok-dial_all.ensures.whole many t.turns)
@@ -96,7 +96,7 @@ returns-clause-run g c =
     let message = c.args.task.now.message.now in
     let tree = c.args.task.now.desk.now.tree.now in
     let kept = c.ask_again.new.session in
-    let digest = c.digest_of-digest.ensures ∙ same-digest c.turn.new.self c.ask_again.new.session c.args.task.now.message.now a.same in
+    let digest = c.digest-digest.ensures.digest ∙ same-digest c.turn.new.self c.ask_again.new.session c.args.task.now.message.now a.same in
     let done = f.finishes message digest in
     signed _ _ c.turn.new.self kept _
     (opens-by g.R.Cells d.cells c.args.session.now c.dial_all.new.session c.turn.new.self c.requires.task.stands.all
@@ -164,7 +164,7 @@ returns-in_err-finish_with-clause-cells g c =
     let f = c.in_err-finish_with.ensures in
     let count = g.R.Faults.count in
     let le = le_trans (count-on _ _ _ (ap count d.cells) t.onward.count) a.count in
-    let digest = c.digest_of-digest.ensures ∙ same-digest c.turn.new.self c.ask_again.new.session c.args.task.now.message.now a.same in
+    let digest = c.digest-digest.ensures.digest ∙ same-digest c.turn.new.self c.ask_again.new.session c.args.task.now.message.now a.same in
     let joins = (f.finishes c.args.task.now.message.now digest).joins in
     let stays = stays-then (stays-as d.cells t.onward.stays) a.cells.stays in
     record {
@@ -254,16 +254,12 @@ turn-requires-clause-plan g c =
     let d = c.dial_all.ensures in
     ap g.R.Cells.plan d.cells ∙ (c.requires.task.stands.plan ∙ sym d.same.plan)
 
-pub digest_of-digest-requires-clause-key : goal.digest_of-digest-requires-clause-key
-digest_of-digest-requires-clause-key g c =
-    ap (λ (s : State). s.key) c.in_ok-turn.ensures.turns.turned.same ∙ (c.dial_all.ensures.same.key ∙ c.requires.task.stands.of_key)
-
 pub ask_again-requires-clause-task : goal.ask_again-requires-clause-task
 ask_again-requires-clause-task g c =
     let d = c.dial_all.ensures in
     let t = c.in_ok-turn.ensures in
     let stays = stays-as d.cells t.onward.stays in
-    stands-again _ _ _ _ _ _ t.turns.turned _ c.digest_of-digest.ensures
+    stands-again _ _ _ _ _ _ t.turns.turned _ c.digest-digest.ensures.digest
     (stands-as _ c.args.session.now c.dial_all.new.session _ _ _ _ _ _ stays.set stays.plan c.dial_all.auto.room d.same c.requires.task.stands)
 
 pub ask_again-requires-clause-links : goal.ask_again-requires-clause-links
@@ -298,16 +294,6 @@ returns-clause-same g c = same-turned _ _ _ _ c.dial_all.ensures.same c.in_ok-tu
 
 pub dial_all-requires-clause-room : goal.dial_all-requires-clause-room
 dial_all-requires-clause-room g c κs within = (c.requires.none, c.requires.space)
-
-pub digest_of-digest-requires-clause-round : goal.digest_of-digest-requires-clause-round
-digest_of-digest-requires-clause-round g c = round-turned _ _ c.in_ok-turn.ensures.turns.turned
-
-pub digest_of-digest-requires-clause-c : goal.digest_of-digest-requires-clause-c
-digest_of-digest-requires-clause-c g c =
-    let d = c.dial_all.ensures in
-    let t = c.in_ok-turn.ensures.turns.turned in
-    subst (λ (s : State). IfSome s.c (λ (r : List ℕ). length r ≡ c.args.task.now.desk.now.key.now.params.n)) (sym t.same)
-    (t.c_length ∙ ap (λ (k : PublicKey). k.params.n) (d.same.key ∙ c.requires.task.stands.of_key))
 
 pub finish_with-requires-clause-round : goal.finish_with-requires-clause-round
 finish_with-requires-clause-round g c =

@@ -4,7 +4,6 @@ use Rattle.lms_bytes.specs.declared.ask.Ask.{Ask}
 use Rattle.lms_bytes.specs.declared.public_key.PublicKey.{PublicKey}
 use Rattle.drill.specs.Drills.{IsSized}
 use Rattle.drill.proofs.Asked.{asked-sizes}
-use Rattle.drill.proofs.Asked.{any-digest}
 use Rattle.mask_prf.specs.Lengths.{leaves_length}
 use Rattle.reference_value.specs.Places.{tag_in}
 use Rattle.session_core.specs.Asks.{ask_with}
@@ -16,7 +15,7 @@ returns-clause-sizes c =
     let n : s.key.params.n ≡ 32 = ap (λ (k : PublicKey). k.params.n) c.requires.key ∙ c.args.desk.now.hash_length in
     let sized = subst (λ (n : ℕ). IfSome s.c (λ (x : List ℕ). length x ≡ n)) n c.round-round.ensures.session.c in
     let of = c.in-Ok.ensures.ask in
-    subst (λ (a : Ask). IsSized a) (sym of.same) (asked-sizes s s.c refl sized of.tag c.digest_of-digest.result c.digest_of-digest.ensures.length)
+    subst (λ (a : Ask). IsSized a) (sym of.same) (asked-sizes s s.c refl sized of.tag c.digest-digest.result (c.digest-digest.ensures.length ∙ n))
 
 pub unreachable-requires : goal.unreachable-requires
 unreachable-requires c =
@@ -27,7 +26,7 @@ unreachable-requires c =
 pub returns-clause-ask : goal.returns-clause-ask
 returns-clause-ask c =
     let s = c.args.session.now in
-    let digest = c.digest_of-digest in
+    let digest = c.digest-digest in
     c.in-Ok.ensures.tag refl
     ∙ ap (λ (l : List ℕ). ask_with s (tag_in s.key.params s.plan l s.leaf c.args.member) digest.result) (c.new-cells.ensures.leaves ∙ c.deref.ensures.value)
-    ∙ any-digest s s.c refl _ digest.result _ digest.ensures.digest
+    ∙ ap (ask_with s (tag_in s.key.params s.plan c.args.desk.now.dealt.reference.items s.leaf c.args.member)) digest.ensures.digest

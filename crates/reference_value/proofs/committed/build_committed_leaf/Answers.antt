@@ -10,11 +10,8 @@ use Rattle.reference_value.proofs.committed.build_committed_leaf.Goals as goal
 are-members : (keys : List (List ℕ)) (members : List ℕ) (n : ℕ) → length keys ≡ n → n ≤ 12 → IsAscendingIn 1 (n + 1) members → AreMembers keys members
 are-members keys members n size few ascending = record { few = rw size few; ascending = rw size ascending }
 
-pub coalition_of-requires : goal.coalition_of-requires
-coalition_of-requires c = rw c.requires.height c.requires.leaf
-
-pub members-members-requires : goal.members-members-requires
-members-members-requires c = c.coalition_of.ensures.within
+pub members_of-members-requires : goal.members_of-members-requires
+members_of-members-requires c = rw c.requires.height c.requires.leaf
 
 pub split_at_mut-front-requires : goal.split_at_mut-front-requires
 split_at_mut-front-requires c = omega (arith, c.k.ensures.value, c.requires.room)
@@ -30,26 +27,26 @@ put-requires c = omega (arith, ap length c.bytes.ensures.bytes, c.randomizer-c.e
 
 pub mask_and_commit-requires-clause-members : goal.mask_and_commit-requires-clause-members
 mask_and_commit-requires-clause-members c =
-    are-members _ _ _ c.requires.keys c.k.ensures.plan.threshold.n_within c.members-members.ensures.subset.ascending
+    are-members _ _ _ c.requires.keys c.k.ensures.plan.threshold.n_within c.members_of-members.ensures.subset.ascending
 
 pub mask_and_commit-requires-clause-value : goal.mask_and_commit-requires-clause-value
 mask_and_commit-requires-clause-value c = c.put.auto.out ∙ c.split_at_mut-value.ensures.front_len
 
 pub mask_and_commit-requires-clause-room : goal.mask_and_commit-requires-clause-room
 mask_and_commit-requires-clause-room c =
-    c.split_at_mut-first.ensures.front_len ∙ ap (λ (k : ℕ). 32 * k) (c.k-2.ensures.value ∙ sym c.members-members.ensures.subset.size)
+    c.split_at_mut-first.ensures.front_len ∙ ap (λ (k : ℕ). 32 * k) (c.k-2.ensures.value ∙ sym c.members_of-members.ensures.subset.size)
 
 pub write_tags-requires-clause-members : goal.write_tags-requires-clause-members
 write_tags-requires-clause-members c =
-    are-members _ _ _ c.requires.keys c.k.ensures.plan.threshold.n_within c.members-members.ensures.subset.ascending
+    are-members _ _ _ c.requires.keys c.k.ensures.plan.threshold.n_within c.members_of-members.ensures.subset.ascending
 
 pub write_tags-requires-clause-room : goal.write_tags-requires-clause-room
 write_tags-requires-clause-room c =
-    omega (arith, c.split_at_mut-value.ensures.back_len, c.split_at_mut-front.ensures.front_len, c.k.ensures.value, c.members-members.ensures.subset.size)
+    omega (arith, c.split_at_mut-value.ensures.back_len, c.split_at_mut-front.ensures.front_len, c.k.ensures.value, c.members_of-members.ensures.subset.size)
 
 pub commit_chains-requires-clause-members : goal.commit_chains-requires-clause-members
 commit_chains-requires-clause-members c =
-    are-members _ _ _ c.requires.keys c.k.ensures.plan.threshold.n_within c.members-members.ensures.subset.ascending
+    are-members _ _ _ c.requires.keys c.k.ensures.plan.threshold.n_within c.members_of-members.ensures.subset.ascending
 
 pub commit_chains-requires-clause-seed : goal.commit_chains-requires-clause-seed
 commit_chains-requires-clause-seed c = c.requires.seed
@@ -59,20 +56,20 @@ commit_chains-requires-clause-values c = omega (arith, c.split_at_mut-front.ensu
 
 pub commit_chains-requires-clause-room : goal.commit_chains-requires-clause-room
 commit_chains-requires-clause-room c =
-    rw c.members-members.ensures.subset.size (omega (arith, c.split_at_mut-first.ensures.back_len, c.k-2.ensures.value, c.requires.commits))
+    rw c.members_of-members.ensures.subset.size (omega (arith, c.split_at_mut-first.ensures.back_len, c.k-2.ensures.value, c.requires.commits))
 
 pub returns-clause-leaf : goal.returns-clause-leaf
 returns-clause-leaf c =
     let d = dealing_from c.args.params.now c.args.plan.now c.args.id.now c.args.seed.now c.args.random_key.now c.args.keys.now in
-    let members = members-are c.args.plan.now c.args.q c.coalition_of.result c.members-members.result c.members-members.ensures.members c.coalition_of.ensures.number in
+    let members = c.members_of-members.ensures.members in
     let size : length c.put.new.out ≡ length c.randomizer-c.result =
     omega (arith, c.put.auto.out, c.split_at_mut-value.ensures.front_len, c.randomizer-c.ensures.length) in
     let written = whole-put c.put.new.out c.randomizer-c.result c.bytes.result.now c.bytes.ensures.bytes size c.put.ensures.front in
-    leaf-is d c.args.q c.members-members.result c.randomizer-c.result c.mask_and_commit.new.out c.write_tags.new.out c.commit_chains.new.out members
+    leaf-is d c.args.q c.members_of-members.result c.randomizer-c.result c.mask_and_commit.new.out c.write_tags.new.out c.commit_chains.new.out members
     c.randomizer-c.ensures.randomizer (rw written at c.mask_and_commit.ensures.masked) c.write_tags.ensures c.commit_chains.ensures.cells
 
 pub returns-clause-commitments : goal.returns-clause-commitments
 returns-clause-commitments c =
     let d = dealing_from c.args.params.now c.args.plan.now c.args.id.now c.args.seed.now c.args.random_key.now c.args.keys.now in
-    let members = members-are c.args.plan.now c.args.q c.coalition_of.result c.members-members.result c.members-members.ensures.members c.coalition_of.ensures.number in
-    commitments-are d c.args.q c.members-members.result c.mask_and_commit.new.commits c.commit_chains.new.commits members c.mask_and_commit.ensures.commits c.commit_chains.ensures.commits
+    let members = c.members_of-members.ensures.members in
+    commitments-are d c.args.q c.members_of-members.result c.mask_and_commit.new.commits c.commit_chains.new.commits members c.mask_and_commit.ensures.commits c.commit_chains.ensures.commits
