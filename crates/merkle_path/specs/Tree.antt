@@ -14,7 +14,7 @@ pub record TreeNodes : Type 0 where
 -- what is true of each tree
 pub record IsWhole (tree : TreeNodes) : Type 0 where
   pub hash_length : IsHashLength tree.n
-  pub height : tree.h ≤ 10
+  pub height : tree.h ≤ 20
   pub size : length tree.nodes ≡ tree.n * (2 ^ (tree.h + 1) - 1)
 
 -- T[r]

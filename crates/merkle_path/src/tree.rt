@@ -13,7 +13,7 @@ use memory::NoMemory;
 use std::alloc::Global;
 use std::marker::Model;
 
-/// The tree of a key of height at most 10, with all its nodes.
+/// The tree of a key of height at most 20, with all its nodes.
 #[derive(Drop)]
 pub struct Tree {
     n: u8,
@@ -38,7 +38,7 @@ impl Model for Tree {
 impl Tree {
     /// The tree over leaves with these public values: `2^h` of them, of `n` bytes each (RFC 8554 section 5.3).
     pub fn build(alloc: Global, params: &Params, id: &KeyId, keys: &[Val]) -> Result<Tree, NoMemory>
-        requires height { params.now.h ≤ 10 }
+        requires height { params.now.h ≤ 20 }
         requires leaves { length keys.now ≡ 2 ^ params.now.h }
         requires keys { All (λ key. length key ≡ params.now.n) keys.now }
         ensures { IfOk result (λ tree. tree ≡ tree_of params.now id.now (λ q. slice_index_or keys.now q [])) }
@@ -51,7 +51,7 @@ impl Tree {
 
     /// The tree with these nodes: T[1], T[2] and so on, of `n` bytes each, as they stand.
     pub fn of_nodes(alloc: Global, params: &Params, nodes: &[u8]) -> Result<Tree, NoMemory>
-        requires height { params.now.h ≤ 10 }
+        requires height { params.now.h ≤ 20 }
         requires nodes { length nodes.now ≡ params.now.n * (2 ^ (params.now.h + 1) - 1) }
         ensures { IfOk result (λ tree. tree ≡ record { n = params.now.n; h = params.now.h; nodes = nodes.now }) }
     {
@@ -61,7 +61,7 @@ impl Tree {
     /// The tree whose nodes T[1], T[2] and so on, of `n` bytes each, are everything after the first `front` bytes. It
     /// takes no memory.
     pub fn behind(params: &Params, bytes: Vec<u8>, front: usize) -> Tree
-        requires height { params.now.h ≤ 10 }
+        requires height { params.now.h ≤ 20 }
         requires length { length bytes.items ≡ front + params.now.n * (2 ^ (params.now.h + 1) - 1) }
         ensures { result ≡ record { n = params.now.n; h = params.now.h; nodes = drop front bytes.items } }
     {
@@ -126,8 +126,8 @@ impl Tree {
     /// The number of leaves.
     fn leaves(&self) -> u32
         ensures number { result ≡ 2 ^ self.now.h }
-        ensures bound { result ≤ 1024 }
-        ensures height { self.now.h ≤ 10 }
+        ensures bound { result ≤ 1048576 }
+        ensures height { self.now.h ≤ 20 }
     {
         1 << self.h
     }
