@@ -1,23 +1,22 @@
 -- What lies where in a head.
 use Rattle.std.proofs.Common.{◌≡◌, ℕ, ◌+◌, ◌^◌, ◌<◌, true, List, [], ◌∷◌, ◌++◌, length, take, drop, None, refl, sym, ap, ◌∙◌, arith, length-append, length-drop, take-append-drop}
 use Rattle.std.specs.Prelude.{slice_index}
-use Rattle.std.proofs.lemmas.Bool.{eq-eqb}
 use Rattle.std.proofs.lemmas.Bool.Decides.{nat_tests}
 use Rattle.std.proofs.lemmas.List.{take_at, drop_at, take_all}
 use Rattle.std.proofs.lemmas.Nat.{from_be_bytes-to_be_bytes_4}
 use Rattle.std.proofs.lemmas.Slice.Eq.{bytes_eq-Decides}
 use Rattle.lms_bytes.specs.Bytes.{bytes_at, str_to_u32, u32str}
 use Rattle.lms_bytes.specs.declared.params.Params.{Params}
-use Rattle.share_files.specs.Head.{head_bytes, head_fault, lms_at, ots_at, magic_fault, version_fault, code_fault}
-use Rattle.share_files.specs.Sets.{CanBeDealt, can_be_dealt}
-use Rattle.share_files.proofs.Dealt.{can_be_dealt-codes}
+use Rattle.share_files.specs.Head.{has_version, head_bytes, head_fault, lms_at, ots_at, magic_fault, version_fault, code_fault}
+use Rattle.share_files.specs.Sets.{CanBeDealt, version_of}
 use Rattle.share_files.proofs.FirstFault.{first_fault-end, first_fault-passed}
+use Rattle.share_files.proofs.Versions.{code-passes, has_version-codes, version-passes}
 
 -- what lies where in bytes that begin with a head
 pub record HeadLies (magic : List ℕ) (own5 own6 own7 : ℕ) (params : Params) (id rest bytes : List ℕ) : Type 0 where
   pub size : length bytes ≡ 32 + length rest
   pub magic_at : bytes_at bytes 0 4 ≡ magic
-  pub version_at : slice_index bytes 4 ≡ 1
+  pub version_at : slice_index bytes 4 ≡ version_of params.lms params.ots
   pub own5_at : slice_index bytes 5 ≡ own5
   pub own6_at : slice_index bytes 6 ≡ own6
   pub own7_at : slice_index bytes 7 ≡ own7
@@ -56,11 +55,11 @@ head_lies-any (a ∷ b ∷ c ∷ d ∷ []) own5 own6 own7 params id rest bytes f
     head_lies a b c d own5 own6 own7 params id rest bytes id_length parts
 head_lies-any (a ∷ b ∷ c ∷ d ∷ e ∷ more) own5 own6 own7 params id rest bytes four id_length parts = absurd (omega arith)
 
-dealt-true : (params : Params) → CanBeDealt params → can_be_dealt params.lms params.ots ≡ true
-dealt-true params dealt =
+version-has : (bytes : List ℕ) (params : Params) → lms_at bytes ≡ params.lms → ots_at bytes ≡ params.ots
+    → slice_index bytes 4 ≡ version_of params.lms params.ots → CanBeDealt params → has_version bytes ≡ true
+version-has bytes params lms ots version dealt =
     let low = dealt.height in
-    let narrow = dealt.width in
-    rw (can_be_dealt-codes params) (grind (arith, nat_tests))
+    rw (has_version-codes bytes params (sym lms) (sym ots), version) (grind (arith, nat_tests))
 
 -- a head passes its tests
 pub head_passes : (magic : List ℕ) (own5 own6 own7 : ℕ) (params : Params) (id rest bytes : List ℕ) → HeadLies magic own5 own6 own7 params id rest bytes → CanBeDealt params
@@ -68,10 +67,10 @@ pub head_passes : (magic : List ℕ) (own5 own6 own7 : ℕ) (params : Params) (i
 unfolding head_fault
 head_passes magic own5 own6 own7 params id rest bytes l dealt =
     let magic_same = (bytes_eq-Decides (bytes_at bytes 0 4) magic).1 l.magic_at in
-    let version_same = eq-eqb (slice_index bytes 4) 1 l.version_at in
-    let codes : can_be_dealt (lms_at bytes) (ots_at bytes) ≡ true = rw (l.lms_is, l.ots_is) (dealt-true params dealt) in
+    let has = version-has bytes params l.lms_is l.ots_is l.version_at dealt in
     first_fault-passed (magic_fault magic bytes) _ (rw magic_same refl)
-    ∙ (first_fault-passed (version_fault bytes) _ (rw version_same refl) ∙ (first_fault-passed (code_fault bytes) _ (rw codes refl) ∙ first_fault-end))
+    ∙ (first_fault-passed (version_fault bytes) _ (version-passes bytes has)
+    ∙ (first_fault-passed (code_fault bytes) _ (code-passes bytes has) ∙ first_fault-end))
 
 -- bytes are their head followed by the rest
 pub head_and_rest : (bytes head rest : List ℕ) (size : ℕ) → length bytes ≡ 32 + size → take 32 bytes ≡ head → rest ≡ bytes_at bytes 32 size

@@ -5,3 +5,4 @@ pub mod Plans
 pub mod References
 pub mod Shares
 pub mod TreeFiles
+pub mod Versions

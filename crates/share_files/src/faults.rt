@@ -11,11 +11,11 @@ pub enum FileFault {
     /// The file does not begin with the letters of its kind.
     #[error("the letters at the front are not those of this kind of file")]
     Magic,
-    /// Another version than 1.
-    #[error("version {got}, where version 1 is wanted")]
+    /// Another version than 1, and not that of the typecodes.
+    #[error("version {got}, where that of the typecodes is wanted: 1 for small sets, 2 for large ones")]
     Version { got: u8 },
-    /// The typecodes are no parameter set that can be dealt.
-    #[error("typecodes {lms} and {ots} are no parameter set that can be dealt")]
+    /// The typecodes are no parameter set that can be dealt, or one whose files have version 2 where this one has 1.
+    #[error("typecodes {lms} and {ots} are no parameter set that can be dealt in a file of this version")]
     Code { lms: u32, ots: u32 },
     /// The numbers of trustees are no plan.
     #[error("the numbers of trustees are no plan: 2 <= k <= n <= 12 and no more coalitions than leaves are wanted")]

@@ -1,11 +1,11 @@
 //! The 32 bytes with which each file of a dealing begins.
 
-ghost use Rattle.std.specs.Prelude.{◌≡◌, ◌↔◌, ◌<◌, ◌≤◌, [], ◌∷◌, length, slice_index, take, drop, None};
-ghost use Rattle.std.specs.Prelude.{Some, OnOk, IfOk, IfErr, IsTrue};
+ghost use Rattle.std.specs.Prelude.{◌≡◌, ◌↔◌, ◌<◌, ◌≤◌, [], ◌∷◌, length, slice_index, take, drop, None, false};
+ghost use Rattle.std.specs.Prelude.{Some, OnOk, IfOk, IfErr, IfSome, is_some};
 ghost use Rattle.lms_bytes.specs.Bytes.{bytes_at};
-ghost use Rattle.share_files.specs.Head.{code_fault, head_bytes, head_fault, length_fault, lms_at, ots_at};
-ghost use Rattle.share_files.specs.Head.{plan_fault, short_fault, zero_fault};
-ghost use Rattle.share_files.specs.Sets.{CanBeDealt, can_be_dealt};
+ghost use Rattle.share_files.specs.Head.{has_version, head_bytes, head_fault, length_fault, lms_at, ots_at};
+ghost use Rattle.share_files.specs.Head.{code_fault, first_fault, plan_fault, short_fault, version_fault, zero_fault};
+ghost use Rattle.share_files.specs.Sets.{CanBeDealt, IsSmall, version_of};
 
 use crate::faults::FileFault;
 use coalition_map::Plan;
@@ -75,40 +75,57 @@ pub(crate) fn read_head(magic: &[u8; 4], bytes: &[u8]) -> Result<Head, FileFault
     if part(bytes, 0, 4) != magic.as_slice() {
         return Err(FileFault::Magic);
     }
-    if bytes[4] != 1 {
-        return Err(FileFault::Version { got: bytes[4] });
-    }
-    let params = read_params(bytes)?;
+    let Some(params) = find_params(bytes) else {
+        return Err(refused_codes(bytes));
+    };
     let mut id = [0; 16];
     id.copy_from_slice(part(bytes, 16, 16));
     Ok(Head { params, id })
 }
 
-/// Reads the typecodes of a head.
-fn read_params(bytes: &[u8]) -> Result<Params, FileFault>
+/// The parameter set of the typecodes of a head, if it can be dealt and the head has the version of its files.
+fn find_params(bytes: &[u8]) -> Option<Params>
     requires { 32 ≤ length bytes.now }
-    ensures codes { IfOk result (λ params. (params.lms ≡ lms_at bytes.now) × (params.ots ≡ ots_at bytes.now)) }
-    ensures dealt { IfOk result (λ params. CanBeDealt params) }
-    ensures faultless { OnOk result (code_fault bytes.now ≡ None) }
-    ensures refused { IfErr result (λ fault. code_fault bytes.now ≡ Some fault) }
+    ensures found { is_some result ≡ has_version bytes.now }
+    ensures codes { IfSome result (λ params. (params.lms ≡ lms_at bytes.now) × (params.ots ≡ ots_at bytes.now)) }
+    ensures version { IfSome result (λ params. slice_index bytes.now 4 ≡ version_of params.lms params.ots) }
+    ensures dealt { IfSome result (λ params. CanBeDealt params) }
 {
-    let lms = u32_at(bytes, 8);
-    let ots = u32_at(bytes, 12);
-    let Ok(params) = Params::of_codes(lms, ots) else {
-        return Err(FileFault::Code { lms, ots });
+    let Ok(params) = Params::of_codes(u32_at(bytes, 8), u32_at(bytes, 12)) else {
+        return None;
     };
-    if !is_dealt(&params) {
-        return Err(FileFault::Code { lms, ots });
+    if params.h <= 20 && version_of(&params) == bytes[4] {
+        Some(params)
+    } else {
+        None
     }
-    Ok(params)
 }
 
-/// Whether a parameter set can be dealt.
-fn is_dealt(params: &Params) -> bool
-    ensures test { result ≡ can_be_dealt params.now.lms params.now.ots }
-    ensures dealt { IsTrue result ↔ CanBeDealt params.now }
+/// Why a head is refused whose version is not that of its typecodes.
+fn refused_codes(bytes: &[u8]) -> FileFault
+    requires head { 32 ≤ length bytes.now }
+    requires none { has_version bytes.now ≡ false }
+    ensures { first_fault (version_fault bytes.now ∷ code_fault bytes.now ∷ []) ≡ Some result }
 {
-    params.h < 10 || params.h == 10 && params.w < 8
+    if bytes[4] != 1 {
+        return FileFault::Version { got: bytes[4] };
+    }
+    FileFault::Code {
+        lms: u32_at(bytes, 8),
+        ots: u32_at(bytes, 12),
+    }
+}
+
+/// The version of the files of a parameter set: 1 for the small sets, and 2 for all others.
+pub fn version_of(params: &Params) -> u8
+    ensures version { result ≡ version_of params.now.lms params.now.ots }
+    ensures small { (result ≡ 1) ↔ IsSmall params.now }
+{
+    if params.h < 10 || params.h == 10 && params.w < 8 {
+        1
+    } else {
+        2
+    }
 }
 
 /// Reads the plan of a head: k, then n.
@@ -139,7 +156,7 @@ pub(crate) fn write_head(
     ensures rest { drop 32 out.new ≡ drop 32 out.old }
 {
     put(out, 0, magic);
-    put(out, 4, &[1]);
+    put(out, 4, &[version_of(params)]);
     put(out, 5, own);
     put(out, 8, &params.lms.to_be_bytes());
     put(out, 12, &params.ots.to_be_bytes());

@@ -13,6 +13,7 @@ mod tree_file;
 
 pub use commits_layout::{length_of_commits, read_commits_header, write_commits_head};
 pub use faults::FileFault;
+pub use head::version_of;
 pub use mask_prf::{
     COMMITMENT, HEAD, TAG, chain_bytes, chain_commits_bytes, leaf_bytes, leaf_commits_bytes,
 };

@@ -20,7 +20,7 @@ returns-clause-rest c =
 pub returns-clause-head : goal.returns-clause-head
 returns-clause-head c =
     let one = rw c.told-magic at c.put.ensures.front in
-    let two = rw one at c.put-2.ensures.front in
+    let two = rw (one, c.version_of.ensures.version) at c.put-2.ensures.front in
     let three = rw (c.told-own, two) at c.put-3.ensures.front in
     let four = rw (c.to_be_bytes.ensures, three) at c.put-4.ensures.front in
     let five = rw (c.to_be_bytes-2.ensures, four) at c.put-5.ensures.front in
