@@ -5,7 +5,7 @@ use Rattle.lms_bytes.specs.Bytes.{bytes_at}
 use Rattle.lms_bytes.specs.declared.params.Params.{Params}
 use Rattle.mask_prf.proofs.Lengths.{length-randomizer_of}
 use Rattle.reference_value.proofs.Reference.{length-reference}
-use Rattle.share_files.specs.Sets.{CanBeDealt}
+use Rattle.share_files.specs.Sets.{IsSmall}
 use Rattle.dealer.specs.Dealt.{IsDealt}
 use Rattle.dealer.specs.Entropy.{dealing_of, entropy_length, trustee_key}
 use Rattle.dealer.specs.Faults.{AreFirstAlike, HasFault, IsDealable, too_high, too_wide}
@@ -97,8 +97,8 @@ can-rehearse params plan entropy is dealable =
     let keys = rw is at dealable.keys in
     record { size = rw is at dealable.size; keys = keys 1 2 (record { first = omega arith; order = omega arith; last = omega arith }) }
 
-can-be-dealt : (params : Params) → params.h ≡ 5 → CanBeDealt params
-can-be-dealt params h = record { height = omega arith; width = λ ten. absurd (omega arith) }
+is-small : (params : Params) → params.h ≡ 5 → IsSmall params
+is-small params h = record { height = omega arith; width = λ ten. absurd (omega arith) }
 
 first-alike : (entropy : List ℕ) → trustee_key entropy 1 ≡ trustee_key entropy 2 → AreFirstAlike 2 entropy 1 2
 first-alike entropy alike = record {
@@ -108,8 +108,8 @@ first-alike entropy alike = record {
 }
 
 has-fault : (params : Params) (entropy : List ℕ) (fault : DealFault) → params.h ≡ 5 → RehearsalFault entropy fault → HasFault params two entropy fault
-has-fault params entropy fault h (bad_entropy other) = dealing.bad_entropy (can-be-dealt params h) other
-has-fault params entropy fault h (same_keys size alike) = dealing.same_keys 1 2 (can-be-dealt params h) size (first-alike entropy alike)
+has-fault params entropy fault h (bad_entropy other) = dealing.bad_entropy (is-small params h) other
+has-fault params entropy fault h (same_keys size alike) = dealing.same_keys 1 2 (is-small params h) size (first-alike entropy alike)
 
 pub deal-fault : (params : Params) (plan : PlanNumbers) (entropy : List ℕ) (fault : DealFault) → params.h ≡ 5 → plan ≡ two → RehearsalFault entropy fault
     → HasFault params plan entropy fault

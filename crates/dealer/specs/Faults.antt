@@ -2,7 +2,7 @@
 use Rattle.std.specs.Prelude.{◌≡◌, ◌≢◌, ℕ, ◌<◌, ◌≤◌, ◌⊎◌, List, length}
 use Rattle.coalition_map.specs.Coalitions.{PlanNumbers}
 use Rattle.lms_bytes.specs.declared.params.Params.{Params}
-use Rattle.share_files.specs.Sets.{CanBeDealt}
+use Rattle.share_files.specs.Sets.{IsSmall}
 use Rattle.dealer.specs.Entropy.{entropy_length, trustee_key}
 use Rattle.dealer.specs.declared.faults.DealFault.{DealFault}
 use Rattle.dealer.specs.declared.faults.DealFault.TheVariants.{TooHigh, TooWide, BadEntropy, SameKeys}
@@ -26,7 +26,7 @@ pub record AreFirstAlike (trustees : ℕ) (entropy : List ℕ) (t u : ℕ) : Typ
 
 -- the dealing that this entropy stands for is dealt
 pub record IsDealable (params : Params) (plan : PlanNumbers) (entropy : List ℕ) : Type 0 where
-  pub set : CanBeDealt params
+  pub set : IsSmall params
   pub size : length entropy ≡ entropy_length plan.n
   pub keys : AllDiffer plan.n entropy
 
@@ -34,7 +34,7 @@ pub record IsDealable (params : Params) (plan : PlanNumbers) (entropy : List ℕ
 pub data HasFault (params : Params) (plan : PlanNumbers) (entropy : List ℕ) : DealFault → Type 0 where
   too_high : 10 < params.h → HasFault params plan entropy (TooHigh params.h)
   too_wide : params.h ≡ 10 → params.w ≡ 8 → HasFault params plan entropy TooWide
-  bad_entropy : CanBeDealt params → length entropy ≢ entropy_length plan.n
+  bad_entropy : IsSmall params → length entropy ≢ entropy_length plan.n
       → HasFault params plan entropy (BadEntropy (length entropy) (entropy_length plan.n))
-  same_keys : (t u : ℕ) → CanBeDealt params → length entropy ≡ entropy_length plan.n → AreFirstAlike plan.n entropy t u
+  same_keys : (t u : ℕ) → IsSmall params → length entropy ≡ entropy_length plan.n → AreFirstAlike plan.n entropy t u
       → HasFault params plan entropy (SameKeys t u)

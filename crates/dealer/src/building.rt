@@ -53,7 +53,7 @@ pub(crate) fn finish(
     keys: &[u8],
     leaves: Vec<u8>,
 ) -> Result<Dealt, NoMemory>
-    requires low { material.now.params.h ≤ 10 }
+    requires low { material.now.params.h ≤ 20 }
     requires keys { keys.now ≡ joined_keys (dealing_with material.now) }
     requires leaves { leaves.items ≡ reference (dealing_with material.now) }
     ensures dealt { IfOk result (IsDealt (dealing_with material.now)) }

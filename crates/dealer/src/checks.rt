@@ -2,7 +2,7 @@
 
 ghost use Rattle.std.specs.Prelude.{◌≡◌, ◌≢◌, ℕ, List, ◌<◌, ◌≤◌, ◌↔◌, IfErr, IfNone, IfSome, IsTrue, OnOk, length};
 ghost use Rattle.coalition_map.specs.Coalitions.{PlanNumbers};
-ghost use Rattle.share_files.specs.Sets.{CanBeDealt};
+ghost use Rattle.share_files.specs.Sets.{IsSmall};
 ghost use Rattle.dealer.specs.Entropy.{entropy_length, trustee_key};
 ghost use Rattle.dealer.specs.Faults.{AllDiffer, AreFirstAlike, AreTwo, HasFault, IsDealable};
 ghost use Rattle.dealer.specs.declared.faults.DealFault.{DealFault};
@@ -42,7 +42,7 @@ pub(crate) fn check(params: &Params, plan: &Plan, entropy: &[u8]) -> Result<(), 
 
 /// Why no key of this parameter set is dealt, whatever the plan and the entropy.
 fn set_fault(params: &Params) -> Option<DealFault>
-    ensures dealt { IfNone result (CanBeDealt params.now) }
+    ensures small { IfNone result (IsSmall params.now) }
     ensures cause { IfSome result (λ fault. (plan : PlanNumbers) (entropy : List ℕ)
         → HasFault params.now plan entropy fault) }
 {

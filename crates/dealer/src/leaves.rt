@@ -48,7 +48,7 @@ pub(crate) fn build_tree(
     material: &KeyMaterial,
     keys: &[u8],
 ) -> Result<Tree, NoMemory>
-    requires height { material.now.params.h ≤ 10 }
+    requires height { material.now.params.h ≤ 20 }
     requires keys { keys.now ≡ joined_keys (dealing_with material.now) }
     ensures { IfOk result (λ tree. tree
         ≡ tree_of material.now.params material.now.id (dealt_leaf_key (dealing_with material.now))) }

@@ -1,10 +1,10 @@
-use Rattle.std.proofs.Common.{◌∙◌}
+use Rattle.std.proofs.Common.{◌∙◌, arith}
 use Rattle.std.proofs.lemmas.Result.{err_from_is_err_and}
 use Rattle.dealer.proofs.Built.{built-as, same-set}
 use Rattle.dealer.proofs.building.build.Goals as goal
 
 pub finish-requires-clause-low : goal.finish-requires-clause-low
-finish-requires-clause-low c = rw (same-set c.in_ok-material.ensures.dealing) c.requires.dealable.set.height
+finish-requires-clause-low c = rw (same-set c.in_ok-material.ensures.dealing) (omega (arith, c.requires.dealable.set.height))
 
 pub finish-requires-clause-keys : goal.finish-requires-clause-keys
 finish-requires-clause-keys c = c.deref.ensures.value ∙ c.in_ok-leaves.ensures.keys_are
