@@ -43,12 +43,12 @@ use Rattle.laws_signing.proofs.FilesRead.{grammar-well, reads-well, same-file, v
 use Rattle.hss_levels.proofs.Sets.{same-key}
 
 -- a set that can be dealt has few nodes
-few-nodes : (n h : ℕ) → IsHashLength n → h ≤ 10 → n * (2 ^ (h + 1) - 1) ≤ 65504
+few-nodes : (n h : ℕ) → IsHashLength n → h ≤ 20 → n * (2 ^ (h + 1) - 1) ≤ 67108832
 few-nodes n h is low =
     let two : zero < 2 = omega arith in
-    let below : h + 1 ≤ 11 = omega arith in
-    let top : 2 ^ (h + 1) ≤ 2 ^ 11 = pow-le-pow_right two below in
-    let rows : 2 ^ (h + 1) - 1 ≤ 2047 = omega arith in
+    let below : h + 1 ≤ 21 = omega arith in
+    let top : 2 ^ (h + 1) ≤ 2 ^ 21 = pow-le-pow_right two below in
+    let rows : 2 ^ (h + 1) - 1 ≤ 2097151 = omega arith in
     elim is [
       | inl e ↦ rw e (omega arith)
       | inr e ↦ rw e (omega arith)
