@@ -2,8 +2,8 @@
 
 use crate::values::{first, holds};
 use share_files::{
-    FileFault, Share, read_ref_header, read_reference, read_share, read_tree, write_ref_head,
-    write_share, write_tree_head,
+    FileFault, Share, read_ref_header, read_reference, read_share, read_tree, version_of,
+    write_ref_head, write_share, write_tree_head,
 };
 
 /// The share of trustee 3 in a dealing of the typecodes 5 and 3 to coalitions of 3 of 5 trustees.
@@ -47,11 +47,17 @@ fn a_share_is_read_and_written(rt: HostRuntime) {
 }
 
 /// Two places of a share with what is put there, a length, and the fault of that many bytes of it.
-const SHARE_FAULTS: [(usize, u8, usize, u8, usize, FileFault); 11] = [
+const SHARE_FAULTS: [(usize, u8, usize, u8, usize, FileFault); 17] = [
     (0, 0, 4, 2, 63, FileFault::Length { got: 63, want: 64 }),
     (3, 0x49, 4, 2, 64, FileFault::Magic),
-    (4, 2, 11, 7, 64, FileFault::Version { got: 2 }),
+    (4, 2, 6, 1, 64, FileFault::Version { got: 2 }),
+    (4, 2, 11, 6, 64, FileFault::Version { got: 2 }),
+    (4, 2, 11, 9, 64, FileFault::Version { got: 2 }),
+    (4, 2, 11, 10, 64, FileFault::Version { got: 2 }),
+    (4, 3, 11, 7, 64, FileFault::Version { got: 3 }),
+    (4, 0, 11, 7, 64, FileFault::Version { got: 0 }),
     (11, 7, 6, 1, 64, FileFault::Code { lms: 7, ots: 3 }),
+    (11, 9, 6, 1, 64, FileFault::Code { lms: 9, ots: 3 }),
     (11, 6, 15, 4, 64, FileFault::Code { lms: 6, ots: 4 }),
     (11, 10, 6, 1, 64, FileFault::Code { lms: 10, ots: 3 }),
     (6, 1, 5, 6, 64, FileFault::Plan),
@@ -175,6 +181,80 @@ fn is_head(bytes: &[u8; 32]) -> bool {
 #[test]
 fn the_head_of_a_reference_file_is_read_and_written(rt: HostRuntime) {
     assert!(rt; is_head(&REFERENCE_HEAD));
+}
+
+/// K, N, the typecodes and the length of reference files of large sets: those of another implementation, and one of
+/// height 20.
+static LARGE: [(u8, u8, u8, u8, u64); 5] = [
+    (3, 5, 6, 4, 285_343_776),
+    (3, 5, 11, 8, 163_700_768),
+    (3, 5, 12, 7, 645_660_704),
+    (2, 3, 7, 3, 1_127_219_232),
+    (3, 5, 13, 7, 20_661_141_536),
+];
+
+/// The head of the reference file of a row, with this version.
+fn large_head(row: &(u8, u8, u8, u8, u64), version: u8) -> [u8; 32] {
+    let mut head = REFERENCE_HEAD;
+    head[4] = version;
+    head[6] = row.0;
+    head[7] = row.1;
+    head[11] = row.2;
+    head[15] = row.3;
+    head
+}
+
+/// Whether the head of a row is read with version 2, and written as it was.
+fn is_large(row: &(u8, u8, u8, u8, u64)) -> bool {
+    let bytes = large_head(row, 2);
+    let Ok(header) = read_ref_header(&bytes, row.4) else {
+        return false;
+    };
+    let mut head = [0; 32];
+    write_ref_head(&header, &mut head);
+    let codes = header.params.lms == u32::from(row.2) && header.params.ots == u32::from(row.3);
+    codes && version_of(&header.params) == 2 && head == bytes
+}
+
+/// Whether the head of a row has the fault of its codes with version 1, and that of its version with version 3.
+fn is_of_version_2(row: &(u8, u8, u8, u8, u64)) -> bool {
+    let code = FileFault::Code {
+        lms: u32::from(row.2),
+        ots: u32::from(row.3),
+    };
+    let version = FileFault::Version { got: 3 };
+    head_fault(&large_head(row, 1), row.4) == Some(code)
+        && head_fault(&large_head(row, 3), row.4) == Some(version)
+}
+
+#[test]
+fn the_heads_of_large_reference_files_have_version_2(rt: HostRuntime) {
+    for row in &LARGE {
+        holds(&rt, u32::from(row.2), is_large(row));
+        holds(&rt, u32::from(row.2), is_of_version_2(row));
+    }
+}
+
+/// The share of trustee 3 in a dealing of the typecodes 12 and 7 with the same entropy.
+fn large_share() -> [u8; 64] {
+    let mut bytes = SHARE;
+    bytes[4] = 2;
+    bytes[11] = 12;
+    bytes[15] = 7;
+    bytes
+}
+
+/// Whether that share is read, and written as it was.
+fn is_large_share(bytes: &[u8; 64]) -> bool {
+    let Ok(share) = read_share(bytes) else {
+        return false;
+    };
+    share.params.h == 15 && share.member == 3 && bytes_of(&share) == *bytes
+}
+
+#[test]
+fn a_share_of_a_large_set_is_read_and_written(rt: HostRuntime) {
+    assert!(rt; is_large_share(&large_share()));
 }
 
 /// The length of a reference file, a place of its head, what is put there, and the fault.
