@@ -12,7 +12,7 @@ use Rattle.leaf_table.specs.declared.table.Table.{Table}
 use Rattle.leaf_table.specs.declared.table.TableName.{TableName}
 use Rattle.lms_bytes.specs.MessageId.{message_id_bytes}
 use Rattle.lms_bytes.specs.declared.message.MessageId.{MessageId}
-use Rattle.slot_file.specs.Disks.{RisesAt}
+use Rattle.disk_trait.specs.Faults.{RisesAt}
 
 -- what a table stands for, the count of faults of its disk, and what tells it from others for good
 pub record TableSeen : Type 0 where

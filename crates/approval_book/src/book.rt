@@ -14,7 +14,8 @@ ghost use Rattle.slot_file.specs.declared.slot.Slot.TheVariants as slot;
 ghost use Rattle.lms_bytes.specs.MessageId.{message_id_bytes};
 ghost use Rattle.slot_file.specs.Cache.{count_of as cache_count, header_of as cache_header, state_of as cache_state};
 ghost use Rattle.slot_file.specs.declared.doubted.Doubted.{Doubted as DoubtedPut};
-ghost use Rattle.slot_file.specs.Disks.{RisesAt, Unwritten};
+ghost use Rattle.disk_trait.specs.Faults.{RisesAt};
+ghost use Rattle.slot_file.specs.Disks.{Unwritten};
 
 use crate::faults::{BookFault, unsettled};
 use disk_trait::{Disk, DiskFault};

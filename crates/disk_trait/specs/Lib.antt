@@ -1,9 +1,11 @@
 pub mod Disks
 pub mod Faults
+pub mod Gate
 pub mod Generator
 pub mod Images
 pub mod MemDisk
 pub mod MemDiskFields
 pub mod MemDiskLaws
 pub mod Rooms
+pub mod SameDisk
 pub mod Stopped

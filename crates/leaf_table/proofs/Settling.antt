@@ -10,7 +10,7 @@ use Rattle.leaf_table.specs.declared.faults.TableFault.{TableFault}
 use Rattle.leaf_table.specs.declared.lease.Lease.{Lease}
 use Rattle.leaf_table.specs.declared.table.Table.{Table}
 use Rattle.slot_file.specs.Calls as calls
-use Rattle.slot_file.specs.Disks.{RisesAt}
+use Rattle.disk_trait.specs.Faults.{RisesAt}
 use Rattle.slot_file.specs.State.{CacheState}
 use Rattle.slot_file.specs.declared.faults.SettleFault.{SettleFault}
 use Rattle.slot_file.specs.declared.faults.SettleFault.TheVariants as settle

@@ -10,7 +10,8 @@ use Rattle.leaf_table.specs.declared.faults.TableFault.{TableFault}
 use Rattle.leaf_table.specs.declared.faults.TableFault.TheVariants.{Damaged, Device}
 use Rattle.leaf_table.specs.declared.table.Table.{Table}
 use Rattle.slot_file.specs.Cache.{disk_of as cache_disk, header_of as cache_header, state_of as cache_state}
-use Rattle.slot_file.specs.Disks.{RisesAt, SameDisk}
+use Rattle.disk_trait.specs.Faults.{RisesAt}
+use Rattle.disk_trait.specs.SameDisk.{SameDisk}
 use Rattle.slot_file.specs.declared.header.Header.{Header}
 
 module _ {D : Type 0} {p : pages.Ghosts D} {f : faults.Ghosts D} where

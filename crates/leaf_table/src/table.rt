@@ -12,7 +12,8 @@ ghost use Rattle.slot_file.specs.Logs.{room_in};
 ghost use Rattle.leaf_table.specs.State.{IsSound, state_with};
 ghost use Rattle.leaf_table.specs.Steps.{LeasesIn, Makes, Settles};
 ghost use Rattle.slot_file.specs.Cache.{count_of, header_of as cache_header, state_of as cache_state};
-ghost use Rattle.slot_file.specs.Disks.{RisesAt, Unwritten};
+ghost use Rattle.disk_trait.specs.Faults.{RisesAt};
+ghost use Rattle.slot_file.specs.Disks.{Unwritten};
 
 use crate::bodies::report_bytes;
 use crate::faults::TableFault;

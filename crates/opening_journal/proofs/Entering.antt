@@ -16,10 +16,10 @@ use Rattle.opening_journal.specs.declared.faults.JournalFault.TheVariants.{Devic
 use Rattle.opening_journal.specs.declared.faults.JournalFault.TheVariants.{OtherDigest}
 use Rattle.opening_journal.specs.declared.journal.Journal.{Journal}
 use Rattle.slot_file.proofs.Held.{holds as cache_holds}
-use Rattle.slot_file.proofs.Unwritten.{same-then}
+use Rattle.disk_trait.proofs.SameDisk.{same-then}
 use Rattle.slot_file.specs.Cache.{count_of, state_of as cache_state}
 use Rattle.slot_file.specs.Copies.{is_damaged}
-use Rattle.slot_file.specs.Disks.{RisesAt}
+use Rattle.disk_trait.specs.Faults.{RisesAt}
 use Rattle.slot_file.specs.State.{slot_in}
 use Rattle.slot_file.specs.declared.slot.Slot.{Slot}
 

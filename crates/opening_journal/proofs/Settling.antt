@@ -15,7 +15,7 @@ use Rattle.opening_journal.proofs.Holding.{is-before, put-is, put_of}
 use Rattle.slot_file.proofs.Held.{holds as cache_holds}
 use Rattle.slot_file.specs.Cache.{state_of as cache_state}
 use Rattle.slot_file.specs.Calls.{IsNeither, Settles as SlotsSettle}
-use Rattle.slot_file.specs.Disks.{RisesAt}
+use Rattle.disk_trait.specs.Faults.{RisesAt}
 use Rattle.slot_file.specs.State.{CacheState, slot_in}
 use Rattle.slot_file.specs.declared.doubted.Doubted.{Doubted}
 use Rattle.slot_file.specs.declared.faults.SettleFault.{SettleFault}

@@ -12,7 +12,8 @@ use Rattle.opening_journal.specs.declared.faults.JournalFault.{JournalFault}
 use Rattle.opening_journal.specs.declared.faults.JournalFault.TheVariants.{Damaged, Device}
 use Rattle.opening_journal.specs.declared.journal.Journal.{Journal}
 use Rattle.slot_file.specs.Cache.{disk_of as cache_disk, header_of as cache_header}
-use Rattle.slot_file.specs.Disks.{RisesAt, SameDisk}
+use Rattle.disk_trait.specs.Faults.{RisesAt}
+use Rattle.disk_trait.specs.SameDisk.{SameDisk}
 use Rattle.slot_file.specs.declared.header.Header.{Header}
 
 module _ {D : Type 0} {p : pages.Ghosts D} {f : faults.Ghosts D} where

@@ -8,7 +8,8 @@ ghost use Rattle.slot_file.specs.Logs.{room_in};
 ghost use Rattle.opening_journal.specs.Inside.{IsHeld};
 ghost use Rattle.opening_journal.specs.Opening.{Binds, Opens};
 ghost use Rattle.slot_file.specs.Cache.{count_of, header_of as cache_header, state_of as cache_state};
-ghost use Rattle.slot_file.specs.Disks.{RisesAt, Unwritten};
+ghost use Rattle.disk_trait.specs.Faults.{RisesAt};
+ghost use Rattle.slot_file.specs.Disks.{Unwritten};
 
 use crate::answers::answer;
 use crate::entry::{Entry, leaf_of};

@@ -8,7 +8,8 @@ use Rattle.disk_trait.specs.Images.{written, Torn}
 use Rattle.disk_trait.specs.declared.disk.Pages as pages
 use Rattle.slot_file.specs.declared.header.Header.{Header}
 use Rattle.slot_file.specs.declared.slot.Slot.TheVariants.{Free}
-use Rattle.slot_file.specs.Fresh.{HasFields, IsBlank, IsNew, IsUnready, NeverHalf, OpensLast}
+use Rattle.disk_trait.specs.Gate.{OpensLast}
+use Rattle.slot_file.specs.Fresh.{HasFields, IsBlank, IsNew, IsUnready, NeverHalf}
 use Rattle.slot_file.specs.Files.{IsFile}
 use Rattle.slot_file.specs.Layout.{part, slot_size, slot_start, header_in, header_block, blank_file, slot_at}
 use Rattle.slot_file.proofs.Loads.{opens_file}

@@ -6,7 +6,7 @@ use Rattle.disk_trait.specs.Faults.{Rose}
 use Rattle.disk_trait.specs.declared.disk.Pages as pages
 use Rattle.disk_trait.specs.declared.faults.Faults as faults
 use Rattle.slot_file.specs.Copying.{CopyCalls, IsDamaged, IsStableCopy}
-use Rattle.slot_file.specs.Disks.{SameDisk}
+use Rattle.disk_trait.specs.SameDisk.{SameDisk}
 use Rattle.slot_file.specs.Doubts.{looked}
 use Rattle.slot_file.specs.Fresh.{AreUnready, NeverHalf, RefusesFull}
 use Rattle.slot_file.specs.Slots.{IsHonest, IsTold, MayLeave, OnlyLooked, Stays, doubt_of, faults_of, file_of}
@@ -16,7 +16,7 @@ use Rattle.slot_file.specs.declared.header.Header.{Header}
 use Rattle.slot_file.specs.declared.slots.Doubt.{Doubt}
 use Rattle.slot_file.specs.declared.slots.Doubt.TheVariants.{Nowhere}
 use Rattle.slot_file.specs.declared.slots.Slots.{Slots}
-use Rattle.slot_file.proofs.Unwritten.{same-none, same-then}
+use Rattle.disk_trait.proofs.SameDisk.{same-none, same-then}
 
 -- an error that is passed on
 pub device-answer : {T X : Type 0} {device : X} (answer : Result T X) → IsErrAnd answer (λ fault. fault ≡ device) → answer ≡ Err device
@@ -83,9 +83,6 @@ module _ {E : Type 0} {q : pages.Ghosts E} {h : faults.Ghosts E} where
 
 -- a call of the new disk
 module _ {D : Type 0} (p : pages.Ghosts D) (f : faults.Ghosts D) where
-  pub same-kind : (old new : D) → SameKind p.told p.honest f.steady p.room old new → f.count old ≤ f.count new → SameDisk p f old new
-  same-kind old new kind later = record { told = kind.told; honest = kind.honest; steady = kind.steady; room = kind.room; count = later }
-
   module _ {E : Type 0} {q : pages.Ghosts E} {h : faults.Ghosts E} {R : Type 0} where
     -- calls that fail
     pub calls-failed : (old new : D) (from now : Slots E q h) (answer device : R) → SameDisk p f old new → OnlyLooked from now → answer ≡ device

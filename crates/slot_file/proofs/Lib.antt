@@ -1,7 +1,6 @@
 mod Blank
 mod Copied
 mod CopyLaws
-mod FaultLaws
 mod Kept
 mod Loads
 pub mod Logs

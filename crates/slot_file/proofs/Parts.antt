@@ -79,12 +79,3 @@ part-part from m start size file fits = same_lists _ _ (grind (arith, places)) (
 -- a byte of a part
 pub get_or-part : (from m k at d : ℕ) (file : List ℕ) → k < m → from + k ≡ at → get_or (part from m file) k d ≡ get_or file at d
 get_or-part from m k at d file small is = get_or-take m (drop from file) k d small ∙ get_or-drop from file k d ∙ ap (λ (j : ℕ). get_or file j d) is
-
--- a write that was made whole is one that may be torn
-pub torn-written : (at n : ℕ) (ys old : List ℕ) → length ys ≡ n → at ≤ length old → Torn at n old (written old at ys)
-torn-written at n ys old is_n within = record {
-  before = same_lists _ _ (grind (arith, places)) (λ k d below. grind (arith, places));
-  after = same_lists _ _ (grind (arith, places)) (λ k d below. grind (arith, places));
-  no_shorter = grind (arith, places);
-  no_longer = grind (arith, places);
-}

@@ -14,7 +14,8 @@ use Rattle.slot_file.specs.Slots.{OnlyLooked}
 use Rattle.slot_file.specs.declared.slots.Doubt.{Doubt}
 use Rattle.slot_file.specs.declared.slots.Doubt.TheVariants.{Nowhere, Refused, Settled}
 use Rattle.slot_file.specs.declared.slots.Slots.{Slots}
-use Rattle.slot_file.proofs.Unwritten.{same-none, same-then, unwritten-then}
+use Rattle.disk_trait.proofs.SameDisk.{same-none, same-then}
+use Rattle.slot_file.proofs.Unwritten.{unwritten-then}
 
 module _ {D : Type 0} {p : pages.Ghosts D} {f : faults.Ghosts D} (slots : Slots D p f) (disk : D) (unwritten : Unwritten p f slots.disk disk) where
   pub kept-whole : IsTrue (p.told disk) → IsFile slots.header slots.count (p.reads disk)

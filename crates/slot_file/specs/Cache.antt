@@ -5,7 +5,7 @@ use Rattle.disk_trait.specs.declared.faults.Faults as faults
 use Rattle.slot_file.specs.State.{CacheState, IsWhole, StandsFor}
 use Rattle.slot_file.specs.declared.cache.CachedSlots.{CachedSlots}
 use Rattle.slot_file.specs.declared.doubted.Doubted.{Doubted}
-use Rattle.slot_file.specs.Disks.{SameDisk}
+use Rattle.disk_trait.specs.SameDisk.{SameDisk}
 use Rattle.slot_file.specs.Slots.{disk_of as slots_disk, header_of as slots_header}
 use Rattle.slot_file.specs.declared.header.Header.{Header}
 

@@ -6,7 +6,7 @@ use Rattle.disk_trait.specs.Images.{Only}
 use Rattle.disk_trait.specs.declared.disk.Pages as pages
 use Rattle.disk_trait.specs.declared.faults.Faults as faults
 use Rattle.slot_file.specs.Copies.{IsCopy, IsFirstDamaged, is_damaged, is_free, slot_block, slots_in, taken_count}
-use Rattle.slot_file.specs.Disks.{SameDisk}
+use Rattle.disk_trait.specs.SameDisk.{SameDisk}
 use Rattle.slot_file.specs.Layout.{header_block, slot_start}
 use Rattle.slot_file.specs.Slots.{IsTold, OnlyLooked, faults_of, file_of, header_of, slot_now}
 use Rattle.slot_file.specs.declared.copies.CopyFault.{CopyFault}

@@ -8,7 +8,7 @@ use Rattle.slot_file.specs.declared.slot.Slot.{Slot}
 use Rattle.slot_file.specs.declared.slots.Doubt.{Doubt}
 use Rattle.slot_file.specs.declared.slots.Doubt.TheVariants.{Nowhere, Refused}
 use Rattle.slot_file.specs.declared.slots.Slots.{Slots}
-use Rattle.slot_file.specs.Disks.{SameDisk}
+use Rattle.disk_trait.specs.SameDisk.{SameDisk}
 use Rattle.slot_file.specs.Files.{IsPut}
 use Rattle.slot_file.specs.Gated.{Gated, gated}
 use Rattle.slot_file.specs.Layout.{slot_at}

@@ -1,18 +1,19 @@
 //! Making a file from the slots of another.
 
 ghost use Rattle.std.specs.Prelude.{◌≡◌, ◌≢◌, ◌≤◌, ◌<◌, ◌+◌, ℕ, [], length, Err, IsTrue, IfOk, IfErr, if◌then◌else◌};
+ghost use Rattle.disk_trait.specs.Gate.{StaysShut};
 ghost use Rattle.slot_file.specs.Copies.{IsCopy};
 ghost use Rattle.slot_file.specs.Copying.{CopiesSlot, CopiesSlots, CopyCalls, FindsDamaged, FindsSlot, IsClosedCopy};
 ghost use Rattle.slot_file.specs.Copying.{IsDamaged, IsStableCopy};
-ghost use Rattle.slot_file.specs.Fresh.{AreUnready, NeverHalf, RefusesFull, StaysShut};
+ghost use Rattle.slot_file.specs.Fresh.{AreUnready, NeverHalf, RefusesFull};
 ghost use Rattle.slot_file.specs.Layout.{file_size, slot_start};
 ghost use Rattle.slot_file.specs.Slots.{IsSteady, IsTold, count_of, file_of, header_of, slot_now};
 
 use crate::faults::show_damaged;
-use crate::fresh::{append, open_gate, write_shut};
+use crate::header::OPEN;
 use crate::slot::slot_start;
 use crate::{Doubt, Header, Slot, Slots};
-use disk_trait::{Disk, DiskFault};
+use disk_trait::{Disk, DiskFault, append, open_gate, write_shut};
 use std::fmt::{self, Formatter, Write};
 use thiserror::Error;
 
@@ -194,6 +195,6 @@ fn make_copy<D: Disk, E: Disk>(
         Ok(taken) => taken,
         Err(fault) => return Err(fault),
     };
-    open_gate(disk)?;
+    open_gate(disk, OPEN)?;
     Ok(taken)
 }

@@ -2,30 +2,11 @@
 
 ghost use Rattle.std.specs.Prelude.{◌≡◌, ◌≤◌, ◌+◌, length, IsTrue, IsOk, OnOk};
 ghost use Rattle.disk_trait.specs.Faults.{HasCause};
-ghost use Rattle.disk_trait.specs.Images.{Only, Follows, Torn, written};
-ghost use Rattle.slot_file.specs.Disks.{SameDisk};
+ghost use Rattle.disk_trait.specs.Images.{Only, Follows};
+ghost use Rattle.disk_trait.specs.SameDisk.{SameDisk};
 ghost use Rattle.slot_file.specs.Gated.{Gated, gated};
 
-use disk_trait::{Disk, DiskFault};
-
-/// Writes bytes, and syncs.
-pub(crate) fn write_stable<D: Disk>(disk: &mut D, at: u64, bytes: &[u8]) -> Result<(), DiskFault>
-    ensures bytes { IsTrue (D.told disk.old)
-        → OnOk result (D.reads disk.new ≡ written (D.reads disk.old) at bytes.now) }
-    ensures torn { IsTrue (D.told disk.old) → Torn at (length bytes.now) (D.reads disk.old) (D.reads disk.new) }
-    ensures images { IsTrue (D.honest disk.old)
-        → Follows (Torn at (length bytes.now)) (D.may_leave disk.old) (D.may_leave disk.new) }
-    ensures stable { IsTrue (D.told disk.old) → IsTrue (D.honest disk.old)
-        → OnOk result (Only (D.reads disk.new) (D.may_leave disk.new)) }
-
-    ensures succeeds { IsTrue (D.steady disk.old) → IsTrue (D.told disk.old)
-        → at ≤ length (D.reads disk.old) → at + length bytes.now ≤ D.room disk.old → IsOk result }
-    ensures cause { HasCause (D.count disk.old) (D.count disk.new) result }
-    ensures stays { SameDisk D.Pages.own D.Faults disk.old disk.new }
-{
-    disk.write_at(at, bytes)?;
-    disk.sync()
-}
+use disk_trait::{Disk, DiskFault, write_stable};
 
 /// Writes a body, syncs, writes a gate of one byte, and syncs: the gate is never open before the
 /// body is whole and stable.

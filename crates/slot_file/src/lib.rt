@@ -5,7 +5,6 @@ mod cache;
 mod copies;
 mod doubted;
 mod faults;
-mod fresh;
 mod gated;
 mod header;
 mod prepared;

@@ -2,16 +2,18 @@
 
 ghost use Rattle.std.specs.Prelude.{◌≡◌, ◌≢◌, ◌≤◌, ◌<◌, ◌+◌, ◌*◌, ◌++◌, replicate, [], length};
 ghost use Rattle.std.specs.Prelude.{Err, IsTrue, IsOk, OnOk};
+ghost use Rattle.disk_trait.specs.Gate.{StaysShut};
 ghost use Rattle.disk_trait.specs.Faults.{HasCause};
 ghost use Rattle.disk_trait.specs.Images.{Only};
-ghost use Rattle.slot_file.specs.Disks.{RisesAt, SameDisk};
-ghost use Rattle.slot_file.specs.Fresh.{IsNew, NeverHalf, RefusesFull, StaysShut};
+ghost use Rattle.disk_trait.specs.Faults.{RisesAt};
+ghost use Rattle.disk_trait.specs.SameDisk.{SameDisk};
+ghost use Rattle.slot_file.specs.Fresh.{IsNew, NeverHalf, RefusesFull};
 ghost use Rattle.slot_file.specs.Layout.{file_size, slot_size};
 
 use crate::Header;
-use crate::fresh::{append, open_gate, write_shut};
+use crate::header::OPEN;
 use crate::slot::{slot_len, slot_start};
-use disk_trait::{Disk, DiskFault};
+use disk_trait::{Disk, DiskFault, append, open_gate, write_shut};
 use std::fmt::{self, Formatter, Write};
 use thiserror::Error;
 
@@ -84,7 +86,7 @@ fn make_blank<D: Disk>(disk: &mut D, header: &Header, count: u32) -> Result<(), 
     let block = header.block(0);
     write_shut(disk, &block)?;
     write_free(disk, header.version, count)?;
-    open_gate(disk)
+    open_gate(disk, OPEN)
 }
 
 // Writes free slots after the header's block.

@@ -4,7 +4,8 @@ ghost use Rattle.std.specs.Prelude.{◌≡◌, ◌≢◌, ◌≤◌, ◌<◌, �
 ghost use Rattle.disk_trait.specs.Faults.{HasCause};
 ghost use Rattle.slot_file.specs.Reading.{IsReadRefused, IsRunRefused, LooksOnly, refused_by};
 ghost use Rattle.slot_file.specs.State.{IsWhole, slot_in};
-ghost use Rattle.slot_file.specs.Disks.{RisesAt, Unwritten};
+ghost use Rattle.disk_trait.specs.Faults.{RisesAt};
+ghost use Rattle.slot_file.specs.Disks.{Unwritten};
 ghost use Rattle.slot_file.specs.Doubts.{looked, settled};
 ghost use Rattle.slot_file.specs.Layout.{IsShown};
 ghost use Rattle.slot_file.specs.Runs.{IsRun};

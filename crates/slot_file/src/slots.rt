@@ -5,7 +5,8 @@ ghost use Rattle.std.specs.Prelude.{IsTrue, IsOk, IfOk, IfErr, OnOk, OnErr, Ok, 
 ghost use Rattle.disk_trait.specs.Faults.{HasCause};
 ghost use Rattle.slot_file.specs.Doubts.{IsSure, looked_run, settled};
 ghost use Rattle.disk_trait.specs.Images.{Only};
-ghost use Rattle.slot_file.specs.Disks.{RisesAt, Unwritten};
+ghost use Rattle.disk_trait.specs.Faults.{RisesAt};
+ghost use Rattle.slot_file.specs.Disks.{Unwritten};
 ghost use Rattle.slot_file.specs.Gated.{second_body};
 ghost use Rattle.slot_file.specs.Layout.{file_size, slot_size, slot_start, load_fault, IsShown};
 ghost use Rattle.slot_file.specs.Files.{IsFile, IsHalf, with_b};

@@ -6,7 +6,7 @@ use Rattle.slot_file.specs.declared.faults.CacheLoad.{CacheLoad}
 use Rattle.slot_file.specs.declared.faults.CacheLoad.TheVariants as cache
 use Rattle.slot_file.specs.Loading as caches
 use Rattle.slot_file.specs.Copies.{IsFirstDamaged}
-use Rattle.slot_file.specs.Disks.{RisesAt}
+use Rattle.disk_trait.specs.Faults.{RisesAt}
 use Rattle.slot_file.specs.Layout.{load_fault}
 use Rattle.slot_file.specs.declared.header.Header.{Header}
 use Rattle.slot_file.specs.declared.header.LoadFault.{LoadFault}

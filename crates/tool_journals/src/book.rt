@@ -2,7 +2,7 @@
 
 ghost use Rattle.std.specs.Prelude.{◌≡◌, IfOk, IfErr};
 ghost use Rattle.lms_bytes.specs.MessageId.{message_id_bytes};
-ghost use Rattle.slot_file.specs.Disks.{SameDisk};
+ghost use Rattle.disk_trait.specs.SameDisk.{SameDisk};
 ghost use Rattle.stream_io.specs.Store.{pages_state};
 ghost use Rattle.tool_base.specs.Endings.{ending};
 ghost use Rattle.tool_base.specs.Reads.{FailsToRead};

@@ -8,7 +8,8 @@ use Rattle.leaf_table.specs.Loading.{IsTableFile}
 use Rattle.leaf_table.specs.Table.{Holds, Keeps, disk_of, header_of, plan_of, state_of}
 use Rattle.leaf_table.specs.declared.table.Table.{Table}
 use Rattle.aggregator_session.specs.Tables.{TableSeen, table_seen}
-use Rattle.slot_file.specs.Disks.{RisesAt, Unwritten}
+use Rattle.disk_trait.specs.Faults.{RisesAt}
+use Rattle.slot_file.specs.Disks.{Unwritten}
 use Rattle.slot_file.specs.Loading.{LoadRefused}
 use Rattle.slot_file.specs.declared.faults.CacheLoad.{CacheLoad}
 use Rattle.slot_file.specs.declared.faults.CacheLoad.TheVariants as cache

@@ -4,7 +4,7 @@ use Rattle.opening_journal.specs.declared.faults.JournalLoad.{JournalLoad}
 use Rattle.opening_journal.specs.declared.faults.JournalLoad.TheVariants as journal
 use Rattle.opening_journal.specs.Loading as journals
 use Rattle.slot_file.specs.Copies.{IsFirstDamaged}
-use Rattle.slot_file.specs.Disks.{RisesAt}
+use Rattle.disk_trait.specs.Faults.{RisesAt}
 use Rattle.slot_file.specs.Layout.{load_fault}
 use Rattle.slot_file.specs.declared.header.Header.{Header}
 use Rattle.slot_file.specs.declared.header.LoadFault.{LoadFault}

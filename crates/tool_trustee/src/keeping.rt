@@ -3,7 +3,8 @@
 ghost use Rattle.std.specs.Prelude.{◌≡◌, ◌≢◌, ◌⊎◌, ◌^◌, IfOk, IfErr, IsTrue};
 ghost use Rattle.opening_journal.specs.Loaded.{IsLoaded};
 ghost use Rattle.opening_journal.specs.Loading.{LoadRefused};
-ghost use Rattle.slot_file.specs.Disks.{RisesAt, Unwritten};
+ghost use Rattle.disk_trait.specs.Faults.{RisesAt};
+ghost use Rattle.slot_file.specs.Disks.{Unwritten};
 ghost use Rattle.tool_base.specs.Ending as spec;
 ghost use Rattle.tool_base.specs.Endings.{ending};
 ghost use Rattle.tool_base.specs.Grammars.{FailsGrammar, IsShareRead, share_fault_number};

@@ -4,7 +4,7 @@ use Rattle.lms_bytes.specs.declared.ask.Ask.{Ask}
 use Rattle.opening_journal.specs.declared.faults.JournalFault.{JournalFault}
 use Rattle.opening_journal.specs.declared.faults.JournalFault.TheVariants as journal
 use Rattle.share_files.specs.declared.share.Share.{Share}
-use Rattle.slot_file.specs.Disks.{RisesAt}
+use Rattle.disk_trait.specs.Faults.{RisesAt}
 use Rattle.trustee_core.specs.Codes.{refusal_code}
 use Rattle.trustee_core.specs.Decisions.{FailsTest, foreign_key, no_such_leaf, not_member, too_long, bad_check}
 use Rattle.trustee_core.specs.declared.refusal.Refusal.{Refusal}

@@ -6,7 +6,7 @@ use Rattle.opening_journal.specs.Journal.{IsSteady, IsTold, Stays, faults_of}
 use Rattle.opening_journal.specs.declared.faults.JournalFault.TheVariants as journal
 use Rattle.opening_journal.specs.declared.journal.Journal.{Journal}
 use Rattle.share_files.specs.declared.share.Share.{Share}
-use Rattle.slot_file.specs.Disks.{RisesAt}
+use Rattle.disk_trait.specs.Faults.{RisesAt}
 use Rattle.slot_file.specs.declared.header.Header.{Header}
 use Rattle.trustee_core.specs.declared.note.Note.{Note}
 use Rattle.trustee_core.specs.declared.refusal.Refusal.{Refusal}

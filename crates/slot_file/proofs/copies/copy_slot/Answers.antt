@@ -4,7 +4,7 @@ use Rattle.slot_file.specs.declared.slot.Slot.{Slot}
 use Rattle.slot_file.specs.declared.slot.Slot.TheVariants.{Damaged, Free, Full, Half}
 use Rattle.std.proofs.Common.{inl, inr, Bool, Result, Ok, Err}
 use Rattle.slot_file.proofs.CopyLaws.{calls-failed, calls-fine, device-answer, looked-once}
-use Rattle.slot_file.proofs.Unwritten.{same-none}
+use Rattle.disk_trait.proofs.SameDisk.{same-none}
 use Rattle.slot_file.specs.declared.copies.CopyFault.{CopyFault}
 use Rattle.slot_file.specs.declared.copies.CopyFault.TheVariants as fault
 use Rattle.std.proofs.lemmas.Bool.{false≢true}

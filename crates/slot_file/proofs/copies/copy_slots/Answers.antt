@@ -1,7 +1,8 @@
 use Rattle.std.proofs.Common.{◌≡◌, ◌≢◌, ℕ, length, Result, Err, inl, refl, sym, ◌∙◌, ap, arith}
 use Rattle.slot_file.specs.declared.copies.CopyFault.{CopyFault}
 use Rattle.slot_file.specs.declared.copies.CopyFault.TheVariants.{Device, NotEmpty}
-use Rattle.slot_file.proofs.CopyLaws.{calls-failed, calls-fine, calls-then, device-answer, full-told, full-untold, half-after, half-empty, looked-none, none-held, not-full, same-kind, stable-after, unready-after}
+use Rattle.slot_file.proofs.CopyLaws.{calls-failed, calls-fine, calls-then, device-answer, full-told, full-untold, half-after, half-empty, looked-none, none-held, not-full, stable-after, unready-after}
+use Rattle.disk_trait.proofs.SameDisk.{same-kind}
 use Rattle.std.proofs.lemmas.Bool.{false≢true}
 use Rattle.slot_file.specs.Copying.{FindsDamaged, IsDamaged}
 use Rattle.slot_file.specs.Fresh.{AreUnready}

@@ -6,9 +6,9 @@ use Rattle.slot_file.specs.Copying.{slots_of}
 use Rattle.slot_file.specs.Slots.{header_of, file_of}
 use Rattle.slot_file.proofs.Blank.{never-half, opened}
 use Rattle.std.proofs.Common.{inl, Result, Ok, Err, ◌≢◌}
-use Rattle.slot_file.proofs.FaultLaws.{rose-since}
+use Rattle.disk_trait.proofs.FaultLaws.{rose-since}
 use Rattle.slot_file.proofs.CopyLaws.{calls-failed, calls-fine, device-answer}
-use Rattle.slot_file.proofs.Unwritten.{same-then}
+use Rattle.disk_trait.proofs.SameDisk.{same-then}
 use Rattle.slot_file.specs.declared.copies.CopyFault.{CopyFault}
 use Rattle.slot_file.specs.declared.copies.CopyFault.TheVariants.{Device}
 use Rattle.std.proofs.Common.{arith}

@@ -4,9 +4,10 @@ use Rattle.slot_file.specs.Copies.{slot_block}
 use Rattle.slot_file.specs.Copying.{slots_of}
 use Rattle.slot_file.specs.Layout.{file_size}
 use Rattle.slot_file.specs.Slots.{header_of, file_of}
+use Rattle.slot_file.proofs.Blank.{length-header_block}
 use Rattle.slot_file.proofs.Copied.{is_copy}
-use Rattle.slot_file.proofs.Shut.{header_block-shut, shut_unready}
-use Rattle.std.proofs.Common.{refl, inl}
+use Rattle.slot_file.proofs.Shut.{header_block-shut, shut_unready, unready-header}
+use Rattle.std.proofs.Common.{length, refl, inl}
 use Rattle.slot_file.proofs.CopyLaws.{calls-failed, calls-then, device-answer, looked-none}
 use Rattle.std.proofs.Common.{arith}
 use Rattle.std.proofs.lemmas.Bool.{false≢true}
@@ -70,7 +71,7 @@ pub returns-in_err-write_shut-clause-not_empty : goal.returns-in_err-write_shut-
 returns-in_err-write_shut-clause-not_empty g c = device-not-held _ c.from_residual.ensures.1
 
 pub returns-in_err-write_shut-clause-unready : goal.returns-in_err-write_shut-clause-unready
-returns-in_err-write_shut-clause-unready g c = c.write_shut.ensures.unready
+returns-in_err-write_shut-clause-unready g c = unready-header g.D.Pages _ _ _ (ap length c.block-block.ensures.bytes ∙ length-header_block c.args.header.now c.block-block.ensures.names 0) c.write_shut.ensures.unready
 
 pub returns-in_err-write_shut-clause-succeeds : goal.returns-in_err-write_shut-clause-succeeds
 returns-in_err-write_shut-clause-succeeds g c = λ steady told steady_from told_from room. absurd (false≢true (c.in_err-write_shut.ensures.succeeds steady told (omega (arith, room))))

@@ -9,13 +9,13 @@ use Rattle.slot_file.proofs.Copied.{blocks-more, taken-more}
 use Rattle.slot_file.specs.declared.copies.CopyFault.{CopyFault}
 use Rattle.slot_file.specs.declared.copies.CopyFault.TheVariants.{Device}
 use Rattle.slot_file.proofs.CopyLaws.{calls-as, calls-fine, calls-then, looked-then}
-use Rattle.slot_file.proofs.Unwritten.{same-then}
+use Rattle.disk_trait.proofs.SameDisk.{same-then}
 use Rattle.slot_file.proofs.CopyLaws.{value-not}
 use Rattle.std.proofs.Common.{refl}
 use Rattle.std.proofs.lemmas.List.{append-nil}
 use Rattle.slot_file.specs.declared.copies.CopyFault.TheVariants.{NotEmpty}
 use Rattle.slot_file.proofs.CopyLaws.{looked-none}
-use Rattle.slot_file.proofs.Unwritten.{same-none}
+use Rattle.disk_trait.proofs.SameDisk.{same-none}
 use Rattle.slot_file.proofs.copies.write_copies.Goals as goal
 
 same-as : {T U : Type 0} (fault other : CopyFault) → ◌≡◌ {A = Result T CopyFault} (Err fault) (Err other) → ◌≡◌ {A = Result U CopyFault} (Err fault) (Err other)

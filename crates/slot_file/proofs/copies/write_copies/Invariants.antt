@@ -2,8 +2,8 @@ use Rattle.std.proofs.Common.{◌≡◌, ◌≤◌, ◌<◌, ◌++◌, ℕ, fals
 use Rattle.std.specs.List.{flat_map}
 use Rattle.slot_file.specs.Copies.{is_damaged, slot_block, taken_count}
 use Rattle.slot_file.specs.Copying.{slots_of}
-use Rattle.slot_file.specs.Disks.{SameDisk}
-use Rattle.slot_file.specs.Fresh.{StaysShut}
+use Rattle.disk_trait.specs.SameDisk.{SameDisk}
+use Rattle.disk_trait.specs.Gate.{StaysShut}
 use Rattle.slot_file.specs.Layout.{slot_start}
 use Rattle.slot_file.specs.Slots.{IsTold, OnlyLooked, faults_of, slot_now}
 use Rattle.slot_file.proofs.copies.write_copies.Given as goal

@@ -3,8 +3,8 @@ use Rattle.std.proofs.lemmas.Bool.{false≢true}
 use Rattle.std.proofs.lemmas.Result.{on_ok_weaker}
 use Rattle.disk_trait.specs.Images.{written, Follows, Only, Torn}
 use Rattle.slot_file.specs.Gated.{Gated}
-use Rattle.slot_file.proofs.FaultLaws.{cause-failed, cause-then, on-err}
-use Rattle.slot_file.proofs.Unwritten.{same-then}
+use Rattle.disk_trait.proofs.FaultLaws.{cause-failed, cause-then, on-err}
+use Rattle.disk_trait.proofs.SameDisk.{same-then}
 use Rattle.slot_file.proofs.gated.write_gated.Goals as goal
 
 -- a body that may be torn, and a gate after it

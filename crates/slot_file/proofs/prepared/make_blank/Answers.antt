@@ -3,11 +3,11 @@ use Rattle.std.proofs.lemmas.Result.{on_ok_weaker}
 use Rattle.disk_trait.specs.Images.{written}
 use Rattle.slot_file.specs.Fresh.{IsNew}
 use Rattle.slot_file.specs.Layout.{blank_file, header_block, slot_size}
-use Rattle.slot_file.proofs.Blank.{is_new, never-half, opened}
-use Rattle.slot_file.proofs.Shut.{header_block-shut, shut_unready}
-use Rattle.slot_file.proofs.FaultLaws.{cause-failed, cause-then, on-err}
-use Rattle.slot_file.proofs.Unwritten.{same-then}
-use Rattle.std.proofs.Common.{inl, arith}
+use Rattle.slot_file.proofs.Blank.{is_new, length-header_block, never-half, opened}
+use Rattle.slot_file.proofs.Shut.{header_block-shut, shut_unready, unready-header}
+use Rattle.disk_trait.proofs.FaultLaws.{cause-failed, cause-then, on-err}
+use Rattle.disk_trait.proofs.SameDisk.{same-then}
+use Rattle.std.proofs.Common.{inl, arith, length}
 use Rattle.std.proofs.lemmas.Bool.{false≢true}
 use Rattle.slot_file.proofs.prepared.make_blank.Goals as goal
 
@@ -83,7 +83,7 @@ pub returns-in_err-write_free-clause-stable : goal.returns-in_err-write_free-cla
 returns-in_err-write_free-clause-stable g c = λ told honest. on-err _ _ c.from_residual-in_err-write_free.ensures.0
 
 pub returns-in_err-write_shut-clause-half : goal.returns-in_err-write_shut-clause-half
-returns-in_err-write_shut-clause-half g c = (let unready = c.write_shut.ensures.unready in record { images = λ told honest image leaves. inl (unready.images told honest image leaves); shows = λ told honest. inl (unready.reads told) })
+returns-in_err-write_shut-clause-half g c = (let unready = unready-header g.D.Pages _ _ _ (ap length c.block-block.ensures.bytes ∙ length-header_block c.args.header.now c.block-block.ensures.names 0) c.write_shut.ensures.unready in record { images = λ told honest image leaves. inl (unready.images told honest image leaves); shows = λ told honest. inl (unready.reads told) })
 
 pub returns-in_err-write_free-clause-half : goal.returns-in_err-write_free-clause-half
 returns-in_err-write_free-clause-half g c =

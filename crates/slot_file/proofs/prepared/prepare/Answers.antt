@@ -2,9 +2,10 @@ use Rattle.std.proofs.Common.{◌≡◌, ◌≢◌, ◌∙◌, ℕ, length, Resu
 use Rattle.std.proofs.lemmas.Bool.{false≢true}
 use Rattle.slot_file.specs.declared.prepared.PrepareFault.{PrepareFault}
 use Rattle.slot_file.specs.declared.prepared.PrepareFault.TheVariants.{Device, NotEmpty}
-use Rattle.slot_file.proofs.CopyLaws.{device-answer, full-told, full-untold, half-after, half-empty, none-held, not-full, same-kind}
-use Rattle.slot_file.proofs.FaultLaws.{on-err, rises-failed, rises-fine}
-use Rattle.slot_file.proofs.Unwritten.{same-then}
+use Rattle.slot_file.proofs.CopyLaws.{device-answer, full-told, full-untold, half-after, half-empty, none-held, not-full}
+use Rattle.disk_trait.proofs.SameDisk.{same-kind}
+use Rattle.disk_trait.proofs.FaultLaws.{on-err, rises-failed, rises-fine}
+use Rattle.disk_trait.proofs.SameDisk.{same-then}
 use Rattle.slot_file.proofs.prepared.prepare.Goals as goal
 
 abbrev held-back : {T : Type 0} → ℕ → Result T PrepareFault

@@ -4,8 +4,8 @@ use Rattle.std.proofs.lemmas.Bool.{false≢true}
 use Rattle.slot_file.specs.Layout.{slot_size}
 use Rattle.slot_file.proofs.Kept.{slot-within}
 use Rattle.slot_file.proofs.Puts.{most_size}
-use Rattle.slot_file.proofs.FaultLaws.{cause-failed, on-err}
-use Rattle.slot_file.proofs.Unwritten.{same-then}
+use Rattle.disk_trait.proofs.FaultLaws.{cause-failed, on-err}
+use Rattle.disk_trait.proofs.SameDisk.{same-then}
 use Rattle.slot_file.proofs.prepared.write_free.Goals as goal
 
 one_more : (front : List ℕ) (size slot n : ℕ) → n ≡ size → size ≤ 160 → (front ++ replicate (size * slot) 0) ++ take n (replicate 160 0) ≡ front ++ replicate (size * (slot + 1)) 0

@@ -1,6 +1,6 @@
 use Rattle.std.proofs.Common.{◌≡◌, ◌*◌, ◌++◌, replicate, IsTrue}
-use Rattle.slot_file.specs.Disks.{SameDisk}
-use Rattle.slot_file.specs.Fresh.{StaysShut}
+use Rattle.disk_trait.specs.SameDisk.{SameDisk}
+use Rattle.disk_trait.specs.Gate.{StaysShut}
 use Rattle.slot_file.specs.Layout.{slot_size}
 use Rattle.slot_file.proofs.prepared.write_free.Given as goal
 

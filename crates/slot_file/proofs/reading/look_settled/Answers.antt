@@ -1,7 +1,8 @@
 use Rattle.std.proofs.Common.{◌∙◌, refl}
 use Rattle.std.proofs.lemmas.Bool.{false≢true}
-use Rattle.slot_file.proofs.FaultLaws.{cause-failed, cause-then, on-err}
-use Rattle.slot_file.proofs.Unwritten.{same-then, unwritten-then}
+use Rattle.disk_trait.proofs.FaultLaws.{cause-failed, cause-then, on-err}
+use Rattle.disk_trait.proofs.SameDisk.{same-then}
+use Rattle.slot_file.proofs.Unwritten.{unwritten-then}
 use Rattle.slot_file.proofs.SlotsLooks.{no-value}
 use Rattle.slot_file.specs.Slots.{faults_of}
 use Rattle.std.proofs.Common.{◌≡◌, IfOk, ap, arith, subst}

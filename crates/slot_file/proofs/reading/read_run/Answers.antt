@@ -8,7 +8,7 @@ use Rattle.slot_file.specs.Reading.{IsRunRefused}
 use Rattle.slot_file.specs.declared.faults.CacheLoad.{CacheLoad}
 use Rattle.slot_file.specs.declared.faults.CacheLoad.TheVariants as load
 use Rattle.slot_file.specs.declared.slot.Slot.{Slot}
-use Rattle.slot_file.proofs.FaultLaws.{on-any, rises-failed, rises-fine}
+use Rattle.disk_trait.proofs.FaultLaws.{on-any, rises-failed, rises-fine}
 use Rattle.slot_file.proofs.SlotsLooks.{looks-only}
 use Rattle.slot_file.proofs.reading.read_run.Goals as goal
 

@@ -8,8 +8,8 @@ use Rattle.slot_file.proofs.CachedRuns.{each-slot}
 use Rattle.std.proofs.Common.{◌≢◌, Result, Ok, Err}
 use Rattle.slot_file.specs.declared.faults.CacheLoad.{CacheLoad}
 use Rattle.slot_file.specs.declared.faults.CacheLoad.TheVariants.{Device}
-use Rattle.slot_file.proofs.FaultLaws.{rises-fine}
-use Rattle.slot_file.proofs.FaultLaws.{on-err}
+use Rattle.disk_trait.proofs.FaultLaws.{rises-fine}
+use Rattle.disk_trait.proofs.FaultLaws.{on-err}
 use Rattle.slot_file.proofs.SlotsLooks.{looks-none, looks-then}
 use Rattle.std.proofs.Common.{refl}
 use Rattle.disk_trait.specs.declared.disk.Pages as pages

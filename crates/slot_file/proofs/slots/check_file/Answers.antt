@@ -7,7 +7,7 @@ use Rattle.std.proofs.lemmas.Bool.{false≢true}
 use Rattle.slot_file.specs.declared.header.LoadFault.{LoadFault}
 use Rattle.slot_file.specs.declared.header.LoadFault.TheVariants.{Device}
 use Rattle.slot_file.proofs.CopyLaws.{device-answer}
-use Rattle.slot_file.proofs.FaultLaws.{on-err, rises-failed, rises-fine}
+use Rattle.disk_trait.proofs.FaultLaws.{on-err, rises-failed, rises-fine}
 use Rattle.slot_file.proofs.Unwritten.{unwritten-call, unwritten-next}
 use Rattle.slot_file.proofs.slots.check_file.Goals as goal
 

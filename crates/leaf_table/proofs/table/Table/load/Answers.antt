@@ -1,6 +1,6 @@
 use Rattle.std.proofs.Common.{◌≡◌, ◌^◌, ◌≤◌, ◌*◌, ◌%◌, ℕ, Option, None, Some, refl, sym, ◌∙◌, ap, subst, arith}
 use Rattle.std.proofs.lemmas.Nat.{one_shl}
-use Rattle.slot_file.specs.Disks.{RisesAt}
+use Rattle.disk_trait.specs.Faults.{RisesAt}
 use Rattle.slot_file.specs.Loading.{LoadRefused, no_memory}
 use Rattle.slot_file.specs.Cache.{state_of}
 use Rattle.slot_file.specs.Layout.{load_fault}

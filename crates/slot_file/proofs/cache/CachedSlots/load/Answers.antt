@@ -18,8 +18,8 @@ use Rattle.slot_file.specs.declared.faults.CacheLoad.{CacheLoad}
 use Rattle.slot_file.specs.declared.faults.CacheLoad.TheVariants as load
 use Rattle.slot_file.specs.declared.header.LoadFault.{LoadFault}
 use Rattle.slot_file.specs.declared.header.LoadFault.TheVariants as file
-use Rattle.slot_file.proofs.FaultLaws.{rises-as, rises-fine}
-use Rattle.slot_file.specs.Disks.{RisesAt}
+use Rattle.disk_trait.proofs.FaultLaws.{rises-as, rises-fine}
+use Rattle.disk_trait.specs.Faults.{RisesAt}
 use Rattle.slot_file.specs.Slots.{faults_of}
 use Rattle.slot_file.proofs.cache.CachedSlots.load.Goals as goal
 

@@ -1,7 +1,7 @@
 use Rattle.std.proofs.Common.{refl}
 use Rattle.slot_file.proofs.CachedLooks.{none-some, settled-not}
-use Rattle.slot_file.proofs.FaultLaws.{rises-fine}
-use Rattle.slot_file.proofs.Unwritten.{same-none}
+use Rattle.disk_trait.proofs.FaultLaws.{rises-fine}
+use Rattle.disk_trait.proofs.SameDisk.{same-none}
 use Rattle.slot_file.proofs.cache.CachedSlots.settle.Goals as goal
 
 pub returns-in-Some-clause-event : goal.returns-in-Some-clause-event

@@ -16,7 +16,7 @@ use Rattle.slot_file.specs.declared.faults.Settled.{Settled}
 use Rattle.slot_file.proofs.CachedPuts.{HoldsPut}
 use Rattle.slot_file.proofs.CachedLooks.{damaged-not, device-not, doubt-kept, kept-images, kept-reads, neither-not, settled-not, some-of}
 use Rattle.slot_file.proofs.CopyLaws.{device-answer}
-use Rattle.slot_file.proofs.FaultLaws.{rises-failed, rises-fine}
+use Rattle.disk_trait.proofs.FaultLaws.{rises-failed, rises-fine}
 use Rattle.slot_file.proofs.cache.CachedSlots.settle_put.Goals as goal
 
 pub invariant_of-self-then-is_same : goal.invariant_of-self-then-is_same

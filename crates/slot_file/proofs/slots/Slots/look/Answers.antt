@@ -1,7 +1,7 @@
 use Rattle.std.proofs.Common.{◌≡◌, take, drop, refl, ap, ◌∙◌, rules}
 use Rattle.slot_file.specs.Layout.{slot_of, slot_size, slot_start}
 use Rattle.slot_file.specs.Slots.{file_of, header_of}
-use Rattle.slot_file.proofs.FaultLaws.{cause-failed}
+use Rattle.disk_trait.proofs.FaultLaws.{cause-failed}
 use Rattle.slot_file.proofs.SlotsLooks.{if-err, looked-once, no-value}
 use Rattle.std.proofs.Common.{arith}
 use Rattle.std.proofs.lemmas.Bool.{false≢true}

@@ -1,7 +1,7 @@
 use Rattle.std.proofs.Common.{arith, rules, ◌≡◌, Result, Ok, Err, OnErr, ◌*◌, length, take, drop, refl, ◌∙◌}
 use Rattle.slot_file.specs.Layout.{slot_size, slot_start}
 use Rattle.slot_file.specs.Slots.{file_of, header_of}
-use Rattle.slot_file.proofs.FaultLaws.{cause-failed, on-err}
+use Rattle.disk_trait.proofs.FaultLaws.{cause-failed, on-err}
 use Rattle.slot_file.proofs.Runs.{run-read, run-size}
 use Rattle.slot_file.proofs.SlotsLooks.{if-err}
 use Rattle.std.proofs.lemmas.Bool.{false≢true}

@@ -1,5 +1,5 @@
 use Rattle.std.proofs.Common.{refl, sym, arith}
-use Rattle.slot_file.proofs.CopyLaws.{same-kind}
+use Rattle.disk_trait.proofs.SameDisk.{same-kind}
 use Rattle.slot_file.proofs.Kept.{run-within}
 use Rattle.slot_file.proofs.SlotsLooks.{kept-images, kept-room, kept-stable, kept-whole, nowhere-run, sure-run}
 use Rattle.slot_file.proofs.Unwritten.{unwritten-call}

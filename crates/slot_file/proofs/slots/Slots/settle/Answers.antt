@@ -1,5 +1,5 @@
 use Rattle.std.proofs.Common.{refl}
-use Rattle.slot_file.proofs.CopyLaws.{same-kind}
+use Rattle.disk_trait.proofs.SameDisk.{same-kind}
 use Rattle.slot_file.proofs.SlotsLooks.{kept-images, kept-room, kept-stable, kept-whole, sure-settled, synced-stable}
 use Rattle.slot_file.proofs.Unwritten.{unwritten-call}
 use Rattle.slot_file.proofs.slots.Slots.settle.Goals as goal

@@ -1,6 +1,6 @@
 use Rattle.std.proofs.Common.{◌≡◌, Err, refl, ap, arith}
 use Rattle.opening_journal.specs.Journal.{disk_of}
-use Rattle.slot_file.proofs.Unwritten.{same-none}
+use Rattle.disk_trait.proofs.SameDisk.{same-none}
 use Rattle.opening_journal.specs.declared.faults.JournalFault.TheVariants as journal
 use Rattle.trustee_core.specs.Decisions.{tested}
 use Rattle.trustee_core.specs.declared.refusal.Refusal.TheVariants.{Journal}

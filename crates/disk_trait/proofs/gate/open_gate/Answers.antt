@@ -1,12 +1,12 @@
 use Rattle.std.proofs.Common.{ℕ, List, IsTrue, ◌∷◌, [], ◌∙◌, ap, refl, subst, inl, inr, arith}
 use Rattle.std.proofs.lemmas.Bool.{false≢true}
 use Rattle.std.proofs.lemmas.Result.{on_ok_weaker}
-use Rattle.slot_file.proofs.FaultLaws.{cause-failed, cause-then, on-err}
-use Rattle.slot_file.proofs.CopyLaws.{same-kind}
-use Rattle.slot_file.proofs.Unwritten.{same-then}
+use Rattle.disk_trait.proofs.FaultLaws.{cause-failed, cause-then, on-err}
+use Rattle.disk_trait.proofs.SameDisk.{same-kind}
+use Rattle.disk_trait.proofs.SameDisk.{same-then}
 use Rattle.disk_trait.specs.Images.{Follows, Only, Torn, written}
-use Rattle.slot_file.specs.Fresh.{AllBut}
-use Rattle.slot_file.proofs.fresh.open_gate.Goals as goal
+use Rattle.disk_trait.specs.Gate.{AllBut}
+use Rattle.disk_trait.proofs.gate.open_gate.Goals as goal
 
 gate-torn : (mid new : List ℕ → Type 0) (file : List ℕ) → Only file mid → Follows (Torn 0 1) mid new → AllBut file new
 gate-torn mid new file only torn image leaves = (let from = torn image leaves in subst (λ (l : List ℕ). Torn 0 1 l image) (only from.0 from.1) from.2)
@@ -31,7 +31,7 @@ returns-in_err-sync-clause-stays g c = same-kind g.D.Pages g.D.Faults c.args.dis
 
 pub returns-clause-bytes : goal.returns-clause-bytes
 returns-clause-bytes g c = λ told.
-    on_ok_weaker c.write_stable.result (λ is. is ∙ ap (λ (l : List ℕ). written l 0 (0xA7 ∷ [])) (c.sync.ensures.same told))
+    on_ok_weaker c.write_stable.result (λ is. is ∙ ap (λ (l : List ℕ). written l 0 (c.args.gate ∷ [])) (c.sync.ensures.same told))
     (c.write_stable.ensures.bytes (c.sync.ensures.stays.told ∙ told))
 
 pub returns-clause-stable : goal.returns-clause-stable

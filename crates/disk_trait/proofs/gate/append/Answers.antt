@@ -1,11 +1,16 @@
 use Rattle.std.proofs.Common.{◌∙◌, arith}
 use Rattle.std.proofs.lemmas.Result.{on_ok_weaker}
-use Rattle.slot_file.proofs.CopyLaws.{same-kind}
-use Rattle.slot_file.proofs.Shut.{appended, torn-either, torn-shut}
-use Rattle.slot_file.proofs.fresh.append.Goals as goal
+use Rattle.disk_trait.proofs.SameDisk.{same-kind}
+use Rattle.disk_trait.proofs.Gates.{appended, torn-either, torn-shut}
+use Rattle.disk_trait.proofs.gate.append.Goals as goal
 
 pub returns-clause-bytes : goal.returns-clause-bytes
 returns-clause-bytes g c = λ told. on_ok_weaker c.write_at.result (λ is. is ∙ appended (g.D.Pages.reads c.args.disk.now) c.args.bytes.now c.args.at (c.requires.end told)) (c.write_at.ensures.bytes told)
+
+pub returns-clause-torn : goal.returns-clause-torn
+returns-clause-torn g c = λ told.
+    let p = g.D.Pages in
+    torn-either c.write_at.result c.args.at c.args.bytes.now (p.reads c.args.disk.now) (p.reads c.write_at.new.self) (c.write_at.ensures.within told) (c.write_at.ensures.bytes told) (c.write_at.ensures.torn told)
 
 pub returns-clause-shut : goal.returns-clause-shut
 returns-clause-shut g c =

@@ -1,8 +1,7 @@
 -- Counts of faults over calls that come one after the other.
 use Rattle.std.proofs.Common.{◌≡◌, ◌≢◌, ◌≤◌, ℕ, Result, Ok, Err, IsErr, OnOk, subst, arith}
 use Rattle.std.proofs.lemmas.Bool.{false≢true}
-use Rattle.disk_trait.specs.Faults.{HasCause, Rose}
-use Rattle.slot_file.specs.Disks.{RisesAt}
+use Rattle.disk_trait.specs.Faults.{HasCause, RisesAt, Rose}
 
 -- the last call failed, and those before it didn't
 pub cause-failed : {T X : Type 0} (before mid now : ℕ) (answer : Result T X) → IsErr answer → mid ≡ before → mid ≤ now → Rose mid now → HasCause before now answer

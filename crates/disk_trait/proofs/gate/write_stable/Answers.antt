@@ -2,11 +2,11 @@ use Rattle.std.proofs.Common.{length, refl, sym, ◌∙◌, subst}
 use Rattle.std.proofs.lemmas.Bool.{false≢true}
 use Rattle.std.proofs.lemmas.Result.{on_ok_weaker}
 use Rattle.disk_trait.specs.Images.{Only, Torn}
-use Rattle.slot_file.proofs.CopyLaws.{same-kind}
-use Rattle.slot_file.proofs.FaultLaws.{cause-failed, cause-then, on-any, on-err}
-use Rattle.slot_file.proofs.Parts.{torn-written}
-use Rattle.slot_file.proofs.Unwritten.{same-then}
-use Rattle.slot_file.proofs.gated.write_stable.Goals as goal
+use Rattle.disk_trait.proofs.SameDisk.{same-kind}
+use Rattle.disk_trait.proofs.FaultLaws.{cause-failed, cause-then, on-any, on-err}
+use Rattle.disk_trait.proofs.Gates.{torn-written}
+use Rattle.disk_trait.proofs.SameDisk.{same-then}
+use Rattle.disk_trait.proofs.gate.write_stable.Goals as goal
 
 pub returns-in_err-write_at-clause-bytes : goal.returns-in_err-write_at-clause-bytes
 returns-in_err-write_at-clause-bytes g c = λ told. on-err _ _ c.from_residual.ensures.0

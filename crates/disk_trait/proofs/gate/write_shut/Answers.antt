@@ -1,19 +1,19 @@
-use Rattle.std.proofs.Common.{◌≡◌, ◌≤◌, ◌+◌, List, ℕ, [], ◌∷◌, ◌++◌, IsTrue, length, get_or, take, drop, inl, refl, sym, ◌∙◌, ap, arith, rules}
+use Rattle.std.proofs.Common.{◌≡◌, ◌<◌, ◌≤◌, ◌+◌, ◌-◌, List, ℕ, [], ◌∷◌, ◌++◌, IsTrue, length, get_or, take, drop, length-take, inl, refl, sym, ◌∙◌, ap, arith}
 use Rattle.std.proofs.lemmas.Bool.{false≢true}
 use Rattle.std.proofs.lemmas.Result.{on_ok_weaker}
 use Rattle.disk_trait.specs.Images.{Torn, written}
-use Rattle.slot_file.specs.Fresh.{IsShut, IsUnready}
-use Rattle.slot_file.proofs.FaultLaws.{cause-failed, cause-then, on-any, on-err}
-use Rattle.slot_file.proofs.Shut.{rest-appended, shut_unready}
-use Rattle.slot_file.proofs.Unwritten.{same-then}
-use Rattle.slot_file.proofs.fresh.write_shut.Goals as goal
+use Rattle.disk_trait.specs.Gate.{IsShut, IsUnready}
+use Rattle.disk_trait.proofs.FaultLaws.{cause-failed, cause-then, on-any, on-err}
+use Rattle.disk_trait.proofs.Gates.{rest-appended, shut_unready}
+use Rattle.disk_trait.proofs.SameDisk.{same-then}
+use Rattle.disk_trait.proofs.gate.write_shut.Goals as goal
 
 emptied : (file : List ℕ) → file ≡ [] → length file ≤ 0
 emptied file is = omega (arith, ap length is)
 
 -- one byte that may be torn, on an empty file
-empty-torn : (old new : List ℕ) → length old ≤ 0 → Torn 0 1 old new → IsUnready new
-empty-torn old new none torn = inl (omega (arith, torn.no_longer, none))
+empty-torn : (gate head : ℕ) (old new : List ℕ) → 1 < head → length old ≤ 0 → Torn 0 1 old new → IsUnready gate head new
+empty-torn gate head old new longer none torn = inl (omega (arith, torn.no_longer, none, longer))
 
 -- a closed gate on an empty file
 one-gate : (old new : List ℕ) → old ≡ [] → new ≡ written old 0 (0 ∷ []) → new ≡ 0 ∷ []
@@ -32,15 +32,16 @@ pub returns-in_err-write_stable-clause-bytes : goal.returns-in_err-write_stable-
 returns-in_err-write_stable-clause-bytes g c = λ told. on-err _ _ c.from_residual.ensures.0
 
 pub returns-in_err-write_stable-clause-unready : goal.returns-in_err-write_stable-clause-unready
-returns-in_err-write_stable-clause-unready g c =
+returns-in_err-write_stable-clause-unready g c = λ gate some.
+    let torn_empty = empty-torn gate (length c.args.head.now) in
     let old = c.args.disk.now in
     let none : IsTrue (g.D.Pages.told old) → length (g.D.Pages.reads old) ≤ 0 = λ told. emptied (g.D.Pages.reads old) (c.requires.empty told) in
     record {
-      reads = λ told. empty-torn _ _ (none told) (c.write_stable.ensures.torn told);
+      reads = λ told. torn_empty _ _ c.requires.longer (none told) (c.write_stable.ensures.torn told);
       images = λ told honest image leaves.
           let from = c.write_stable.ensures.images honest image leaves in
           let short = g.met.D.Disk.leaves_no_longer old from.0 honest told from.1 in
-          empty-torn from.0 image (omega (arith, short, none told)) from.2;
+          torn_empty from.0 image c.requires.longer (omega (arith, short, none told)) from.2;
     }
 
 pub returns-in_err-write_stable-clause-shut : goal.returns-in_err-write_stable-clause-shut
@@ -56,22 +57,34 @@ returns-in_err-write_stable-clause-cause g c =
 pub returns-in_err-write_stable-clause-stays : goal.returns-in_err-write_stable-clause-stays
 returns-in_err-write_stable-clause-stays g c = c.write_stable.ensures.stays
 
+pub returns-in_err-write_stable-clause-no_longer : goal.returns-in_err-write_stable-clause-no_longer
+returns-in_err-write_stable-clause-no_longer g c = λ told.
+    omega (arith, (c.write_stable.ensures.torn told).no_longer, emptied (g.D.Pages.reads c.args.disk.now) (c.requires.empty told), c.requires.longer)
+
+pub returns-clause-no_longer : goal.returns-clause-no_longer
+returns-clause-no_longer g c = λ told.
+    let head = c.args.head.now in
+    let one = ap length (one-gate _ _ (c.requires.empty told) (c.in_ok-write_stable.ensures.bytes told)) in
+    let rest = length-take (length head - 1) (drop 1 head) in
+    omega (arith, (c.append.ensures.torn (c.write_stable.ensures.stays.told ∙ told)).no_longer, one, rest, c.requires.longer)
+
 pub returns-clause-bytes : goal.returns-clause-bytes
 returns-clause-bytes g c = λ told.
-    let block = c.args.block.now in
-    let size : length block ≡ 127 + 1 = search rules in
+    let head = c.args.head.now in
+    let size : length head ≡ (length head - 1) + 1 = omega (arith, c.requires.longer) in
     let one = one-gate _ _ (c.requires.empty told) (c.in_ok-write_stable.ensures.bytes told) in
     on_ok_weaker c.append.result
-    (λ is. is ∙ ap (λ (l : List ℕ). l ++ take 127 (drop 1 block)) one ∙ rest-appended block 127 size c.requires.shut)
+    (λ is. is ∙ ap (λ (l : List ℕ). l ++ take (length head - 1) (drop 1 head)) one ∙ rest-appended head (length head - 1) size c.requires.shut)
     (c.append.ensures.bytes (c.write_stable.ensures.stays.told ∙ told))
 
 pub returns-clause-unready : goal.returns-clause-unready
-returns-clause-unready g c =
+returns-clause-unready g c = λ gate some.
+    let unready = shut_unready gate (length c.args.head.now) in
     let kind = c.write_stable.ensures.stays in
     let one : IsTrue (g.D.Pages.told c.args.disk.now) → g.D.Pages.reads c.write_stable.new.disk ≡ 0 ∷ [] = λ told. one-gate _ _ (c.requires.empty told) (c.in_ok-write_stable.ensures.bytes told) in
     record {
-      reads = λ told. shut_unready _ (c.append.ensures.shut.reads (kind.told ∙ told) (gate-shut _ (one told)));
-      images = λ told honest image leaves. shut_unready image (c.append.ensures.shut.images (kind.honest ∙ honest)
+      reads = λ told. unready _ some (c.append.ensures.shut.reads (kind.told ∙ told) (gate-shut _ (one told)));
+      images = λ told honest image leaves. unready image some (c.append.ensures.shut.images (kind.honest ∙ honest)
           (λ file left. gate-shut file (c.in_ok-write_stable.ensures.stable told honest file left ∙ one told)) image leaves);
     }
 
