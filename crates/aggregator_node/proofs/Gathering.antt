@@ -1,22 +1,29 @@
 -- Workers that are done and whose passes are joined.
 use Rattle.aggregator_session.specs.Desks.{DeskState}
-use Rattle.std.proofs.Common.{◌≡◌, ◌+◌, ◌-◌, ◌^◌, ◌<◌, ℕ, false, true≢false, min, Option, List, [], ◌∷◌, ◌++◌, All, length, refl, sym, ap, ◌∙◌, subst, arith, append-nil}
+use Rattle.std.proofs.Common.{◌≡◌, ◌+◌, ◌-◌, ◌^◌, ◌<◌, ◌≤◌, ℕ, Bool, false, true≢false, min, Option, List, [], ◌∷◌, ◌++◌, All, length, take, drop, get_or, refl, sym, ap, ◌∙◌, subst, arith, append-nil, length-append}
 use Rattle.std.proofs.lemmas.List.{map-append}
 use Rattle.std.proofs.lemmas.List.Elements.{All-cons, All-head, All-nil, All-push, All-tail}
 use Rattle.std.proofs.lemmas.List.Sums.{sum_by-append}
 use mathlib.Core.List.{IsPrefix}
 use Rattle.aggregator_node.specs.Clients.{IsExact, ReferenceState, Request, SameReference}
 use Rattle.aggregator_node.specs.Gathered.{Gathered, HasDone, IsDone}
-use Rattle.aggregator_node.specs.Ports.{IsPortRun, Place, PortRun, requests_in}
+use Rattle.aggregator_node.specs.Ports.{IsPortRun, Place, PortRun, places_of, requests_in}
 use Rattle.aggregator_node.specs.Connections.{WorkerParts, Works, frames_of, left, next, requests_of}
-use Rattle.aggregator_node.specs.Workers.{WorkEnds, WorkerState, accept_failed, no_further, pass_worn, served_all}
+use Rattle.aggregator_node.specs.Workers.{WorkEnds, Worked, WorkerState, accept_failed, no_further, pass_worn, served_all, worker_state}
 use Rattle.aggregator_node.proofs.Requests.{Goes, goes-none, goes-then}
 use Rattle.aggregator_node.proofs.Serving.{serves-go}
+use Rattle.aggregator_node.proofs.Standing.{place_of, places-push}
 use Rattle.aggregator_node.proofs.Summing.{done-join}
 use Rattle.aggregator_node.specs.Connections.{Connection}
 use Rattle.leaf_table.specs.declared.lease.Lease.{Lease}
 use Rattle.leaf_table.specs.declared.table.TableName.{TableName}
 use Rattle.stream_io.specs.Net.{PortOnward, PortState}
+use Rattle.disk_trait.specs.declared.faults.Faults as faults
+use Rattle.reference_value.specs.declared.cells.Cells as cells
+use Rattle.node_workers.specs.declared.worker.Worker.{Worker}
+use Rattle.node_workers.specs.Joined.{Joined}
+use Rattle.node_workers.specs.Starting.{fresh_workers}
+use Rattle.node_workers.proofs.Hosting.{Hosted, host_first, host_next, hosted-after}
 use Rattle.node_workers.proofs.Prefixes.{prefix-same, prefix-then}
 use Rattle.node_workers.specs.Ports.{PortEnds, failed, full, none_waits}
 use Rattle.stream_io.specs.declared.totals.Totals.{Totals}
@@ -35,6 +42,17 @@ works-go desk reference old new served (next at mid last one others serves rest)
 -- the place of a worker that is done
 abbrev after : WorkerState → Place
 after worker = record { port = worker.parts.port; reference = worker.reference; faults = worker.parts.faults }
+
+-- the worker of a place, before it is run
+abbrev begun : Lock Lease TableName → Place → WorkerState
+begun lock place = record {
+  parts = record { pass = first_pass lock; port = place.port; faults = place.faults };
+  reference = place.reference;
+  connections = 0;
+  frames = 0;
+  worn = false;
+  failed = false;
+}
 
 module _ (desk : DeskState) (asked : ℕ) where
   -- a longer last log
@@ -58,35 +76,21 @@ module _ (desk : DeskState) (asked : ℕ) where
       All-cons (IsPortRun desk asked name log last) run runs (run-longer name log mid last run p (All-head (IsPortRun desk asked name log mid) run runs are))
       (runs-longer name log mid last runs p (All-tail (IsPortRun desk asked name log mid) run runs are))
 
-  module _ (lock : Lock Lease TableName) (place : Place) (worker : WorkerState) (done : IsDone desk asked (first_pass lock) place worker) where
-    abbrev base : WorkerParts
-    base = record { pass = first_pass lock; port = place.port; faults = place.faults }
-
+  module _ (lock : Lock Lease TableName) (place : Place) (worker : WorkerState) (done : IsDone desk asked (begun lock place) worker) where
     abbrev run : PortRun
     run = record { before = place; after = after worker; served = done.worked.served }
 
-    abbrev port-was : done.first.parts.port ≡ place.port
-    port-was = ap (λ (p : WorkerParts). p.port) done.begun.parts_are
-
-    works : Works desk place.reference base done.worked.served worker.parts
-    works =
-        subst (λ (r : ReferenceState). Works desk r base done.worked.served worker.parts) done.begun.reference_is
-        (subst (λ (p : WorkerParts). Works desk done.first.reference p done.worked.served worker.parts) done.begun.parts_are done.worked.works)
-
-    same : SameReference place.reference worker.reference
-    same = subst (λ (r : ReferenceState). SameReference r worker.reference) done.begun.reference_is done.worked.same
-
-    onward : PortOnward place.port worker.parts.port
-    onward = subst (λ (p : PortState). PortOnward p worker.parts.port) port-was done.worked.onward
+    abbrev works : Works desk place.reference (begun lock place).parts done.worked.served worker.parts
+    works = done.worked.works
 
     sound-same : worker.failed ≡ false → worker.parts.port.accept_count ≡ place.port.accept_count
-    sound-same sound = done.worked.accepts.same (λ is. absurd (true≢false (sym is ∙ sound))) ∙ ap (λ (p : PortState). p.accept_count) port-was
+    sound-same sound = done.worked.accepts.same (λ is. absurd (true≢false (sym is ∙ sound)))
 
     ends-by : worker.parts.pass.greatest < 2 ^ 62 → WorkEnds asked worker → PortEnds asked (length done.worked.served) place.port worker.parts.port
     ends-by small (served_all all sound) = full (sym done.worked.connections ∙ all) (sound-same sound)
-    ends-by small (no_further waits sound) = none_waits (λ told. waits (onward.told ∙ told)) (sound-same sound)
+    ends-by small (no_further waits sound) = none_waits (λ told. waits (done.worked.onward.told ∙ told)) (sound-same sound)
     ends-by small (accept_failed is unsteady) =
-        failed (let rose = done.worked.accepts.rose is in let was = ap (λ (p : PortState). p.accept_count) port-was in omega (arith, rose, was)) unsteady
+        failed (done.worked.accepts.rose is) unsteady
     ends-by small (pass_worn is sound) = absurd (let large = done.worked.worn is in omega (arith, large, small))
 
     port-run : worker.parts.pass.greatest < 2 ^ 62 → IsPortRun desk asked lock.name lock.opening_log worker.parts.pass.log run
@@ -97,8 +101,8 @@ module _ (desk : DeskState) (asked : ℕ) where
       begins = refl;
       stands = prefix-same worker.parts.pass.log;
       works = works;
-      same = same;
-      onward = onward;
+      same = done.worked.same;
+      onward = done.worked.onward;
       most = (let count = done.worked.connections in let most = done.most in omega (arith, count, most));
       ends = ends-by small done.ends;
     }
@@ -106,7 +110,7 @@ module _ (desk : DeskState) (asked : ℕ) where
     goes : Goes desk place.reference (first_pass lock) worker.parts.pass place.faults worker.parts.faults (requests_in (run ∷ []))
     goes =
         subst (λ (l : List Request). Goes desk place.reference (first_pass lock) worker.parts.pass place.faults worker.parts.faults l)
-        (sym (append-nil (requests_of done.worked.served))) (works-go desk place.reference base worker.parts done.worked.served works)
+        (sym (append-nil (requests_of done.worked.served))) (works-go desk place.reference (begun lock place).parts worker.parts done.worked.served works)
 
     done-one : HasDone desk lock worker.parts.pass (run ∷ [])
     done-one =
@@ -131,7 +135,7 @@ module _ (desk : DeskState) (asked : ℕ) where
         }
 
   -- the first worker
-  pub gathered-one : (lock : Lock Lease TableName) (place : Place) (worker : WorkerState) (totals : Totals) → IsDone desk asked (first_pass lock) place worker
+  pub gathered-one : (lock : Lock Lease TableName) (place : Place) (worker : WorkerState) (totals : Totals) → IsDone desk asked (begun lock place) worker
       → totals.connections ≡ worker.connections → totals.frames ≡ worker.frames
       → Gathered desk asked lock worker.parts.pass (place ∷ []) (after worker ∷ []) totals
   gathered-one lock place worker totals done connections frames =
@@ -151,7 +155,7 @@ module _ (desk : DeskState) (asked : ℕ) where
 
   -- one more worker
   pub gathered-more : (lock : Lock Lease TableName) (old new : Seen Lease TableName) (olds news : List Place) (totals sums : Totals) (place : Place) (worker : WorkerState)
-      → Gathered desk asked lock old olds news totals → IsDone desk asked (first_pass lock) place worker → Joins old worker.parts.pass new
+      → Gathered desk asked lock old olds news totals → IsDone desk asked (begun lock place) worker → Joins old worker.parts.pass new
       → sums.connections ≡ min (totals.connections + worker.connections) (2 ^ 32 - 1) → sums.frames ≡ min (totals.frames + worker.frames) (2 ^ 32 - 1)
       → Gathered desk asked lock new (olds ++ place ∷ []) (news ++ after worker ∷ []) sums
   gathered-more lock old new olds news totals sums place worker a done met connections frames =
@@ -182,3 +186,44 @@ module _ (desk : DeskState) (asked : ℕ) where
               );
         };
       }
+
+-- the workers of clients, from the ports and the cells that they were given to the pass in which they are joined
+module _ {P T X L : Type 0} (state : P → PortState) (c : cells.Ghosts X) (f : faults.Ghosts X) (desk : DeskState) (asked : ℕ) (lock : Lock Lease TableName) where
+  abbrev pub IsRun : Worker P T X L Lease TableName → Worker P T X L Lease TableName → Type 0
+  IsRun old new = IsDone desk asked (worker_state state c f old) (worker_state state c f new)
+
+  hosted-same : (ports nows : List P) (owns mores : List X) (pass : Seen Lease TableName) (totals : Totals) → Hosted IsRun (first_pass lock) ports owns nows mores pass totals
+      → (length ports ≡ length owns) × (length nows ≡ length mores)
+  hosted-same ports nows owns mores pass totals (host_first port own worker ran) = (refl, refl)
+  hosted-same ports nows owns mores pass totals (host_next fronts ows afters others before sums port own worker new rest ran joins) =
+      let same = hosted-same fronts afters ows others before sums rest in
+      let one = same.0 in
+      let two = same.1 in (
+        omega (arith, one, length-append fronts (port ∷ []), length-append ows (own ∷ [])),
+        omega (arith, two, length-append afters (worker.port ∷ []), length-append others (worker.own ∷ [])),
+      )
+
+  pub gathered-of : (ports nows : List P) (owns mores : List X) (pass : Seen Lease TableName) (totals : Totals) → Hosted IsRun (first_pass lock) ports owns nows mores pass totals
+      → Gathered desk asked lock pass (places_of c f state ports owns) (places_of c f state nows mores) totals
+  gathered-of ports nows owns mores pass totals (host_first port own worker ran) =
+      gathered-one desk asked lock (place_of c f state port own) (worker_state state c f worker) totals ran refl refl
+  gathered-of ports nows owns mores pass totals (host_next fronts ows afters others before sums port own worker new rest ran joins) =
+      let same = hosted-same fronts afters ows others before sums rest in
+      let olds = places-push c f state fronts ows port own same.0 in
+      let news = places-push c f state afters others worker.port worker.own same.1 in
+      subst (λ (places : List Place). Gathered desk asked lock new places (places_of c f state nows mores) totals) (sym olds)
+      (subst (λ (places : List Place). Gathered desk asked lock new (places_of c f state fronts ows ++ place_of c f state port own ∷ []) places totals) (sym news)
+      (gathered-more desk asked lock before new (places_of c f state fronts ows) (places_of c f state afters others) sums totals (place_of c f state port own) (worker_state state c f worker)
+      (gathered-of fronts afters ows others before sums rest) ran joins refl refl))
+
+  -- the workers that were made for these ports and cells, once they were run and joined
+  pub gathered-run : (ports nows : List P) (owns mores : List X) (items slice news : List (Worker P T X L Lease TableName)) (len : ℕ) (pass : Seen Lease TableName) (totals : Totals)
+      → items ≡ fresh_workers (first_pass lock) ports owns → length items ≡ length ports → length ports ≡ length owns → slice ≡ items → length news ≡ length slice → len ≡ length items → asked < 2 ^ 32
+      → ((i : ℕ) (d : Worker P T X L Lease TableName) → i < length slice → Worked desk (worker_state state c f (get_or slice i d)) (worker_state state c f (get_or news i d)))
+      → All (λ worker. worker.connections ≤ asked) news → All (λ worker. WorkEnds asked (worker_state state c f worker)) news
+      → Joined (take len (news ++ drop (length news) items)) pass nows mores totals
+      → Gathered desk asked lock pass (places_of c f state ports owns) (places_of c f state nows mores) totals
+  gathered-run ports nows owns mores items slice news len pass totals made many same value size count small worked most ends joined =
+      gathered-of ports nows owns mores pass totals
+      (hosted-after IsRun (first_pass lock) ports owns items slice news len pass nows mores totals made many same value size count
+      (λ i d lt. record { worked = worked i d lt; small = small; most = most i d (omega (arith, lt, size)); ends = ends i d (omega (arith, lt, size)) }) joined)

@@ -10,10 +10,8 @@ pub mod Requests
 pub mod Serving
 mod Working
 mod Standing
-mod Starting
 mod Running
 mod Summing
 pub mod Gathering
-mod Joining
 mod Finishing
 mod RoomyLinks

@@ -12,36 +12,12 @@ use Rattle.stream_io.specs.declared.totals.Totals.{Totals}
 use Rattle.turn_lock.specs.Lock.{Lock}
 use Rattle.turn_lock.specs.Pass.{SamePass, Seen, first_pass}
 
--- internal: workers that stand so to these places, the worker of the first place last
-pub data StandTo {W : Type 0} (Is : Place → W → Type 0) : List Place → List W → Type 0 where
-  none : StandTo Is [] []
-  one : (place : Place) (worker : W) (places : List Place) (workers : List W) → Is place worker
-      → StandTo Is places workers → StandTo Is (place ∷ places) (workers ++ worker ∷ [])
-
--- internal: a worker that was given this place and this pass
-pub record IsBegun (pass : Seen Lease TableName) (place : Place) (worker : WorkerState) : Type 0 where
-  pub parts_are : worker.parts ≡ record { pass = pass; port = place.port; faults = place.faults }
-  pub reference_is : worker.reference ≡ place.reference
-
--- internal: such workers, by what each was given
-abbrev pub AreBegun : {W : Type 0} → (W → WorkerState) → Seen Lease TableName → List Place → List W → Type 0
-AreBegun state pass places workers = StandTo (λ place worker. IsBegun pass place (state worker)) places workers
-
--- internal: such a worker, after it was run
-pub record IsDone (desk : DeskState) (asked : ℕ) (pass : Seen Lease TableName) (place : Place) (worker : WorkerState)
-    : Type 0 where
-  pub first : WorkerState
-  pub begun : IsBegun pass place first
-  pub worked : Worked desk first worker
+-- internal: a worker of this kind, before and after it was run
+pub record IsDone (desk : DeskState) (asked : ℕ) (old new : WorkerState) : Type 0 where
+  pub worked : Worked desk old new
   pub small : asked < 2 ^ 32
-  pub most : worker.connections ≤ asked
-  pub ends : WorkEnds asked worker
-
--- internal: workers that are done, by what each was given
-abbrev pub AreDone : {W : Type 0} → (W → WorkerState) → DeskState → ℕ → Seen Lease TableName → List Place → List W
-    → Type 0
-AreDone state desk asked pass places workers =
-    StandTo (λ place worker. IsDone desk asked pass place (state worker)) places workers
+  pub most : new.connections ≤ asked
+  pub ends : WorkEnds asked new
 
 -- internal: What the requests of these runs did to a pass in which the passes of their workers are joined. At most two
 -- tickets are drawn for a request.

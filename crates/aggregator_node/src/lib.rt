@@ -5,7 +5,6 @@
 mod client;
 pub mod client_laws;
 mod failure;
-mod gather;
 mod service;
 mod sign;
 mod turns;

@@ -6,13 +6,12 @@ ghost use Rattle.leaf_table.specs.Table.{plan_of};
 ghost use Rattle.aggregator_session.specs.Desks.{ReadsFor, desk_state};
 ghost use Rattle.aggregator_session.specs.Tables.{TableOnward, table_seen};
 
-use crate::gather::gather;
 use crate::worker::run_workers;
 use aggregator_session::Desk;
 use disk_trait::{Disk, Faults};
 use leaf_table::Table;
 use memory::NoMemory;
-use node_workers::make_workers;
+use node_workers::{gather, make_workers};
 use reference_value::Cells;
 use std::alloc::Global;
 use std::sync::Wait;

@@ -1,3 +1,6 @@
+pub mod Counting
+pub mod Hosting
+pub mod Joining
 pub mod Lists
 pub mod Logs
 pub mod Onward

@@ -16,10 +16,11 @@ module _ {P T X L E N : Type 0} (pass : Seen E N) where
   fresh-last (a ∷ ports) (b ∷ owns) port own same =
       ap (λ (l : List (Worker P T X L E N)). l ++ fresh_worker pass a b ∷ []) (fresh-last ports owns port own (omega (arith, same)))
 
-  -- what is true of everything that the workers are given is true of what they have
-  pub fresh-own : (Is : X → Type 0) (ports : List P) (owns : List X) → All Is owns → All (λ worker. Is worker.own) (fresh_workers {P = P} {T = T} {X = X} {L = L} pass ports owns)
+  -- what is true of each new worker, where this is true of what it alone uses
+  pub fresh-each : (Of : X → Type 0) (Is : Worker P T X L E N → Type 0) → ((port : P) (own : X) → Of own → Is (fresh_worker pass port own)) → (ports : List P) (owns : List X) → All Of owns
+      → All Is (fresh_workers pass ports owns)
   unfolding fresh_workers
-  fresh-own Is [] owns each = All-nil _
-  fresh-own Is (port ∷ ports) [] each = All-nil _
-  fresh-own Is (port ∷ ports) (own ∷ owns) each =
-      All-push (λ worker. Is worker.own) (fresh_workers {P = P} {T = T} {X = X} {L = L} pass ports owns) (fresh_worker pass port own) (fresh-own Is ports owns (All-tail Is own owns each)) (All-head Is own owns each)
+  fresh-each Of Is each [] owns of = All-nil Is
+  fresh-each Of Is each (port ∷ ports) [] of = All-nil Is
+  fresh-each Of Is each (port ∷ ports) (own ∷ owns) of =
+      All-push Is (fresh_workers pass ports owns) (fresh_worker pass port own) (fresh-each Of Is each ports owns (All-tail Of own owns of)) (each port own (All-head Of own owns of))

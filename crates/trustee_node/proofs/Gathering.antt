@@ -1,5 +1,5 @@
 -- Passes that are joined.
-use Rattle.std.proofs.Common.{◌≡◌, ◌+◌, ◌-◌, ◌*◌, ◌^◌, ◌≤◌, ◌<◌, ℕ, false, true≢false, max, min, List, [], ◌∷◌, ◌++◌, Option, All, length, refl, sym, ap, ◌∙◌, subst, arith, append-nil, length-append}
+use Rattle.std.proofs.Common.{◌≡◌, ◌+◌, ◌-◌, ◌*◌, ◌^◌, ◌≤◌, ◌<◌, ℕ, Bool, false, true≢false, max, min, List, [], ◌∷◌, ◌++◌, Option, All, length, map, take, drop, get_or, refl, sym, ap, ◌∙◌, subst, arith, append-nil, length-append}
 use Rattle.std.proofs.lemmas.List.{map-append}
 use Rattle.std.proofs.lemmas.List.Elements.{All-cons, All-head, All-nil, All-push, All-tail}
 use Rattle.std.proofs.lemmas.Grind.{flat_map-append}
@@ -12,14 +12,18 @@ use Rattle.trustee_core.specs.Notes.{entries_in}
 use Rattle.trustee_core.specs.declared.kept.TrusteeName.{TrusteeName}
 use Rattle.trustee_core.specs.declared.note.Note.{Note}
 use Rattle.trustee_node.specs.Turns.{Draws, Faults, HasSteadyDisk, NotedBy, ServedTurns, TellsDisk, Turn, added_by, ended}
-use Rattle.trustee_node.specs.Connections.{ClockState}
-use Rattle.trustee_node.specs.Workers.{Connection, IsConnection, WorkEnds, WorkerState, Worked, accept_failed, frames_of, no_further, pass_worn, served_all, turns_of}
+use Rattle.trustee_node.specs.Connections.{ClockState, clock_state}
+use Rattle.trustee_node.specs.Workers.{Connection, IsConnection, WorkEnds, WorkerState, Worked, accept_failed, frames_of, no_further, pass_worn, served_all, turns_of, worker_state}
 use Rattle.trustee_core.proofs.NoteLists.{entries-append}
 use Rattle.trustee_node.proofs.Noting.{entries-prefix, noted-join}
 use Rattle.trustee_node.proofs.Serving.{served-then, with_code-append}
 use Rattle.trustee_node.specs.Gathered.{Gathered, IsDone}
-use Rattle.trustee_node.specs.Ports.{IsPortRun, PortRun, ports_run, turns_in}
+use Rattle.trustee_node.specs.Ports.{IsPortRun, PortRun, PortsRun, ports_run, turns_in}
 use Rattle.node_workers.specs.Ports.{PortEnds, failed, full, none_waits}
+use Rattle.node_workers.specs.declared.worker.Worker.{Worker}
+use Rattle.node_workers.specs.Joined.{Joined}
+use Rattle.node_workers.specs.Starting.{fresh_workers}
+use Rattle.node_workers.proofs.Hosting.{Hosted, host_first, host_next, hosted-after}
 use Rattle.node_workers.proofs.Logs.{begins-left, begins-right}
 use Rattle.stream_io.specs.declared.totals.Totals.{Totals}
 use Rattle.turn_lock.specs.Lock.{Lock}
@@ -61,6 +65,10 @@ module _ (start old other new : Seen Note TrusteeName) (turns more : List Turn) 
         (let p = a.told (subst TellsDisk same is) in let q = b.told (subst TellsDisk same_other is) in omega (arith, p, q, with_code-append 7 turns more));
   }
 
+-- the worker of a port and of a clock, before it is run
+abbrev begun : Lock Note TrusteeName → PortState → ClockState → WorkerState
+begun lock port clock = record { port = port; pass = first_pass lock; clock = clock; connections = 0; frames = 0; worn = false; failed = false }
+
 module _ (share : Share) (ids : Option (List (List ℕ))) where
   served-longer : (log mid last : List Entry) (turns : List Turn) → ServedTurns share ids log turns mid → IsPrefix mid last → ServedTurns share ids log turns last
   served-longer log mid last turns served p = subst (λ (t : List Turn). ServedTurns share ids log t last) (append-nil turns) (served-then share ids log mid last turns [] served (ended mid last p))
@@ -84,31 +92,9 @@ module _ (share : Share) (ids : Option (List (List ℕ))) where
         All-cons (IsPortRun share ids asked log last) run runs (run-longer log mid last run p (All-head (IsPortRun share ids asked log mid) run runs are))
         (runs-longer log mid last runs p (All-tail (IsPortRun share ids asked log mid) run runs are))
 
-    module _ (lock : Lock Note TrusteeName) (port : PortState) (clock : ClockState) (worker : WorkerState) (done : IsDone share ids asked (first_pass lock) port clock worker) where
-      abbrev base : WorkerState
-      base = record {
-        port = port;
-        pass = first_pass lock;
-        clock = clock;
-        connections = done.first.connections;
-        frames = done.first.frames;
-        worn = done.first.worn;
-        failed = done.first.failed;
-      }
-
-      from-base : done.first ≡ base
-      from-base = λ i. record {
-        port = done.begun.port_is i;
-        pass = done.begun.pass_is i;
-        clock = done.begun.clock_is i;
-        connections = done.first.connections;
-        frames = done.first.frames;
-        worn = done.first.worn;
-        failed = done.first.failed;
-      }
-
-      abbrev worked : Worked share ids base worker
-      worked = subst (λ (w : WorkerState). Worked share ids w worker) from-base done.worked
+    module _ (lock : Lock Note TrusteeName) (port : PortState) (clock : ClockState) (worker : WorkerState) (done : IsDone share ids asked (begun lock port clock) worker) where
+      abbrev worked : Worked share ids (begun lock port clock) worker
+      worked = done.worked
 
       abbrev run : PortRun
       run = record { before = port; after = worker.port; clock = clock; served = worked.served }
@@ -144,7 +130,7 @@ module _ (share : Share) (ids : Option (List (List ℕ))) where
 
     -- the first worker
     pub gathered-one : (lock : Lock Note TrusteeName) (port : PortState) (clock : ClockState) (worker : WorkerState) (totals : Totals)
-        → IsDone share ids asked (first_pass lock) port clock worker → totals.connections ≡ worker.connections → totals.frames ≡ worker.frames
+        → IsDone share ids asked (begun lock port clock) worker → totals.connections ≡ worker.connections → totals.frames ≡ worker.frames
         → Gathered share ids asked lock worker.pass (ports_run (port ∷ []) (worker.port ∷ []) (clock ∷ [])) totals
     gathered-one lock port clock worker totals done connections frames =
         let w = worked lock port clock worker done in
@@ -173,7 +159,7 @@ module _ (share : Share) (ids : Option (List (List ℕ))) where
     -- one more worker
     pub gathered-more : (lock : Lock Note TrusteeName) (old new : Seen Note TrusteeName) (olds news : List PortState) (clocks : List ClockState) (totals sums : Totals)
         (port : PortState) (clock : ClockState) (worker : WorkerState)
-        → Gathered share ids asked lock old (ports_run olds news clocks) totals → IsDone share ids asked (first_pass lock) port clock worker → Joins old worker.pass new
+        → Gathered share ids asked lock old (ports_run olds news clocks) totals → IsDone share ids asked (begun lock port clock) worker → Joins old worker.pass new
         → sums.connections ≡ min (totals.connections + worker.connections) (2 ^ 32 - 1) → sums.frames ≡ min (totals.frames + worker.frames) (2 ^ 32 - 1)
         → Gathered share ids asked lock new (ports_run (olds ++ port ∷ []) (news ++ worker.port ∷ []) (clocks ++ clock ∷ [])) sums
     gathered-more lock old new olds news clocks totals sums port clock worker a done met connections frames =
@@ -224,3 +210,32 @@ module _ (share : Share) (ids : Option (List (List ℕ))) where
                 );
           };
         }
+
+-- the workers of a trustee, from the ports and the clocks that they were given to the pass in which they are joined
+module _ {P T C L : Type 0} (state : P → PortState) (told : C → Bool) (answers : C → ℕ → ℕ) (share : Share) (ids : Option (List (List ℕ))) (asked : ℕ) (lock : Lock Note TrusteeName) where
+  abbrev pub IsRun : Worker P T C L Note TrusteeName → Worker P T C L Note TrusteeName → Type 0
+  IsRun old new = IsDone share ids asked (worker_state state told answers old) (worker_state state told answers new)
+
+  pub gathered-of : (ports nows : List P) (clocks laters : List C) (pass : Seen Note TrusteeName) (totals : Totals) → Hosted IsRun (first_pass lock) ports clocks nows laters pass totals
+      → Gathered share ids asked lock pass (ports_run (map state ports) (map state nows) (map (clock_state told answers) clocks)) totals
+  gathered-of ports nows clocks laters pass totals (host_first port clock worker ran) =
+      gathered-one share ids asked lock (state port) (clock_state told answers clock) (worker_state state told answers worker) totals ran refl refl
+  gathered-of ports nows clocks laters pass totals (host_next fronts dates afters others before sums port clock worker new rest ran joins) =
+      let olds : map state (fronts ++ port ∷ []) ≡ map state fronts ++ state port ∷ [] = map-append state fronts (port ∷ []) in
+      let news : map state (afters ++ worker.port ∷ []) ≡ map state afters ++ state worker.port ∷ [] = map-append state afters (worker.port ∷ []) in
+      let dated : map (clock_state told answers) (dates ++ clock ∷ []) ≡ map (clock_state told answers) dates ++ clock_state told answers clock ∷ [] = map-append (clock_state told answers) dates (clock ∷ []) in
+      subst (λ (run : PortsRun). Gathered share ids asked lock new run totals) (λ i. ports_run (sym olds i) (sym news i) (sym dated i))
+      (gathered-more share ids asked lock before new (map state fronts) (map state afters) (map (clock_state told answers) dates) sums totals (state port) (clock_state told answers clock) (worker_state state told answers worker)
+      (gathered-of fronts afters dates others before sums rest) ran joins refl refl)
+
+  -- the workers that were made for these ports and clocks, once they were run and joined
+  pub gathered-run : (ports nows : List P) (clocks laters : List C) (items slice news : List (Worker P T C L Note TrusteeName)) (len : ℕ) (pass : Seen Note TrusteeName) (totals : Totals)
+      → items ≡ fresh_workers (first_pass lock) ports clocks → length items ≡ length ports → length ports ≡ length clocks → slice ≡ items → length news ≡ length slice → len ≡ length items → asked < 2 ^ 32
+      → ((i : ℕ) (d : Worker P T C L Note TrusteeName) → i < length slice → Worked share ids (worker_state state told answers (get_or slice i d)) (worker_state state told answers (get_or news i d)))
+      → All (λ worker. worker.connections ≤ asked) news → All (λ worker. WorkEnds asked (worker_state state told answers worker)) news
+      → Joined (take len (news ++ drop (length news) items)) pass nows laters totals
+      → Gathered share ids asked lock pass (ports_run (map state ports) (map state nows) (map (clock_state told answers) clocks)) totals
+  gathered-run ports nows clocks laters items slice news len pass totals made many same value size count small worked most ends joined =
+      gathered-of ports nows clocks laters pass totals
+      (hosted-after IsRun (first_pass lock) ports clocks items slice news len pass nows laters totals made many same value size count
+      (λ i d lt. record { worked = worked i d lt; small = small; most = most i d (omega (arith, lt, size)); ends = ends i d (omega (arith, lt, size)) }) joined)

@@ -13,10 +13,7 @@ pub mod Serving
 pub mod Standing
 mod Turning
 mod Working
-pub mod PortStanding
-pub mod Starting
 pub mod Gathering
-mod Joining
 pub mod Finishing
 mod Running
 pub mod PortOpening

@@ -13,36 +13,12 @@ use Rattle.stream_io.specs.declared.totals.Totals.{Totals}
 use Rattle.turn_lock.specs.Lock.{Lock}
 use Rattle.turn_lock.specs.Pass.{SamePass, Seen, first_pass}
 
--- internal: workers that stand in this relation to these ports and clocks, the worker of the first port last
-pub data StandTo {W : Type 0} (Is : PortState → ClockState → W → Type 0)
-    : List PortState → List ClockState → List W → Type 0 where
-  none : StandTo Is [] [] []
-  one : (port : PortState) (clock : ClockState) (worker : W) (ports : List PortState) (clocks : List ClockState)
-      (workers : List W) → Is port clock worker → StandTo Is ports clocks workers
-      → StandTo Is (port ∷ ports) (clock ∷ clocks) (workers ++ worker ∷ [])
-
--- internal: a worker that was given this port, this clock and this pass
-pub record IsBegun (pass : Seen Note TrusteeName) (port : PortState) (clock : ClockState) (worker : WorkerState)
-    : Type 0 where
-  pub pass_is : worker.pass ≡ pass
-  pub port_is : worker.port ≡ port
-  pub clock_is : worker.clock ≡ clock
-
--- internal: workers of this kind, by what each was given
-abbrev pub AreBegun : {W : Type 0} → (W → WorkerState) → Seen Note TrusteeName → List PortState → List ClockState
-    → List W → Type 0
-AreBegun state pass ports clocks workers =
-    StandTo (λ port clock worker. IsBegun pass port clock (state worker)) ports clocks workers
-
--- internal: a worker of this kind, after it was run
-pub record IsDone (share : Share) (ids : Option (List (List ℕ))) (asked : ℕ) (pass : Seen Note TrusteeName)
-    (port : PortState) (clock : ClockState) (worker : WorkerState) : Type 0 where
-  pub first : WorkerState
-  pub begun : IsBegun pass port clock first
-  pub worked : Worked share ids first worker
+-- internal: a worker of this kind, before and after it was run
+pub record IsDone (share : Share) (ids : Option (List (List ℕ))) (asked : ℕ) (old new : WorkerState) : Type 0 where
+  pub worked : Worked share ids old new
   pub small : asked < 2 ^ 32
-  pub most : worker.connections ≤ asked
-  pub ends : WorkEnds asked worker
+  pub most : new.connections ≤ asked
+  pub ends : WorkEnds asked new
 
 -- internal: the pass in which the passes of these ports' workers are joined
 pub record Gathered (share : Share) (ids : Option (List (List ℕ))) (asked : ℕ) (lock : Lock Note TrusteeName)
@@ -61,9 +37,3 @@ pub record Gathered (share : Share) (ids : Option (List (List ℕ))) (asked : �
   pub most : length (turns_in runs) ≤ 2 ^ 48 * length runs
   pub joined : pass.joined ≡ length runs
   pub totals_are : HasTotals runs totals
-
--- internal: workers that are done, by what each was given
-abbrev pub AreDone : {W : Type 0} → (W → WorkerState) → Share → Option (List (List ℕ)) → ℕ → Seen Note TrusteeName
-    → List PortState → List ClockState → List W → Type 0
-AreDone state share ids asked pass ports clocks workers =
-    StandTo (λ port clock worker. IsDone share ids asked pass port clock (state worker)) ports clocks workers

@@ -3,7 +3,6 @@
 #![tactic(auto)]
 
 mod connection;
-mod gather;
 pub mod laws;
 pub mod port_laws;
 mod reply;

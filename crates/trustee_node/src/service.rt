@@ -8,11 +8,10 @@ ghost use Rattle.trustee_node.specs.Connections.{clock_state};
 ghost use Rattle.trustee_node.specs.Ports.{ServedPorts, ports_run};
 ghost use Rattle.trustee_node.specs.Trustees.{trustee_state};
 
-use crate::gather::gather;
 use crate::worker::run_workers;
 use disk_trait::Disk;
 use memory::NoMemory;
-use node_workers::{Worker, make_workers};
+use node_workers::{gather, make_workers};
 use std::alloc::Global;
 use std::sync::Wait;
 use std::thread::Threads;
@@ -71,6 +70,6 @@ pub fn serve_ports<
         workers.as_mut_slice(),
         connections,
     );
-    let (pass, totals) = gather(&lock, workers, ports);
+    let (pass, totals) = gather(&lock, workers, ports, &mut clocks);
     (lock.close(pass), Ok(totals))
 }

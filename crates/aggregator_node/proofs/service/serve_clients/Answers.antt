@@ -1,74 +1,66 @@
-use Rattle.std.proofs.Common.{◌≡◌, ◌≤◌, ◌∙◌, ℕ, All, length, refl, sym, ap, subst}
+use Rattle.std.proofs.Common.{◌≡◌, ◌≤◌, ◌∙◌, ℕ, length, refl, sym, ap, subst}
 use Rattle.aggregator_node.specs.Gathered.{Gathered}
 use Rattle.aggregator_node.specs.Ports.{places_of}
-use Rattle.aggregator_node.specs.Workers.{worker_state}
 use Rattle.aggregator_node.proofs.Finishing.{ClosedBy, OpenedBy, ends-served, onward, passes-fit, room-again, room-for, still}
-use Rattle.aggregator_node.proofs.Running.{done-of, idle-after, joined-all, ready-begun}
+use Rattle.aggregator_node.proofs.Gathering.{gathered-run}
+use Rattle.aggregator_node.proofs.Running.{joined-all, ready-begun}
 use Rattle.aggregator_node.proofs.Standing.{places-many}
-use Rattle.aggregator_node.proofs.Starting.{begun-of}
-use Rattle.aggregator_session.specs.Desks.{ReadsFor, desk_state}
-use Rattle.node_workers.proofs.Starting.{fresh-own}
-use Rattle.turn_lock.specs.Pass.{first_pass}
+use Rattle.aggregator_session.specs.Desks.{desk_state}
+use Rattle.node_workers.specs.Workers.{IsFree}
+use Rattle.node_workers.proofs.Lists.{written-all}
 use Rattle.aggregator_session.specs.Tables.{name_of, table_seen}
 use Rattle.aggregator_node.proofs.service.serve_clients.Goals as goal
 
 pub run_workers-requires-clause-ready : goal.run_workers-requires-clause-ready
 run_workers-requires-clause-ready g c κs within =
-    let port = g.P.Port.state in
-    let desk = c.args.desk.now in
-    let first = first_pass c.in-Ok-new.made.0 in
-    let made = c.make_workers-workers.ensures.workers in
-    let same : length c.args.ports.now.items ≡ length c.args.cells.now.items = sym c.args.ports.now.ok.0 ∙ sym c.requires.many ∙ c.args.cells.now.ok.0 in
-    let begun = begun-of g.P.Port.state g.X.Cells g.X.Faults (first_pass c.in-Ok-new.made.0) c.args.ports.now.items c.args.cells.now.items c.make_workers-workers.result.items
-    c.make_workers-workers.ensures.workers same in
-    ready-begun (worker_state port g.X.Cells g.X.Faults) desk c.in-Ok-new.made.0 c.make_workers-workers.result.items c.as_mut_slice.result.now c.as_mut_slice.ensures.value
-    g.X.Cells (λ worker. worker.own) (name_of c.args.table) (places_of g.X.Cells g.X.Faults port c.args.ports.now.items c.args.cells.now.items)
-    c.in-Ok-new.ensures.opening.2 c.requires.plan begun
-    (subst (All (λ worker. ReadsFor g.X.Cells desk worker.own)) (sym made) (fresh-own first (ReadsFor g.X.Cells desk) c.args.ports.now.items c.args.cells.now.items c.requires.cells))
+    let made = c.make_workers-workers in
+    ready-begun g.X.Cells c.args.desk.now c.in-Ok-new.made.0 (name_of c.args.table) c.args.ports.now.items c.args.cells.now.items made.result.items c.as_mut_slice.result.now
+    c.in-Ok-new.ensures.opening.2 c.requires.plan c.requires.cells made.ensures.workers c.as_mut_slice.ensures.value
 
-pub gather-pass-requires-clause-idle : goal.gather-pass-requires-clause-idle
-gather-pass-requires-clause-idle g c κs within =
+pub gather-pass-requires-clause-free : goal.gather-pass-requires-clause-free
+gather-pass-requires-clause-free g c κs within =
     let workers = c.make_workers-workers.result in
-    idle-after (worker_state g.P.Port.state g.X.Cells g.X.Faults) c.args.desk.now c.in-Ok-new.made.0 workers.items c.as_mut_slice.result.now c.as_mut_slice.ensures.value
-    c.run_workers.new.workers workers.len c.run_workers.auto.workers workers.ok.0 g.X.Cells (λ worker. worker.own) c.run_workers.ensures.ready
+    written-all (λ worker. IsFree c.in-Ok-new.made.0 worker.pass) workers.items c.as_mut_slice.result.now c.run_workers.new.workers workers.len c.as_mut_slice.ensures.value
+    c.run_workers.auto.workers workers.ok.0 (λ k d lt. let is = (c.run_workers.ensures.ready k d lt).idle in (is.0, is.1))
 
 pub close-requires-clause-all : goal.close-requires-clause-all
 close-requires-clause-all g c =
-    let desk = desk_state c.args.desk.now in
-    let workers = c.make_workers-workers.result in
     let ports = c.args.ports.now in
     let cells = c.args.cells.now in
     let same : length ports.items ≡ length cells.items = sym ports.ok.0 ∙ sym c.requires.many ∙ cells.ok.0 in
+    let made = c.make_workers-workers in
     let e = c.run_workers.ensures in
-    let done = done-of g.P.Port.state g.X.Cells g.X.Faults c.args.desk.now c.args.connections c.in-Ok-new.made.0 ports.items cells.items workers.items c.as_mut_slice.result.now
-    c.run_workers.new.workers workers.len c.make_workers-workers.ensures.workers same c.as_mut_slice.ensures.value c.run_workers.auto.workers
-    workers.ok.0 c.ranges.connections.fits e.worked e.most e.ends in
-    joined-all desk c.args.connections c.in-Ok-new.made.0 c.gather-pass.result.0 _ _ c.gather-pass.result.1 (c.gather-pass.ensures.gathered desk c.args.connections _ done)
+    joined-all (desk_state c.args.desk.now) c.args.connections c.in-Ok-new.made.0 c.gather-pass.result.0 _ _ c.gather-pass.result.1
+    (gathered-run g.P.Port.state g.X.Cells g.X.Faults (desk_state c.args.desk.now) c.args.connections c.in-Ok-new.made.0
+    ports.items c.gather-pass.new.ports.items cells.items c.gather-pass.new.own.items made.result.items c.as_mut_slice.result.now c.run_workers.new.workers made.result.len
+    c.gather-pass.result.0 c.gather-pass.result.1 made.ensures.workers (sym made.result.ok.0 ∙ made.ensures.count ∙ ports.ok.0)
+    same c.as_mut_slice.ensures.value c.run_workers.auto.workers made.result.ok.0 c.ranges.connections.fits
+    e.worked e.most e.ends c.gather-pass.ensures.joined)
     ∙ places-many g.X.Cells g.X.Faults g.P.Port.state ports.items cells.items same ∙ sym ports.ok.0 ∙ sym c.len-count.ensures ∙ sym c.in-Ok-new.ensures.numbers.1
 
 -- what the workers left, the lock as it was made, and the lock as it was ended
 record Left (g : _) (c : goal.After-close g) : Type 0 where
   gathered : Gathered (desk_state c.args.desk.now) c.args.connections c.in-Ok-new.made.0 c.gather-pass.result.0
       (places_of g.X.Cells g.X.Faults g.P.Port.state c.args.ports.now.items c.args.cells.now.items)
-      (places_of g.X.Cells g.X.Faults g.P.Port.state c.gather-pass.new.ports.items c.gather-pass.new.cells.items) c.gather-pass.result.1
+      (places_of g.X.Cells g.X.Faults g.P.Port.state c.gather-pass.new.ports.items c.gather-pass.new.own.items) c.gather-pass.result.1
   opened : OpenedBy c.in-Ok-new.made.0 (table_seen c.args.table)
   closed : ClosedBy c.in-Ok-new.made.0 c.gather-pass.result.0 (table_seen c.close.result)
 
 left : (g : _) (c : goal.After-close g) → Left g c
 left g c =
-    let desk = desk_state c.args.desk.now in
-    let workers = c.make_workers-workers.result in
     let ports = c.args.ports.now in
     let cells = c.args.cells.now in
     let same : length ports.items ≡ length cells.items = sym ports.ok.0 ∙ sym c.requires.many ∙ cells.ok.0 in
+    let made = c.make_workers-workers in
     let e = c.run_workers.ensures in
-    let done = done-of g.P.Port.state g.X.Cells g.X.Faults c.args.desk.now c.args.connections c.in-Ok-new.made.0 ports.items cells.items workers.items c.as_mut_slice.result.now
-    c.run_workers.new.workers workers.len c.make_workers-workers.ensures.workers same c.as_mut_slice.ensures.value c.run_workers.auto.workers
-    workers.ok.0 c.ranges.connections.fits e.worked e.most e.ends in
     let opening = c.in-Ok-new.ensures.opening in
     let end = c.close.ensures in
     record {
-      gathered = c.gather-pass.ensures.gathered desk c.args.connections _ done;
+      gathered = gathered-run g.P.Port.state g.X.Cells g.X.Faults (desk_state c.args.desk.now) c.args.connections c.in-Ok-new.made.0
+          ports.items c.gather-pass.new.ports.items cells.items c.gather-pass.new.own.items made.result.items c.as_mut_slice.result.now c.run_workers.new.workers made.result.len
+          c.gather-pass.result.0 c.gather-pass.result.1 made.ensures.workers (sym made.result.ok.0 ∙ made.ensures.count ∙ ports.ok.0)
+          same c.as_mut_slice.ensures.value c.run_workers.auto.workers made.result.ok.0 c.ranges.connections.fits
+          e.worked e.most e.ends c.gather-pass.ensures.joined;
       opened = record { log = opening.0; number = opening.1; name = opening.2; first = c.in-Ok-new.ensures.numbers.0 };
       closed = record { log = end.log; number = end.number; name = end.named; whole = end.whole };
     }
@@ -143,7 +135,7 @@ gather-pass-requires-clause-ports g c κs within =
     let made = c.make_workers-workers.ensures in
     (made.taken.0.0, made.taken.0.1, room-again made.count made.home.0 c.args.ports.now.ok.1)
 
-pub gather-pass-requires-clause-cells : goal.gather-pass-requires-clause-cells
-gather-pass-requires-clause-cells g c κs within =
+pub gather-pass-requires-clause-own : goal.gather-pass-requires-clause-own
+gather-pass-requires-clause-own g c κs within =
     let made = c.make_workers-workers.ensures in
     (made.taken.1.0, made.taken.1.1, room-again (made.count ∙ sym c.requires.many) made.home.1 c.args.cells.now.ok.1)
