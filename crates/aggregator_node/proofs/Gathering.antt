@@ -1,11 +1,11 @@
 -- Workers that are done and whose passes are joined.
 use Rattle.aggregator_session.specs.Desks.{DeskState}
-use Rattle.std.proofs.Common.{◌≡◌, ◌+◌, ◌-◌, ◌^◌, ◌<◌, ◌≤◌, ℕ, Bool, false, true≢false, min, Option, List, [], ◌∷◌, ◌++◌, All, length, take, drop, get_or, refl, sym, ap, ◌∙◌, subst, arith, append-nil, length-append}
+use Rattle.std.proofs.Common.{◌≡◌, ◌+◌, ◌-◌, ◌^◌, ◌<◌, ◌≤◌, ℕ, false, true≢false, min, Option, List, [], ◌∷◌, ◌++◌, All, length, take, drop, get_or, refl, sym, ap, ◌∙◌, subst, arith, append-nil, length-append}
 use Rattle.std.proofs.lemmas.List.{map-append}
 use Rattle.std.proofs.lemmas.List.Elements.{All-cons, All-head, All-nil, All-push, All-tail}
 use Rattle.std.proofs.lemmas.List.Sums.{sum_by-append}
 use mathlib.Core.List.{IsPrefix}
-use Rattle.aggregator_node.specs.Clients.{IsExact, ReferenceState, Request, SameReference}
+use Rattle.aggregator_node.specs.Clients.{IsExact, ReferenceState, Request}
 use Rattle.aggregator_node.specs.Gathered.{Gathered, HasDone, IsDone}
 use Rattle.aggregator_node.specs.Ports.{IsPortRun, Place, PortRun, places_of, requests_in}
 use Rattle.aggregator_node.specs.Connections.{WorkerParts, Works, frames_of, left, next, requests_of}
@@ -17,7 +17,7 @@ use Rattle.aggregator_node.proofs.Summing.{done-join}
 use Rattle.aggregator_node.specs.Connections.{Connection}
 use Rattle.leaf_table.specs.declared.lease.Lease.{Lease}
 use Rattle.leaf_table.specs.declared.table.TableName.{TableName}
-use Rattle.stream_io.specs.Net.{PortOnward, PortState}
+use Rattle.stream_io.specs.Net.{PortState}
 use Rattle.disk_trait.specs.declared.faults.Faults as faults
 use Rattle.reference_value.specs.declared.cells.Cells as cells
 use Rattle.node_workers.specs.declared.worker.Worker.{Worker}

@@ -1,6 +1,6 @@
 -- Workers that were given places, that are done, and whose passes are joined.
 use Rattle.aggregator_session.specs.Desks.{DeskState}
-use Rattle.std.specs.Prelude.{◌≡◌, ◌≤◌, ◌<◌, ◌+◌, ◌*◌, ◌-◌, ◌^◌, ◌++◌, ℕ, List, [], ◌∷◌, All, length, map}
+use Rattle.std.specs.Prelude.{◌≡◌, ◌≤◌, ◌<◌, ◌+◌, ◌*◌, ◌-◌, ◌^◌, ℕ, List, All, length, map}
 use Rattle.aggregator_node.specs.Clients.{IsExact}
 use Rattle.aggregator_node.specs.Turns.{HasSteadyDisk}
 use Rattle.aggregator_node.specs.Ports.{HasTotals, IsPortRun, Place, PortRun, faults_after, faults_before, requests_in}

@@ -1,12 +1,10 @@
 -- Workers that were given ports, that are done, and whose passes are joined.
-use Rattle.std.specs.Prelude.{◌≡◌, ◌≤◌, ◌<◌, ◌*◌, ◌^◌, ◌++◌, ℕ, List, [], ◌∷◌, All, length, map, Option}
+use Rattle.std.specs.Prelude.{◌≡◌, ◌≤◌, ◌<◌, ◌*◌, ◌^◌, ℕ, List, All, length, map, Option}
 use Rattle.share_files.specs.declared.share.Share.{Share}
-use Rattle.stream_io.specs.Net.{PortState}
 use Rattle.trustee_core.specs.Notes.{entries_in}
 use Rattle.trustee_core.specs.declared.kept.TrusteeName.{TrusteeName}
 use Rattle.trustee_core.specs.declared.note.Note.{Note}
 use Rattle.trustee_node.specs.Turns.{Draws, Faults, NotedBy, added_by}
-use Rattle.trustee_node.specs.Connections.{ClockState}
 use Rattle.trustee_node.specs.Workers.{WorkEnds, WorkerState, Worked}
 use Rattle.trustee_node.specs.Ports.{HasTotals, IsPortRun, PortRun, PortsRun, turns_in}
 use Rattle.stream_io.specs.declared.totals.Totals.{Totals}

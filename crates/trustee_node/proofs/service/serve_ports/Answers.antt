@@ -1,4 +1,4 @@
-use Rattle.std.proofs.Common.{◌≡◌, ◌∙◌, length, map, refl, sym, arith}
+use Rattle.std.proofs.Common.{◌∙◌, map, refl, sym, arith}
 use Rattle.std.proofs.lemmas.List.{length-map}
 use Rattle.std.specs.Option.{option_map}
 use Rattle.trustee_core.specs.Approved.{ids_of}
