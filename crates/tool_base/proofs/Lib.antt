@@ -10,3 +10,5 @@ pub mod Outs
 pub mod Takes
 pub mod Parses
 pub mod Verdicts
+pub mod Viewing
+pub mod Fronts

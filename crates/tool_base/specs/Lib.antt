@@ -11,3 +11,4 @@ pub mod World
 pub mod Disks
 pub mod Headers
 pub mod Loads
+pub mod Contents

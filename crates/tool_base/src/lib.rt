@@ -2,6 +2,7 @@
 //! come back.
 #![tactic(auto)]
 
+mod contents;
 mod ending;
 mod headers;
 mod lines;
@@ -13,6 +14,7 @@ mod shares;
 mod undealt;
 mod unsigned;
 
+pub use contents::{Content, find_content};
 pub use ending::Ending;
 pub use headers::header_of;
 pub use loads::{DAMAGED, end_of_slots, load_fault_number};

@@ -12,7 +12,7 @@ use Rattle.tool_base.proofs.Runs.{read_part}
 use Rattle.tool_base.specs.Ending as ending
 use Rattle.tool_base.specs.Ending.{Ending}
 use Rattle.tool_base.specs.World.{Failed, IsPart, file_limit, from_to}
-use Rattle.tool_desk.proofs.Viewing.{device_fails, device_part, reads_as, reads_part}
+use Rattle.tool_base.proofs.Viewing.{device_fails, device_part, reads_as, reads_part}
 use Rattle.tool_blame.specs.Commits.{AreNoCommits, FailsCommits, device, end_of_commits, no_memory, no_view, not_in_grammar}
 
 -- the bytes after the head of a file

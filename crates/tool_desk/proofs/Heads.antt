@@ -11,6 +11,7 @@ use Rattle.share_files.specs.declared.faults.FileFault.TheVariants.{Length}
 use Rattle.share_files.specs.declared.reference.RefHeader.{RefHeader}
 use Rattle.share_files.proofs.FirstFault.{first_fault-failed, first_fault-passed}
 use Rattle.stream_io.specs.Store.{RisesWhere}
+use Rattle.tool_base.proofs.Fronts.{layout-by-head, refused-by-head}
 use Rattle.tool_desk.specs.Reference.{IsNoReference, IsReferenceOf}
 use Rattle.tool_desk.specs.declared.reference.HeadFault.{HeadFault}
 use Rattle.tool_desk.specs.declared.reference.HeadFault.TheVariants.{File, Device}
@@ -25,22 +26,14 @@ too_short bytes n is short =
 -- a head that is refused in a file of this length
 pub head_refused : (bytes head : List ℕ) (n : ℕ) (fault : FileFault) → n ≡ length bytes → 32 ≤ n → head ≡ take 32 bytes
     → reference_head_fault head n ≡ Some fault → IsNoReference fault bytes
-unfolding reference_fault
-head_refused bytes head n fault is long front refused =
-    let test : short_fault 32 bytes ≡ None = rw (le-ltb (length bytes) 32 (rw is at long)) refl in
-    let rest : reference_head_fault (take 32 bytes) (length bytes) ≡ Some fault = rw (front, is) at refused in
-    record { fault_is = first_fault-passed _ _ test ∙ first_fault-failed _ _ _ rest }
+head_refused bytes head n fault is long front refused = record { fault_is = refused-by-head bytes head n fault is long front refused }
 
 -- a head that is read in a file of this length
 pub head_read : (bytes head : List ℕ) (n : ℕ) (header : RefHeader) → n ≡ length bytes → head ≡ take 32 bytes
     → head ≡ reference_head header → n ≡ reference_length header → CanBeDealt header.params → IsReferenceOf header bytes
 head_read bytes head n header is front parts size dealt = record {
   leaves = drop 32 bytes;
-  layout = record {
-    dealt = dealt;
-    leaves_are = omega (arith, is, size, length-drop 32 bytes);
-    parts = sym (take-append-drop 32 bytes) ∙ ap (λ start. start ++ drop 32 bytes) (sym front ∙ parts);
-  };
+  layout = layout-by-head bytes head n header is front parts size dealt;
 }
 
 -- ---- what becomes of the count of faults the answer if a call of the pages failed

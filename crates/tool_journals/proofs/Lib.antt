@@ -6,3 +6,4 @@ pub mod Adding
 pub mod Approving
 pub mod Listing
 pub mod Migrating
+pub mod Later

@@ -1,6 +1,6 @@
 -- How `enrol` ends: it reads the share of a trustee or the reference file of an aggregator, and makes the journal or
 -- the leaf table that goes with it.
-use Rattle.std.specs.Prelude.{◌≡◌, ◌^◌, ℕ, Bool, List, [], ◌∷◌, Option, Some, option_map, take, if◌then◌else◌}
+use Rattle.std.specs.Prelude.{◌≡◌, ◌^◌, ℕ, Bool, true, false, List, [], ◌∷◌, Option, Some, take, if◌then◌else◌}
 use Rattle.std.specs.Str.{bytes_eq}
 use Rattle.share_files.specs.FaultNumbers.{file_fault_number}
 use Rattle.share_files.specs.Reference.{HasReferenceLayout, reference_fault, reference_magic}
@@ -13,8 +13,9 @@ use Rattle.share_files.specs.declared.share.Share.{Share}
 use Rattle.slot_file.specs.declared.header.Header.{Header}
 use Rattle.tool_base.specs.Ending as ending
 use Rattle.tool_base.specs.Ending.{Ending}
-use Rattle.tool_base.specs.Grammars.{FailsGrammar}
-use Rattle.tool_base.specs.World.{StoreRun, Bytes, IsRead}
+use Rattle.tool_base.specs.Contents.{FailsToFind}
+use Rattle.tool_base.specs.Loads.{ReadsAs}
+use Rattle.tool_base.specs.World.{StoreRun, Bytes, TooLong, IsRead}
 use Rattle.tool_journals.specs.Blanks.{IsMade, IsNotMade}
 use Rattle.trustee_core.specs.Trustee.{journal_header}
 
@@ -38,8 +39,14 @@ enrol_fault bytes =
     if begins_with share_magic bytes then share_fault bytes
     else (if begins_with reference_magic bytes then reference_fault bytes else Some Magic)
 
-abbrev pub enrol_fault_number : List ℕ → Option ℕ
-enrol_fault_number bytes = option_map file_fault_number (enrol_fault bytes)
+-- bytes are the reference file with this header and some leaves
+abbrev pub IsReferenceOf : RefHeader → List ℕ → Type 0
+IsReferenceOf reference bytes = (leaves : List ℕ) × HasReferenceLayout reference bytes leaves
+
+-- bytes that begin as a reference file, and have this first fault as one
+pub record IsOther (fault : FileFault) (bytes : List ℕ) : Type 0 where
+  pub letters : begins_with reference_magic bytes ≡ true
+  pub fault_is : reference_fault bytes ≡ Some fault
 
 -- the bytes go with a blank file with this header and this number of slots: those of a share with a journal, those of a
 -- reference file with a leaf table
@@ -49,15 +56,29 @@ pub data GoWith (bytes : List ℕ) : Header → ℕ → Type 0 where
   table : (reference : RefHeader) (leaves : List ℕ) → HasReferenceLayout reference bytes leaves
       → GoWith bytes (table_header reference) (2 ^ reference.params.h)
 
--- the file of this name goes with a blank file with this header and `count` slots
-pub record IsEnrolled (store : StoreRun) (name : List ℕ) (header : Header) (count : ℕ) : Type 0 where
-  pub bytes : List ℕ
-  pub read : IsRead store name (Bytes bytes)
-  pub go : GoWith bytes header count
+-- The file of this name goes with a blank file with this header and number of slots. It is read whole; or it is too long
+-- for that, and is a reference of which the head and the length are read.
+pub data IsEnrolled (store : StoreRun) (name : List ℕ) : Header → ℕ → Type 0 where
+  whole : (bytes : List ℕ) (header : Header) (count : ℕ) → IsRead store name (Bytes bytes)
+      → GoWith bytes header count → IsEnrolled store name header count
+  long : (got : ℕ) (reference : RefHeader) → IsRead store name (TooLong got) → CanBeDealt reference.params
+      → ReadsAs store name (IsReferenceOf reference)
+      → IsEnrolled store name (table_header reference) (2 ^ reference.params.h)
+
+-- the end if the file of this name goes with none
+pub data FailsToEnrol (store : StoreRun) (name : List ℕ) : Ending → Type 0 where
+  not_found : (end : Ending) → FailsToFind store name end → FailsToEnrol store name end
+  not_in_grammar : (bytes : List ℕ) (fault : FileFault) → IsRead store name (Bytes bytes)
+      → enrol_fault bytes ≡ Some fault → FailsToEnrol store name (ending.Unreadable name (file_fault_number fault))
+  too_long : (got : ℕ) → IsRead store name (TooLong got)
+      → ReadsAs store name (λ bytes. begins_with reference_magic bytes ≡ false)
+      → FailsToEnrol store name (ending.TooLong got)
+  no_reference : (got : ℕ) (fault : FileFault) → IsRead store name (TooLong got)
+      → ReadsAs store name (IsOther fault) → FailsToEnrol store name (ending.Unreadable name (file_fault_number fault))
 
 -- what became of the file and of the journal, with the names that were touched
 pub data EnrolEnds (store : StoreRun) (file journal : List ℕ) : Ending → List (List ℕ) → Type 0 where
-  not_read : (end : Ending) → FailsGrammar enrol_fault_number store file end → EnrolEnds store file journal end []
+  not_read : (end : Ending) → FailsToEnrol store file end → EnrolEnds store file journal end []
   not_made : (header : Header) (count : ℕ) (end : Ending) (touched : List (List ℕ))
       → IsEnrolled store file header count → IsNotMade store journal header count end touched
       → EnrolEnds store file journal end touched

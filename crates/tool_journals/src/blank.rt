@@ -1,24 +1,22 @@
 //! Blank files of slots: which one goes with a file, and how they are made under new names.
 
-ghost use Rattle.std.specs.Prelude.{◌≡◌, ◌^◌, None, Some, IfOk, OnOk, IfErr};
+ghost use Rattle.std.specs.Prelude.{◌≡◌, ◌^◌, [], None, Some, IfOk, OnOk, IfErr};
 ghost use Rattle.slot_file.specs.Layout.{file_size};
 ghost use Rattle.stream_io.specs.Store.{pages_state};
 ghost use Rattle.tool_base.specs.Endings.{ending};
-ghost use Rattle.tool_base.specs.Grammars.{FailsGrammar};
-ghost use Rattle.tool_base.specs.Touched.{EndsTouching};
+ghost use Rattle.tool_base.specs.Touched.{EndsTouching, Keeps};
 ghost use Rattle.tool_base.specs.World.{InAnyRun, IsUnchanged, from_to};
 ghost use Rattle.tool_base.specs.Headers.{book_header};
 ghost use Rattle.tool_journals.specs.Blanks.{IsBlankDisk, IsNotMade};
-ghost use Rattle.tool_journals.specs.Enrol.{GoWith, IsEnrolled, enrol_fault};
-ghost use Rattle.tool_journals.specs.Enrol.{enrol_fault_number, table_header};
+ghost use Rattle.tool_journals.specs.Enrol.{FailsToEnrol, GoWith, IsEnrolled, enrol_fault, table_header};
 ghost use Rattle.trustee_core.specs.Trustee.{journal_header};
 
 use crate::faults::{end_of_new, end_of_prepare};
-use share_files::{FileFault, RefHeader, Share, read_reference, read_share};
+use share_files::{FileFault, RefHeader, Share, read_ref_header, read_reference, read_share};
 use slot_file::{Header, prepare};
 use std::alloc::Global;
 use stream_io::Store;
-use tool_base::{Ending, FILE_LIMIT, header_of, read_file, unreadable};
+use tool_base::{Content, Ending, find_content, header_of, unreadable};
 
 /// A blank file of slots.
 #[derive(Clone, Copy)]
@@ -90,7 +88,7 @@ pub(crate) fn new_blank<S: Store>(
     Ok(disk)
 }
 
-/// Reads the file with which the blank file should go.
+/// Finds the file with which the blank file should go: a share, or a reference of any length.
 pub(crate) fn read_blank<S: Store>(
     alloc: Global,
     store: &mut S,
@@ -99,13 +97,23 @@ pub(crate) fn read_blank<S: Store>(
     ensures blank { InAnyRun S.state store.old store.new (λ run.
         IfOk result (λ blank. IsEnrolled run file.now blank.header blank.count)) }
     ensures refused { InAnyRun S.state store.old store.new (λ run.
-        IfErr result (λ end. FailsGrammar enrol_fault_number run file.now (ending end))) }
-    ensures unchanged { IsUnchanged (S.state store.old) (S.state store.new) }
+        IfErr result (λ end. FailsToEnrol run file.now (ending end))) }
+    ensures keeps { Keeps [] (S.state store.old) (S.state store.new) }
 {
-    let bytes = read_file(alloc, store, file, FILE_LIMIT)?;
-    match blank_of(&bytes) {
-        Ok(blank) => Ok(blank),
-        Err(fault) => Err(unreadable(alloc, file, fault.number())),
+    match find_content(alloc, store, file)? {
+        Content::Whole(bytes) => match blank_of(&bytes) {
+            Ok(blank) => Ok(blank),
+            Err(fault) => Err(unreadable(alloc, file, fault.number())),
+        },
+        Content::Long { head, got } => {
+            if !head.starts_with(b"TLRF") {
+                return Err(Ending::TooLong { got });
+            }
+            match read_ref_header(&head, got) {
+                Ok(reference) => Ok(table_of(&reference)),
+                Err(fault) => Err(unreadable(alloc, file, fault.number())),
+            }
+        }
     }
 }
 

@@ -5,7 +5,7 @@ use Rattle.tool_base.proofs.Runs.{unchanged_none}
 use Rattle.tool_blame.specs.Commits.{GoesWithReference, commits_name, no_memory, no_view}
 use Rattle.tool_blame.proofs.Views.{behind_head, commits_refused, fails_part}
 use Rattle.tool_desk.proofs.Taking.{refuses, refuses_unchanged, takes}
-use Rattle.tool_desk.proofs.Viewing.{keeps, reads_as, reads_part}
+use Rattle.tool_base.proofs.Viewing.{keeps, reads_as, reads_part}
 use Rattle.tool_sign.proofs.Overs.{failed_as}
 use Rattle.tool_blame.proofs.commits.view_commits.Goals as goal
 

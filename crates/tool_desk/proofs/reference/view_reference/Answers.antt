@@ -6,7 +6,8 @@ use Rattle.tool_desk.specs.Files.{reference_name}
 use Rattle.tool_desk.specs.Reference.{no_memory, no_view}
 use Rattle.tool_desk.proofs.Outs.{out_unchanged, reads_viewed}
 use Rattle.tool_desk.proofs.Taking.{refuses, refuses_unchanged, takes}
-use Rattle.tool_desk.proofs.Viewing.{fails_part, head_refused, keeps}
+use Rattle.tool_base.proofs.Viewing.{keeps}
+use Rattle.tool_desk.proofs.Viewing.{fails_part, head_refused}
 use Rattle.tool_desk.proofs.reference.view_reference.Goals as goal
 
 pub returns-in_err-name-clause-taken : goal.returns-in_err-name-clause-taken

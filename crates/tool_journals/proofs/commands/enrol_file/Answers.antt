@@ -1,12 +1,11 @@
 use Rattle.std.proofs.Common.{[], ◌∷◌}
 use Rattle.stream_io.specs.Store.{pages_state}
-use Rattle.tool_base.specs.Endings.{ending}
 use Rattle.tool_base.specs.World.{from_to}
 use Rattle.tool_base.proofs.Runs.{unchanged_none, onward_none, onward_on, part_of}
-use Rattle.tool_journals.specs.Blanks.{IsNotMade}
-use Rattle.tool_journals.specs.Enrol.{EnrolEnds, enrolled, not_made, not_read}
+use Rattle.tool_journals.specs.Enrol.{enrolled, not_made, not_read}
 use Rattle.tool_journals.proofs.Blanks.{made_of}
-use Rattle.tool_base.proofs.Outs.{IsBackAs, back_as, ends_unchanged, ends_map, out_unchanged}
+use Rattle.tool_journals.proofs.Later.{keeps_later, made_later, not_made_later}
+use Rattle.tool_base.proofs.Outs.{IsBackAs, back_as}
 use Rattle.tool_journals.proofs.commands.enrol_file.Goals as goal
 
 pub returns-in-Err : goal.returns-in-Err
@@ -14,11 +13,13 @@ returns-in-Err g c =
     let state = g.S.Store.state in
     let first = c.args.store.now in
     let last = c.read_blank.new.store in
-    let run = from_to (state first) (state last) in
     let one = c.in-Err.ensures in
     record {
-      ended = ends_unchanged (state first) (state last) one.unchanged (EnrolEnds run c.args.file.now c.args.journal.now) (ending c.in-Err.end)
-          (not_read _ (one.refused first last (part_of _ _ _ _ (unchanged_none _) (onward_none _))));
+      ended = record {
+        touched = [];
+        cause = not_read _ (one.refused first last (part_of _ _ _ _ (unchanged_none (state first)) (onward_none (state last))));
+        keeps = one.keeps;
+      };
     }
 
 pub returns-in-Ok-new_blank : goal.returns-in-Ok-new_blank
@@ -32,15 +33,17 @@ returns-in-Ok-new_blank g c =
     let made = c.in-Ok-new_blank.ensures.made in
     let before = state c.read_blank.new.store in
     let after = state c.new_blank.new.store in
+    let header = c.in-Ok.blank.header in
+    let count = c.in-Ok.blank.count in
     let disk = pages_state disks.Pages.told disks.Pages.honest disks.Faults.steady disks.Faults.count disks.Pages.room disks.Pages.reads disks.Pages.may_leave c.in-Ok-new_blank.disk in
-    let back : IsBackAs (state first) name disk (state last) =
-    back_as (state first) after (state last) name disk (out_unchanged (state first) before after name disk one.unchanged made.is_out) c.return_disk.ensures.returned c.return_disk.ensures.onward in
+    let back : IsBackAs before name disk (state last) = back_as before after (state last) name disk made.is_out c.return_disk.ensures.returned c.return_disk.ensures.onward in
     let read = one.blank first last (part_of (state first) (state first) before (state last) (unchanged_none (state first)) (onward_on before after (state last) made.is_out.onward c.return_disk.ensures.onward)) in
+    let is = made_of before before after (state last) name header count disk (unchanged_none before) made back c.return_disk.ensures.onward in
     record {
       ended = record {
         touched = name ∷ [];
-        cause = enrolled c.in-Ok.blank.header c.in-Ok.blank.count read (made_of (state first) before after (state last) name c.in-Ok.blank.header c.in-Ok.blank.count disk one.unchanged made back c.return_disk.ensures.onward);
-        keeps = back.keeps;
+        cause = enrolled header count read (made_later (state first) before (state last) one.keeps name header count is);
+        keeps = keeps_later (state first) before (state last) one.keeps (name ∷ []) back.keeps;
       };
     }
 
@@ -50,14 +53,15 @@ returns-in-Err-new_blank g c =
     let first = c.args.store.now in
     let mid = c.read_blank.new.store in
     let last = c.new_blank.new.store in
-    let run = from_to (state first) (state last) in
     let one = c.in-Ok.ensures in
-    let two = c.in-Err-new_blank.ensures in
-    let later = (two.refused mid (unchanged_none _)).keeps.back.onward in
-    let read = one.blank first last (part_of _ _ _ _ (unchanged_none _) later) in
+    let two = c.in-Err-new_blank.ensures.refused mid (unchanged_none (state mid)) in
+    let read = one.blank first last (part_of _ _ _ _ (unchanged_none (state first)) two.keeps.back.onward) in
     let header = c.in-Ok.blank.header in
     let count = c.in-Ok.blank.count in
     record {
-      ended = ends_map run (IsNotMade run c.args.journal.now header count) (EnrolEnds run c.args.file.now c.args.journal.now) (ending c.in-Err-new_blank.end)
-          (two.refused first one.unchanged) (λ touched is. not_made header count _ touched read is);
+      ended = record {
+        touched = two.touched;
+        cause = not_made header count _ two.touched read (not_made_later (state first) (state mid) (state last) one.keeps c.args.journal.now header count _ two.touched two.cause);
+        keeps = keeps_later (state first) (state mid) (state last) one.keeps two.touched two.keeps;
+      };
     }
