@@ -43,24 +43,24 @@ letters : (magic head file : List ℕ) → HasHead head file → begins_with mag
 letters magic head file has = rw (← has) (ap (bytes_eq magic) (sym (take-take 4 32 file (omega arith))))
 
 -- a file that is too long to be read whole, of which the head was read
-module _ (store : StoreRun) (name head : List ℕ) (got : ℕ) (size : length head ≡ 32) (found : IsRead store name (TooLong got) × ReadsAs store name (HasHead head)) where
-  file : List ℕ
+module _ (store : StoreRun) (name head : List ℕ) (got : ℕ) (found : IsRead store name (TooLong got) × ReadsAs store name (HasHead head)) where
+  abbrev file : List ℕ
   file = found.1.file
 
   long : IsTrue store.before.told → got ≡ length file
   long told = cc-length (store.before.file name) file got (found.1.is_read told) (found.0.1 told)
 
-  as : (Is : List ℕ → Type 0) → (IsTrue store.before.told → HasHead head file → got ≡ length file → Is file) → ReadsAs store name Is
-  as Is is = record { file = file; is_read = found.1.is_read; is = λ told. is told (found.1.is told) (long told) }
+  reads-as : (Is : List ℕ → Type 0) → (IsTrue store.before.told → HasHead head file → got ≡ length file → Is file) → ReadsAs store name Is
+  reads-as Is is = record { file = file; is_read = found.1.is_read; is = λ told. is told (found.1.is told) (long told) }
 
   pub long_other : begins_with reference_magic head ≡ false → FailsToEnrol store name (spec.TooLong got)
-  long_other other = too_long got found.0 (as (λ bytes. begins_with reference_magic bytes ≡ false) (λ told has is. letters reference_magic head file has ∙ other))
+  long_other other = too_long got found.0 (reads-as (λ bytes. begins_with reference_magic bytes ≡ false) (λ told has is. letters reference_magic head file has ∙ other))
 
   pub long_refused : (fault : FileFault) (number : ℕ) (end : Ending) → begins_with reference_magic head ≡ true → reference_head_fault head got ≡ Some fault
       → number ≡ file_fault_number fault → (end ≡ spec.NoMemory) ⊎ (end ≡ spec.Unreadable name number) → FailsToEnrol store name end
   long_refused fault number end begins is number_is (inl none) = rw none (not_found spec.NoMemory no_memory)
   long_refused fault number end begins is number_is (inr told) =
-      rw (told, number_is) (no_reference got fault found.0 (as (IsOther fault) (λ told has many. record {
+      rw (told, number_is) (no_reference got fault found.0 (reads-as (IsOther fault) (λ told has many. record {
         letters = letters reference_magic head file has ∙ begins;
         fault_is = refused-by-head file head got fault many (let limit = found.0.0 in omega arith) (sym has) is;
       })))
@@ -68,5 +68,5 @@ module _ (store : StoreRun) (name head : List ℕ) (got : ℕ) (size : length he
   pub long_goes : (reference : RefHeader) (header : Header) (count : ℕ) → head ≡ reference_head reference → got ≡ reference_length reference
       → CanBeDealt reference.params → header ≡ table_header reference → count ≡ 2 ^ reference.params.h → IsEnrolled store name header count
   long_goes reference header count parts many dealt names slots =
-      rw (names, slots) (enrol.long got reference found.0 dealt (as (IsReferenceOf reference) (λ told has is.
+      rw (names, slots) (enrol.long got reference found.0 dealt (reads-as (IsReferenceOf reference) (λ told has is.
           (drop 32 file, layout-by-head file head got reference is (sym has) parts many dealt))))

@@ -1,9 +1,9 @@
 -- A blank file that was made in the later part of a run, before which all names stood for what they stood for.
-use Rattle.std.proofs.Common.{◌≡◌, ◌∙◌, ◌||◌, ℕ, List, [], Bool, false, IsTrue, is_some, All, refl, sym, ap, rules, arith}
+use Rattle.std.proofs.Common.{◌≡◌, ◌∙◌, ◌||◌, ℕ, List, [], Bool, false, IsTrue, is_some, refl, sym, subst, arith}
 use Rattle.std.proofs.lemmas.List.Elements.{All-nil}
 use Rattle.std.specs.Str.{bytes_eq}
 use Rattle.slot_file.specs.declared.header.Header.{Header}
-use Rattle.stream_io.specs.Store.{StoreState, has_name}
+use Rattle.stream_io.specs.Store.{Handed, StoreState, has_name}
 use Rattle.tool_base.specs.Disks.{DeviceFails}
 use Rattle.tool_base.specs.Ending.{Ending}
 use Rattle.tool_base.specs.Outputs.{CallFailed, IsNew, IsNotNew, is_there, no_memory_to_name, test_failed}
@@ -15,6 +15,9 @@ use Rattle.tool_journals.specs.Blanks.{IsMade, IsNeverHalf, IsNotMade, IsOwners,
 module _ (a b c : StoreState) (keeps : Keeps [] a b) where
   told_b : IsTrue a.told → IsTrue b.told
   told_b told = rw keeps.back.onward.told told
+
+  honest_b : (name : List ℕ) → IsTrue (a.disks name).honest → IsTrue (b.disks name).honest
+  honest_b name honest = subst (λ (h : Handed). IsTrue h.honest) (sym (keeps.back.onward.disks name)) honest
 
   same_has : IsTrue a.told → (name : List ℕ) → has_name b name ≡ has_name a name
   same_has told name = rw (keeps.file told name (All-nil (λ one. bytes_eq name one ≡ false)), keeps.back.out told name) refl
@@ -46,7 +49,7 @@ module _ (a b c : StoreState) (keeps : Keeps [] a b) where
   half_later whole name half = record {
     stays = λ told. half.stays (told_b told);
     owners = owners_later name half.owners;
-    images = λ told honest. half.images (told_b told) (rw keeps.back.onward.disks name honest);
+    images = λ told honest. half.images (told_b told) (honest_b name honest);
   }
 
   pub not_made_later : (name : List ℕ) (header : Header) (count : ℕ) (end : Ending) (touched : List (List ℕ))
@@ -60,7 +63,7 @@ module _ (a b c : StoreState) (keeps : Keeps [] a b) where
     new = new_later name made.new;
     file = λ told. made.file (told_b told);
     blank = λ told. made.blank (told_b told);
-    stable = λ told honest. made.stable (told_b told) (rw keeps.back.onward.disks name honest);
+    stable = λ told honest. made.stable (told_b told) (honest_b name honest);
     owners = owners_later name made.owners;
   }
 
