@@ -28,7 +28,10 @@ use Rattle.tool_desk.specs.Views as views
 use Rattle.tool_desk.specs.declared.files.KeyFiles.{KeyFiles}
 use Rattle.tool_journals.specs.Approve.{ApproveEnds}
 use Rattle.tool_journals.specs.Approve as approve
-use Rattle.tool_journals.specs.Enrol.{EnrolEnds}
+use Rattle.slot_file.specs.declared.header.Header.{Header}
+use Rattle.tool_base.specs.Contents.{FailsToFind}
+use Rattle.tool_base.specs.Contents as contents
+use Rattle.tool_journals.specs.Enrol.{EnrolEnds, FailsToEnrol, IsEnrolled}
 use Rattle.tool_journals.specs.Enrol as enrol
 use Rattle.tool_journals.specs.Migrate.{MigrateEnds}
 use Rattle.tool_journals.specs.Migrate as migrate
@@ -93,10 +96,25 @@ module _ (run : StoreRun) (told : IsTrue run.before.told) where
   deal-found words _ _ (steps.refused end fails) = upto-found run told (Deal words) _ words.entropy end (list-1 run.before words.entropy) fails
   deal-found words _ _ (steps.given entropy end written read rest) = whole run.before (Deal words) (list-1 run.before words.entropy (ap is_some (read.1 told))) end
 
+  find-found : (row : Row) (name : List ℕ) (end : Ending) → FailsToFind run name end → Found run told row end
+  find-found row name _ (contents.failed r) = nothing run told row
+  find-found row name _ (contents.device fails) = nothing run told row
+  find-found row name _ contents.no_memory = nothing run told row
+
+  unenrolled-found : (file journal : List ℕ) (end : Ending) → FailsToEnrol run file end → Found run told (Enrol file journal) end
+  unenrolled-found file journal _ (enrol.not_found end fails) = find-found (Enrol file journal) file end fails
+  unenrolled-found file journal _ (enrol.not_in_grammar bytes fault read is) = up-to-here run.before file [] (ap is_some (read.1 told))
+  unenrolled-found file journal _ (enrol.too_long got read reads) = list-1 run.before file (ap is_some (reads.is_read told))
+  unenrolled-found file journal _ (enrol.no_reference got fault read reads) = up-to-here run.before file [] (ap is_some (reads.is_read told))
+
+  enrolled-there : (file : List ℕ) (header : Header) (count : ℕ) → IsEnrolled run file header count → Is file
+  enrolled-there file _ _ (enrol.whole bytes header count read go) = ap is_some (read.1 told)
+  enrolled-there file _ _ (enrol.long got reference read dealt reads) = ap is_some (reads.is_read told)
+
   enrol-found : (file journal : List ℕ) (end : Ending) (touched : List (List ℕ)) → EnrolEnds run file journal end touched → Found run told (Enrol file journal) end
-  enrol-found file journal _ _ (enrol.not_read end fails) = grammar-found run told (Enrol file journal) _ file end (list-1 run.before file) (up-to-here run.before file []) fails
-  enrol-found file journal _ _ (enrol.not_made header count end touched is fails) = whole run.before (Enrol file journal) (list-1 run.before file (ap is_some (is.read.1 told))) end
-  enrol-found file journal _ _ (enrol.enrolled header count is made) = list-1 run.before file (ap is_some (is.read.1 told))
+  enrol-found file journal _ _ (enrol.not_read end fails) = unenrolled-found file journal end fails
+  enrol-found file journal _ _ (enrol.not_made header count end touched is fails) = whole run.before (Enrol file journal) (list-1 run.before file (enrolled-there file header count is)) end
+  enrol-found file journal _ _ (enrol.enrolled header count is made) = list-1 run.before file (enrolled-there file header count is)
 
   untaken-found : (row : Row) (name : List ℕ) (end : Ending) → IsNotTaken run name end → Found run told row end
   untaken-found row name _ (take_failed rose absent) = nothing run told row
@@ -134,10 +152,13 @@ module _ (run : StoreRun) (told : IsTrue run.before.told) where
       list-3 run.before key message signature (ap is_some (read.1 told)) (ap is_some (had.1 told)) (ap is_some (got.1 told))
 
   show-found : (file : List ℕ) (leaves : Bool) (end : Ending) → ShowEnds run file leaves end → Found run told (Show file leaves) end
-  show-found file leaves _ (show.not_read end fails) = upto-found run told (Show file leaves) _ file end (list-1 run.before file) fails
+  show-found file leaves _ (show.not_read end fails) = find-found (Show file leaves) file end fails
   show-found file leaves _ show.no_memory = nothing run told (Show file leaves)
   show-found file leaves _ (show.not_shown bytes end read fails) = whole run.before (Show file leaves) (list-1 run.before file (ap is_some (read.1 told))) end
   show-found file leaves _ (show.shown bytes text read is) = list-1 run.before file (ap is_some (read.1 told))
+  show-found file leaves _ (show.too_long got read reads) = list-1 run.before file (ap is_some (reads.is_read told))
+  show-found file leaves _ (show.long_not_shown got fault read reads) = up-to-here run.before file [] (ap is_some (reads.is_read told))
+  show-found file leaves _ (show.long_shown got text read reads) = list-1 run.before file (ap is_some (reads.is_read told))
 
   -- ---- commands that sign
   module _ (words : SignWords) where

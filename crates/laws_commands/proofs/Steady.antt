@@ -32,7 +32,9 @@ use Rattle.tool_journals.specs.Approve.{ApproveEnds, IsNotOpened}
 use Rattle.tool_journals.specs.Approve as approve
 use Rattle.tool_journals.specs.Blanks.{IsNotMade}
 use Rattle.tool_journals.specs.Blanks as blanks
-use Rattle.tool_journals.specs.Enrol.{EnrolEnds}
+use Rattle.tool_base.specs.Contents.{FailsToFind}
+use Rattle.tool_base.specs.Contents as contents
+use Rattle.tool_journals.specs.Enrol.{EnrolEnds, FailsToEnrol}
 use Rattle.tool_journals.specs.Enrol as enrol
 use Rattle.tool_journals.specs.Migrate.{CopyEnds, MigrateEnds}
 use Rattle.tool_journals.specs.Migrate as migrate
@@ -166,8 +168,19 @@ module _ (store : StoreRun) (net : NetState) (told : IsTrue store.before.told) (
   unmade-ends name header count _ _ (blanks.device new fails half) = absurd (no_device fails)
   unmade-ends name header count _ _ (blanks.not_empty new untold) = other _ (λ is. cc) (λ is. cc) (λ is. cc)
 
+  find-ends : (name : List ℕ) (end : Ending) → Named name → FailsToFind store name end → Ends end
+  find-ends name _ named (contents.failed r) = lacks name named (r.1 told steady)
+  find-ends name _ named (contents.device fails) = absurd (no_device fails)
+  find-ends name _ named contents.no_memory = other _ (λ is. cc) (λ is. cc) (λ is. cc)
+
+  unenrolled-ends : (file : List ℕ) (end : Ending) → Named file → FailsToEnrol store file end → Ends end
+  unenrolled-ends file _ f (enrol.not_found end fails) = find-ends file end f fails
+  unenrolled-ends file _ f (enrol.not_in_grammar bytes fault read is) = other _ (λ is. cc) (λ is. cc) (λ is. cc)
+  unenrolled-ends file _ f (enrol.too_long got read reads) = other _ (λ is. cc) (λ is. cc) (λ is. cc)
+  unenrolled-ends file _ f (enrol.no_reference got fault read reads) = other _ (λ is. cc) (λ is. cc) (λ is. cc)
+
   enrol-ends : (file journal : List ℕ) (end : Ending) (touched : List (List ℕ)) → Named file → EnrolEnds store file journal end touched → Ends end
-  enrol-ends file journal _ _ f (enrol.not_read end fails) = grammar-ends _ file end f fails
+  enrol-ends file journal _ _ f (enrol.not_read end fails) = unenrolled-ends file end f fails
   enrol-ends file journal _ _ f (enrol.not_made header count end touched is fails) = unmade-ends journal header count end touched fails
   enrol-ends file journal _ _ f (enrol.enrolled header count is made) = other _ (λ is. cc) (λ is. cc) (λ is. cc)
 
@@ -244,10 +257,13 @@ module _ (store : StoreRun) (net : NetState) (told : IsTrue store.before.told) (
   unshown-ends file bytes _ (show.not_loaded fault kind why) = other _ (λ is. cc) (λ is. cc) (λ is. cc)
 
   show-ends : (file : List ℕ) (leaves : Bool) (end : Ending) → Named file → ShowEnds store file leaves end → Ends end
-  show-ends file leaves _ f (show.not_read end fails) = upto-ends _ file end f fails
+  show-ends file leaves _ f (show.not_read end fails) = find-ends file end f fails
   show-ends file leaves _ f show.no_memory = other _ (λ is. cc) (λ is. cc) (λ is. cc)
   show-ends file leaves _ f (show.not_shown bytes end read fails) = unshown-ends file bytes end fails
   show-ends file leaves _ f (show.shown bytes text read is) = other _ (λ is. cc) (λ is. cc) (λ is. cc)
+  show-ends file leaves _ f (show.too_long got read reads) = other _ (λ is. cc) (λ is. cc) (λ is. cc)
+  show-ends file leaves _ f (show.long_not_shown got fault read reads) = other _ (λ is. cc) (λ is. cc) (λ is. cc)
+  show-ends file leaves _ f (show.long_shown got text read reads) = other _ (λ is. cc) (λ is. cc) (λ is. cc)
 
   drill-ends : (number sessions events : ℕ) (end : Ending) → DrillEnds number sessions events end → Ends end
   drill-ends number sessions events _ no_memory = other _ (λ is. cc) (λ is. cc) (λ is. cc)

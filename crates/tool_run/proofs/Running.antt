@@ -1,11 +1,15 @@
 -- What a command does to the outside.
 use denote.Bor.{Bor}
-use Rattle.std.proofs.Common.{◌≡◌, ℕ, Bool, List, [], None, refl}
+use Rattle.std.proofs.Common.{◌≡◌, ℕ, Bool, false, List, [], None, Some, refl}
+use Rattle.std.proofs.lemmas.List.Elements.{All-nil}
+use Rattle.std.specs.Str.{bytes_eq}
+use Rattle.disk_trait.specs.Images.{Only}
 use Rattle.stream_io.specs.Net.{NetState}
 use Rattle.stream_io.specs.Store.{StoreState}
 use Rattle.tool_base.specs.Ending as ending
 use Rattle.tool_base.specs.Ending.{Ending}
-use Rattle.tool_base.specs.Outputs.{EndsWith, Output}
+use Rattle.tool_base.specs.Outputs.{EndsWith, IsLeft, Output, all_added}
+use Rattle.tool_base.specs.Touched.{Keeps}
 use Rattle.tool_base.specs.World.{IsUnchanged, Outside, StoreRun, TimeState, from_to}
 use Rattle.tool_base.proofs.Runs.{unchanged_none}
 use Rattle.tool_base.proofs.Writing.{ends_untouched}
@@ -27,6 +31,23 @@ pub untouched : (ends : StoreRun → Ending → List Output → Type 0) (before 
     → after.net ≡ before.net → ends (from_to before.store after.store) end [] → OnStore (λ store. EndsWith (ends store) store) before after end
 untouched ends before after end unchanged same cause = record {
   run = ends_untouched before.store after.store unchanged (ends (from_to before.store after.store)) end cause;
+  net = same;
+}
+
+left-kept : (a b : StoreState) → Keeps [] a b → IsLeft (from_to a b) []
+unfolding all_added
+left-kept a b keeps = record {
+  file = λ told name. keeps.file told name (All-nil (λ one. bytes_eq name one ≡ false));
+  stable = λ told. All-nil (λ output. Only output.bytes (b.leaves output.name));
+  readers = λ told. All-nil (λ output. b.readers output.name ≡ Some output.readers);
+  others = λ told name image other. keeps.leaves told name image (All-nil (λ one. bytes_eq name one ≡ false));
+}
+
+-- a command that keeps all names of the store, and leaves the net as it was
+pub kept : (ends : StoreRun → Ending → List Output → Type 0) (before after : Outside) (end : Ending) → Keeps [] before.store after.store
+    → after.net ≡ before.net → ends (from_to before.store after.store) end [] → OnStore (λ store. EndsWith (ends store) store) before after end
+kept ends before after end keeps same cause = record {
+  run = record { written = []; cause = cause; left = left-kept before.store after.store keeps };
   net = same;
 }
 

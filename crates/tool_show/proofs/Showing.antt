@@ -25,7 +25,7 @@ abbrev fault_of : List ℕ → Option Kind → Option ℕ
 fault_of bytes kind = elim kind [ None ↦ Some 1 | Some kind ↦ fault_as kind bytes ]
 
 -- the fault of a file of this kind
-of_kind : (bytes : List ℕ) (kind : Option Kind) (fault : ℕ) → kind_of bytes ≡ kind → fault_of bytes kind ≡ Some fault → show_fault bytes ≡ Some fault
+pub of_kind : (bytes : List ℕ) (kind : Option Kind) (fault : ℕ) → kind_of bytes ≡ kind → fault_of bytes kind ≡ Some fault → show_fault bytes ≡ Some fault
 unfolding show_fault
 of_kind bytes kind fault is fails = ap (fault_of bytes) is ∙ fails
 

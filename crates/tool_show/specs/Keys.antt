@@ -1,7 +1,10 @@
--- What calls inside the crate say about keys and faults. Only contracts inside the crate speak of it.
-use Rattle.std.specs.Prelude.{◌≡◌, ℕ, List, Some}
+-- What calls inside the crate say about keys and faults, and the ends of faults. Only contracts inside the crate speak of it.
+use Rattle.std.specs.Prelude.{◌≡◌, ◌⊎◌, ℕ, List, Some, length}
 use Rattle.hss_levels.specs.HssKey.{hss_key_bytes}
 use Rattle.lms_bytes.specs.PublicKey.{public_bytes}
+use Rattle.tool_base.specs.Contents.{HasHead}
+use Rattle.tool_base.specs.Ending as ending
+use Rattle.tool_base.specs.Ending.{Ending}
 use Rattle.tool_show.specs.Listing.{IsNotLoaded}
 use Rattle.tool_show.specs.Kinds.{IsHssKey, IsKey, IsSlots, Kind, kind_of, show_fault}
 use Rattle.tool_show.specs.Lines as lines
@@ -30,3 +33,16 @@ abbrev pub IsFaultOf : List ℕ → ShowFault → Type 0
 IsFaultOf bytes (Unreadable fault) = show_fault bytes ≡ Some fault
 IsFaultOf bytes (NotLoaded fault) = (kind_of bytes ≡ Some IsSlots) × IsNotLoaded bytes fault
 IsFaultOf bytes NoMemory = Unit {0}
+
+-- why every file with this head and this length is not shown
+abbrev pub IsFaultOfHead : List ℕ → ℕ → ShowFault → Type 0
+IsFaultOfHead head got (Unreadable fault) =
+    (file : List ℕ) → HasHead head file → length file ≡ got → show_fault file ≡ Some fault
+IsFaultOfHead head got (NotLoaded fault) = ⊥
+IsFaultOfHead head got NoMemory = Unit {0}
+
+-- the end for each fault of the file of this name
+abbrev pub IsEndOf : List ℕ → ShowFault → Ending → Type 0
+IsEndOf file (Unreadable fault) end = (end ≡ ending.NoMemory) ⊎ (end ≡ ending.Unreadable file fault)
+IsEndOf file (NotLoaded fault) end = end ≡ ending.NotLoaded fault
+IsEndOf file NoMemory end = end ≡ ending.NoMemory

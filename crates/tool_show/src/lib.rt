@@ -4,6 +4,7 @@
 mod any_key;
 mod bytes_shown;
 mod counts;
+mod head_shown;
 mod kind;
 mod lines;
 mod listing;

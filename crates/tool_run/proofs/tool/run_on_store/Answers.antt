@@ -1,6 +1,6 @@
 use Rattle.std.proofs.Common.{refl}
 use Rattle.tool_base.proofs.Runs.{back_unchanged, unchanged_none}
-use Rattle.tool_run.proofs.Running.{all_done, untouched}
+use Rattle.tool_run.proofs.Running.{all_done, kept, untouched}
 use Rattle.tool_run.proofs.tool.run_on_store.Goals as goal
 
 pub returns-in-Verify : goal.returns-in-Verify
@@ -53,8 +53,8 @@ pub returns-in-Show : goal.returns-in-Show
 returns-in-Show g c =
     let done = c.show_file.ensures in
     record {
-      ended = λ net time. rw c.in-Show.is (untouched _ _ _ _ done.unchanged refl (done.ended, refl));
-      back = back_unchanged _ _ done.unchanged;
+      ended = λ net time. rw c.in-Show.is (kept _ _ _ _ done.keeps refl (done.ended, refl));
+      back = done.keeps.back;
     }
 
 pub unreachable-requires : goal.unreachable-requires
