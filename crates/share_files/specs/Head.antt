@@ -1,5 +1,6 @@
 -- The heads of the files of a dealing, and the tests of their readers.
-use Rattle.std.specs.Prelude.{ℕ, ◌^◌, List, [], ◌∷◌, ◌++◌, length, slice_index, Bool, Option, Some, None, ◌==◌, ◌&&◌, ◌||◌}
+use Rattle.std.specs.Prelude.{ℕ, ◌^◌, List, [], ◌∷◌, ◌++◌, length, slice_index, Bool, Option, Some, None}
+use Rattle.std.specs.Prelude.{◌==◌, ◌&&◌, ◌||◌}
 use Rattle.std.specs.Prelude.{nat_lt, nat_le, if◌then◌else◌}
 use Rattle.std.specs.Str.{bytes_eq}
 use Rattle.lms_bytes.specs.Bytes.{u32str, str_to_u32, bytes_at}
@@ -11,7 +12,8 @@ use Rattle.share_files.specs.declared.faults.FileFault.TheVariants.{Magic, Versi
 
 -- this project's profile: the magic, the version of the set, three bytes of the file's own, the typecodes and I
 abbrev pub head_bytes : List ℕ → List ℕ → Params → List ℕ → List ℕ
-head_bytes magic own params id = magic ++ version_of params.lms params.ots ∷ own ++ u32str params.lms ++ u32str params.ots ++ id
+head_bytes magic own params id =
+    magic ++ version_of params.lms params.ots ∷ own ++ u32str params.lms ++ u32str params.ots ++ id
 
 -- the first of these tests that fails, or none
 unfoldable pub first_fault : List (Option FileFault) → Option FileFault

@@ -56,8 +56,8 @@ pub data GoWith (bytes : List ℕ) : Header → ℕ → Type 0 where
   table : (reference : RefHeader) (leaves : List ℕ) → HasReferenceLayout reference bytes leaves
       → GoWith bytes (table_header reference) (2 ^ reference.params.h)
 
--- The file of this name goes with a blank file with this header and number of slots. It is read whole; or it is too long
--- for that, and is a reference of which the head and the length are read.
+-- The file of this name goes with a blank file with this header and number of slots. It is read whole; or it is too
+-- long for that, and is a reference of which the head and the length are read.
 pub data IsEnrolled (store : StoreRun) (name : List ℕ) : Header → ℕ → Type 0 where
   whole : (bytes : List ℕ) (header : Header) (count : ℕ) → IsRead store name (Bytes bytes)
       → GoWith bytes header count → IsEnrolled store name header count
@@ -74,7 +74,8 @@ pub data FailsToEnrol (store : StoreRun) (name : List ℕ) : Ending → Type 0 w
       → ReadsAs store name (λ bytes. begins_with reference_magic bytes ≡ false)
       → FailsToEnrol store name (ending.TooLong got)
   no_reference : (got : ℕ) (fault : FileFault) → IsRead store name (TooLong got)
-      → ReadsAs store name (IsOther fault) → FailsToEnrol store name (ending.Unreadable name (file_fault_number fault))
+      → ReadsAs store name (IsOther fault)
+      → FailsToEnrol store name (ending.Unreadable name (file_fault_number fault))
 
 -- what became of the file and of the journal, with the names that were touched
 pub data EnrolEnds (store : StoreRun) (file journal : List ℕ) : Ending → List (List ℕ) → Type 0 where

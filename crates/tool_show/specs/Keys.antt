@@ -1,4 +1,5 @@
--- What calls inside the crate say about keys and faults, and the ends of faults. Only contracts inside the crate speak of it.
+-- What calls inside the crate say about keys and faults, and the ends of faults. Only contracts inside the crate speak
+-- of it.
 use Rattle.std.specs.Prelude.{◌≡◌, ◌⊎◌, ℕ, List, Some, length}
 use Rattle.hss_levels.specs.HssKey.{hss_key_bytes}
 use Rattle.lms_bytes.specs.PublicKey.{public_bytes}
