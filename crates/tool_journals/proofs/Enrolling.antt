@@ -51,4 +51,4 @@ module _ (store : StoreRun) (name head : List ℕ) (got : ℕ) (found : IsRead s
       → CanBeDealt reference.params → header ≡ table_header reference → count ≡ 2 ^ reference.params.h → IsEnrolled store name header count
   long_goes reference header count parts many dealt names slots =
       rw (names, slots) (enrol.long got reference found.0 dealt (reads-long store name head got found (IsReferenceOf reference) (λ file has is.
-          (drop 32 file, layout-by-head file head got reference (sym is) (sym has) parts many dealt))))
+      (drop 32 file, layout-by-head file head got reference (sym is) (sym has) parts many dealt))))
