@@ -12,3 +12,6 @@ pub mod Wanting
 pub mod Sums
 pub mod Signers
 pub mod Rehearsing
+mod OntoParts
+mod OntoStops
+mod OntoEnds

@@ -4,6 +4,8 @@ pub mod Entropy
 pub mod Faults
 pub mod Files
 pub mod Material
+pub mod Onto
+pub mod OntoRoom
 pub mod Rehearsal
 pub mod Runs
 pub mod Signing

@@ -1,7 +1,10 @@
 -- internal: What a key is dealt from, and what is built of it.
 use Rattle.std.specs.Prelude.{◌≡◌, ℕ, ◌*◌, ◌^◌, Bool, List, is_some, length}
+use Rattle.lms_bytes.specs.declared.public_key.PublicKey.{PublicKey}
 use Rattle.mask_prf.specs.Lengths.{leaves_length}
+use Rattle.merkle_path.specs.Tree.{TreeNodes}
 use Rattle.reference_value.specs.Dealing.{Dealing, reference}
+use Rattle.dealer.specs.Dealt.{dealt_root, dealt_tree}
 use Rattle.dealer.specs.Runs.{HasRoom, HasRunRoom, IsRunBuilt, file_asked, joined_keys}
 use Rattle.dealer.specs.declared.material.KeyMaterial.{KeyMaterial}
 use Rattle.dealer.specs.declared.runs.Run.{Run}
@@ -38,3 +41,10 @@ HasRoomOfRun material count = HasRunRoom (are_asked material) material.params ma
 
 abbrev pub IsBuiltRun : KeyMaterial → Run → List ℕ → List ℕ → List ℕ → Type 0
 IsBuiltRun material run = IsRunBuilt (are_asked material) (dealing_with material) run
+
+-- the public key of a dealing, and its tree
+pub record IsPublic (d : Dealing) (public : PublicKey) (tree : TreeNodes) : Type 0 where
+  pub params : public.params ≡ d.params
+  pub id : public.id ≡ d.id
+  pub root_is : public.root ≡ dealt_root d
+  pub tree_is : tree ≡ dealt_tree d

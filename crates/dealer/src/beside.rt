@@ -125,7 +125,7 @@ fn write_parts<R: Threads + Sync, P: Progress>(
 
 /// Writes the leaves of a run, one after the other, the commitments to their masks if they are asked for, and the
 /// public values of the leaves, `n` bytes each, by at most `threads` threads.
-fn write_beside<R: Threads + Sync>(
+pub(crate) fn write_beside<R: Threads + Sync>(
     rt: &R,
     material: &KeyMaterial,
     run: Run,

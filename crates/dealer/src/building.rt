@@ -6,7 +6,7 @@ ghost use Rattle.dealer.specs.Dealt.{IsDealt};
 ghost use Rattle.dealer.specs.Entropy.{dealing_of};
 ghost use Rattle.dealer.specs.Faults.{IsDealable};
 ghost use Rattle.dealer.specs.Runs.{IsBuilt, joined_keys};
-ghost use Rattle.dealer.specs.Material.{AreAllBuilt, dealing_with};
+ghost use Rattle.dealer.specs.Material.{AreAllBuilt, IsPublic, dealing_with};
 
 use crate::dealing::Dealt;
 use crate::entropy::read_entropy;
@@ -17,6 +17,7 @@ use crate::writing::write_leaves;
 use coalition_map::Plan;
 use lms_bytes::{Params, PublicKey};
 use memory::NoMemory;
+use merkle_path::Tree;
 use std::alloc::Global;
 
 /// Deals the key that the entropy stands for, which has been tested, with its commitment file if it is asked for.
@@ -59,16 +60,30 @@ pub(crate) fn finish(
     ensures dealt { IfOk result (IsDealt (dealing_with material.now)) }
     ensures shares { IfOk result (λ dealt. 0 < length dealt.shares.items) }
 {
-    let tree = build_tree(alloc, material, keys)?;
-    let public = PublicKey {
-        params: material.params,
-        id: material.id,
-        root: tree.root(),
-    };
+    let (public, tree) = build_public(alloc, material, keys)?;
     Ok(Dealt {
         public,
         tree,
         reference: leaves,
         shares: build_shares(alloc, material)?,
     })
+}
+
+/// The public key and the tree over these public values of the leaves, `n` bytes each.
+pub(crate) fn build_public(
+    alloc: Global,
+    material: &KeyMaterial,
+    keys: &[u8],
+) -> Result<(PublicKey, Tree), NoMemory>
+    requires low { material.now.params.h ≤ 10 }
+    requires keys { keys.now ≡ joined_keys (dealing_with material.now) }
+    ensures { IfOk result (λ both. IsPublic (dealing_with material.now) both.0 both.1) }
+{
+    let tree = build_tree(alloc, material, keys)?;
+    let public = PublicKey {
+        params: material.params,
+        id: material.id,
+        root: tree.root(),
+    };
+    Ok((public, tree))
 }
