@@ -6,9 +6,11 @@ use Rattle.lms_bytes.specs.declared.params.Params.{Params}
 use Rattle.merkle_path.specs.Nodes.{root}
 use Rattle.merkle_path.specs.Tree.{node_at, tree_of}
 use Rattle.merkle_path.proofs.Trees.{node_at-tree_of}
-use Rattle.reference_value.specs.Dealing.{Dealing}
+use Rattle.reference_value.specs.Dealing.{Dealing, reference}
 use Rattle.dealer.specs.declared.dealing.Dealt.{Dealt}
 use Rattle.dealer.specs.Dealt.{IsDealt}
+use Rattle.dealer.specs.Onto.{IsKeyDealt}
+use Rattle.dealer.specs.declared.onto.DealtKey.{DealtKey}
 use Rattle.dealer.specs.Material.{AreAllBuilt}
 use Rattle.dealer.specs.declared.leaves.Rows.{Rows}
 use Rattle.dealer.specs.declared.material.KeyMaterial.{KeyMaterial}
@@ -52,3 +54,15 @@ rows-built rows {leaves = leaves} {file = file} {keys = keys} built leaves_size 
 -- the set of the material that the entropy stands for
 pub same-set : {d e : Dealing} → d ≡ e → d.params ≡ e.params
 same-set same = ap (λ (t : Dealing). t.params) same
+
+-- what was dealt onto a disk is a dealing with the leaves that were written
+pub dealt-with : (d : Dealing) (key : DealtKey) (leaves : Vec ℕ Global) → IsKeyDealt d key → leaves.items ≡ reference d
+    → IsDealt d (record { public = key.public; tree = key.tree; reference = leaves; shares = key.shares })
+dealt-with d key leaves is written = record {
+  params = is.params;
+  id = is.id;
+  root_is = is.root_is;
+  tree = is.tree;
+  reference_is = written;
+  shares = is.shares;
+}

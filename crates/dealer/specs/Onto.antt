@@ -72,8 +72,8 @@ module _ {D P : Type 0} (p : pages.Ghosts D) (told : P → ℕ → ℕ → P) (d
   pub record StopsBehind (front : List ℕ) (k : ℕ) (old new : D) (before after : P) : Type 0 where
     pub most : k * part_leaves d.params ≤ 2 ^ d.params.h
     pub told_of : after ≡ told_first told d.params k before
-    pub reads : IsTrue (p.told old)
-        → BeginsWith (front ++ joined (leaf_part d) (k * part_leaves d.params)) (part_length d.params d.plan) (p.reads new)
+    pub reads : IsTrue (p.told old) → BeginsWith (front ++ joined (leaf_part d) (k * part_leaves d.params))
+        (part_length d.params d.plan) (p.reads new)
 
   -- the disk failed within the head, and nothing was told of
   pub record StopsInHead (old new : D) (before after : P) : Type 0 where
@@ -90,12 +90,12 @@ module _ {D P : Type 0} (p : pages.Ghosts D) (told : P → ℕ → ℕ → P) (d
   FailsToBuild old new before after fault = ((fault ≡ Deal NoMemory) × IsWritten old new before after)
       ⊎ ((fault ≡ Device) × Stops old new before after)
 
-module _ {D P : Type 0} (p : pages.Ghosts D) (told : P → ℕ → ℕ → P) (params : Params) (plan : PlanNumbers) (entropy : List ℕ) where
-  -- there is a dealing, and its reference is written
-  pub record IsDealtOnto (old new : D) (before after : P) (key : DealtKey) : Type 0 where
-    pub dealable : IsDealable params plan entropy
-    pub dealt : IsKeyDealt (dealing_of params plan entropy) key
-    pub written : IsWritten p told (dealing_of params plan entropy) old new before after
+-- there is a dealing, and its reference is written
+pub record IsDealtOnto {D P : Type 0} (p : pages.Ghosts D) (told : P → ℕ → ℕ → P) (params : Params)
+    (plan : PlanNumbers) (entropy : List ℕ) (old new : D) (before after : P) (key : DealtKey) : Type 0 where
+  pub dealable : IsDealable params plan entropy
+  pub dealt : IsKeyDealt (dealing_of params plan entropy) key
+  pub written : IsWritten p told (dealing_of params plan entropy) old new before after
 
 -- Why there is none, and what is left of the disk: nothing is called if the entropy is refused, and memory runs out
 -- before the first call or behind the last one.

@@ -68,10 +68,10 @@ impl fmt::Debug for OntoFault {
 }
 
 /// Deals the key that the entropy stands for, as `deal` does, and writes its reference onto an empty disk with its gate
-/// shut: `open_reference` opens it. The leaves are built by several threads, in parts of 512, or 32 with digits of 8
-/// bits; each part is written behind the one before it, and then `progress` is told how many leaves there are. No more
-/// than one part of the reference stands in memory. The entropy is tested before memory is taken and the disk is called,
-/// and memory for the parts, the public values of the leaves and the shares is taken before the disk is called.
+/// shut; `open_reference` opens it. The leaves are built by several threads, in parts of 512 leaves, or of 32 with
+/// digits of 8 bits. Each part is written behind the one before it, and then `progress` is told how many leaves there
+/// are, so no more than one part stands in memory. The entropy is tested before memory is taken, and all memory but
+/// that of the tree is taken before the disk is called.
 pub fn deal_onto<R: Threads + Sync, P: Progress, D: Disk>(
     rt: &R,
     progress: &mut P,
@@ -170,8 +170,8 @@ fn build_onto<R: Threads + Sync, P: Progress, D: Disk>(
     }
 }
 
-/// Opens the gate of a reference that a dealing wrote onto this disk: it is written after all else is stable, so no
-/// crash leaves a reference that reads and is not whole.
+/// Opens the gate of a reference that a dealing wrote onto this disk. All else is stable before, so no crash leaves a
+/// reference that is taken for one and is not whole.
 pub fn open_reference<D: Disk>(disk: &mut D) -> Result<(), DiskFault>
     ensures opened { (d : Dealing) → HoldsShut D.Pages.own d disk.old → IsTrue (D.told disk.old)
         → OnOk result (D.reads disk.new ≡ reference_file d) }

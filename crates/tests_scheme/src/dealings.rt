@@ -4,6 +4,7 @@ mod coalition_map_tests;
 mod commitments_tests;
 mod dealer_tests;
 mod mask_prf_tests;
+mod onto_tests;
 mod reference_value_tests;
 mod rehearsal_tests;
 
