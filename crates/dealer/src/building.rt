@@ -75,7 +75,7 @@ pub(crate) fn build_public(
     material: &KeyMaterial,
     keys: &[u8],
 ) -> Result<(PublicKey, Tree), NoMemory>
-    requires low { material.now.params.h ≤ 10 }
+    requires low { material.now.params.h ≤ 20 }
     requires keys { keys.now ≡ joined_keys (dealing_with material.now) }
     ensures { IfOk result (λ both. IsPublic (dealing_with material.now) both.0 both.1) }
 {

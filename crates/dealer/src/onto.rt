@@ -130,7 +130,7 @@ fn build_onto<R: Threads + Sync, P: Progress, D: Disk>(
     room: OntoRoom,
     reference: &mut D,
 ) -> Result<DealtKey, OntoFault>
-    requires low { material.now.params.h ≤ 10 }
+    requires low { material.now.params.h ≤ 20 }
     requires alone { are_asked material.now ≡ false }
     requires room { IsRoomOf material.now room }
     requires empty { IsTrue (D.told reference.old) → D.reads reference.old ≡ [] }
