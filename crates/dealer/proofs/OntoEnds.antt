@@ -1,5 +1,5 @@
 -- How a dealing onto a disk ends, and a reference whose gate is opened.
-use Rattle.std.proofs.Common.{◌≡◌, ◌⊎◌, ℕ, IsTrue, Result, Ok, Err, List, [], ◌∷◌, get_or, inl, inr, ⊎_elim, refl, sym, ap, ◌∙◌, subst, arith}
+use Rattle.std.proofs.Common.{◌≡◌, ◌⊎◌, ℕ, true, IsTrue, Result, Ok, Err, List, [], ◌∷◌, get_or, inl, inr, ⊎_elim, refl, sym, ap, ◌∙◌, subst, arith}
 use Rattle.std.specs.Prelude.{IfErr}
 use Rattle.std.proofs.lemmas.Bool.{cases_eq}
 use Rattle.coalition_map.specs.Coalitions.{PlanNumbers}
@@ -18,7 +18,7 @@ use Rattle.dealer.proofs.OntoStops.{shut-unready}
 
 -- what was built of the material fails as the dealing of the entropy does
 pub fails-onto : {D P T : Type 0} (p : pages.Ghosts D) (told : P → ℕ → ℕ → P) (d : Dealing) (params : Params) (plan : PlanNumbers) (entropy : List ℕ)
-    (old new : D) (before after : P) (answer : Result T OntoFault) → IsDealable params plan entropy → d ≡ dealing_of params plan entropy
+    (old new : D) (before after : P) (answer : Result T OntoFault) → IsDealable true params plan entropy → d ≡ dealing_of params plan entropy
     → IfErr answer (FailsToBuild p told d old new before after) → IfErr answer (FailsOnto p told params plan entropy old new before after)
 fails-onto p told d params plan entropy old new before after (Ok value) dealable same fails = tt
 fails-onto p told d params plan entropy old new before after (Err fault) dealable same (inl both) =

@@ -1,5 +1,5 @@
 -- A rehearsal: its plan, what it gives, and its faults.
-use Rattle.std.proofs.Common.{◌≡◌, ℕ, ◌<◌, ◌^◌, List, [], ◌∷◌, length, map, refl, sym, ◌∙◌, ap, inr, arith}
+use Rattle.std.proofs.Common.{◌≡◌, ℕ, false, ◌<◌, ◌^◌, List, [], ◌∷◌, length, map, refl, sym, ◌∙◌, ap, inr, arith}
 use Rattle.coalition_map.specs.Coalitions.{IsPlan, PlanNumbers, leaf_members, subsets}
 use Rattle.lms_bytes.specs.Bytes.{bytes_at}
 use Rattle.lms_bytes.specs.declared.params.Params.{Params}
@@ -85,14 +85,14 @@ gives params entropy message dealt keys lms ots n h size dealt_is shares =
     }
 
 pub is-rehearsed : (params : Params) (plan : PlanNumbers) (entropy message : List ℕ) (dealt : Dealt) (keys : Keys) (signature : List ℕ)
-    → params.lms ≡ 5 → params.ots ≡ 3 → params.n ≡ 32 → params.h ≡ 5 → plan ≡ two → IsDealable params plan entropy → IsDealt (dealing_of params plan entropy) dealt
+    → params.lms ≡ 5 → params.ots ≡ 3 → params.n ≡ 32 → params.h ≡ 5 → plan ≡ two → IsDealable false params plan entropy → IsDealt (dealing_of params plan entropy) dealt
     → map (λ share. share.key) dealt.shares.items ≡ keys.first ∷ keys.second ∷ [] → signature ≡ signed_leaf plan dealt keys 0 message
     → IsRehearsed entropy message dealt.public signature
 is-rehearsed params plan entropy message dealt keys signature lms ots n h is dealable dealt_is shares signed =
     let size : length entropy ≡ entropy_length 2 = rw is at dealable.size in
     rw (signed, is) (gives params entropy message dealt keys lms ots n h size (rw is at dealt_is) shares)
 
-pub can-rehearse : (params : Params) (plan : PlanNumbers) (entropy : List ℕ) → plan ≡ two → IsDealable params plan entropy → CanRehearse entropy
+pub can-rehearse : (params : Params) (plan : PlanNumbers) (entropy : List ℕ) → plan ≡ two → IsDealable false params plan entropy → CanRehearse entropy
 can-rehearse params plan entropy is dealable =
     let keys = rw is at dealable.keys in
     record { size = rw is at dealable.size; keys = keys 1 2 (record { first = omega arith; order = omega arith; last = omega arith }) }
@@ -107,17 +107,17 @@ first-alike entropy alike = record {
   first = λ other another pair _. let low = pair.first in let order = pair.order in let last = pair.last in inr (omega arith, omega arith);
 }
 
-has-fault : (params : Params) (entropy : List ℕ) (fault : DealFault) → params.h ≡ 5 → RehearsalFault entropy fault → HasFault params two entropy fault
+has-fault : (params : Params) (entropy : List ℕ) (fault : DealFault) → params.h ≡ 5 → RehearsalFault entropy fault → HasFault false params two entropy fault
 has-fault params entropy fault h (bad_entropy other) = dealing.bad_entropy (is-small params h) other
 has-fault params entropy fault h (same_keys size alike) = dealing.same_keys 1 2 (is-small params h) size (first-alike entropy alike)
 
 pub deal-fault : (params : Params) (plan : PlanNumbers) (entropy : List ℕ) (fault : DealFault) → params.h ≡ 5 → plan ≡ two → RehearsalFault entropy fault
-    → HasFault params plan entropy fault
+    → HasFault false params plan entropy fault
 deal-fault params plan entropy fault h is has = rw is (has-fault params entropy fault h has)
 
-is-fault : (params : Params) (entropy : List ℕ) (fault : DealFault) → params.h ≡ 5 → HasFault params two entropy fault → RehearsalFault entropy fault
+is-fault : (params : Params) (entropy : List ℕ) (fault : DealFault) → params.h ≡ 5 → HasFault false params two entropy fault → RehearsalFault entropy fault
 is-fault params entropy fault h (too_high high) = absurd (omega arith)
-is-fault params entropy fault h (too_wide height width) = absurd (omega arith)
+is-fault params entropy fault h (too_wide small height width) = absurd (omega arith)
 is-fault params entropy fault h (dealing.bad_entropy set other) = bad_entropy other
 is-fault params entropy fault h (dealing.same_keys t u set size pair) =
     let low = pair.two.first in
@@ -127,6 +127,6 @@ is-fault params entropy fault h (dealing.same_keys t u set size pair) =
     let second : u ≡ 2 = omega arith in
     rw (one, second) (same_keys size (rw (one, second) at pair.alike))
 
-pub rehearsal-fault : (params : Params) (plan : PlanNumbers) (entropy : List ℕ) (fault : DealFault) → params.h ≡ 5 → plan ≡ two → HasFault params plan entropy fault
+pub rehearsal-fault : (params : Params) (plan : PlanNumbers) (entropy : List ℕ) (fault : DealFault) → params.h ≡ 5 → plan ≡ two → HasFault false params plan entropy fault
     → RehearsalFault entropy fault
 rehearsal-fault params plan entropy fault h is has = is-fault params entropy fault h (rw is at has)

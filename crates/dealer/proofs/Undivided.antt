@@ -1,5 +1,5 @@
 -- The key that is dealt is the undivided key of the dealing.
-use Rattle.std.proofs.Common.{◌≡◌, ℕ, ◌+◌, ◌<◌, ◌≤◌, ◌^◌, List, length, drop, refl, sym, ◌∙◌, arith, inl, inr, length-take, length-drop}
+use Rattle.std.proofs.Common.{◌≡◌, ℕ, Bool, ◌+◌, ◌<◌, ◌≤◌, ◌^◌, List, length, drop, refl, sym, ◌∙◌, arith, inl, inr, length-take, length-drop}
 use Rattle.coalition_map.specs.Coalitions.{PlanNumbers}
 use Rattle.lms_bytes.specs.Bytes.{bytes_at}
 use Rattle.lms_bytes.specs.PublicKey.{public_bytes}
@@ -22,9 +22,9 @@ inside s place count within = omega (arith, length-take count (drop place s), le
 hash_small : (params : Params) → params.n ≤ 32
 hash_small params = elim params.hash_length [ inl e ↦ omega arith | inr e ↦ omega arith ]
 
-pub undivided : (params : Params) (plan : PlanNumbers) (entropy : List ℕ) → IsDealable params plan entropy
+pub undivided : (large : Bool) (params : Params) (plan : PlanNumbers) (entropy : List ℕ) → IsDealable large params plan entropy
     → (key : UndividedKey) × IsKeyOf (dealing_of params plan entropy) key
-undivided params plan entropy dealable =
+undivided large params plan entropy dealable =
     let size = dealable.size in
     let key : UndividedKey = record {
       params = params;

@@ -1,5 +1,5 @@
 -- What is answered and told if memory runs out, and the answers of a dealing with commitments.
-use Rattle.std.proofs.Common.{◌≡◌, ◌⊎◌, ap, inl, inr, refl, true, ℕ, ◌<◌, ◌≤◌, List, Result, Vec, Global, Ok, Err, arith}
+use Rattle.std.proofs.Common.{◌≡◌, ◌⊎◌, ap, inl, inr, refl, false, true, ℕ, ◌<◌, ◌≤◌, List, Result, Vec, Global, Ok, Err, arith}
 use Rattle.std.specs.Prelude.{⊤}
 use Rattle.coalition_map.specs.Coalitions.{PlanNumbers}
 use Rattle.lms_bytes.specs.declared.params.Params.{Params}
@@ -15,7 +15,7 @@ use Rattle.dealer.specs.declared.faults.DealFault.{DealFault}
 use Rattle.dealer.specs.declared.faults.DealFault.TheVariants.{NoMemory}
 use Rattle.dealer.proofs.Exclusive.{none_dealable}
 
-pub deals-built : (params : Params) (plan : PlanNumbers) (entropy : List ℕ) (both : Dealt × Vec ℕ Global) → IsDealable params plan entropy
+pub deals-built : (params : Params) (plan : PlanNumbers) (entropy : List ℕ) (both : Dealt × Vec ℕ Global) → IsDealable false params plan entropy
     → commits_length params plan ≤ 67108864 → IsBuilt true (dealing_of params plan entropy) both → DealsCommitted params plan entropy (Ok both)
 deals-built params plan entropy both dealable small built = record {
   dealt = built.dealt;
@@ -23,7 +23,7 @@ deals-built params plan entropy both dealable small built = record {
   dealable = dealable;
   small = small;
   shares = built.shares;
-  refused = λ fault is. absurd (none_dealable params plan entropy fault dealable is);
+  refused = λ fault is. absurd (none_dealable false params plan entropy fault dealable is);
   too_large = λ _ large. absurd (omega arith);
   cause = tt;
 }
@@ -33,8 +33,8 @@ same-fault e = cc
 
 -- a fault that the test finds is the answer
 pub deals-refused : {T : Type 0} (params : Params) (plan : PlanNumbers) (entropy : List ℕ) (fault : CommittedFault)
-    → ((why : DealFault) → HasFault params plan entropy why → ◌≡◌ {A = Result T CommittedFault} (Err fault) (Err (Deal why)))
-    → (IsDealable params plan entropy → 67108864 < commits_length params plan → ◌≡◌ {A = Result T CommittedFault} (Err fault) (Err (TooLarge (commits_length params plan))))
+    → ((why : DealFault) → HasFault false params plan entropy why → ◌≡◌ {A = Result T CommittedFault} (Err fault) (Err (Deal why)))
+    → (IsDealable false params plan entropy → 67108864 < commits_length params plan → ◌≡◌ {A = Result T CommittedFault} (Err fault) (Err (TooLarge (commits_length params plan))))
     → FailsCommitted params plan entropy fault → DealsCommitted params plan entropy (Err fault)
 deals-refused params plan entropy fault refused large cause = record {
   dealt = tt;
@@ -48,7 +48,7 @@ deals-refused params plan entropy fault refused large cause = record {
 }
 
 -- memory runs out
-pub deals-no_memory : (params : Params) (plan : PlanNumbers) (entropy : List ℕ) → IsDealable params plan entropy
+pub deals-no_memory : (params : Params) (plan : PlanNumbers) (entropy : List ℕ) → IsDealable false params plan entropy
     → commits_length params plan ≤ 67108864 → DealsCommitted params plan entropy (Err (Deal NoMemory))
 deals-no_memory params plan entropy dealable small = record {
   dealt = tt;
@@ -56,7 +56,7 @@ deals-no_memory params plan entropy dealable small = record {
   dealable = tt;
   small = tt;
   shares = tt;
-  refused = λ fault is. absurd (none_dealable params plan entropy fault dealable is);
+  refused = λ fault is. absurd (none_dealable false params plan entropy fault dealable is);
   too_large = λ _ large. absurd (omega arith);
   cause = no_memory dealable small;
 }

@@ -1,5 +1,5 @@
 -- The commitment file of a dealing, and why there is none.
-use Rattle.std.specs.Prelude.{◌≡◌, ℕ, ◌<◌, ◌≤◌, List, ◌++◌, Result, Err, IfErr, IfOk, OnOk, length}
+use Rattle.std.specs.Prelude.{◌≡◌, ℕ, ◌<◌, ◌≤◌, false, List, ◌++◌, Result, Err, IfErr, IfOk, OnOk, length}
 use Rattle.std.specs.declared.alloc.Global.{Global}
 use Rattle.std.specs.declared.vec.Vec.{Vec}
 use Rattle.coalition_map.specs.Coalitions.{PlanNumbers}
@@ -22,10 +22,11 @@ commits_file d = commits_head_of d.params d.plan d.id ++ commitments d
 
 -- why there is no dealing with commitments: there is no dealing, or the file would have more than 67,108,864 bytes
 pub data FailsCommitted (params : Params) (plan : PlanNumbers) (entropy : List ℕ) : CommittedFault → Type 0 where
-  not_dealt : (fault : DealFault) → HasFault params plan entropy fault → FailsCommitted params plan entropy (Deal fault)
-  too_large : IsDealable params plan entropy → 67108864 < commits_length params plan
+  not_dealt : (fault : DealFault) → HasFault false params plan entropy fault
+      → FailsCommitted params plan entropy (Deal fault)
+  too_large : IsDealable false params plan entropy → 67108864 < commits_length params plan
       → FailsCommitted params plan entropy (TooLarge (commits_length params plan))
-  no_memory : IsDealable params plan entropy → commits_length params plan ≤ 67108864
+  no_memory : IsDealable false params plan entropy → commits_length params plan ≤ 67108864
       → FailsCommitted params plan entropy (Deal NoMemory)
 
 -- the dealing of the entropy, with its commitment file, and exactly when there is none
@@ -33,10 +34,10 @@ pub record DealsCommitted (params : Params) (plan : PlanNumbers) (entropy : List
     (result : Result (Dealt × Vec ℕ Global) CommittedFault) : Type 0 where
   pub dealt : IfOk result (λ both. IsDealt (dealing_of params plan entropy) both.0)
   pub commitments : IfOk result (λ both. both.1.items ≡ commits_file (dealing_of params plan entropy))
-  pub dealable : OnOk result (IsDealable params plan entropy)
+  pub dealable : OnOk result (IsDealable false params plan entropy)
   pub small : OnOk result (commits_length params plan ≤ 67108864)
   pub shares : IfOk result (λ both. 0 < length both.0.shares.items)
-  pub refused : (fault : DealFault) → HasFault params plan entropy fault → result ≡ Err (Deal fault)
-  pub too_large : IsDealable params plan entropy → 67108864 < commits_length params plan
+  pub refused : (fault : DealFault) → HasFault false params plan entropy fault → result ≡ Err (Deal fault)
+  pub too_large : IsDealable false params plan entropy → 67108864 < commits_length params plan
       → result ≡ Err (TooLarge (commits_length params plan))
   pub cause : IfErr result (FailsCommitted params plan entropy)

@@ -1,6 +1,6 @@
 -- A dealing whose reference is written onto a disk, part by part. The gate of its file stays shut.
 use Rattle.std.specs.Prelude.{◌≡◌, ℕ, ◌*◌, ◌/◌, ◌^◌, ◌<◌, ◌≤◌, ◌==◌, ◌⊎◌, if◌then◌else◌, min, List, ◌∷◌, ◌++◌, drop}
-use Rattle.std.specs.Prelude.{length, IsTrue}
+use Rattle.std.specs.Prelude.{length, true, IsTrue}
 use Rattle.coalition_map.specs.Coalitions.{PlanNumbers}
 use Rattle.disk_trait.specs.Gate as gate
 use Rattle.disk_trait.specs.Images.{Only}
@@ -93,7 +93,7 @@ module _ {D P : Type 0} (p : pages.Ghosts D) (told : P → ℕ → ℕ → P) (d
 -- there is a dealing, and its reference is written
 pub record IsDealtOnto {D P : Type 0} (p : pages.Ghosts D) (told : P → ℕ → ℕ → P) (params : Params)
     (plan : PlanNumbers) (entropy : List ℕ) (old new : D) (before after : P) (key : DealtKey) : Type 0 where
-  pub dealable : IsDealable params plan entropy
+  pub dealable : IsDealable true params plan entropy
   pub dealt : IsKeyDealt (dealing_of params plan entropy) key
   pub written : IsWritten p told (dealing_of params plan entropy) old new before after
 
@@ -101,14 +101,14 @@ pub record IsDealtOnto {D P : Type 0} (p : pages.Ghosts D) (told : P → ℕ →
 -- before the first call or behind the last one.
 pub data FailsOnto {D P : Type 0} (p : pages.Ghosts D) (told : P → ℕ → ℕ → P) (params : Params) (plan : PlanNumbers)
     (entropy : List ℕ) (old new : D) (before after : P) : OntoFault → Type 0 where
-  refused : (fault : DealFault) → HasFault params plan entropy fault → new ≡ old → after ≡ before
+  refused : (fault : DealFault) → HasFault true params plan entropy fault → new ≡ old → after ≡ before
       → FailsOnto p told params plan entropy old new before after (Deal fault)
-  no_memory : IsDealable params plan entropy → new ≡ old → after ≡ before
+  no_memory : IsDealable true params plan entropy → new ≡ old → after ≡ before
       → FailsOnto p told params plan entropy old new before after (Deal NoMemory)
-  no_memory_behind : IsDealable params plan entropy
+  no_memory_behind : IsDealable true params plan entropy
       → IsWritten p told (dealing_of params plan entropy) old new before after
       → FailsOnto p told params plan entropy old new before after (Deal NoMemory)
-  device : IsDealable params plan entropy → Stops p told (dealing_of params plan entropy) old new before after
+  device : IsDealable true params plan entropy → Stops p told (dealing_of params plan entropy) old new before after
       → FailsOnto p told params plan entropy old new before after Device
 
 -- the disk reads this dealing's reference with its gate shut, and no crash leaves a file that is taken for one

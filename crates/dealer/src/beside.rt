@@ -1,6 +1,6 @@
 //! The dealing with its leaves built by several threads.
 
-ghost use Rattle.std.specs.Prelude.{◌≡◌, ◌+◌, ◌^◌, ◌≤◌, ⊤, IfOk};
+ghost use Rattle.std.specs.Prelude.{◌≡◌, ◌+◌, ◌^◌, ◌≤◌, ⊤, IfOk, false};
 ghost use Rattle.std.specs.Thread.{IsSync};
 ghost use Rattle.lms_bytes.specs.Bytes.{joined};
 ghost use Rattle.reference_value.specs.Dealing.{reference};
@@ -41,7 +41,7 @@ pub(crate) fn build_beside<R: Threads + Sync, P: Progress>(
     commit: bool,
 ) -> Result<(Dealt, Vec<u8>), NoMemory>
     requires height { plan.now.h ≡ params.now.h }
-    requires dealable { IsDealable params.now plan.now entropy.now }
+    requires dealable { IsDealable false params.now plan.now entropy.now }
     ensures built { IfOk result (IsBuilt commit (dealing_of params.now plan.now entropy.now)) }
     ensures told { TellsLeaves P.told params.now.h (λ _. ⊤) result progress.old progress.new }
 {

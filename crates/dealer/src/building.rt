@@ -1,6 +1,6 @@
 //! What a dealing is made of.
 
-ghost use Rattle.std.specs.Prelude.{◌≡◌, ◌<◌, ◌≤◌, IfOk, length};
+ghost use Rattle.std.specs.Prelude.{◌≡◌, ◌<◌, ◌≤◌, IfOk, false, length};
 ghost use Rattle.reference_value.specs.Dealing.{reference};
 ghost use Rattle.dealer.specs.Dealt.{IsDealt};
 ghost use Rattle.dealer.specs.Entropy.{dealing_of};
@@ -29,7 +29,7 @@ pub(crate) fn build(
     commit: bool,
 ) -> Result<(Dealt, Vec<u8>), NoMemory>
     requires height { plan.now.h ≡ params.now.h }
-    requires dealable { IsDealable params.now plan.now entropy.now }
+    requires dealable { IsDealable false params.now plan.now entropy.now }
     ensures { IfOk result (IsBuilt commit (dealing_of params.now plan.now entropy.now)) }
 {
     let material = read_entropy(alloc, params, plan, entropy, commit)?;

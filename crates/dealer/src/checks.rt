@@ -1,10 +1,11 @@
 //! What is tested before a key is dealt.
 
-ghost use Rattle.std.specs.Prelude.{◌≡◌, ◌≢◌, ℕ, List, ◌<◌, ◌≤◌, ◌↔◌, IfErr, IfNone, IfSome, IsTrue, OnOk, length};
+ghost use Rattle.std.specs.Prelude.{◌≡◌, ◌≢◌, ℕ, List, ◌<◌, ◌≤◌, ◌↔◌, IfErr, IfNone, IfSome, IsTrue, OnOk, false};
+ghost use Rattle.std.specs.Prelude.{length, true};
 ghost use Rattle.coalition_map.specs.Coalitions.{PlanNumbers};
-ghost use Rattle.share_files.specs.Sets.{IsSmall};
+ghost use Rattle.share_files.specs.Sets.{CanBeDealt, IsSmall};
 ghost use Rattle.dealer.specs.Entropy.{entropy_length, trustee_key};
-ghost use Rattle.dealer.specs.Faults.{AllDiffer, AreFirstAlike, AreTwo, HasFault, IsDealable};
+ghost use Rattle.dealer.specs.Faults.{AllDiffer, AreFirstAlike, AreTwo, HasFault, IsDealable, IsSetDealt};
 ghost use Rattle.dealer.specs.declared.faults.DealFault.{DealFault};
 
 use crate::faults::DealFault;
@@ -18,13 +19,19 @@ const FRONT: usize = 80;
 /// The length of a trustee's key, in bytes.
 const KEY: usize = 32;
 
-/// Tests whether the dealing that the entropy stands for is dealt. It takes no memory.
-pub(crate) fn check(params: &Params, plan: &Plan, entropy: &[u8]) -> Result<(), DealFault>
-    ensures dealable { OnOk result (IsDealable params.now plan.now entropy.now) }
-    ensures cause { IfErr result (λ fault. HasFault params.now plan.now entropy.now fault) }
-    ensures refused { (fault : DealFault) → HasFault params.now plan.now entropy.now fault → result ≡ Err fault }
+/// Tests whether the dealing that the entropy stands for is dealt, of a large set only if these are asked for. It takes
+/// no memory.
+pub(crate) fn check(
+    large: bool,
+    params: &Params,
+    plan: &Plan,
+    entropy: &[u8],
+) -> Result<(), DealFault>
+    ensures dealable { OnOk result (IsDealable large params.now plan.now entropy.now) }
+    ensures cause { IfErr result (λ fault. HasFault large params.now plan.now entropy.now fault) }
+    ensures refused { (fault : DealFault) → HasFault large params.now plan.now entropy.now fault → result ≡ Err fault }
 {
-    if let Some(fault) = set_fault(params) {
+    if let Some(fault) = set_fault(large, params) {
         return Err(fault);
     }
     let want = FRONT + KEY * plan.n() as usize;
@@ -41,10 +48,35 @@ pub(crate) fn check(params: &Params, plan: &Plan, entropy: &[u8]) -> Result<(), 
 }
 
 /// Why no key of this parameter set is dealt, whatever the plan and the entropy.
-fn set_fault(params: &Params) -> Option<DealFault>
+fn set_fault(large: bool, params: &Params) -> Option<DealFault>
+    ensures dealt { IfNone result (IsSetDealt large params.now) }
+    ensures cause { IfSome result (λ fault. (plan : PlanNumbers) (entropy : List ℕ)
+        → HasFault large params.now plan entropy fault) }
+{
+    if large {
+        large_fault(params)
+    } else {
+        small_fault(params)
+    }
+}
+
+/// The same if large sets are asked for.
+fn large_fault(params: &Params) -> Option<DealFault>
+    ensures dealt { IfNone result (CanBeDealt params.now) }
+    ensures cause { IfSome result (λ fault. (plan : PlanNumbers) (entropy : List ℕ)
+        → HasFault true params.now plan entropy fault) }
+{
+    if params.h > 20 {
+        return Some(DealFault::TooHigh { h: params.h });
+    }
+    None
+}
+
+/// The same if they are not.
+fn small_fault(params: &Params) -> Option<DealFault>
     ensures small { IfNone result (IsSmall params.now) }
     ensures cause { IfSome result (λ fault. (plan : PlanNumbers) (entropy : List ℕ)
-        → HasFault params.now plan entropy fault) }
+        → HasFault false params.now plan entropy fault) }
 {
     if params.h > 10 {
         Some(DealFault::TooHigh { h: params.h })

@@ -1,6 +1,6 @@
 //! A dealing whose masks are committed to as they are made.
 
-ghost use Rattle.std.specs.Prelude.{◌≡◌, ◌<◌, ◌≤◌, Err, IfErr, OnOk};
+ghost use Rattle.std.specs.Prelude.{◌≡◌, ◌<◌, ◌≤◌, Err, IfErr, OnOk, false};
 ghost use Rattle.share_files.specs.Commits.{commits_length};
 ghost use Rattle.dealer.specs.Committed.{DealsCommitted, FailsCommitted};
 ghost use Rattle.dealer.specs.Faults.{HasFault, IsDealable};
@@ -88,14 +88,15 @@ pub fn deal_committed_beside<R: Threads + Sync, P: Progress>(
 /// Tests whether the dealing that the entropy stands for is dealt with commitments. It takes no memory.
 fn test_committed(params: &Params, plan: &Plan, entropy: &[u8]) -> Result<(), CommittedFault>
     requires { plan.now.h ≡ params.now.h }
-    ensures dealable { OnOk result (IsDealable params.now plan.now entropy.now) }
+    ensures dealable { OnOk result (IsDealable false params.now plan.now entropy.now) }
     ensures small { OnOk result (commits_length params.now plan.now ≤ 67108864) }
-    ensures refused { (fault : DealFault) → HasFault params.now plan.now entropy.now fault → result ≡ Err (Deal fault) }
-    ensures too_large { IsDealable params.now plan.now entropy.now → 67108864 < commits_length params.now plan.now
+    ensures refused { (fault : DealFault) → HasFault false params.now plan.now entropy.now fault
+        → result ≡ Err (Deal fault) }
+    ensures too_large { IsDealable false params.now plan.now entropy.now → 67108864 < commits_length params.now plan.now
         → result ≡ Err (TooLarge (commits_length params.now plan.now)) }
     ensures cause { IfErr result (FailsCommitted params.now plan.now entropy.now) }
 {
-    if let Err(fault) = check(params, plan, entropy) {
+    if let Err(fault) = check(false, params, plan, entropy) {
         return Err(CommittedFault::Deal(fault));
     }
     let bytes = length_of_commits(params, plan.k());

@@ -1,6 +1,6 @@
 //! The dealing.
 
-ghost use Rattle.std.specs.Prelude.{◌≡◌, ◌⊎◌, ◌<◌, IfOk, OnOk, IfErr, length};
+ghost use Rattle.std.specs.Prelude.{◌≡◌, ◌⊎◌, ◌<◌, IfOk, OnOk, IfErr, false, length};
 ghost use Rattle.dealer.specs.Dealt.{IsDealt};
 ghost use Rattle.dealer.specs.Entropy.{dealing_of};
 ghost use Rattle.dealer.specs.Faults.{HasFault, IsDealable};
@@ -37,13 +37,13 @@ pub struct Dealt {
 pub fn deal(alloc: Global, params: &Params, plan: &Plan, entropy: &[u8]) -> Result<Dealt, DealFault>
     requires { plan.now.h ≡ params.now.h }
     ensures dealt { IfOk result (IsDealt (dealing_of params.now plan.now entropy.now)) }
-    ensures dealable { OnOk result (IsDealable params.now plan.now entropy.now) }
-    ensures refused { (fault : DealFault) → HasFault params.now plan.now entropy.now fault → result ≡ Err fault }
-    ensures cause { IfErr result (λ fault. (fault ≡ NoMemory × IsDealable params.now plan.now entropy.now)
-        ⊎ HasFault params.now plan.now entropy.now fault) }
+    ensures dealable { OnOk result (IsDealable false params.now plan.now entropy.now) }
+    ensures refused { (fault : DealFault) → HasFault false params.now plan.now entropy.now fault → result ≡ Err fault }
+    ensures cause { IfErr result (λ fault. (fault ≡ NoMemory × IsDealable false params.now plan.now entropy.now)
+        ⊎ HasFault false params.now plan.now entropy.now fault) }
     ensures shares { IfOk result (λ dealt. 0 < length dealt.shares.items) }
 {
-    check(params, plan, entropy)?;
+    check(false, params, plan, entropy)?;
     match build(alloc, params, plan, entropy, false) {
         Ok((dealt, _)) => Ok(dealt),
         Err(_) => Err(DealFault::NoMemory),
@@ -63,14 +63,14 @@ pub fn deal_beside<R: Threads + Sync, P: Progress>(
 ) -> Result<Dealt, DealFault>
     requires { plan.now.h ≡ params.now.h }
     ensures dealt { IfOk result (IsDealt (dealing_of params.now plan.now entropy.now)) }
-    ensures dealable { OnOk result (IsDealable params.now plan.now entropy.now) }
-    ensures refused { (fault : DealFault) → HasFault params.now plan.now entropy.now fault → result ≡ Err fault }
-    ensures cause { IfErr result (λ fault. (fault ≡ NoMemory × IsDealable params.now plan.now entropy.now)
-        ⊎ HasFault params.now plan.now entropy.now fault) }
+    ensures dealable { OnOk result (IsDealable false params.now plan.now entropy.now) }
+    ensures refused { (fault : DealFault) → HasFault false params.now plan.now entropy.now fault → result ≡ Err fault }
+    ensures cause { IfErr result (λ fault. (fault ≡ NoMemory × IsDealable false params.now plan.now entropy.now)
+        ⊎ HasFault false params.now plan.now entropy.now fault) }
     ensures shares { IfOk result (λ dealt. 0 < length dealt.shares.items) }
     ensures told { TellsLeaves P.told params.now.h (λ fault. fault ≡ NoMemory) result progress.old progress.new }
 {
-    check(params, plan, entropy)?;
+    check(false, params, plan, entropy)?;
     match build_beside(rt, progress, alloc, params, plan, entropy, false) {
         Ok((dealt, _)) => Ok(dealt),
         Err(_) => Err(DealFault::NoMemory),

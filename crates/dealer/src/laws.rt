@@ -1,6 +1,6 @@
 //! What follows from the definitions, for proofs about dealings. No function here does anything.
 
-ghost use Rattle.std.specs.Prelude.{◌≡◌, ℕ, List, ◌<◌, ◌^◌, length};
+ghost use Rattle.std.specs.Prelude.{◌≡◌, ℕ, Bool, List, ◌<◌, ◌^◌, length};
 ghost use Rattle.coalition_map.specs.Coalitions.{PlanNumbers};
 ghost use Rattle.lms_bytes.specs.PublicKey.{public_bytes};
 ghost use Rattle.lms_bytes.specs.declared.params.Params.{Params};
@@ -16,8 +16,8 @@ ghost use Rattle.dealer.specs.declared.dealing.Dealt.{Dealt};
 /// The key that is dealt is the undivided key of the dealing's parameter set, I and SEED: it has its public key and its
 /// tree, and what the undivided key signs is accepted under it.
 pub fn undivided_key()
-    ensures key { (params : Params) (plan : PlanNumbers) (entropy : List ℕ) → IsDealable params plan entropy
-        → (key : UndividedKey) × IsKeyOf (dealing_of params plan entropy) key }
+    ensures key { (large : Bool) (params : Params) (plan : PlanNumbers) (entropy : List ℕ)
+        → IsDealable large params plan entropy → (key : UndividedKey) × IsKeyOf (dealing_of params plan entropy) key }
     ensures public { (d : Dealing) (dealt : Dealt) (key : UndividedKey) → IsKeyOf d key → IsDealt d dealt
         → public_bytes dealt.public ≡ public_bytes (public_key_of key) }
     ensures tree { (d : Dealing) (dealt : Dealt) (key : UndividedKey) → IsKeyOf d key → IsDealt d dealt

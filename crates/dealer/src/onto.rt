@@ -1,6 +1,6 @@
 //! A dealing whose reference is written onto a disk part by part, so that it never stands in memory whole.
 
-ghost use Rattle.std.specs.Prelude.{◌≡◌, ◌≢◌, ◌+◌, ◌≤◌, [], false, length, Err, IfErr, IfOk, IsOk, IsTrue, OnOk};
+ghost use Rattle.std.specs.Prelude.{◌≡◌, ◌≢◌, ◌+◌, ◌≤◌, [], false, length, true, Err, IfErr, IfOk, IsOk, IsTrue, OnOk};
 ghost use Rattle.disk_trait.specs.Faults.{HasCause, RisesAt};
 ghost use Rattle.disk_trait.specs.Gate.{AreUnready, NeverHalf};
 ghost use Rattle.disk_trait.specs.Images.{Only};
@@ -85,7 +85,8 @@ pub fn deal_onto<R: Threads + Sync, P: Progress, D: Disk>(
     requires empty { IsTrue (D.told reference.old) → D.reads reference.old ≡ [] }
     ensures dealt { IfOk result (IsDealtOnto D.Pages.own P.told params.now plan.now entropy.now
         reference.old reference.new progress.old progress.new) }
-    ensures refused { (fault : DealFault) → HasFault params.now plan.now entropy.now fault → result ≡ Err (Deal fault) }
+    ensures refused { (fault : DealFault) → HasFault true params.now plan.now entropy.now fault
+        → result ≡ Err (Deal fault) }
     ensures cause { IfErr result (FailsOnto D.Pages.own P.told params.now plan.now entropy.now
         reference.old reference.new progress.old progress.new) }
     ensures unready { AreUnready D.Pages.own 0x54 32 reference.old reference.new }
@@ -94,7 +95,7 @@ pub fn deal_onto<R: Threads + Sync, P: Progress, D: Disk>(
     ensures device { RisesAt (D.count reference.old) (D.count reference.new) result (Err Device) }
     ensures stays { SameDisk D.Pages.own D.Faults reference.old reference.new }
 {
-    if let Err(fault) = check(params, plan, entropy) {
+    if let Err(fault) = check(true, params, plan, entropy) {
         return Err(OntoFault::Deal(fault));
     }
     match take_room(alloc, params, plan, entropy) {

@@ -21,8 +21,8 @@ use share_files::{HEAD, RefHeader, write_ref_head};
 use std::thread::Threads;
 use stream_io::Progress;
 
-/// Writes the reference onto an empty disk, with its gate shut, and syncs. The leaves are built in the room of one part,
-/// and `keys` gets their public values, `n` bytes each.
+/// Writes the reference onto an empty disk, with its gate shut, and syncs. The leaves are built in the room of one
+/// part, and `keys` gets their public values, `n` bytes each.
 pub(crate) fn write_reference<R: Threads + Sync, P: Progress, D: Disk>(
     rt: &R,
     progress: &mut P,

@@ -1,5 +1,5 @@
 -- The dealing of a drill: its plan, what it gives, and that it is never refused.
-use Rattle.std.proofs.Common.{◌≡◌, ℕ, zero, suc, ◌+◌, ◌*◌, ◌-◌, ◌%◌, ◌≤◌, ◌<◌, List, [], ◌∷◌, length, map, drop, get_or, set, refl, sym, ◌∙◌, ap, subst, All, arith, length-append}
+use Rattle.std.proofs.Common.{◌≡◌, ℕ, false, zero, suc, ◌+◌, ◌*◌, ◌-◌, ◌%◌, ◌≤◌, ◌<◌, List, [], ◌∷◌, length, map, drop, get_or, set, refl, sym, ◌∙◌, ap, subst, All, arith, length-append}
 use Rattle.std.proofs.lemmas.List.{get_or-drop, get_or-set_other, get_or-set_same, get_or-take, length-map, length-set}
 use Rattle.std.specs.List.{range_with_len}
 use Rattle.coalition_map.specs.Coalitions.{IsPlan, PlanNumbers, count_of, subsets}
@@ -86,9 +86,9 @@ key-number number (suc (suc zero)) low high = second-key number
 key-number number (suc (suc (suc zero))) low high = third-key number
 key-number number (suc (suc (suc (suc t)))) low high = absurd (omega arith)
 
-is-no-fault : (params : Params) (number : ℕ) (fault : DealFault) → params.h ≡ 5 → HasFault params three (entropy_of number) fault → ⊥
+is-no-fault : (params : Params) (number : ℕ) (fault : DealFault) → params.h ≡ 5 → HasFault false params three (entropy_of number) fault → ⊥
 is-no-fault params number fault h (too_high high) = omega arith
-is-no-fault params number fault h (too_wide height width) = omega arith
+is-no-fault params number fault h (too_wide small height width) = omega arith
 is-no-fault params number fault h (bad_entropy set other) = other (length-entropy number)
 is-no-fault params number fault h (same_keys t u set size pair) =
     let low = pair.two.first in
@@ -100,7 +100,7 @@ is-no-fault params number fault h (same_keys t u set size pair) =
     omega arith
 
 pub no-fault : (params : Params) (plan : PlanNumbers) (entropy : List ℕ) (number : ℕ) (fault : DealFault) → params.h ≡ 5 → plan ≡ three → entropy ≡ entropy_of number
-    → HasFault params plan entropy fault → ⊥
+    → HasFault false params plan entropy fault → ⊥
 no-fault params plan entropy number fault h is drawn has = is-no-fault params number fault h (rw (is, drawn) at has)
 
 -- what was dealt, as a desk keeps it

@@ -86,8 +86,8 @@ impl Session {
         self.finish_with(alloc, cells, tree, &digest)
     }
 
-    /// The digest Q of a message under the session's randomizer (RFC 8554 section 4.5), of `n` bytes. In round one there
-    /// is none, and zeros take its place.
+    /// The digest Q of a message under the session's randomizer (RFC 8554 section 4.5), of `n` bytes. In round one
+    /// there is no randomizer, and zeros take its place.
     pub fn digest(&self, message: &[u8]) -> Val
         ensures digest { result ≡ digest_of self.now message.now }
         ensures length { length result ≡ self.now.key.params.n }

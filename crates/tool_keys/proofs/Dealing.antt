@@ -1,5 +1,5 @@
 -- What is dealt as the words say.
-use Rattle.std.proofs.Common.{◌≡◌, ◌<◌, ◌≤◌, ◌⊎◌, ℕ, List, Option, IsTrue, ◌^◌, length, refl, sym, ap, subst, inl, inr, ◌∙◌, arith, map}
+use Rattle.std.proofs.Common.{◌≡◌, ◌<◌, ◌≤◌, ◌⊎◌, ℕ, false, List, Option, IsTrue, ◌^◌, length, refl, sym, ap, subst, inl, inr, ◌∙◌, arith, map}
 use Rattle.std.proofs.lemmas.List.{length-map}
 use Rattle.std.proofs.lemmas.List.FromFn.{length-map-range_with_len}
 use Rattle.coalition_map.specs.Coalitions.{IsPlan, PlanNumbers, count_of}
@@ -31,7 +31,7 @@ use Rattle.tool_keys.proofs.Naming.{named_all}
 
 pub refused : (words : DealWords) (entropy : List ℕ) (params : Params) (plan : PlanNumbers) (fault : DealFault) → IsSet words params
     → plan ≡ plan_of words params → IsPlan plan
-    → ((fault ≡ NoMemory) × IsDealable params plan entropy) ⊎ HasFault params plan entropy fault → IsNotDealt words entropy (end_of_fault fault)
+    → ((fault ≡ NoMemory) × IsDealable false params plan entropy) ⊎ HasFault false params plan entropy fault → IsNotDealt words entropy (end_of_fault fault)
 refused words entropy params plan fault set same sound (inl none) = rw none.0 no_memory
 refused words entropy params plan fault set same sound (inr has) = faulty params fault set (rw (← same) sound) (rw (← same) has)
 

@@ -2,7 +2,7 @@
 -- width, the entropy and its keys, and, if commitments are asked for, the length of their file, tests that all outputs
 -- are new, and writes them.
 use Rattle.std.specs.Prelude.{◌≡◌, ◌<◌, ◌≤◌, ◌^◌, ◌++◌, ℕ, List, [], ◌∷◌, length, Option, None, Some, codes, map, All}
-use Rattle.std.specs.Prelude.{Bool, IsTrue, if◌then◌else◌}
+use Rattle.std.specs.Prelude.{Bool, IsTrue, false, if◌then◌else◌}
 use Rattle.std.specs.Fmt.{decimal}
 use Rattle.std.specs.List.{range_with_len}
 use Rattle.coalition_map.specs.Coalitions.{IsPlan, IsThreshold, PlanNumbers, coalitions, count_of}
@@ -66,7 +66,7 @@ outputs_of words d =
 -- The dealing that this entropy stands for is dealt, and if the words ask for its commitment file, this has at most
 -- 67,108,864 bytes.
 pub record IsDealableBy (words : DealWords) (params : Params) (plan : PlanNumbers) (entropy : List ℕ) : Type 0 where
-  pub dealable : IsDealable params plan entropy
+  pub dealable : IsDealable false params plan entropy
   pub small : IsTrue words.commit → commits_length params plan ≤ 67108864
 
 -- internal: the set and the plan are those of the words
@@ -94,9 +94,9 @@ pub data IsNotDealt (words : DealWords) (entropy : List ℕ) : Ending → Type 0
       → 2 ^ params.h < length (coalitions words.n words.k)
       → IsNotDealt words entropy (ending.NotDealt (Coalitions (length (coalitions words.n words.k))))
   faulty : (params : Params) (fault : DealFault) → IsSet words params → IsPlan (plan_of words params)
-      → HasFault params (plan_of words params) entropy fault → IsNotDealt words entropy (end_of_fault fault)
+      → HasFault false params (plan_of words params) entropy fault → IsNotDealt words entropy (end_of_fault fault)
   too_large : (params : Params) → IsTrue words.commit → IsSet words params → IsPlan (plan_of words params)
-      → IsDealable params (plan_of words params) entropy → 67108864 < commits_length params (plan_of words params)
+      → IsDealable false params (plan_of words params) entropy → 67108864 < commits_length params (plan_of words params)
       → IsNotDealt words entropy (ending.NotDealt (Commitments (commits_length params (plan_of words params))))
   no_memory : IsNotDealt words entropy ending.NoMemory
 

@@ -7,7 +7,7 @@ use Rattle.dealer.proofs.Exclusive.{none_dealable}
 use Rattle.dealer.proofs.committed.test_committed.Goals as goal
 
 pub returns-in-Err-clause-too_large : goal.returns-in-Err-clause-too_large
-returns-in-Err-clause-too_large c = λ dealable large. absurd (none_dealable _ _ _ c.in-Err.fault dealable c.in-Err.ensures.cause)
+returns-in-Err-clause-too_large c = λ dealable large. absurd (none_dealable _ _ _ _ c.in-Err.fault dealable c.in-Err.ensures.cause)
 
 pub returns-in-Err-clause-cause : goal.returns-in-Err-clause-cause
 returns-in-Err-clause-cause c = not_dealt c.in-Err.fault c.in-Err.ensures.cause
@@ -24,7 +24,7 @@ pub returns-in-Err-clause-refused : goal.returns-in-Err-clause-refused
 returns-in-Err-clause-refused c = λ fault has. ap (λ (why : DealFault). Err (Deal why)) (same-fault (c.in-Err.ensures.refused fault has))
 
 pub returns-then-bytes-gt-COMMITS_LIMIT-clause-refused : goal.returns-then-bytes-gt-COMMITS_LIMIT-clause-refused
-returns-then-bytes-gt-COMMITS_LIMIT-clause-refused c = λ fault has. absurd (none_dealable _ _ _ fault c.in_default.ensures.dealable has)
+returns-then-bytes-gt-COMMITS_LIMIT-clause-refused c = λ fault has. absurd (none_dealable _ _ _ _ fault c.in_default.ensures.dealable has)
 
 pub returns-then-bytes-gt-COMMITS_LIMIT-clause-too_large : goal.returns-then-bytes-gt-COMMITS_LIMIT-clause-too_large
 returns-then-bytes-gt-COMMITS_LIMIT-clause-too_large c = λ dealable large.
@@ -35,7 +35,7 @@ pub returns-clause-dealable : goal.returns-clause-dealable
 returns-clause-dealable c = c.in_default.ensures.dealable
 
 pub returns-clause-refused : goal.returns-clause-refused
-returns-clause-refused c = λ fault has. absurd (none_dealable _ _ _ fault c.in_default.ensures.dealable has)
+returns-clause-refused c = λ fault has. absurd (none_dealable _ _ _ _ fault c.in_default.ensures.dealable has)
 
 pub returns-clause-small : goal.returns-clause-small
 returns-clause-small c =

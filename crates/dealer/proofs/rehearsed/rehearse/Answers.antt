@@ -45,12 +45,12 @@ returns-in-Ok-clause-tested c = can-rehearse c.rehearsal_params.result c.plan_of
 
 pub returns-in-Ok-clause-refused : goal.returns-in-Ok-clause-refused
 returns-in-Ok-clause-refused c = λ fault has.
-    absurd (none_dealable _ _ _ fault c.in_ok-dealt.ensures.dealable
+    absurd (none_dealable _ _ _ _ fault c.in_ok-dealt.ensures.dealable
     (deal-fault c.rehearsal_params.result c.plan_of_two-plan.result c.args.entropy.now fault c.rehearsal_params.ensures.height c.plan_of_two-plan.ensures has))
 
 pub returns-clause-refused : goal.returns-clause-refused
 returns-clause-refused c = λ fault has.
-    absurd (none_dealable _ _ _ fault c.in_ok-dealt.ensures.dealable
+    absurd (none_dealable _ _ _ _ fault c.in_ok-dealt.ensures.dealable
     (deal-fault c.rehearsal_params.result c.plan_of_two-plan.result c.args.entropy.now fault c.rehearsal_params.ensures.height c.plan_of_two-plan.ensures has))
 
 pub returns-clause-cause : goal.returns-clause-cause
