@@ -31,11 +31,7 @@ fn answer_onto<R: Threads + Sync + Abort, D: Disk>(
 }
 
 /// Whether a reference that is dealt onto a disk of its length, and opened, is that of a dealing.
-fn is_file_of_dealing<R: Threads + Sync + Abort>(
-    rt: &R,
-    alloc: Global,
-    codes: (u32, u32),
-) -> bool {
+fn is_file_of_dealing<R: Threads + Sync + Abort>(rt: &R, alloc: Global, codes: (u32, u32)) -> bool {
     let dealt = dealt(rt, alloc, codes, (5, 3));
     assert!(rt; 0 < dealt.shares.len());
     let files = dealt.into_files(alloc).expect(rt, "memory");
