@@ -29,5 +29,6 @@ is_stale() {
 # Builds the program whose calls are measured, unless the one that is there, which the gate leaves too, is fresh.
 build_calls() {
     is_stale bench_calls "$top/crates/bench_calls/out/bench_calls" || return 0
+    echo 'bench_calls is proved and built first: some minutes, or as long as ./build if that was not run before' >&2
     (cd "$top/crates/bench_calls" && rt run -- all >/dev/null 2>&1) || { echo 'bench_calls does not build' >&2; exit 1; }
 }
