@@ -98,9 +98,9 @@ words_first() {
 # Prints a line on standard error.
 say() { printf 'rikselbe: %s\n' "$1" >&2; }
 
-# Calls a function with mark and file for each file that the words of a command name.
+# Calls a function with mark and file for each file that the words of a command name; `word` is what help calls it.
 each_file() {
-    local call=$1 line name=$2 inside='' at=2 mark suffixes suffix
+    local call=$1 line name=$2 inside='' at=2 word mark suffixes suffix
     shift 2
     [ "$name" != hss ] || { name="hss ${1-}"; shift; }
     while IFS= read -r line; do
@@ -109,7 +109,7 @@ each_file() {
             [[ "$line " != "$name "* ]] || { inside=yes; at=0; }
         elif [[ $inside && $line =~ ^\ \ ([A-Za-z=:-]+)\ ([-+\<\>=])([^\ ]*)\  ]]; then
             at=$((at + 1))
-            mark=${BASH_REMATCH[2]} suffixes=${BASH_REMATCH[3]}
+            word=${BASH_REMATCH[1]} mark=${BASH_REMATCH[2]} suffixes=${BASH_REMATCH[3]}
             [ "$mark" != - ] && [ $at -le $# ] || continue
             if [ -z "$suffixes" ]; then
                 "$call" "$mark" "${!at}"
@@ -204,27 +204,34 @@ say_of_status() {
     say "$text"
     case $status in
     3) { each_file say_of_file "$@"; each_file say_of_room "$@"; } 2>&1 | awk '!($0 in said); { said[$0] }' >&2 ;;
-    4 | 13) each_file say_of_kind "$@" ;;
+    4 | 13) say_of_kinds "$@" ;;
     5) say_of_entropy "$@" ;;
     6) say_of_trustees "$@" ;;
     8) [ "$1" != sign ] || [ ! -e "$2.commit" ] || say "rikselbe blame with the same words says who it was" ;;
     10) each_file say_of_room "$@" 2>&1 | awk '!($0 in said); { said[$0] }' >&2 ;;
-    15) each_file say_of_output "$@" ;;
+    14) [ "$1" != enrol ] || [ ! -e "${3-}" ] || say_of_slots "$3" ;;
+    15) if [ "$1" = enrol ] || [ "$1" = migrate ]; then say_of_slots "${!#}"; else each_file say_of_output "$@"; fi ;;
     17) say_of_place "${4-}" ;;
     18) if [ "$1" = hss ]; then say_of_members "${3-}"; else say_of_members "${2-}"; fi ;;
     esac
 }
 
-# Says so if a file that is named as a signature cannot be one: it begins with a leaf and an LM-OTS code, or for HSS with
-# how many levels are signed below the first.
+# Says so if a file that is named as a signature cannot be one.
 say_of_signature() {
-    local name=$4 what=signature head
+    local name=$4 what=signature
     [ "$1" != hss ] || name=$5 what='HSS signature'
-    head=$(od -An -v -tx1 -N12 -- "$name" 2>/dev/null | tr -d ' \n')
-    if [ "$1" = hss ]; then [[ $head =~ ^0000000[0-7]0[01]......0000000[1-8] ]] && return
-    else [[ $head =~ ^0[01]......0000000[1-8] ]] && return
+    is_signature "$name" "$1" ||
+        say "$name is no $what: were the words given in another order? They are KEY MESSAGE SIGNATURE"
+}
+
+# Whether a file may be a signature: it begins with a leaf and an LM-OTS code, or for HSS with how many levels are signed
+# below the first.
+is_signature() {
+    local head
+    head=$(od -An -v -tx1 -N12 -- "$1" 2>/dev/null | tr -d ' \n')
+    if [ "${2-}" = hss ]; then [[ $head =~ ^0000000[0-7]0[01]......0000000[1-8] ]]
+    else [[ $head =~ ^0[01]......0000000[1-8] ]]
     fi
-    say "$name is no $what: were the words given in another order? They are KEY MESSAGE SIGNATURE"
 }
 
 # Says which of the words of a command is wrong, and why; status 1 if that is not one word.
@@ -259,22 +266,55 @@ say_of_words() {
 # Whether a word is a number in a range.
 is_number() { [[ $1 =~ ^[0-9]{1,10}$ ]] && [ $((10#$1)) -ge "$2" ] && [ $((10#$1)) -le "$3" ]; }
 
-# Says what a file is that was read or changed, by what `show` says of it.
-say_of_kind() {
-    local line
+# Says what the files are that were read or changed, by what `show` says of them: those that are not what they have to be,
+# or all of them if there are none such.
+say_of_kinds() {
+    local command=$1 right=() wrong=() it
+    each_file note_kind "$@"
+    [ ${#wrong[@]} != 0 ] || wrong=("${right[@]}")
+    for it in "${wrong[@]}"; do say "$it"; done
+}
+
+# Prints a name with its article.
+a_or_an() { if [[ $1 == HSS* ]]; then printf 'an %s' "$1"; else printf 'a %s' "$1"; fi; }
+
+# Notes what a file is, in `right` or `wrong`. A message may be anything.
+note_kind() {
+    local want line is
     [ "$1" != '>' ] && [ -f "$2" ] || return 0
-    if line=$("$program" show "$2" 2>/dev/null); then say "$2: ${line%%$'\n'*}"
-    else say "$2 is no file of a key, journal, leaf table or book that can be read"
+    case $word in
+    PREFIX) want=${2##*.}; want=${want/#pub/key} want=${want/#ref/reference} want=${want/#commit/commitments} ;;
+    KEY) want=key; [ "$command" != hss ] || want='HSS key' ;;
+    LOW-KEY) want=key ;;
+    SIGNATURE | LOW-SIG) want=signature ;;
+    SHARE | JOURNAL | TABLE | BOOK) want=${word,,} ;;
+    FILE) want='share or reference'; [ "$command" = enrol ] || want='file of a key, journal, leaf table or book' ;;
+    *) return 0 ;;
+    esac
+    if line=$("$program" show "$2" 2>/dev/null); then
+        line=${line%%$'\n'*} is=${line%% *}
+        is=${is/#hss/HSS key}
+        if [[ " or $want or " == *" or $is or "* || $command == show ]]; then right+=("$2: $line"); return; fi
+        wrong+=("$2 is $(a_or_an "$is"), and $word has to be $(a_or_an "$want"): $line")
+    elif is_signature "$2" || is_signature "$2" hss; then
+        [ "$want" = signature ] || wrong+=("$2 may be a signature, and $word has to be $(a_or_an "$want")")
+    else
+        wrong+=("$2 is no $want that can be read")
     fi
 }
 
-# Says which outputs are there, and that an earlier try may have left them.
+# Says which outputs are there, and that an earlier try that failed may have left them.
 say_of_output() {
     [ "$1" = '>' ] || return 0
     local it
     for it in $2; do
-        [ ! -e "$it" ] || say "$it is there, of $(date -r "$it" '+%Y-%m-%d %H:%M'). If an earlier try of the same command left it, remove it and try again"
+        [ ! -e "$it" ] || say "$it is there, of $(date -r "$it" '+%Y-%m-%d %H:%M'). If the same command left it when it failed, remove it and try again"
     done
+}
+
+# Says what to do about a journal or table that is there. One that has answered must never be removed.
+say_of_slots() {
+    say "$1 is there, of $(date -r "$1" '+%Y-%m-%d %H:%M'), and \`rikselbe show\` says what it holds. If it prints its line, use it as it is: a journal is made once. If it says journal fault 1 or 2, $1 was not made whole: remove it and try again"
 }
 
 # Says how each trustee that is named can be reached, by a connection that says nothing.
