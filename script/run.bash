@@ -343,6 +343,13 @@ say_of_entropy() {
     [ "$has" = "$want" ] || say "$2 has $has bytes, and a key for $trustees trustees is dealt from $want"
 }
 
+# Tells systemd that a service listens at a place, if it waits to be told: `notify` is the socket that it named.
+tell_ready() {
+    [ -n "$notify" ] || return 0
+    NOTIFY_SOCKET=$notify systemd-notify --ready --status="listens at $1" ||
+        say 'systemd was not told that the service is ready: systemd-notify failed, or is not there'
+}
+
 # Says, once, that a process listens at a place, as soon as it does, if that is within a minute. A second later, says so
 # if it has fewer threads than workers. Each worker ends after so many connections: if these are few, it may have ended.
 say_when_listening() {
@@ -351,7 +358,7 @@ say_when_listening() {
     for it in $(seq 600); do
         sleep 0.1
         kill -0 "$1" 2>/dev/null || return
-        ! is_listening "$port" "$1" || { say "the $2 starts at $3"; break; }
+        ! is_listening "$port" "$1" || { say "the $2 starts at $3"; tell_ready "$3"; break; }
     done
     [[ $it != 600 && $4 =~ ^[0-9]{1,2}$ && $5 =~ ^[0-9]{6,}$ ]] || return
     sleep 1
@@ -362,7 +369,8 @@ say_when_listening() {
 
 # Runs the program, and ends with its status.
 run_program() {
-    local status serving='' started=()
+    local status serving='' started=() notify=${NOTIFY_SOCKET-}
+    unset NOTIFY_SOCKET
     # With this, a file that grows past a limit is a fault with its status, not an end in the middle of the file. No
     # core: it may hold a key.
     trap '' XFSZ
