@@ -8,7 +8,7 @@ list_commands() {
     awk -v own=" $own " '
         /^#/ { next }
         /^[^ ]/ {
-            what = $0 !~ /^(help|install|release|--version)/ || index(own, " " $1 " ")
+            what = $0 !~ /^(help|install|release|package|--version)/ || index(own, " " $1 " ")
             if (what) print "rikselbe " $0
             next
         }
@@ -22,7 +22,7 @@ explain_command() {
     awk -v name="$*" -v own=" $own " '
         /^#/ { next }
         /^[^ ]/ {
-            inside = index($0 " ", name " ") == 1 && ($0 !~ /^(help|install|release|--version)/ || index(own, " " $1 " "))
+            inside = index($0 " ", name " ") == 1 && ($0 !~ /^(help|install|release|package|--version)/ || index(own, " " $1 " "))
             if (inside) { if (found++) print ""; print "rikselbe " $0; what = 1 }
             next
         }
@@ -40,7 +40,7 @@ explain_command() {
 # Whether a word is the first of a command that is available.
 is_command() {
     local line
-    [[ ($1 != install && $1 != release) || " $own " == *" $1 "* ]] || return
+    [[ " install release package " != *" $1 "* || " $own " == *" $1 "* ]] || return
     while IFS= read -r line; do
         [[ $line != [#\ ]* && $line == "$1 "* ]] && return
     done <"$share/commands.txt"
