@@ -8,6 +8,15 @@ passed() { printf 'ok: %s\n' "$1"; }
 # Fails if the program is not built.
 want_program() { [ -x "$program" ] || fail 'build the program first: ./build'; }
 
+# Reads the commands of a numbered step of a section of a page into `commands`: PAGE SECTION NUMBER.
+read_step() {
+    mapfile -t commands < <(sed -n "/^##* $2/,/^##* /p" "$1" | awk -v at="$3. " -v then="$(($3 + 1)). " '
+        index($0, then) == 1 { exit }
+        index($0, at) == 1 { inside = 1 }
+        inside && /^       / { print substr($0, 8) }')
+    [ "${#commands[@]}" -gt 0 ] || fail "$2: the page has no step $3"
+}
+
 # The status that belongs to a line.
 status_of() {
     local rest=${1#error }
