@@ -68,8 +68,8 @@ fn a_call_of_the_disk_that_fails_is_named(rt: HostRuntime) {
 fn refuses_height<R: Threads + Sync + Abort>(rt: &R, alloc: Global) -> bool {
     let mut disk = MemDisk::new(alloc, 32, usize::MAX).expect(rt, "memory");
     disk.stop_at(0);
-    let answer = answer_onto(rt, alloc, (7, 3), &mut disk);
-    answer == Err(OntoFault::Deal(DealFault::TooHigh { h: 15 }))
+    let answer = answer_onto(rt, alloc, (9, 3), &mut disk);
+    answer == Err(OntoFault::Deal(DealFault::TooHigh { h: 25 }))
 }
 
 #[test]
