@@ -150,7 +150,7 @@ const AT_NINE: &str = concat!(
 
 /// Moments, and the ends of the lines of journals that were opened then.
 const MOMENTS: [(u64, &str); 5] = [
-    (0, " last 1970-01-01T00:00:00Z\n"),
+    (0, " last -\n"),
     (94_694_399, " last 1972-12-31T23:59:59Z\n"),
     (951_868_799, " last 2000-02-29T23:59:59Z\n"),
     (4_107_542_400, " last 2100-03-01T00:00:00Z\n"),

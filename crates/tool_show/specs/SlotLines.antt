@@ -1,6 +1,6 @@
 -- The lines that say what a file of slots holds: one of the whole file, and one for each slot that is not free.
 use Rattle.std.specs.Prelude.{◌≡◌, ◌+◌, ℕ, Bool, true, false, List, [], ◌++◌, length, slice_index, slice_index_or}
-use Rattle.std.specs.Prelude.{count_by, fold, max, Option, None, Some, codes}
+use Rattle.std.specs.Prelude.{count_by, fold, if◌then◌else◌, max, ◌==◌, Option, None, Some, codes}
 use Rattle.std.specs.Fmt.{decimal}
 use Rattle.hex.specs.Hex.{encode_lower}
 use Rattle.lms_bytes.specs.MessageId.{message_id_of}
@@ -28,11 +28,15 @@ is_full (Half a) = false
 is_full (Full a b moment) = true
 is_full (Damaged a b) = false
 
+-- a moment that is known: a journal that was migrated has zero where it knows none
+abbrev pub known : ℕ → Option ℕ
+known moment = if moment == 0 then None else Some moment
+
 -- the moment of an opening, which a journal of version 2 alone keeps
 abbrev pub full_moment : Slot → Option ℕ
 full_moment Free = None
 full_moment (Half a) = None
-full_moment (Full a b moment) = Some moment
+full_moment (Full a b moment) = known moment
 full_moment (Damaged a b) = None
 
 abbrev pub slot_moment : SlotKind → Slot → Option ℕ

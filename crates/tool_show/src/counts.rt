@@ -2,7 +2,7 @@
 
 ghost use Rattle.std.specs.Prelude.{◌≡◌, count_by};
 ghost use Rattle.slot_file.specs.Copies.{taken_count};
-ghost use Rattle.tool_show.specs.SlotLines.{full_moment, is_full, is_half, last_moment, later, slot_moment};
+ghost use Rattle.tool_show.specs.SlotLines.{full_moment, is_full, is_half, known, last_moment, later, slot_moment};
 
 use crate::SlotKind;
 use slot_file::Slot;
@@ -42,12 +42,20 @@ pub(crate) fn taken_count(slots: &[Slot]) -> usize
     slots.iter().filter(|slot| !slot.is_free()).count()
 }
 
-/// The moment of an opening, in seconds since the beginning of 1970.
+/// A moment that is known, in seconds since the beginning of 1970: a journal that was migrated has zero where it knows
+/// none.
+fn known(moment: u64) -> Option<u64>
+    ensures { result ≡ known moment }
+{
+    if moment == 0 { None } else { Some(moment) }
+}
+
+/// The moment of an opening, in seconds since the beginning of 1970, if it is known.
 fn full_moment(slot: &Slot) -> Option<u64>
     ensures { result ≡ full_moment slot.now }
 {
     match slot {
-        Slot::Full(_, _, moment) => Some(*moment),
+        Slot::Full(_, _, moment) => known(*moment),
         Slot::Free | Slot::Half(_) | Slot::Damaged { .. } => None,
     }
 }
