@@ -140,16 +140,17 @@ where
         self.faults.noted(written.map_err(new_fault))
     }
 
-    /// Makes an empty file that its owner alone may read, locks it, and makes its name stable. A file grows as it is
-    /// written, so no room is set aside.
+    /// Makes an empty file for these readers, locks it, and makes its name stable. A file grows as it is written, so no
+    /// room is set aside.
     fn new_disk(
         &mut self,
         _alloc: Global,
         name: &str,
         _size: usize,
+        readers: Readers,
     ) -> Result<Self::Disk, NewFault> {
         self.faults
-            .noted(make_disk(&self.rt, name).map_err(new_fault))
+            .noted(make_disk(&self.rt, name, readers).map_err(new_fault))
     }
 
     /// Opens a file for reading and writing, and locks it. It fails on anything that is not a regular file, and if

@@ -14,14 +14,18 @@ use std::rt::Files;
 use std::{fs, io};
 use stream_io::Readers;
 
-/// Makes an empty file under a name at which nothing stands, which its owner alone may read, as a disk that holds its
-/// lock. If that fails, the file is removed, if possible.
-pub fn make_disk<R: Files>(rt: &R, name: &str) -> io::Result<FileDisk<HostFile<R::File>>>
+/// Makes an empty file under a name at which nothing stands, for these readers, as a disk that holds its lock. If that
+/// fails, the file is removed, if possible.
+pub fn make_disk<R: Files>(
+    rt: &R,
+    name: &str,
+    readers: Readers,
+) -> io::Result<FileDisk<HostFile<R::File>>>
 where
     R::File: FileExt + Lockable,
     ensures { IfOk result (λ disk. ⟦<FileDisk<HostFile<R::File>> as Faults>⟧.count disk ≡ 0) }
 {
-    let file = make(rt, name, Readers::OwnerAlone)?;
+    let file = make(rt, name, readers)?;
     let locked = file.lock_alone();
     keep_name(rt, name, locked)?;
     Ok(FileDisk::unlocked(file))

@@ -5,7 +5,6 @@ use Rattle.std.specs.Str.{bytes_eq}
 use Rattle.disk_trait.specs.Faults.{Rose}
 use Rattle.disk_trait.specs.Images.{Only}
 use Rattle.stream_io.specs.declared.store.Readers.{Readers}
-use Rattle.stream_io.specs.declared.store.Readers.TheVariants.{OwnerAlone}
 
 -- what a disk said of itself when it was handed out
 pub record Handed : Type 0 where
@@ -125,16 +124,16 @@ pub record HandsOut (store : StoreState) (pages : PagesState) : Type 0 where
   pub told : IsTrue store.told → IsTrue pages.told
   pub steady : IsTrue store.steady → IsTrue pages.steady
 
--- an empty disk with room for `size` bytes was made under a name that was not there, and is out; its owner alone may
--- read it
-pub record Made (old : StoreState) (name : List ℕ) (size : ℕ) (disk : PagesState) (new : StoreState) : Type 0 where
+-- an empty disk with room for `size` bytes was made under a name that was not there, for these readers, and is out
+pub record Made (old : StoreState) (name : List ℕ) (size : ℕ) (who : Readers) (disk : PagesState) (new : StoreState)
+    : Type 0 where
   pub absent : IsTrue old.told → has_name old name ≡ false
   pub given : HandsOut old disk
   pub kind : IsTrue old.told → old.disks name ≡ handed disk
   pub reads : IsTrue old.told → disk.reads ≡ []
   pub room : IsTrue old.told → size ≤ disk.room
   pub stable : IsTrue old.told → IsTrue disk.honest → Only [] disk.may_leave
-  pub readers : IsTrue old.told → new.readers name ≡ Some OwnerAlone
+  pub readers : IsTrue old.told → new.readers name ≡ Some who
   pub file : IsTrue old.told → (other : List ℕ) → new.file other ≡ old.file other
   pub out : IsTrue old.told → (other : List ℕ) → new.out other ≡ added old.out name (handed disk) other
   pub others : IsTrue old.told → OthersLeave name old new

@@ -149,10 +149,15 @@ pub trait Store: Faults {
         ensures cause { RisesWhere (result ≡ Err NewFault.Failed) (state self.old).count (state self.new).count }
         ensures onward { StoreOnward (state self.old) (state self.new) };
 
-    /// Makes an empty disk, which its owner alone may read, under a name that is not in the store, with room for `size`
-    /// bytes.
-    fn new_disk(&mut self, alloc: Global, name: &str, size: usize) -> Result<Self::Disk, NewFault>
-        ensures made { IfOk result (λ disk. Made (state self.old) name.now size
+    /// Makes an empty disk, for these readers, under a name that is not in the store, with room for `size` bytes.
+    fn new_disk(
+        &mut self,
+        alloc: Global,
+        name: &str,
+        size: usize,
+        readers: Readers,
+    ) -> Result<Self::Disk, NewFault>
+        ensures made { IfOk result (λ disk. Made (state self.old) name.now size readers
             (pages_state Self.Disk.told Self.Disk.honest Self.Disk.steady Self.Disk.count Self.Disk.room
             Self.Disk.reads Self.Disk.may_leave disk)
             (state self.new)) }

@@ -9,7 +9,6 @@ use Rattle.std.specs.declared.vec.Vec.{Vec}
 use Rattle.disk_trait.specs.MemDisk.{MemState, MayLeave, is_steady}
 use Rattle.stream_io.specs.Store.{Handed, Made, PagesState, Returned, StoreOnward, StoreState, Taken, Written, added, handed, has_name, without}
 use Rattle.stream_io.specs.declared.store.Readers.{Readers}
-use Rattle.stream_io.specs.declared.store.Readers.TheVariants.{OwnerAlone}
 use Rattle.stream_memory.specs.MemStore.{Begun, are_steady, disk_in, disk_of, entry_of, file_disk, first_of, has_that_name, is_steady_store, kind, kind_of, leaves_in, new_disk, out_in, readers_of, slot_of, state_of, steady_in}
 use Rattle.stream_memory.specs.declared.entries.Entry.{Entry}
 use Rattle.stream_memory.specs.declared.entries.Slot.{Slot}
@@ -170,8 +169,8 @@ no_file None out not = refl
 no_file (Some bytes) out not = let no : true ≡ false = not in cc
 
 -- an empty disk that was put under a new name, and then handed out
-pub made : {old mid new : StoreState} {name : List ℕ} {size : ℕ} {disk : PagesState} → Written old name [] OwnerAlone mid → StoreOnward old mid
-    → Taken mid name disk new → disk.reads ≡ [] → size ≤ disk.room → new.readers name ≡ mid.readers name → Made old name size disk new
+pub made : {old mid new : StoreState} {name : List ℕ} {size : ℕ} {who : Readers} {disk : PagesState} → Written old name [] who mid → StoreOnward old mid
+    → Taken mid name disk new → disk.reads ≡ [] → size ≤ disk.room → new.readers name ≡ mid.readers name → Made old name size who disk new
 made {old = old} {mid = mid} {name = name} {disk = disk} put onward taken empty room readers = record {
   absent = put.absent;
   given = record {

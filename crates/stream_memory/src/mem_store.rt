@@ -249,8 +249,14 @@ impl Store for MemStore {
         self.enter(alloc, name, bytes, bytes.len(), readers)
     }
 
-    fn new_disk(&mut self, alloc: Global, name: &str, size: usize) -> Result<StoredDisk, NewFault> {
-        self.enter(alloc, name, &[], size, Readers::OwnerAlone)?;
+    fn new_disk(
+        &mut self,
+        alloc: Global,
+        name: &str,
+        size: usize,
+        readers: Readers,
+    ) -> Result<StoredDisk, NewFault> {
+        self.enter(alloc, name, &[], size, readers)?;
         Ok(StoredDisk::new(self.entries.lend(name).unwrap()))
     }
 

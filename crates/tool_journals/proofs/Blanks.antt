@@ -7,6 +7,7 @@ use Rattle.slot_file.specs.declared.prepared.PrepareFault.{PrepareFault}
 use Rattle.slot_file.specs.declared.prepared.PrepareFault.TheVariants.{Device, NotEmpty}
 use Rattle.stream_io.specs.Store.{Made, PagesState, Returned, StoreOnward, StoreState, has_name}
 use Rattle.stream_io.specs.declared.store.NewFault.{NewFault}
+use Rattle.stream_io.specs.declared.store.Readers.{Readers}
 use Rattle.stream_io.specs.declared.store.Readers.TheVariants.{OwnerAlone}
 use Rattle.stream_io.specs.declared.store.NewFault.TheVariants.{Exists, Failed, NoMemory}
 use Rattle.tool_base.specs.Ending.{Ending}
@@ -34,7 +35,7 @@ not_made_of run name header count Device end is new failed empty half = rw is (d
 not_made_of run name header count (NotEmpty held) end is new failed empty half = rw is (not_empty new (empty held refl))
 
 -- a disk that was made is out
-pub made_out : (a b : StoreState) (name : List ℕ) (size : ℕ) (disk : PagesState) → Made a name size disk b → StoreOnward a b → IsOut a name disk b
+pub made_out : (a b : StoreState) (name : List ℕ) (size : ℕ) {who : Readers} (disk : PagesState) → Made a name size who disk b → StoreOnward a b → IsOut a name disk b
 made_out a b name size disk made onward = record {
   onward = onward;
   told = made.given.told;
@@ -63,7 +64,7 @@ pub record IsMadeAndBack (old mid last : StoreState) (name : List ℕ) (before n
   pub back : IsBackAs old name now last
   pub owners : IsOwners (from_to old last) name
 
-pub made_and_back : (old mid last : StoreState) (name : List ℕ) (size : ℕ) (before now : PagesState) → Made old name size before mid → StoreOnward old mid
+pub made_and_back : (old mid last : StoreState) (name : List ℕ) (size : ℕ) (before now : PagesState) → Made old name size OwnerAlone before mid → StoreOnward old mid
     → now.told ≡ before.told → now.honest ≡ before.honest → now.steady ≡ before.steady → Returned mid name now last → StoreOnward mid last
     → IsMadeAndBack old mid last name before now
 made_and_back old mid last name size before now made goes told honest steady returned comes =

@@ -15,7 +15,7 @@ use crate::faults::{end_of_new, end_of_prepare};
 use share_files::{FileFault, RefHeader, Share, read_ref_header, read_reference, read_share};
 use slot_file::{Header, prepare};
 use std::alloc::Global;
-use stream_io::Store;
+use stream_io::{Readers, Store};
 use tool_base::{Content, Ending, find_content, header_of, unreadable};
 
 /// A blank file of slots.
@@ -77,6 +77,7 @@ pub(crate) fn new_blank<S: Store>(
         alloc,
         name,
         file_length(blank.header.version, blank.count),
+        Readers::OwnerAlone,
     ) {
         Ok(made) => made,
         Err(fault) => return Err(end_of_new(alloc, name, fault)),

@@ -18,7 +18,7 @@ use disk_trait::Disk;
 use share_files::Share;
 use slot_file::{Slots, copy_slots};
 use std::alloc::Global;
-use stream_io::Store;
+use stream_io::{Readers, Store};
 use tool_base::{Ending, header_of};
 
 /// Opens the disk of the old journal and copies its slots into the new one.
@@ -67,7 +67,7 @@ fn copy_journal<S: Store, D: Disk>(
     ensures looked { OnlyLooked slots.old slots.new }
 {
     let count = share.params.leaves();
-    let mut disk = match store.new_disk(alloc, new, file_length(2, count)) {
+    let mut disk = match store.new_disk(alloc, new, file_length(2, count), Readers::OwnerAlone) {
         Ok(disk) => disk,
         Err(fault) => return end_of_new(alloc, new, fault),
     };

@@ -12,7 +12,7 @@ use std::fs::{metadata, remove_file};
 use std::io;
 use std::process::Abort;
 use stream_host::FileStore;
-use stream_io::Store;
+use stream_io::{Readers, Store};
 
 /// The message of the last leaf.
 const ONE: MessageId = MessageId {
@@ -134,7 +134,7 @@ fn make<S: Store>(rt: &impl Abort, alloc: Global, store: &mut S, name: &str)
 where
     S::Disk: Drop,
 {
-    let made = store.new_disk(alloc, name, BYTES);
+    let made = store.new_disk(alloc, name, BYTES, Readers::OwnerAlone);
     let mut disk = made.ok().expect(rt, "a new file");
     assert!(rt; is_prepared(rt, &mut disk) && enters_last(rt, alloc, disk));
 }

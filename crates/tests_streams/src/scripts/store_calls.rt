@@ -84,7 +84,7 @@ fn write<S: Store>(store: &mut S, name: &str, rest: &str) -> &'static str {
 
 /// Makes a disk with room for just a text, writes it and makes it stable, and gives the disk back.
 fn make<S: Store>(store: &mut S, alloc: Global, name: &str, text: &str) -> &'static str {
-    match store.new_disk(alloc, name, text.len()) {
+    match store.new_disk(alloc, name, text.len(), Readers::OwnerAlone) {
         Ok(mut disk) => {
             let written = write_stable(&mut disk, 0, text.as_bytes());
             store.return_disk(name, disk);

@@ -7,7 +7,7 @@ use std::os::unix::fs::{FileExt, MetadataExt, symlink};
 use std::rt::Files;
 use std::{fs, io};
 use stream_host::{FileStore, Lockable};
-use stream_io::Store;
+use stream_io::{Readers, Store};
 
 /// The permissions of a file.
 fn mode(rt: &HostRuntime, name: &str) -> io::Result<u32> {
@@ -67,7 +67,7 @@ fn beside_disk<S: Store>(store: &mut S, alloc: Global, script: &'static str) -> 
 where
     S::Disk: Drop,
 {
-    match store.new_disk(alloc, "disk", 3) {
+    match store.new_disk(alloc, "disk", 3, Readers::OwnerAlone) {
         Ok(_disk) => stores(store, alloc, script),
         Err(_) => "a new disk",
     }
