@@ -21,7 +21,7 @@ const KEY: usize = 32;
 
 /// Tests whether the dealing that the entropy stands for is dealt, of a large set only if these are asked for. It takes
 /// no memory.
-pub(crate) fn check(
+pub fn test_dealing(
     large: bool,
     params: &Params,
     plan: &Plan,

@@ -10,7 +10,7 @@ ghost use Rattle.dealer.specs.declared.faults.DealFault.{DealFault};
 
 use crate::beside::build_beside;
 use crate::building::build;
-use crate::checks::check;
+use crate::checks::test_dealing;
 use crate::dealing::Dealt;
 use crate::faults::DealFault;
 use coalition_map::Plan;
@@ -96,7 +96,7 @@ fn test_committed(params: &Params, plan: &Plan, entropy: &[u8]) -> Result<(), Co
         → result ≡ Err (TooLarge (commits_length params.now plan.now)) }
     ensures cause { IfErr result (FailsCommitted params.now plan.now entropy.now) }
 {
-    if let Err(fault) = check(false, params, plan, entropy) {
+    if let Err(fault) = test_dealing(false, params, plan, entropy) {
         return Err(CommittedFault::Deal(fault));
     }
     let bytes = length_of_commits(params, plan.k());

@@ -10,7 +10,7 @@ ghost use Rattle.dealer.specs.declared.faults.DealFault.TheVariants.{NoMemory};
 
 use crate::beside::build_beside;
 use crate::building::build;
-use crate::checks::check;
+use crate::checks::test_dealing;
 use crate::faults::DealFault;
 use coalition_map::Plan;
 use lms_bytes::{Params, PublicKey};
@@ -43,7 +43,7 @@ pub fn deal(alloc: Global, params: &Params, plan: &Plan, entropy: &[u8]) -> Resu
         ⊎ HasFault false params.now plan.now entropy.now fault) }
     ensures shares { IfOk result (λ dealt. 0 < length dealt.shares.items) }
 {
-    check(false, params, plan, entropy)?;
+    test_dealing(false, params, plan, entropy)?;
     match build(alloc, params, plan, entropy, false) {
         Ok((dealt, _)) => Ok(dealt),
         Err(_) => Err(DealFault::NoMemory),
@@ -70,7 +70,7 @@ pub fn deal_beside<R: Threads + Sync, P: Progress>(
     ensures shares { IfOk result (λ dealt. 0 < length dealt.shares.items) }
     ensures told { TellsLeaves P.told params.now.h (λ fault. fault ≡ NoMemory) result progress.old progress.new }
 {
-    check(false, params, plan, entropy)?;
+    test_dealing(false, params, plan, entropy)?;
     match build_beside(rt, progress, alloc, params, plan, entropy, false) {
         Ok((dealt, _)) => Ok(dealt),
         Err(_) => Err(DealFault::NoMemory),

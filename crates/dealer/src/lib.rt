@@ -23,6 +23,7 @@ mod shares;
 mod signing;
 mod writing;
 
+pub use checks::test_dealing;
 pub use committed::{CommittedFault, deal_committed, deal_committed_beside};
 pub use dealing::{Dealt, deal, deal_beside};
 pub use faults::DealFault;

@@ -17,7 +17,7 @@ ghost use Rattle.dealer.specs.declared.faults.DealFault.{DealFault};
 ghost use Rattle.dealer.specs.declared.onto.OntoFault.TheVariants.{Deal, Device};
 
 use crate::building::build_public;
-use crate::checks::check;
+use crate::checks::test_dealing;
 use crate::entropy::read_entropy;
 use crate::faults::DealFault;
 use crate::material::KeyMaterial;
@@ -95,7 +95,7 @@ pub fn deal_onto<R: Threads + Sync, P: Progress, D: Disk>(
     ensures device { RisesAt (D.count reference.old) (D.count reference.new) result (Err Device) }
     ensures stays { SameDisk D.Pages.own D.Faults reference.old reference.new }
 {
-    if let Err(fault) = check(true, params, plan, entropy) {
+    if let Err(fault) = test_dealing(true, params, plan, entropy) {
         return Err(OntoFault::Deal(fault));
     }
     match take_room(alloc, params, plan, entropy) {

@@ -5,16 +5,16 @@ use Rattle.dealer.proofs.Wanting.{told-wanting}
 use Rattle.dealer.proofs.dealing.deal_beside.Goals as goal
 
 pub returns-in-Ok-clause-refused : goal.returns-in-Ok-clause-refused
-returns-in-Ok-clause-refused g c = λ fault has. absurd (none_dealable _ _ _ _ fault c.in_ok-check.ensures.dealable has)
+returns-in-Ok-clause-refused g c = λ fault has. absurd (none_dealable _ _ _ _ fault c.in_ok-test_dealing.ensures.dealable has)
 
 pub returns-clause-refused : goal.returns-clause-refused
-returns-clause-refused g c = λ fault has. absurd (none_dealable _ _ _ _ fault c.in_ok-check.ensures.dealable has)
+returns-clause-refused g c = λ fault has. absurd (none_dealable _ _ _ _ fault c.in_ok-test_dealing.ensures.dealable has)
 
 pub returns-clause-cause : goal.returns-clause-cause
-returns-clause-cause g c = inl (refl, c.in_ok-check.ensures.dealable)
+returns-clause-cause g c = inl (refl, c.in_ok-test_dealing.ensures.dealable)
 
 pub returns-in-Ok-clause-dealable : goal.returns-in-Ok-clause-dealable
-returns-in-Ok-clause-dealable g c = c.in_ok-check.ensures.dealable
+returns-in-Ok-clause-dealable g c = c.in_ok-test_dealing.ensures.dealable
 
 pub returns-in-Ok-clause-dealt : goal.returns-in-Ok-clause-dealt
 returns-in-Ok-clause-dealt g c = c.in-Ok.ensures.built.dealt
@@ -34,14 +34,14 @@ returns-clause-dealt g c = tt
 pub returns-clause-shares : goal.returns-clause-shares
 returns-clause-shares g c = tt
 
-pub returns-in_err-check-clause-dealable : goal.returns-in_err-check-clause-dealable
-returns-in_err-check-clause-dealable g c = rw (err_from_is_err_and c.from_residual.result c.from_residual.ensures.1).1 tt
+pub returns-in_err-test_dealing-clause-dealable : goal.returns-in_err-test_dealing-clause-dealable
+returns-in_err-test_dealing-clause-dealable g c = rw (err_from_is_err_and c.from_residual.result c.from_residual.ensures.1).1 tt
 
-pub returns-in_err-check-clause-dealt : goal.returns-in_err-check-clause-dealt
-returns-in_err-check-clause-dealt g c = rw (err_from_is_err_and c.from_residual.result c.from_residual.ensures.1).1 tt
+pub returns-in_err-test_dealing-clause-dealt : goal.returns-in_err-test_dealing-clause-dealt
+returns-in_err-test_dealing-clause-dealt g c = rw (err_from_is_err_and c.from_residual.result c.from_residual.ensures.1).1 tt
 
-pub returns-in_err-check-clause-shares : goal.returns-in_err-check-clause-shares
-returns-in_err-check-clause-shares g c = rw (err_from_is_err_and c.from_residual.result c.from_residual.ensures.1).1 tt
+pub returns-in_err-test_dealing-clause-shares : goal.returns-in_err-test_dealing-clause-shares
+returns-in_err-test_dealing-clause-shares g c = rw (err_from_is_err_and c.from_residual.result c.from_residual.ensures.1).1 tt
 
 pub returns-in-Ok-clause-told : goal.returns-in-Ok-clause-told
 returns-in-Ok-clause-told g c = c.in-Ok.ensures.told
@@ -49,5 +49,5 @@ returns-in-Ok-clause-told g c = c.in-Ok.ensures.told
 pub returns-clause-told : goal.returns-clause-told
 returns-clause-told g c = told-wanting _ c.in-Err.ensures.told
 
-pub returns-in_err-check-clause-told : goal.returns-in_err-check-clause-told
-returns-in_err-check-clause-told g c = rw (err_from_is_err_and c.from_residual.result c.from_residual.ensures.1).1 (inl refl)
+pub returns-in_err-test_dealing-clause-told : goal.returns-in_err-test_dealing-clause-told
+returns-in_err-test_dealing-clause-told g c = rw (err_from_is_err_and c.from_residual.result c.from_residual.ensures.1).1 (inl refl)

@@ -1,7 +1,7 @@
 use Rattle.std.proofs.Common.{ap, Err}
 use Rattle.dealer.specs.Faults.{bad_entropy, same_keys}
 use Rattle.dealer.proofs.Exclusive.{none_dealable, one_fault}
-use Rattle.dealer.proofs.checks.check.Goals as goal
+use Rattle.dealer.proofs.checks.test_dealing.Goals as goal
 
 pub returns-in-Some-clause-cause : goal.returns-in-Some-clause-cause
 returns-in-Some-clause-cause c = c.in-Some.ensures.cause _ _
