@@ -1,6 +1,6 @@
 //! The members that commitments blame, as the end of a command.
 
-ghost use Rattle.std.specs.Prelude.{◌≡◌, IfErr, IfSome, IsTrue, is_some, length};
+ghost use Rattle.std.specs.Prelude.{◌≡◌, ◌↔◌, IfErr, IfSome, IsTrue, is_some, length};
 ghost use Rattle.share_blame.specs.Commits.{AreOf, PagesStay, leaves_on, pages_of};
 ghost use Rattle.session_core.specs.Verdicts.{digest_of};
 ghost use Rattle.mask_prf.specs.Lengths.{all_commits_length};
@@ -17,9 +17,6 @@ use session_core::Session;
 use share_blame::{Commits, blamed};
 use tool_base::{Ending, Unsigned};
 use tool_sign::SignedBy;
-
-/// The status if the masks of a session were not accepted.
-const NOT_ACCEPTED: u8 = 8;
 
 /// What is told about the outcome of a session of this key and message: if its masks were not accepted, the end that
 /// names the members that the commitments blame, otherwise the outcome itself.
@@ -43,12 +40,23 @@ pub(crate) fn told_outcome<V: Pages>(
         Ok(by) => return Ok(by),
         Err(end) => end,
     };
-    if end.status() != NOT_ACCEPTED {
+    if !is_not_accepted(&end) {
         return Err(end);
     }
     match session {
         Some(session) => Err(name_blamed(commits, key, &session, message)),
         None => Err(end),
+    }
+}
+
+/// Whether this is the end of a session whose masks were not accepted.
+fn is_not_accepted(end: &Ending) -> bool
+    ensures { IsTrue result ↔ (status_of (ending end.now) ≡ 8) }
+{
+    match end {
+        Ending::NotSigned(Unsigned::WrongCheck { .. } | Unsigned::WrongRoot { .. }) => true,
+        Ending::NotSigned(Unsigned::Blamed { .. }) => true,
+        _ => false,
     }
 }
 

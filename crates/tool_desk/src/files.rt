@@ -9,13 +9,10 @@ ghost use Rattle.tool_desk.specs.Files.{AreKeyFiles, AreOfOneKey, FailsKeyFiles,
 use crate::reading::{read_key_file, read_tree_file};
 use crate::tree::DealtTree;
 use lms_bytes::{KeyId, Params, PublicKey};
-use share_files::RefHeader;
+use share_files::{FileFault, RefHeader};
 use std::alloc::{AllocError, Global};
 use stream_io::Store;
 use tool_base::{Ending, unreadable};
-
-/// The number that users see if a file is of another key, as counted by `FileFault` of `share_files`.
-const OTHER_KEY: u8 = 7;
 
 /// The public key and the tree of a dealing. They may be of different keys until `test_same_key` has tested them.
 #[derive(Drop)]
@@ -56,10 +53,10 @@ pub fn test_same_key(
     ensures refused { IfErr result (λ end. IsOfOtherKey prefix.now files.now header.now (ending end)) }
 {
     if !is_of_key(&files.key, &files.tree.params, &files.tree.id) {
-        return Err(other_key(alloc, prefix, ".tree"));
+        return Err(other_key(alloc, prefix, ".tree", &files.tree.id));
     }
     if !is_of_key(&files.key, &header.params, &header.id) {
-        return Err(other_key(alloc, prefix, ".ref"));
+        return Err(other_key(alloc, prefix, ".ref", &header.id));
     }
     Ok(())
 }
@@ -71,12 +68,15 @@ fn is_of_key(key: &PublicKey, params: &Params, id: &KeyId) -> bool
     params.lms == key.params.lms && params.ots == key.params.ots && *id == key.id
 }
 
-/// The end if the file of a dealing with this suffix is of another key.
-pub(crate) fn other_key(alloc: Global, prefix: &str, suffix: &str) -> Ending
+/// The end if the file of a dealing with this suffix is of another key, with this identifier.
+pub(crate) fn other_key(alloc: Global, prefix: &str, suffix: &str, got: &KeyId) -> Ending
     ensures { (ending result ≡ spec.NoMemory) ⊎ (ending result ≡ spec.Unreadable (prefix.now ++ suffix.now) 7) }
 {
     match file_name(alloc, prefix, suffix) {
-        Ok(name) => unreadable(alloc, name.as_str(), OTHER_KEY),
+        Ok(name) => {
+            let fault = FileFault::OtherKey { got: *got };
+            unreadable(alloc, name.as_str(), fault.number())
+        }
         Err(end) => end,
     }
 }

@@ -88,7 +88,7 @@ fn view_others<S: Store>(
         let (view, other) = view_reference(alloc, store, prefix)?;
         if !is_same(header, &other) {
             store.end_view(view);
-            return Err(other_key(alloc, prefix, ".ref"));
+            return Err(other_key(alloc, prefix, ".ref", &other.id));
         }
         cells.push_reserved(Paged::new(&files.key.params, &header.plan, view));
     }
