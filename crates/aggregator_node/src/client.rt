@@ -18,7 +18,7 @@ use crate::sign::sign_in_turns;
 use aggregator_session::{Desk, SignFault, Signed};
 use disk_trait::{Disk, Faults};
 use leaf_table::Table;
-use node_workers::{Served, ServedEnd, end_by};
+use node_workers::{MOST_FRAMES, Served, ServedEnd, end_by};
 use reference_value::Cells;
 use round_frames::{FrameFault, next_request, write_failure, write_signature};
 use session_core::SessionFault;
@@ -26,9 +26,6 @@ use std::alloc::Global;
 use std::sync::Wait;
 use stream_io::{Failed, Port, Sink, Source, Stream};
 use turn_lock::{Pass, TurnLock, TurnsOnly};
-
-/// The most frames of one connection.
-const MOST_FRAMES: u32 = 65_536;
 
 /// What came of one request.
 #[derive(Clone, Copy)]

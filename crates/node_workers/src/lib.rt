@@ -7,6 +7,6 @@ mod start;
 mod worker;
 
 pub use end::gather;
-pub use served::{Served, ServedEnd, end_by};
+pub use served::{MOST_FRAMES, Served, ServedEnd, end_by};
 pub use start::make_workers;
 pub use worker::{Worker, next_link};

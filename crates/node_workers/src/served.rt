@@ -5,6 +5,9 @@ ghost use Rattle.node_workers.specs.Ends.{end_by};
 
 use round_frames::FrameFault;
 
+/// The most frames that a node of either kind serves on one connection.
+pub const MOST_FRAMES: u32 = 65_536;
+
 /// Why a connection ended.
 #[derive(Clone, Copy, Debug, PartialEq, Eq)]
 pub enum ServedEnd {

@@ -15,16 +15,13 @@ use crate::reply::write_reply;
 use crate::turn::decide_in_turn;
 use disk_trait::{Disk, Faults};
 use lms_bytes::Ask;
-use node_workers::{Served, ServedEnd, end_by};
+use node_workers::{MOST_FRAMES, Served, ServedEnd, end_by};
 use round_frames::{FrameFault, next_ask};
 use share_files::Share;
 use std::sync::Wait;
 use stream_io::{Failed, Sink, Source, Stream};
 use trustee_core::{Approved, Clock, KeyKeeper, Trustee};
 use turn_lock::{Pass, TurnLock, TurnsOnly};
-
-/// The most frames of one connection.
-const MOST_FRAMES: u32 = 65_536;
 
 /// Serves a connection: reads asks one after another, reads the clock once for each, decides on it in a turn of its
 /// own, and writes a reply. The share is that of the lock's trustee. A trustee with a book grants round one only for
