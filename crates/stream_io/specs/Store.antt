@@ -130,7 +130,7 @@ pub record Made (old : StoreState) (name : List ℕ) (size : ℕ) (who : Readers
   pub absent : IsTrue old.told → has_name old name ≡ false
   pub given : HandsOut old disk
   pub kind : IsTrue old.told → old.disks name ≡ handed disk
-  pub reads : IsTrue old.told → disk.reads ≡ []
+  pub reads : IsTrue disk.told → disk.reads ≡ []
   pub room : IsTrue old.told → size ≤ disk.room
   pub stable : IsTrue old.told → IsTrue disk.honest → Only [] disk.may_leave
   pub readers : IsTrue old.told → new.readers name ≡ Some who

@@ -87,7 +87,7 @@ returns-in-Err-copied-clause-ended g c =
       owners = whole.owners;
       stays = λ told. rw (back.file told) refl;
       images = λ told honest image left.
-          elim ((step.half (λ _. made.reads told) (c.requires.told told)).images (fresh.told told) (honest_is told honest) image ((back.leaves told image).0 left)) [
+          elim ((step.half made.reads (c.requires.told told)).images (fresh.told told) (honest_is told honest) image ((back.leaves told image).0 left)) [
             | inl shut ↦ inl shut
             | inr is ↦ inr (copy_is _ (journal_header share) c.leaves-count.result (slot_count share) _ file image c.header_of.ensures c.leaves-count.ensures old_version is)
           ];
@@ -95,7 +95,7 @@ returns-in-Err-copied-clause-ended g c =
     record {
       touched = name ∷ [];
       cause = copy_fails failed run share name file c.in-Err-copied.fault (ending c.end_of_copy.result) c.end_of_copy.ensures c.requires.opens
-          (λ held is told. let holds = step.full.refused (fresh.told told) held (ap Err is) in let empty : length (disks.Pages.reads c.in-Ok.disk) ≡ 0 = ap length (made.reads told) in omega arith)
+          (λ held is told. let holds = step.full.refused (fresh.told told) held (ap Err is) in let empty : length (disks.Pages.reads c.in-Ok.disk) ≡ 0 = ap length (made.reads (fresh.told told)) in omega arith)
           (λ slot a b is. (
             λ told. damaged_is c.leaves-count.result (slot_count share) _ file slot a b c.leaves-count.ensures old_version
                 (subst (λ f. FindsDamaged c.args.slots.now c.leaves-count.result f) is step.damaged (c.requires.told told)),
