@@ -12,3 +12,4 @@ pub mod Parses
 pub mod Verdicts
 pub mod Viewing
 pub mod Fronts
+pub mod Beside

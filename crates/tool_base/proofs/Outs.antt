@@ -1,10 +1,11 @@
 -- Disks that go out of a store and come back.
-use Rattle.std.proofs.Common.{◌≡◌, ◌↔◌, ◌⊎◌, ◌+◌, ◌-◌, ◌^◌, min, ℕ, List, [], ◌∷◌, Bool, true, false, Some, IsTrue, refl, sym, ap, ◌∙◌, inl, inr}
+use Rattle.std.proofs.Common.{◌≡◌, ◌↔◌, ◌⊎◌, ◌+◌, ◌-◌, ◌^◌, min, ℕ, List, [], ◌∷◌, Bool, true, false, Some, IsTrue, refl, sym, ap, ◌∙◌, inl, inr, rules}
 use Rattle.std.proofs.lemmas.Bool.{false≢true}
 use Rattle.std.proofs.lemmas.List.Elements.{All-head, All-tail}
 use Rattle.std.proofs.lemmas.Slice.Eq.{bytes_eq-Decides}
 use Rattle.std.specs.Str.{bytes_eq}
-use Rattle.stream_io.specs.Store.{PagesState, Returned, StoreOnward, StoreState, Taken, added, handed, has_name}
+use Rattle.stream_io.specs.Store.{Made, PagesState, Returned, StoreOnward, StoreState, Taken, added, handed, has_name}
+use Rattle.stream_io.specs.declared.store.Readers.{Readers}
 use Rattle.tool_base.specs.Ending.{Ending}
 use Rattle.tool_base.specs.Touched.{EndsTouching, Keeps}
 use Rattle.tool_base.specs.World.{IsUnchanged, StoreRun, from_to}
@@ -79,6 +80,20 @@ taken_out a b name disk taken onward = record {
   out = taken.out;
   others = taken.others;
   loans = taken.loans;
+}
+
+-- a disk that was made is out
+pub made_out : (a b : StoreState) (name : List ℕ) (size : ℕ) {who : Readers} (disk : PagesState) → Made a name size who disk b → StoreOnward a b → IsOut a name disk b
+made_out a b name size disk made onward = record {
+  onward = onward;
+  told = made.given.told;
+  steady = made.given.steady;
+  kind = made.kind;
+  was_in = search rules;
+  file = λ told other differs. made.file told other;
+  out = made.out;
+  others = made.others;
+  loans = made.loans;
 }
 
 -- a disk that was out while other names were touched, and is back

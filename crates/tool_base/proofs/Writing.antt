@@ -8,9 +8,11 @@ use Rattle.std.proofs.lemmas.Slice.Eq.{bytes_eq-Decides}
 use Rattle.std.specs.Str.{bytes_eq}
 use Rattle.disk_trait.specs.Images.{Only}
 use Rattle.stream_io.specs.Store.{OthersLeave, SameStore, StoreOnward, StoreState, Written, added, has_name}
+use Rattle.stream_io.specs.declared.store.NewFault.{NewFault}
+use Rattle.stream_io.specs.declared.store.NewFault.TheVariants.{Exists, Failed, NoMemory}
 use Rattle.tool_base.specs.Ending as spec
 use Rattle.tool_base.specs.Ending.{Ending}
-use Rattle.tool_base.specs.Outputs.{AreReadBy, AreStable, CallFailed, EndsWith, IsOther, FirstNotNew, IsLeft, IsNew, IsNotNew, test_failed, is_there, no_memory_to_name, IsNotWritten, write_failed, was_there, no_memory_to_write, Output, StopsAfter, all_added}
+use Rattle.tool_base.specs.Outputs.{AreReadBy, AreStable, CallFailed, EndsWith, IsOther, FirstNotNew, IsEndOfNew, IsLeft, IsNew, IsNotNew, test_failed, is_there, no_memory_to_name, IsNotWritten, write_failed, was_there, no_memory_to_write, Output, StopsAfter, all_added}
 use Rattle.tool_base.specs.World.{IsUnchanged, IsPart, StoreRun, from_to}
 use Rattle.tool_base.proofs.Runs.{onward_none, part_of}
 
@@ -50,6 +52,13 @@ pub there_or_no_memory : (run : StoreRun) (name : List ℕ) (end : Ending) → (
     → (IsTrue run.before.told → IsTrue (has_name run.before name)) → IsNotNew run name end
 there_or_no_memory run name end (inl e) has = rw e no_memory_to_name
 there_or_no_memory run name end (inr e) has = rw e (is_there has)
+
+-- a name under which nothing was made
+pub not_new_of : (run : StoreRun) (name : List ℕ) (fault : NewFault) (end : Ending) → IsEndOfNew name fault end
+    → (fault ≡ Exists → IsTrue run.before.told → IsTrue (has_name run.before name)) → (fault ≡ Failed → CallFailed run) → IsNotNew run name end
+not_new_of run name Exists end is there failed = there_or_no_memory run name end is (there refl)
+not_new_of run name Failed end is there failed = rw is (test_failed (failed refl))
+not_new_of run name NoMemory end is there failed = rw is no_memory_to_name
 
 -- ---- names, one after another
 pub All-more : {X Y : Type 0} (P : Y → Type 0) (f : X → Y) (xs : List X) (i : ℕ) (x : X) → i < length xs → x ≡ get_or xs i x
@@ -109,7 +118,7 @@ abbrev IsReadBy : StoreState → Output → Type 0
 IsReadBy store output = store.readers output.name ≡ Some output.readers
 
 -- files are read later by those who read them before
-read_on : (now after : StoreState) → StoreOnward now after → IsTrue now.told → (outputs : List Output) → AreReadBy now outputs → AreReadBy after outputs
+pub read_on : (now after : StoreState) → StoreOnward now after → IsTrue now.told → (outputs : List Output) → AreReadBy now outputs → AreReadBy after outputs
 read_on now after onward told outputs all =
     All-weaker (IsReadBy now) (IsReadBy after) (λ output is. onward.readers told output.name output.readers is) outputs all
 
@@ -161,11 +170,11 @@ false_when : (b : Bool) → (b ≡ true → ⊥) → b ≡ false
 false_when true not = absurd (not refl)
 false_when false not = refl
 
-differ_so : (a b : List ℕ) → a ≢ b → bytes_eq a b ≡ false
+pub differ_so : (a b : List ℕ) → a ≢ b → bytes_eq a b ≡ false
 differ_so a b other = false_when (bytes_eq a b) (λ yes. other ((bytes_eq-Decides a b).0 yes))
 
 -- files that were stable still are after another was written
-stable_still : (now after : StoreState) (name : List ℕ) → OthersLeave name now after → (outputs : List Output)
+pub stable_still : (now after : StoreState) (name : List ℕ) → OthersLeave name now after → (outputs : List Output)
     → All (λ other. other ≢ name) (map (λ output. output.name) outputs) → AreStable now outputs → AreStable after outputs
 stable_still now after name others [] differ stable = All-nil (λ output. Only output.bytes (after.leaves output.name))
 stable_still now after name others (output ∷ outputs) differ stable =

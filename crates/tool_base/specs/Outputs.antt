@@ -1,9 +1,11 @@
 -- The files that a command writes, each under a new name.
-use Rattle.std.specs.Prelude.{◌≡◌, ◌≢◌, ◌↔◌, ⊤, ℕ, false, List, [], ◌∷◌, ◌++◌, Option, Some, IsTrue, All}
+use Rattle.std.specs.Prelude.{◌≡◌, ◌≢◌, ◌↔◌, ◌⊎◌, ⊤, ℕ, false, List, [], ◌∷◌, ◌++◌, Option, Some, IsTrue, All}
 use Rattle.std.specs.Str.{bytes_eq}
 use Rattle.disk_trait.specs.Faults.{Rose}
 use Rattle.disk_trait.specs.Images.{Only}
 use Rattle.stream_io.specs.Store.{StoreState, added, has_name}
+use Rattle.stream_io.specs.declared.store.NewFault.{NewFault}
+use Rattle.stream_io.specs.declared.store.NewFault.TheVariants.{Exists, Failed, NoMemory}
 use Rattle.stream_io.specs.declared.store.Readers.{Readers}
 use Rattle.tool_base.specs.Ending as ending
 use Rattle.tool_base.specs.Ending.{Ending}
@@ -50,6 +52,12 @@ IsNew store name = IsTrue store.before.told → has_name store.before name ≡ f
 pub record CallFailed (store : StoreRun) : Type 0 where
   pub rose : Rose store.before.count store.after.count
   pub unsteady : IsTrue store.before.steady → ⊥
+
+-- the end if a file or a disk was not made under a name
+abbrev pub IsEndOfNew : List ℕ → NewFault → Ending → Type 0
+IsEndOfNew name Exists end = (end ≡ ending.NoMemory) ⊎ (end ≡ ending.Exists name)
+IsEndOfNew name Failed end = end ≡ ending.StoreFailed
+IsEndOfNew name NoMemory end = end ≡ ending.NoMemory
 
 -- the end if this name was not found new
 pub data IsNotNew (store : StoreRun) (name : List ℕ) : Ending → Type 0 where

@@ -18,7 +18,9 @@ pub use contents::{Content, find_content};
 pub use ending::Ending;
 pub use headers::header_of;
 pub use loads::{DAMAGED, end_of_slots, load_fault_number};
-pub use outputs::{Output, test_all_new, test_new, test_two_new, two_outputs, write_all};
+pub use outputs::{
+    Output, end_of_new, test_all_new, test_new, test_two_new, two_outputs, write_all,
+};
 pub use reading::{read_file, unreadable};
 pub use services::end_of_service;
 pub use shares::read_share_file;

@@ -6,7 +6,8 @@ ghost use Rattle.stream_io.specs.declared.store.Readers.TheVariants.{Anyone};
 ghost use Rattle.tool_base.specs.Ending as spec;
 ghost use Rattle.tool_base.specs.Endings.{ending};
 ghost use Rattle.tool_base.specs.OutputOf.{output_of};
-ghost use Rattle.tool_base.specs.Outputs.{AreDifferent, EndsWith, FirstNotNew, IsLeft, IsNew, IsNotNew, StopsAfter};
+ghost use Rattle.tool_base.specs.Outputs.{AreDifferent, EndsWith, FirstNotNew, IsEndOfNew, IsLeft, IsNew, IsNotNew};
+ghost use Rattle.tool_base.specs.Outputs.{StopsAfter};
 ghost use Rattle.tool_base.specs.World.{InAnyRun, IsBack, IsUnchanged, from_to};
 
 use crate::ending::Ending;
@@ -51,6 +52,17 @@ pub fn two_outputs(
             readers: Readers::Anyone,
         },
     ])
+}
+
+/// The end if a file or a disk was not made under a name.
+pub fn end_of_new(alloc: Global, name: &str, fault: NewFault) -> Ending
+    ensures { IsEndOfNew name.now fault (ending result) }
+{
+    match fault {
+        NewFault::Exists => exists(alloc, name),
+        NewFault::Failed => Ending::StoreFailed,
+        NewFault::NoMemory => Ending::NoMemory,
+    }
 }
 
 /// The end if an output of this name is in the store.
@@ -125,9 +137,7 @@ fn write_output<S: Store>(alloc: Global, store: &mut S, output: &Output) -> Resu
     let name = output.name.as_str();
     match store.write_new(alloc, name, &output.bytes, output.readers) {
         Ok(()) => Ok(()),
-        Err(NewFault::Exists) => Err(exists(alloc, name)),
-        Err(NewFault::Failed) => Err(Ending::StoreFailed),
-        Err(NewFault::NoMemory) => Err(Ending::NoMemory),
+        Err(fault) => Err(end_of_new(alloc, name, fault)),
     }
 }
 

@@ -7,7 +7,6 @@ use Rattle.slot_file.specs.declared.prepared.PrepareFault.{PrepareFault}
 use Rattle.slot_file.specs.declared.prepared.PrepareFault.TheVariants.{Device, NotEmpty}
 use Rattle.stream_io.specs.Store.{Made, PagesState, Returned, StoreOnward, StoreState, has_name}
 use Rattle.stream_io.specs.declared.store.NewFault.{NewFault}
-use Rattle.stream_io.specs.declared.store.Readers.{Readers}
 use Rattle.stream_io.specs.declared.store.Readers.TheVariants.{OwnerAlone}
 use Rattle.stream_io.specs.declared.store.NewFault.TheVariants.{Exists, Failed, NoMemory}
 use Rattle.tool_base.specs.Ending.{Ending}
@@ -17,36 +16,15 @@ use Rattle.tool_base.proofs.Writing.{there_or_no_memory}
 use Rattle.tool_base.specs.Disks.{DeviceFails}
 use Rattle.tool_journals.specs.Blanks.{IsBlankDisk, IsMade, IsNeverHalf, IsNotMade, IsOwners, device, not_empty}
 use Rattle.tool_base.specs.Disks.{IsOut}
-use Rattle.tool_base.proofs.Outs.{IsBackAs, back_as, out_same}
+use Rattle.tool_base.proofs.Outs.{IsBackAs, back_as, made_out, out_same}
 use Rattle.tool_base.proofs.Runs.{onward_none}
-use Rattle.tool_journals.specs.Faults.{IsEndOfNew, end_of_prepare}
-
--- a name that was not new for a disk
-pub not_new_of : (run : StoreRun) (name : List ℕ) (fault : NewFault) (end : Ending) → IsEndOfNew name fault end
-    → (fault ≡ Exists → IsTrue run.before.told → IsTrue (has_name run.before name)) → (fault ≡ Failed → CallFailed run) → IsNotNew run name end
-not_new_of run name Exists end is there failed = there_or_no_memory run name end is (there refl)
-not_new_of run name Failed end is there failed = rw is (test_failed (failed refl))
-not_new_of run name NoMemory end is there failed = rw is no_memory_to_name
+use Rattle.tool_journals.specs.Faults.{end_of_prepare}
 
 pub not_made_of : (run : StoreRun) (name : List ℕ) (header : Header) (count : ℕ) (fault : PrepareFault) (end : Ending) → end ≡ end_of_prepare fault
     → IsNew run name → (fault ≡ Device → DeviceFails run) → ((held : ℕ) → fault ≡ NotEmpty held → IsTrue run.before.told → ⊥)
     → IsNeverHalf (file.IsNew header count) run name → IsNotMade run name header count end (name ∷ [])
 not_made_of run name header count Device end is new failed empty half = rw is (device new (failed refl) half)
 not_made_of run name header count (NotEmpty held) end is new failed empty half = rw is (not_empty new (empty held refl))
-
--- a disk that was made is out
-pub made_out : (a b : StoreState) (name : List ℕ) (size : ℕ) {who : Readers} (disk : PagesState) → Made a name size who disk b → StoreOnward a b → IsOut a name disk b
-made_out a b name size disk made onward = record {
-  onward = onward;
-  told = made.given.told;
-  steady = made.given.steady;
-  kind = made.kind;
-  was_in = search rules;
-  file = λ told other differs. made.file told other;
-  out = made.out;
-  others = made.others;
-  loans = made.loans;
-}
 
 pub new_unchanged : (first a b : StoreState) (name : List ℕ) → IsUnchanged first a → IsNew (from_to a b) name → (c : StoreState) → IsNew (from_to first c) name
 new_unchanged first a b name unchanged new c = λ told. rw (← unchanged.same.names.file, ← unchanged.same.names.out) (new (rw unchanged.onward.told told))

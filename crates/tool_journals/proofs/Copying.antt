@@ -13,10 +13,10 @@ use Rattle.stream_io.specs.declared.store.NewFault.TheVariants.{Exists, Failed, 
 use Rattle.stream_io.specs.declared.store.Readers.{Readers}
 use Rattle.stream_io.specs.declared.store.Readers.TheVariants.{OwnerAlone}
 use Rattle.tool_base.specs.Ending.{Ending}
-use Rattle.tool_base.specs.Outputs.{CallFailed, IsNotWritten, no_memory_to_write, was_there, write_failed}
+use Rattle.tool_base.specs.Outputs.{CallFailed, IsEndOfNew, IsNotWritten, no_memory_to_write, was_there, write_failed}
 use Rattle.tool_base.specs.World.{StoreRun}
 use Rattle.tool_journals.specs.Blanks.{IsNeverHalf, IsOwners}
-use Rattle.tool_journals.specs.Faults.{IsEndOfNew, end_of_copy, end_of_load}
+use Rattle.tool_journals.specs.Faults.{end_of_copy, end_of_load}
 use Rattle.tool_journals.specs.Migrate.{CopyEnds, IsCopied, IsShut, damaged, device, migrated, not_empty, not_made, not_opened, not_read, old_header, slot_count}
 use Rattle.trustee_core.specs.Trustee.{journal_header}
 

@@ -1,5 +1,5 @@
--- Faults of a store and of slot files as ends.
-use Rattle.std.specs.Prelude.{◌≡◌, ◌⊎◌, ℕ, List, Result, Ok, Err}
+-- Faults of slot files as ends.
+use Rattle.std.specs.Prelude.{ℕ, Result, Ok, Err}
 use Rattle.approval_book.specs.declared.faults.BookFault.{BookFault}
 use Rattle.approval_book.specs.declared.faults.BookFault.TheVariants as adding
 use Rattle.opening_journal.specs.declared.faults.Entered.{Entered}
@@ -9,16 +9,8 @@ use Rattle.slot_file.specs.declared.header.LoadFault.{LoadFault}
 use Rattle.slot_file.specs.declared.header.LoadFault.TheVariants.{Length, NotReady, Version, Foreign, Device}
 use Rattle.slot_file.specs.declared.prepared.PrepareFault.{PrepareFault}
 use Rattle.slot_file.specs.declared.prepared.PrepareFault.TheVariants as preparing
-use Rattle.stream_io.specs.declared.store.NewFault.{NewFault}
-use Rattle.stream_io.specs.declared.store.NewFault.TheVariants.{Exists, Failed, NoMemory}
 use Rattle.tool_base.specs.Ending as ending
 use Rattle.tool_base.specs.Ending.{Ending}
-
--- the end if a disk was not made under a name
-abbrev pub IsEndOfNew : List ℕ → NewFault → Ending → Type 0
-IsEndOfNew name Exists end = (end ≡ ending.NoMemory) ⊎ (end ≡ ending.Exists name)
-IsEndOfNew name Failed end = end ≡ ending.StoreFailed
-IsEndOfNew name NoMemory end = end ≡ ending.NoMemory
 
 -- the end if a blank file was not made on a disk
 abbrev pub end_of_prepare : PrepareFault → Ending

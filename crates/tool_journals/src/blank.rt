@@ -11,12 +11,12 @@ ghost use Rattle.tool_journals.specs.Blanks.{IsBlankDisk, IsNotMade};
 ghost use Rattle.tool_journals.specs.Enrol.{FailsToEnrol, GoWith, IsEnrolled, enrol_fault, table_header};
 ghost use Rattle.trustee_core.specs.Trustee.{journal_header};
 
-use crate::faults::{end_of_new, end_of_prepare};
+use crate::faults::end_of_prepare;
 use share_files::{FileFault, RefHeader, Share, read_ref_header, read_reference, read_share};
 use slot_file::{Header, prepare};
 use std::alloc::Global;
 use stream_io::{Readers, Store};
-use tool_base::{Content, Ending, find_content, header_of, unreadable};
+use tool_base::{Content, Ending, end_of_new, find_content, header_of, unreadable};
 
 /// A blank file of slots.
 #[derive(Clone, Copy)]

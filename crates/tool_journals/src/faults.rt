@@ -1,30 +1,13 @@
-//! Faults of a store and of slot files as ends.
+//! Faults of slot files as ends.
 
 ghost use Rattle.std.specs.Prelude.{◌≡◌};
 ghost use Rattle.tool_base.specs.Endings.{ending};
-ghost use Rattle.tool_journals.specs.Faults.{IsEndOfNew, end_of_add, end_of_copy, end_of_load};
-ghost use Rattle.tool_journals.specs.Faults.{end_of_prepare};
+ghost use Rattle.tool_journals.specs.Faults.{end_of_add, end_of_copy, end_of_load, end_of_prepare};
 
 use approval_book::BookFault;
 use opening_journal::Entered;
 use slot_file::{CopyFault, LoadFault, PrepareFault};
-use std::alloc::{AllocError, Global};
-use stream_io::NewFault;
 use tool_base::{Ending, load_fault_number};
-
-/// The end if a disk was not made under a name.
-pub(crate) fn end_of_new(alloc: Global, name: &str, fault: NewFault) -> Ending
-    ensures { IsEndOfNew name.now fault (ending result) }
-{
-    match fault {
-        NewFault::Exists => match String::from_str(alloc, name) {
-            Ok(name) => Ending::Exists { name },
-            Err(AllocError) => Ending::NoMemory,
-        },
-        NewFault::Failed => Ending::StoreFailed,
-        NewFault::NoMemory => Ending::NoMemory,
-    }
-}
 
 /// The end if a blank file was not made on a disk. No disk that was just made holds bytes, if it tells them.
 pub(crate) fn end_of_prepare(fault: PrepareFault) -> Ending

@@ -13,13 +13,13 @@ ghost use Rattle.tool_base.specs.World.{from_to};
 ghost use Rattle.tool_journals.specs.Migrate.{CopyEnds, old_header, slot_count};
 
 use crate::blank::file_length;
-use crate::faults::{end_of_copy, end_of_load, end_of_new};
+use crate::faults::{end_of_copy, end_of_load};
 use disk_trait::Disk;
 use share_files::Share;
 use slot_file::{Slots, copy_slots};
 use std::alloc::Global;
 use stream_io::{Readers, Store};
-use tool_base::{Ending, header_of};
+use tool_base::{Ending, end_of_new, header_of};
 
 /// Opens the disk of the old journal and copies its slots into the new one.
 pub(crate) fn copy_disk<S: Store, D: Disk>(

@@ -1,10 +1,10 @@
-use Rattle.std.proofs.Common.{◌≡◌, take, Err, ap, refl, sym, arith}
+use Rattle.std.proofs.Common.{Err, ap, refl, sym, arith}
 use Rattle.std.proofs.lemmas.Bool.{false≢true}
 use Rattle.stream_io.specs.Store.{pages_state}
 use Rattle.tool_base.specs.Contents.{HasHead, device, failed, no_memory}
 use Rattle.tool_base.specs.World.{Failed, file_limit}
 use Rattle.tool_base.proofs.Runs.{read_part}
-use Rattle.tool_base.proofs.Viewing.{device_part, keeps, reads_as, reads_part}
+use Rattle.tool_base.proofs.Viewing.{device_part, reads_as, reads_part}
 use Rattle.tool_base.proofs.contents.view_head.Goals as goal
 
 pub returns-in-Err-Failed-clause-refused : goal.returns-in-Err-Failed-clause-refused

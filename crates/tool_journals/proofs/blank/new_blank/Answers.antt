@@ -5,11 +5,11 @@ use Rattle.tool_base.specs.Endings.{ending}
 use Rattle.tool_base.specs.Outputs.{IsNew}
 use Rattle.tool_base.specs.World.{from_to, IsUnchanged}
 use Rattle.tool_base.proofs.Runs.{unchanged_on, onward_none, part_of}
-use Rattle.tool_base.proofs.Writing.{not_new_part}
+use Rattle.tool_base.proofs.Writing.{not_new_of, not_new_part}
 use Rattle.tool_journals.specs.Blanks.{IsNeverHalf, IsNotMade, not_new}
 use Rattle.tool_base.specs.Disks.{IsOut}
-use Rattle.tool_journals.proofs.Blanks.{made_out, new_unchanged, not_made_of, not_new_of, owners_on}
-use Rattle.tool_base.proofs.Outs.{IsBackAs, back_as, ends_unchanged, out_unchanged, out_same}
+use Rattle.tool_journals.proofs.Blanks.{new_unchanged, not_made_of, owners_on}
+use Rattle.tool_base.proofs.Outs.{IsBackAs, made_out, back_as, ends_unchanged, out_unchanged, out_same}
 use Rattle.tool_journals.proofs.blank.new_blank.Goals as goal
 
 pub returns-in-Err-clause-refused : goal.returns-in-Err-clause-refused
@@ -51,7 +51,7 @@ returns-in-Err-prepare-clause-refused g c = λ first unchanged.
     record {
       stays = λ told. rw (back.file told) refl;
       owners = owners_on (state first) old mid last name unchanged.onward c.in-Ok.ensures.onward c.return_disk.ensures.onward made.readers;
-      images = λ told honest image left. (step.half (λ _. made.reads (rw unchanged.onward.told told))).images (fresh.told told)
+      images = λ told honest image left. (step.half made.reads).images (fresh.told told)
           (subst (λ (h : Handed). IsTrue h.honest) (fresh.kind told) honest) image ((back.leaves told image).0 left);
     } in
     record {
@@ -61,7 +61,7 @@ returns-in-Err-prepare-clause-refused g c = λ first unchanged.
             rose = let none = made.given.fresh in let count = back.disk_count in let rose = step.cause.failed (ap Err is) in omega arith;
             unsteady = λ told steady. step.succeeds (fresh.steady steady) (fresh.told told) (rw (← c.file_length.ensures) (made.room (rw unchanged.onward.told told))) (ap Err is);
           })
-          (λ held is told. let holds = step.full.refused (fresh.told told) held (ap Err is) in let empty : length (disks.Pages.reads c.in-Ok.made) ≡ 0 = ap length (made.reads (rw unchanged.onward.told told)) in omega arith)
+          (λ held is told. let holds = step.full.refused (fresh.told told) held (ap Err is) in let empty : length (disks.Pages.reads c.in-Ok.made) ≡ 0 = ap length (made.reads (fresh.told told)) in omega arith)
           half;
       keeps = back.keeps;
     }
