@@ -1,6 +1,7 @@
 -- The files of a dealing from what it gives.
 use Rattle.std.proofs.Common.{◌≡◌, ℕ, zero, suc, ◌+◌, ◌-◌, ◌<◌, length, List, [], ◌∷◌, ◌++◌, map, take, All, refl, sym, ap, ◌∙◌, arith}
-use Rattle.std.specs.Prelude.{slice_index_or}
+use Rattle.std.specs.Prelude.{slice_index_or, Result, Ok, Err, IfOk}
+use Rattle.memory.specs.declared.NoMemory.{NoMemory}
 use Rattle.std.specs.List.{range_with_len}
 use Rattle.std.specs.declared.alloc.Global.{Global}
 use Rattle.std.specs.declared.vec.Vec.{Vec}
@@ -13,9 +14,12 @@ use Rattle.share_files.specs.Share.{share_bytes}
 use Rattle.share_files.specs.TreeFile.{tree_head}
 use Rattle.share_files.specs.declared.share.Share.{Share}
 use Rattle.dealer.specs.Dealt.{AreShares, IsDealt}
-use Rattle.dealer.specs.Files.{AreFiles, share_file, share_files}
+use Rattle.dealer.specs.Files.{AreFiles, AreKeyFiles, share_file, share_files}
+use Rattle.dealer.specs.Onto.{IsKeyDealt}
 use Rattle.dealer.specs.declared.dealing.Dealt.{Dealt}
 use Rattle.dealer.specs.declared.files.DealingFiles.{DealingFiles}
+use Rattle.dealer.specs.declared.files.KeyFiles.{KeyFiles}
+use Rattle.dealer.specs.declared.onto.DealtKey.{DealtKey}
 use Rattle.dealer.proofs.Mapped.{at_read}
 
 -- this share is that of trustee t
@@ -87,3 +91,24 @@ are_files d dealt share files is some first public tree leaves shares =
       reference_is = leaves ∙ rw (params, plan, id, is.reference_is) refl;
       shares_are = shares ∙ files_of_shares d dealt.shares.items is.shares;
     }
+
+-- the files besides the reference
+pub are_key_files : (d : Dealing) (key : DealtKey) (files : KeyFiles) → IsKeyDealt d key
+    → files.public.items ≡ public_bytes key.public
+    → files.tree.items ≡ tree_head key.public.params key.public.id ++ key.tree.nodes
+    → map (λ file. file.items) files.shares.items ≡ map share_bytes key.shares.items
+    → AreKeyFiles d files
+are_key_files d key files is public tree shares = record {
+  public_is = public ∙ rw (is.params, is.id, is.root_is) refl;
+  tree_is = tree ∙ rw (is.params, is.id, is.tree) refl;
+  shares_are = shares ∙ files_of_shares d key.shares.items is.shares;
+}
+
+-- the same of what may have been refused
+pub key_files_of : (d : Dealing) (key : DealtKey) (result : Result KeyFiles NoMemory) → IsKeyDealt d key
+    → IfOk result (λ files. files.public.items ≡ public_bytes key.public)
+    → IfOk result (λ files. files.tree.items ≡ tree_head key.public.params key.public.id ++ key.tree.nodes)
+    → IfOk result (λ files. map (λ file. file.items) files.shares.items ≡ map share_bytes key.shares.items)
+    → IfOk result (AreKeyFiles d)
+key_files_of d key (Ok files) is public tree shares = are_key_files d key files is public tree shares
+key_files_of d key (Err refused) is public tree shares = tt

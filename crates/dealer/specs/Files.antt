@@ -9,6 +9,7 @@ use Rattle.share_files.specs.Share.{share_file_of}
 use Rattle.share_files.specs.TreeFile.{tree_head}
 use Rattle.dealer.specs.Dealt.{dealt_root, dealt_tree}
 use Rattle.dealer.specs.declared.files.DealingFiles.{DealingFiles}
+use Rattle.dealer.specs.declared.files.KeyFiles.{KeyFiles}
 
 -- the public key (RFC 8554 section 5.3)
 abbrev pub public_file : Dealing → List ℕ
@@ -35,4 +36,10 @@ pub record AreFiles (d : Dealing) (files : DealingFiles) : Type 0 where
   pub public_is : files.public.items ≡ public_file d
   pub tree_is : files.tree.items ≡ tree_file d
   pub reference_is : files.reference.items ≡ reference_file d
+  pub shares_are : map (λ file. file.items) files.shares.items ≡ share_files d
+
+-- these are the files of the dealing besides the reference
+pub record AreKeyFiles (d : Dealing) (files : KeyFiles) : Type 0 where
+  pub public_is : files.public.items ≡ public_file d
+  pub tree_is : files.tree.items ≡ tree_file d
   pub shares_are : map (λ file. file.items) files.shares.items ≡ share_files d

@@ -7,9 +7,11 @@ ghost use Rattle.share_files.specs.Reference.{reference_head};
 ghost use Rattle.share_files.specs.Share.{share_bytes};
 ghost use Rattle.share_files.specs.TreeFile.{tree_head};
 ghost use Rattle.dealer.specs.Dealt.{IsDealt};
-ghost use Rattle.dealer.specs.Files.{AreFiles};
+ghost use Rattle.dealer.specs.Files.{AreFiles, AreKeyFiles};
+ghost use Rattle.dealer.specs.Onto.{IsKeyDealt};
 
 use crate::dealing::Dealt;
+use crate::onto::DealtKey;
 use lms_bytes::{PublicKey, write_public};
 use memory::NoMemory;
 use merkle_path::Tree;
@@ -29,6 +31,50 @@ pub struct DealingFiles {
     pub shares: Vec<Vec<u8>>,
 }
 
+/// The files of a dealing besides the reference, each whole.
+#[derive(Drop)]
+pub struct KeyFiles {
+    /// The public key, `24 + n` bytes.
+    pub public: Vec<u8>,
+    /// The tree: a head of 32 bytes, and all nodes.
+    pub tree: Vec<u8>,
+    /// The shares, 64 bytes each, that of trustee 1 first.
+    pub shares: Vec<Vec<u8>>,
+}
+
+impl DealtKey {
+    /// The files besides the reference.
+    pub fn into_files(self, alloc: Global) -> Result<KeyFiles, NoMemory>
+        ensures { (d : Dealing) → IsKeyDealt d self → IfOk result (AreKeyFiles d) }
+    {
+        let DealtKey {
+            public,
+            tree,
+            shares,
+        } = self;
+        key_files(alloc, &public, &tree, &shares)
+    }
+}
+
+/// The files of a public key, of its tree and of the shares.
+fn key_files(
+    alloc: Global,
+    key: &PublicKey,
+    tree: &Tree,
+    shares: &[Share],
+) -> Result<KeyFiles, NoMemory>
+    ensures public { IfOk result (λ files. files.public.items ≡ public_bytes key.now) }
+    ensures tree { IfOk result (λ files. files.tree.items ≡ tree_head key.now.params key.now.id ++ tree.now.nodes) }
+    ensures shares { IfOk result (λ files.
+        map (λ file. file.items) files.shares.items ≡ map share_bytes shares.now) }
+{
+    Ok(KeyFiles {
+        public: public_file(alloc, key)?,
+        tree: tree_file(alloc, key, tree)?,
+        shares: files_of_shares(alloc, shares)?,
+    })
+}
+
 impl Dealt {
     /// The files. The head of the reference is that of the shares. The leaves are not copied, and take no memory if
     /// they have room for the 32 bytes of this head.
@@ -42,11 +88,16 @@ impl Dealt {
             plan: share.plan,
             id: share.id,
         };
+        let KeyFiles {
+            public,
+            tree,
+            shares,
+        } = key_files(alloc, &self.public, &self.tree, &self.shares)?;
         Ok(DealingFiles {
-            public: public_file(alloc, &self.public)?,
-            tree: tree_file(alloc, &self.public, &self.tree)?,
+            public,
+            tree,
             reference: reference_file(&header, self.reference)?,
-            shares: files_of_shares(alloc, &self.shares)?,
+            shares,
         })
     }
 }

@@ -27,6 +27,6 @@ pub use checks::test_dealing;
 pub use committed::{CommittedFault, deal_committed, deal_committed_beside};
 pub use dealing::{Dealt, deal, deal_beside};
 pub use faults::DealFault;
-pub use files::{DealingFiles, public_file};
+pub use files::{DealingFiles, KeyFiles, public_file};
 pub use onto::{DealtKey, OntoFault, deal_onto, open_reference};
 pub use rehearsed::{Rehearsed, rehearsal_params, rehearse};

@@ -18,7 +18,7 @@ pub use mask_prf::{
     COMMITMENT, HEAD, TAG, chain_bytes, chain_commits_bytes, leaf_bytes, leaf_commits_bytes,
 };
 pub use reference::{RefHeader, RefView};
-pub use reference_layout::{read_ref_header, read_reference, write_ref_head};
+pub use reference_layout::{length_of_reference, read_ref_header, read_reference, write_ref_head};
 pub use share::Share;
 pub use share_layout::{read_share, write_share};
 pub use tree_file::{TreeView, read_tree, write_tree_head};

@@ -67,7 +67,7 @@ fn length_of_file(header: &RefHeader) -> u64
 }
 
 /// How long the reference file of a parameter set and a threshold is, in bytes.
-fn length_of_reference(params: &Params, k: u8) -> u64
+pub fn length_of_reference(params: &Params, k: u8) -> u64
     ensures { result ≡ 32 + leaf_length params.now k * 2 ^ params.now.h }
 {
     HEAD as u64 + leaf_bytes(params, k) as u64 * u64::from(params.leaves())

@@ -7,6 +7,6 @@ use Rattle.dealer.proofs.dealing.Dealt.into_files.Goals as goal
 pub returns : goal.returns
 returns c = record {
   files = λ d is. are_files d c.args.self c.index-share.result.now _ is c.requires c.index-share.ensures
-      c.in_ok-public_file.ensures c.in_ok-tree_file.ensures c.in_ok-reference_file.ensures
-      (c.in_ok-files_of_shares.ensures ∙ ap (map share_bytes) c.deref.ensures.value);
+      c.in_ok-public.ensures.public c.in_ok-public.ensures.tree c.in_ok-reference_file.ensures
+      (c.in_ok-public.ensures.shares ∙ ap (map share_bytes) c.deref.ensures.value);
 }
