@@ -6,7 +6,8 @@ use Rattle.std.specs.Option.{option_and_then, option_map}
 use Rattle.std.specs.Str.{bytes_eq}
 use Rattle.std.proofs.lemmas.Slice.Eq.{bytes_eq-Decides}
 use Rattle.tool_words.specs.Words.{Aggregate, AggregateWords, Approve, Blame, Deal, DealWords, Drill, Enrol, HssCheck, HssSign, HssSignWords, Migrate}
-use Rattle.tool_words.specs.Words.{OutputsDiffer, Rehearse, Row, Sign, SignWords, Trustee, TrusteeWords, Verify, aggregate_of, approve_of, command_of, deal_of}
+use Rattle.tool_words.specs.declared.deal_words.DealFlags.{DealFlags}
+use Rattle.tool_words.specs.Words.{OutputsDiffer, Rehearse, Row, Sign, SignWords, Trustee, TrusteeWords, Verify, aggregate_of, approve_of, command_of, deal_flags_of, deal_of}
 use Rattle.tool_words.specs.Words.{deal_with, drill_of, enrol_of, flag_of, hss_check_of, hss_of, hss_sign_of, is_option, migrate_of, number_of, number_within, of_three, places_of}
 use Rattle.tool_words.specs.Words.{Show, rehearse_of, row_of, show_of, sign_words_of, trustee_of, verify_of}
 
@@ -28,8 +29,8 @@ three_differ make differ (a ∷ b ∷ c ∷ []) row is = let same : make a b c �
 three_differ make differ (a ∷ b ∷ c ∷ d ∷ more) row is = absurd (cc)
 
 -- with a flag or without, or none
-with_flag : (make : Bool → Option Row) → ((flag : Bool) (row : Row) → make flag ≡ Some row → OutputsDiffer row)
-    → (flag : Option Bool) (row : Row) → option_and_then make flag ≡ Some row → OutputsDiffer row
+with_flag : {A : Type 0} (make : A → Option Row) → ((flag : A) (row : Row) → make flag ≡ Some row → OutputsDiffer row)
+    → (flag : Option A) (row : Row) → option_and_then make flag ≡ Some row → OutputsDiffer row
 with_flag make differ None row is = absurd (cc)
 with_flag make differ (Some flag) row is = differ flag row is
 
@@ -52,7 +53,7 @@ rehearse_differ (a ∷ b ∷ c ∷ d ∷ []) row is = pair_differs a b c d (byte
 rehearse_differ (a ∷ b ∷ c ∷ d ∷ e ∷ more) row is = absurd (cc)
 
 -- with four numbers or fewer
-with_numbers : (entropy prefix : List ℕ) (lms ots n k : Option ℕ) (commit : Bool) (row : Row)
+with_numbers : (entropy prefix : List ℕ) (lms ots n k : Option ℕ) (flags : DealFlags) (row : Row)
     → elim lms [
       | None ↦ None
       | Some lms ↦ elim ots [
@@ -61,23 +62,23 @@ with_numbers : (entropy prefix : List ℕ) (lms ots n k : Option ℕ) (commit : 
           | None ↦ None
           | Some n ↦ elim k [
             | None ↦ None
-            | Some k ↦ Some (Deal (record { entropy = entropy; lms = lms; ots = ots; n = n; k = k; prefix = prefix; commit = commit }))
+            | Some k ↦ Some (Deal (record { entropy = entropy; lms = lms; ots = ots; n = n; k = k; prefix = prefix; commit = flags.commit; large = flags.large }))
           ]
         ]
       ]
     ] ≡ Some row → OutputsDiffer row
-with_numbers entropy prefix None ots n k commit row is = absurd (cc)
-with_numbers entropy prefix (Some lms) None n k commit row is = absurd (cc)
-with_numbers entropy prefix (Some lms) (Some ots) None k commit row is = absurd (cc)
-with_numbers entropy prefix (Some lms) (Some ots) (Some n) None commit row is = absurd (cc)
-with_numbers entropy prefix (Some lms) (Some ots) (Some n) (Some k) commit row is =
-    let words : DealWords = record { entropy = entropy; lms = lms; ots = ots; n = n; k = k; prefix = prefix; commit = commit } in
+with_numbers entropy prefix None ots n k flags row is = absurd (cc)
+with_numbers entropy prefix (Some lms) None n k flags row is = absurd (cc)
+with_numbers entropy prefix (Some lms) (Some ots) None k flags row is = absurd (cc)
+with_numbers entropy prefix (Some lms) (Some ots) (Some n) None flags row is = absurd (cc)
+with_numbers entropy prefix (Some lms) (Some ots) (Some n) (Some k) flags row is =
+    let words : DealWords = record { entropy = entropy; lms = lms; ots = ots; n = n; k = k; prefix = prefix; commit = flags.commit; large = flags.large } in
     let same : Deal words ≡ row = cc in
     subst OutputsDiffer same tt
 
-deal_with_differs : (a b c d e f : List ℕ) (commit : Bool) (row : Row) → deal_with a b c d e f commit ≡ Some row → OutputsDiffer row
-deal_with_differs a b c d e f commit row is =
-    taken (length f == 0) None _ row none (with_numbers a f (number_of b) (number_of c) (number_of d) (number_of e) commit) is
+deal_with_differs : (a b c d e f : List ℕ) (flags : DealFlags) (row : Row) → deal_with a b c d e f flags ≡ Some row → OutputsDiffer row
+deal_with_differs a b c d e f flags row is =
+    taken (length f == 0) None _ row none (with_numbers a f (number_of b) (number_of c) (number_of d) (number_of e) flags) is
 
 deal_differ : (words : List (List ℕ)) (row : Row) → deal_of words ≡ Some row → OutputsDiffer row
 deal_differ [] row is = absurd (cc)
@@ -87,7 +88,7 @@ deal_differ (a ∷ b ∷ c ∷ []) row is = absurd (cc)
 deal_differ (a ∷ b ∷ c ∷ d ∷ []) row is = absurd (cc)
 deal_differ (a ∷ b ∷ c ∷ d ∷ e ∷ []) row is = absurd (cc)
 deal_differ (a ∷ b ∷ c ∷ d ∷ e ∷ f ∷ more) row is =
-    with_flag (deal_with a b c d e f) (deal_with_differs a b c d e f) (flag_of (codes "commit") more) row is
+    with_flag (deal_with a b c d e f) (deal_with_differs a b c d e f) (deal_flags_of more) row is
 
 enrol_differ : (words : List (List ℕ)) (row : Row) → enrol_of words ≡ Some row → OutputsDiffer row
 enrol_differ [] row is = absurd (cc)

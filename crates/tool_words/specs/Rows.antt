@@ -23,6 +23,7 @@ deal_words deal = record {
   k = deal.k;
   prefix = deal.prefix.now;
   commit = deal.commit;
+  large = deal.large;
 }
 
 -- the words of `trustee`, each as its bytes

@@ -6,9 +6,10 @@ use Rattle.std.specs.List.{All, after_first, before_first, list_any}
 use Rattle.std.specs.Option.{ForSome, option_and_then, option_map, unwrap_or}
 use Rattle.std.specs.Str.{all_ascii_digits, bytes_eq}
 use Rattle.std.specs.Str.Parse.{digits_value}
+use Rattle.tool_words.specs.declared.deal_words.DealFlags.{DealFlags}
 
--- the words after `deal`: k of n trustees, the prefix of the outputs' names, and whether there is a commitment file
--- among them
+-- the words after `deal`: k of n trustees, the prefix of the outputs' names, whether there is a commitment file among
+-- them, and whether a large set may be dealt
 pub record DealWords : Type 0 where
   pub entropy : List ℕ
   pub lms : ℕ
@@ -17,6 +18,7 @@ pub record DealWords : Type 0 where
   pub k : ℕ
   pub prefix : List ℕ
   pub commit : Bool
+  pub large : Bool
 
 -- the words after `trustee`: a book, or none
 pub record TrusteeWords : Type 0 where
@@ -159,9 +161,17 @@ flag_of flag [] = Some false
 flag_of flag (word ∷ []) = if bytes_eq word flag then Some true else None
 flag_of flag words = None
 
--- the words after `deal`, with a commitment file or without; the outputs' names begin with some byte
-abbrev pub deal_with : (entropy lms ots n k prefix : List ℕ) → Bool → Option Row
-deal_with entropy lms ots n k prefix commit =
+-- what may follow the prefix of `deal`: `commit`, `large` or nothing
+abbrev pub deal_flags_of : List (List ℕ) → Option DealFlags
+deal_flags_of [] = Some (record { commit = false; large = false })
+deal_flags_of (word ∷ []) =
+    if bytes_eq word (codes "commit") then Some (record { commit = true; large = false }) else
+    if bytes_eq word (codes "large") then Some (record { commit = false; large = true }) else None
+deal_flags_of words = None
+
+-- the words after `deal`, with what follows the prefix; the outputs' names begin with some byte
+abbrev pub deal_with : (entropy lms ots n k prefix : List ℕ) → DealFlags → Option Row
+deal_with entropy lms ots n k prefix flags =
     if length prefix == 0 then None else
     elim (number_of lms) [
       | None ↦ None
@@ -178,17 +188,18 @@ deal_with entropy lms ots n k prefix commit =
               n = n;
               k = k;
               prefix = prefix;
-              commit = commit;
+              commit = flags.commit;
+              large = flags.large;
             }))
           ]
         ]
       ]
     ]
 
--- the words after `deal`: six, and `commit` or nothing
+-- the words after `deal`: six, and what may follow them
 abbrev pub deal_of : List (List ℕ) → Option Row
 deal_of (entropy ∷ lms ∷ ots ∷ n ∷ k ∷ prefix ∷ last) =
-    option_and_then (deal_with entropy lms ots n k prefix) (flag_of (codes "commit") last)
+    option_and_then (deal_with entropy lms ots n k prefix) (deal_flags_of last)
 deal_of words = None
 
 -- the words after `enrol`

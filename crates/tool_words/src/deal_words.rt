@@ -1,5 +1,14 @@
 //! The words after `deal`.
 
+/// What may follow the prefix.
+#[derive(Clone, Copy)]
+pub(crate) struct DealFlags {
+    /// Whether commitments are written too.
+    pub(crate) commit: bool,
+    /// Whether a large set may be dealt.
+    pub(crate) large: bool,
+}
+
 /// The words after `deal`.
 #[derive(Clone, Copy)]
 pub struct DealWords<'a> {
@@ -17,4 +26,6 @@ pub struct DealWords<'a> {
     pub prefix: &'a str,
     /// Whether commitments to the masks are written too.
     pub commit: bool,
+    /// Whether a large set may be dealt, onto a disk.
+    pub large: bool,
 }

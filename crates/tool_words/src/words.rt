@@ -3,7 +3,8 @@
 ghost use Rattle.std.specs.Prelude.{◌≡◌, ◌∷◌, List, map, option_map, string_bytes, ℕ};
 ghost use Rattle.std.specs.Option.{option_and_then};
 ghost use Rattle.std.specs.List.{list_any};
-ghost use Rattle.tool_words.specs.Words.{Row, aggregate_of, approve_of, command_of, deal_of, deal_with, drill_of};
+ghost use Rattle.tool_words.specs.Words.{Row, aggregate_of, approve_of, command_of, deal_flags_of, deal_of};
+ghost use Rattle.tool_words.specs.Words.{deal_with, drill_of};
 ghost use Rattle.tool_words.specs.Words.{enrol_of, flag_of, hss_of, hss_sign_of, is_option, migrate_of, of_three};
 ghost use Rattle.tool_words.specs.Words.{rehearse_of, row_of, show_of, sign_words_of, trustee_of, trustee_with};
 ghost use Rattle.tool_words.specs.Words.{verify_of};
@@ -11,7 +12,7 @@ ghost use Rattle.tool_words.specs.Rows.{row, sign_words};
 
 use crate::aggregate_words::AggregateWords;
 use crate::command::Command;
-use crate::deal_words::DealWords;
+use crate::deal_words::{DealFlags, DealWords};
 use crate::drill_words::DrillWords;
 use crate::hss_sign_words::HssSignWords;
 use crate::numbers::{number_of, number_within};
@@ -103,14 +104,14 @@ fn rehearse_of<'a>(words: &'a [String], split: &[&'a str]) -> Option<Command<'a>
     })
 }
 
-/// The words after `deal`: six, and `commit` or nothing. The prefix of the outputs' names is not empty.
+/// The words after `deal`: six, and what may follow them. The prefix of the outputs' names is not empty.
 fn deal_of<'a>(words: &'a [String], split: &[&'a str]) -> Option<Command<'a>>
     ensures { option_map row result ≡ deal_of (map string_bytes words.now) }
 {
     let [entropy, lms, ots, n, k, prefix, last @ ..] = words else {
         return None;
     };
-    let commit = flag_of(last, "commit")?;
+    let flags = deal_flags_of(last)?;
     deal_with(
         word_at(split, 0, entropy.as_str()),
         lms.as_str(),
@@ -118,11 +119,24 @@ fn deal_of<'a>(words: &'a [String], split: &[&'a str]) -> Option<Command<'a>>
         n.as_str(),
         k.as_str(),
         word_at(split, 5, prefix.as_str()),
-        commit,
+        &flags,
     )
 }
 
-/// The words of a dealing with commitments, or without.
+/// What follows the prefix: `commit`, `large` or nothing.
+fn deal_flags_of(words: &[String]) -> Option<DealFlags>
+    ensures { result ≡ deal_flags_of (map string_bytes words.now) }
+{
+    let (commit, large) = match words {
+        [] => (false, false),
+        [word] if word.as_str() == "commit" => (true, false),
+        [word] if word.as_str() == "large" => (false, true),
+        _ => return None,
+    };
+    Some(DealFlags { commit, large })
+}
+
+/// The words of a dealing, with what follows the prefix.
 fn deal_with<'a>(
     entropy: &'a str,
     lms: &str,
@@ -130,10 +144,10 @@ fn deal_with<'a>(
     n: &str,
     k: &str,
     prefix: &'a str,
-    commit: bool,
+    flags: &DealFlags,
 ) -> Option<Command<'a>>
     ensures { option_map row result
-        ≡ deal_with entropy.now lms.now ots.now n.now k.now prefix.now commit }
+        ≡ deal_with entropy.now lms.now ots.now n.now k.now prefix.now flags.now }
 {
     if prefix.is_empty() {
         return None;
@@ -145,7 +159,8 @@ fn deal_with<'a>(
         n: number_of(n)?,
         k: number_of(k)?,
         prefix,
-        commit,
+        commit: flags.commit,
+        large: flags.large,
     }))
 }
 
