@@ -1,5 +1,5 @@
 -- What each command has found by the time it ends, over a store that tells its content.
-use Rattle.std.proofs.Common.{◌≡◌, ℕ, Bool, List, [], ◌∷◌, Option, Some, Result, Ok, Err, IsTrue, is_some, refl, ap, subst}
+use Rattle.std.proofs.Common.{◌≡◌, ℕ, Bool, true, false, List, [], ◌∷◌, Option, Some, Result, Ok, Err, IsTrue, is_some, refl, ap, subst}
 use Rattle.std.proofs.lemmas.List.Elements.{All-cons, All-nil}
 use Rattle.aggregator_session.specs.Desks.{DeskState}
 use Rattle.aggregator_session.specs.Runs.{CellsRead}
@@ -42,6 +42,9 @@ use Rattle.tool_sign.specs.Lower.{FailsLower}
 use Rattle.tool_sign.specs.Lower as lowers
 use Rattle.laws_commands.proofs.Found.{AreThere, Found, IsThere, UpTo, grammar-found, keys-found, lacks-found, last-found, list-1, list-2, list-3, list-4, load-found, new-found, nothing, other-found, reference-found, session-all, session-found, signature-found, table-found, unwritten-found, up-to-here, up-to-later, upto-found, whole}
 use Rattle.tool_keys.specs.Deal.{DealEnds}
+use Rattle.tool_keys.specs.Large as large
+use Rattle.tool_keys.specs.Large.{LargeEnds}
+use Rattle.tool_keys.specs.Runs.{DealRunBy}
 use Rattle.tool_keys.specs.HssCheck.{HssCheckEnds}
 use Rattle.tool_keys.specs.Rehearse.{RehearseEnds}
 use Rattle.laws_commands.specs.Steady.{before_table, book_of, names_found, names_needed, up_to}
@@ -95,6 +98,17 @@ module _ (run : StoreRun) (told : IsTrue run.before.told) where
   deal-found : (words : DealWords) (end : Ending) (written : List Output) → DealEnds run words end written → Found run told (Deal words) end
   deal-found words _ _ (steps.refused end fails) = upto-found run told (Deal words) _ words.entropy end (list-1 run.before words.entropy) fails
   deal-found words _ _ (steps.given entropy end written read rest) = whole run.before (Deal words) (list-1 run.before words.entropy (ap is_some (read.1 told))) end
+
+  large-found : (words : DealWords) (end : Ending) (written : List Output) (touched : List (List ℕ)) → LargeEnds run words end written touched → Found run told (Deal words) end
+  large-found words _ _ _ (large.not_read end fails) = upto-found run told (Deal words) _ words.entropy end (list-1 run.before words.entropy) fails
+  large-found words _ _ _ (large.not_dealt entropy end read fails) = whole run.before (Deal words) (list-1 run.before words.entropy (ap is_some (read.1 told))) end
+  large-found words _ _ _ (large.not_new params entropy end read set plan dealable fails) = whole run.before (Deal words) (list-1 run.before words.entropy (ap is_some (read.1 told))) end
+  large-found words _ _ _ (large.not_made d done end asked fails) = whole run.before (Deal words) (list-1 run.before words.entropy (ap is_some (asked.read.1 told))) end
+  large-found words _ _ _ (large.begun d done end written asked rest) = whole run.before (Deal words) (list-1 run.before words.entropy (ap is_some (asked.read.1 told))) end
+
+  run-found : (words : DealWords) (large : Bool) (end : Ending) → DealRunBy large words run end → Found run told (Deal words) end
+  run-found words true end ran = large-found words end ran.written ran.touched ran.cause
+  run-found words false end ran = deal-found words end ran.written ran.cause
 
   find-found : (row : Row) (name : List ℕ) (end : Ending) → FailsToFind run name end → Found run told row end
   find-found row name _ (contents.failed r) = nothing run told row
@@ -455,7 +469,7 @@ module _ (before after : Outside) (told : IsTrue before.store.told) where
   pub command-found : (row : Row) (end : Ending) → CommandRun row before after end → AreThere before.store (names_found row end)
   command-found (Verify key message signature) end ran = verify-found store_run told key message signature end ran.run.written ran.run.cause
   command-found (Rehearse entropy message key_out signature_out) end ran = rehearse-found store_run told entropy message key_out signature_out end ran.run.written ran.run.cause
-  command-found (Deal words) end ran = deal-found store_run told words end ran.run.written ran.run.cause
+  command-found (Deal words) end ran = run-found store_run told words words.large end ran.run
   command-found (Enrol file journal) end ran = enrol-found store_run told file journal end ran.run.touched ran.run.cause
   command-found (Migrate share journal new) end ran = migrate-found store_run told share journal new end ran.run.touched ran.run.cause
   command-found (Approve share book message) end ran = approve-found store_run told share book message end ran.run.touched ran.run.cause

@@ -1,7 +1,8 @@
 -- How a call ends over objects that do not fail except for their arguments.
-use Rattle.std.proofs.Common.{◌≡◌, ◌⊎◌, ◌≤◌, Bool, ℕ, suc, List, [], ◌∷◌, All, Contains, IsSome, Option, None, Some, IsTrue, length, inl, inr, refl, sym, ◌∙◌, subst, arith}
+use Rattle.std.proofs.Common.{◌≡◌, ◌⊎◌, ◌≤◌, Bool, true, false, ℕ, suc, List, [], ◌∷◌, All, Contains, IsSome, Option, None, Some, IsTrue, length, inl, inr, refl, sym, ◌∙◌, subst, arith}
 use Rattle.std.proofs.lemmas.List.Elements.{All-nil}
 use Rattle.dealer.specs.declared.faults.DealFault.{DealFault}
+use Rattle.reference_value.specs.Dealing.{Dealing}
 use Rattle.dealer.specs.declared.faults.DealFault.TheVariants.{BadEntropy, NoMemory, SameKeys, TooHigh, TooWide}
 use Rattle.hss_levels.specs.Verdict.{IsHssVerdict}
 use Rattle.hss_levels.specs.declared.hss_key.HssKey.{HssKey}
@@ -41,6 +42,9 @@ use Rattle.tool_journals.specs.Migrate as migrate
 use Rattle.tool_journals.specs.Taking.{IsNotTaken, no_memory_to_take, take_failed}
 use Rattle.tool_sign.proofs.HssSteady.{levels-steady}
 use Rattle.tool_keys.specs.Deal.{DealEnds, IsNotDealt}
+use Rattle.tool_keys.specs.Large as large
+use Rattle.tool_keys.specs.Large.{LargeEnds, LargeRest}
+use Rattle.tool_keys.specs.Runs.{DealRunBy}
 use Rattle.tool_keys.specs.Deal as deal
 use Rattle.tool_run.specs.Drill.{DrillEnds, drilled, no_memory}
 use Rattle.tool_keys.specs.HssCheck.{HssCheckEnds}
@@ -162,6 +166,25 @@ module _ (store : StoreRun) (net : NetState) (told : IsTrue store.before.told) (
   deal-ends words _ _ e (steps.given entropy _ _ read (steps.given dealt _ _ is (steps.not_new end first))) = new-ends first.name end first.cause
   deal-ends words _ _ e (steps.given entropy _ _ read (steps.given dealt _ _ is (steps.all_new end written new writes))) =
       writes-ends dealt.0 written dealt.1 end (subst Ends (sym is.done_is) (other _ (λ is. cc) (λ is. cc) (λ is. cc))) writes
+
+  rest-ends : (words : DealWords) (d : Dealing) (done end : Ending) (written : List Output) → Ends done → LargeRest store words d done end written → Ends end
+  rest-ends words d done _ _ last (large.stopped fails is) = absurd (no_device fails)
+  rest-ends words d done _ _ last (large.no_memory is) = other _ (λ is. cc) (λ is. cc) (λ is. cc)
+  rest-ends words d done _ _ last (large.not_written end written stop is) = unwritten-ends written stop.output.name end stop.cause
+  rest-ends words d done _ _ last (large.not_opened fails is) = absurd (no_device fails)
+  rest-ends words d done _ _ last (large.dealt is) = last
+
+  large-ends : (words : DealWords) (end : Ending) (written : List Output) (touched : List (List ℕ)) → Named words.entropy → LargeEnds store words end written touched → Ends end
+  large-ends words _ _ _ e (large.not_read end fails) = upto-ends _ words.entropy end e fails
+  large-ends words _ _ _ e (large.not_dealt entropy end read fails) = undealt-ends words entropy end fails
+  large-ends words _ _ _ e (large.not_new params entropy end read set plan dealable first) = new-ends first.name end first.cause
+  large-ends words _ _ _ e (large.not_made d done end asked fails) = unwritten-ends [] _ end fails
+  large-ends words _ _ _ e (large.begun d done end written asked rest) =
+      rest-ends words d done end written (subst Ends (sym asked.done_is) (other _ (λ is. cc) (λ is. cc) (λ is. cc))) rest
+
+  run-ends : (words : DealWords) (large : Bool) (end : Ending) → Named words.entropy → DealRunBy large words store end → Ends end
+  run-ends words true end e run = large-ends words end run.written run.touched e run.cause
+  run-ends words false end e run = deal-ends words end run.written e run.cause
 
   unmade-ends : (name : List ℕ) (header : Header) (count : ℕ) (end : Ending) (touched : List (List ℕ)) → IsNotMade store name header count end touched → Ends end
   unmade-ends name header count _ _ (blanks.not_new end fails) = new-ends name end fails
@@ -321,7 +344,7 @@ module _ (before after : Outside) (told : IsTrue before.store.told) (steady : Is
   pub command-steady : (row : Row) (end : Ending) → CommandRun row before after end → Steady row end
   command-steady (Verify key message signature) end ran = of-row (Verify key message signature) end (verify-ends store before.net told steady (Verify key message signature) key message signature end ran.run.written (first key (message ∷ signature ∷ [])) (second key message (signature ∷ [])) (third key message signature []) ran.run.cause)
   command-steady (Rehearse entropy message key_out signature_out) end ran = of-row (Rehearse entropy message key_out signature_out) end (rehearse-ends store before.net told steady (Rehearse entropy message key_out signature_out) entropy message key_out signature_out end ran.run.written (first entropy (message ∷ [])) (second entropy message []) ran.run.cause)
-  command-steady (Deal words) end ran = of-row (Deal words) end (deal-ends store before.net told steady (Deal words) words end ran.run.written (first words.entropy []) ran.run.cause)
+  command-steady (Deal words) end ran = of-row (Deal words) end (run-ends store before.net told steady (Deal words) words words.large end (first words.entropy []) ran.run)
   command-steady (Enrol file journal) end ran = of-row (Enrol file journal) end (enrol-ends store before.net told steady (Enrol file journal) file journal end ran.run.touched (first file []) ran.run.cause)
   command-steady (Migrate share journal new) end ran = of-row (Migrate share journal new) end (migrate-ends store before.net told steady (Migrate share journal new) share journal new end ran.run.touched (first share (journal ∷ [])) (second share journal []) ran.run.cause)
   command-steady (Approve share book message) end ran = of-row (Approve share book message) end (approve-ends store before.net told steady (Approve share book message) share book message end ran.run.touched (first share (message ∷ book ∷ [])) (third share message book []) (second share message (book ∷ [])) ran.run.cause)

@@ -29,25 +29,25 @@ use Rattle.tool_words.specs.Words.{DealWords}
 use Rattle.tool_keys.proofs.Names.{deal_differ}
 use Rattle.tool_keys.proofs.Naming.{named_all}
 
-pub refused : (words : DealWords) (entropy : List ℕ) (params : Params) (plan : PlanNumbers) (fault : DealFault) → IsSet words params
+pub refused : (words : DealWords) (entropy : List ℕ) (params : Params) (plan : PlanNumbers) (fault : DealFault) → words.large ≡ false → IsSet words params
     → plan ≡ plan_of words params → IsPlan plan
     → ((fault ≡ NoMemory) × IsDealable false params plan entropy) ⊎ HasFault false params plan entropy fault → IsNotDealt words entropy (end_of_fault fault)
-refused words entropy params plan fault set same sound (inl none) = rw none.0 no_memory
-refused words entropy params plan fault set same sound (inr has) = faulty params fault set (rw (← same) sound) (rw (← same) has)
+refused words entropy params plan fault small set same sound (inl none) = rw none.0 no_memory
+refused words entropy params plan fault small set same sound (inr has) = faulty params fault set (rw (← same) sound) (rw (small, ← same) has)
 
 -- the end if there is no dealing with commitments
 abbrev pub end_of_committed : CommittedFault → Ending
 end_of_committed (Deal fault) = end_of_fault fault
 end_of_committed (TooLarge bytes) = ending.NotDealt (Commitments bytes)
 
-pub committed_refused : (words : DealWords) (entropy : List ℕ) (params : Params) (plan : PlanNumbers) (fault : CommittedFault) → IsTrue words.commit
+pub committed_refused : (words : DealWords) (entropy : List ℕ) (params : Params) (plan : PlanNumbers) (fault : CommittedFault) → words.large ≡ false → IsTrue words.commit
     → IsSet words params → plan ≡ plan_of words params → IsPlan plan
     → FailsCommitted params plan entropy fault → IsNotDealt words entropy (end_of_committed fault)
-committed_refused words entropy params plan _ commit set same sound (not_dealt fault has) = faulty params fault set (rw (← same) sound) (rw (← same) has)
-committed_refused words entropy params plan _ commit set same sound (FailsCommitted.too_large dealable large) =
+committed_refused words entropy params plan _ small commit set same sound (not_dealt fault has) = faulty params fault set (rw (← same) sound) (rw (small, ← same) has)
+committed_refused words entropy params plan _ less commit set same sound (FailsCommitted.too_large dealable large) =
     subst (λ p. IsNotDealt words entropy (ending.NotDealt (Commitments (commits_length params p)))) (sym same)
     (too_large params commit set (rw (← same) sound) (rw (← same) dealable) (subst (λ p. 67108864 < commits_length params p) same large))
-committed_refused words entropy params plan _ commit set same sound (FailsCommitted.no_memory dealable small) = no_memory
+committed_refused words entropy params plan _ less commit set same sound (FailsCommitted.no_memory dealable small) = no_memory
 
 pub few_shares : (d : Dealing) (files : DealingFiles) → IsPlan d.plan → AreFiles d files → length files.shares.items ≤ 12
 few_shares d files sound are =

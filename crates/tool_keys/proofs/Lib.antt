@@ -1,4 +1,7 @@
+pub mod Asking
 pub mod Dealing
+pub mod LargeTold
+pub mod OnDisk
 pub mod Names
 pub mod Naming
 pub mod Plans

@@ -1,6 +1,6 @@
 -- The names of the files of a dealing are all different.
 use Rattle.std.proofs.Common.{◌≡◌, ◌≢◌, ◌≤◌, ◌<◌, ◌+◌, ◌^◌, ℕ, zero, suc, List, [], ◌∷◌, ◌++◌, Option, None, Some}
-use Rattle.std.proofs.Common.{map, get_or, All, ap, arith, refl, sym}
+use Rattle.std.proofs.Common.{map, get_or, All, ap, arith, refl, subst, sym}
 use Rattle.std.specs.Prelude.{codes}
 use Rattle.std.specs.Fmt.{decimal}
 use Rattle.std.specs.List.{range_with_len}
@@ -9,6 +9,8 @@ use Rattle.std.proofs.lemmas.List.{append_cancel_left, map-append}
 use Rattle.std.proofs.lemmas.List.Elements.{All-append, All-cons, All-head, All-nil, All-tail}
 use Rattle.reference_value.specs.Dealing.{Dealing}
 use Rattle.tool_keys.specs.Deal.{asked_commits, commits_outputs, outputs_of, share_output}
+use Rattle.tool_keys.specs.Large.{key_outputs}
+use Rattle.tool_keys.specs.Naming.{all_names}
 use Rattle.tool_base.specs.Outputs.{AreDifferent}
 use Rattle.tool_base.proofs.Writing.{names_of}
 use Rattle.tool_words.specs.Words.{DealWords}
@@ -95,3 +97,50 @@ deal_differ words d few =
     (All-cons (λ other. public ≢ other) reference names (suffixes_differ prefix (codes ".pub") (codes ".ref") (omega arith))
     (none_rest prefix (codes ".pub") d.plan.n commits (omega arith) (omega arith))) in
     rw (rest_names prefix d commits) (from_public, (from_tree, (from_reference, rest_differ prefix d.plan.n commits few)))
+
+-- those of the files besides the reference
+pub key_differ : (prefix : List ℕ) (d : Dealing) → d.plan.n ≤ 12 → AreDifferent (map (λ output. output.name) (key_outputs prefix d))
+key_differ prefix d few =
+    let names = map (share_name prefix) (range_with_len 1 d.plan.n) in
+    let tree = prefix ++ codes ".tree" in
+    let public = prefix ++ codes ".pub" in
+    let none = λ (suffix : List ℕ) (share : get_or suffix 1 0 ≢ 115). all_range (λ name. prefix ++ suffix ≢ name) (share_name prefix) 1 d.plan.n (λ t _ _. no_share prefix suffix t share) in
+    rw (names_of (share_output prefix d) (range_with_len 1 d.plan.n)) (
+      All-cons (λ other. public ≢ other) tree names (suffixes_differ prefix (codes ".pub") (codes ".tree") (omega arith)) (none (codes ".pub") (omega arith)),
+      (none (codes ".tree") (omega arith), shares_differ prefix 1 d.plan.n (omega arith)),
+    )
+
+key_names : (prefix : List ℕ) (d : Dealing) → map (λ output. output.name) (key_outputs prefix d)
+    ≡ (prefix ++ codes ".pub") ∷ (prefix ++ codes ".tree") ∷ map (share_name prefix) (range_with_len 1 d.plan.n)
+key_names prefix d = ap (λ rest. (prefix ++ codes ".pub") ∷ (prefix ++ codes ".tree") ∷ rest) (names_of (share_output prefix d) (range_with_len 1 d.plan.n))
+
+-- none of them is the reference's
+pub key_others : (prefix : List ℕ) (d : Dealing) → All (λ other. other ≢ prefix ++ codes ".ref") (map (λ output. output.name) (key_outputs prefix d))
+key_others prefix d =
+    let names = map (share_name prefix) (range_with_len 1 d.plan.n) in
+    let reference = prefix ++ codes ".ref" in
+    subst (All (λ other. other ≢ reference)) (sym (key_names prefix d))
+    (All-cons (λ other. other ≢ reference) (prefix ++ codes ".pub") ((prefix ++ codes ".tree") ∷ names) (suffixes_differ prefix (codes ".pub") (codes ".ref") (omega arith))
+    (All-cons (λ other. other ≢ reference) (prefix ++ codes ".tree") names (suffixes_differ prefix (codes ".tree") (codes ".ref") (omega arith))
+    (all_range (λ other. other ≢ reference) (share_name prefix) 1 d.plan.n (λ t _ _ same. no_share prefix (codes ".ref") t (omega arith) (sym same)))))
+
+-- what holds of all names of a dealing holds of those of the files besides the reference
+pub key_among : (P : List ℕ → Type 0) (prefix : List ℕ) (d : Dealing) → All P (all_names prefix d.plan.n) → All P (map (λ output. output.name) (key_outputs prefix d))
+key_among P prefix d all =
+    let public = prefix ++ codes ".pub" in
+    let tree = prefix ++ codes ".tree" in
+    let reference = prefix ++ codes ".ref" in
+    let names = map (share_name prefix) (range_with_len 1 d.plan.n) in
+    let behind = All-tail P public (tree ∷ reference ∷ names) all in
+    subst (All P) (sym (key_names prefix d))
+    (All-cons P public (tree ∷ names) (All-head P public (tree ∷ reference ∷ names) all)
+    (All-cons P tree names (All-head P tree (reference ∷ names) behind) (All-tail P reference names (All-tail P tree (reference ∷ names) behind))))
+
+-- the reference is among all names
+pub reference_among : (P : List ℕ → Type 0) (prefix : List ℕ) (n : ℕ) → All P (all_names prefix n) → P (prefix ++ codes ".ref")
+reference_among P prefix n all =
+    let public = prefix ++ codes ".pub" in
+    let tree = prefix ++ codes ".tree" in
+    let reference = prefix ++ codes ".ref" in
+    let names = map (share_name prefix) (range_with_len 1 n) in
+    All-head P reference names (All-tail P tree (reference ∷ names) (All-tail P public (tree ∷ reference ∷ names) all))

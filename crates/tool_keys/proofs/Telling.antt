@@ -1,5 +1,5 @@
 -- What is told of a dealing, by how it ends.
-use Rattle.std.proofs.Common.{◌≡◌, ◌≢◌, ◌⊎◌, ℕ, List, sym, ap, ◌∙◌, inl, inr}
+use Rattle.std.proofs.Common.{◌≡◌, ◌≢◌, ◌⊎◌, false, ℕ, List, sym, ap, ◌∙◌, inl, inr}
 use Rattle.dealer.specs.Told.{told_of}
 use Rattle.dealer.specs.declared.faults.DealFault.{DealFault}
 use Rattle.dealer.specs.declared.faults.DealFault.TheVariants.{TooHigh, TooWide, BadEntropy, SameKeys, NoMemory}
@@ -23,7 +23,7 @@ unread-status limit store name _ (reads.failed _) = λ e. cc
 unread-status limit store name _ (reads.too_long got _) = λ e. cc
 unread-status limit store name _ reads.no_memory = λ e. cc
 
-fault-status : (fault : DealFault) → status_of (end_of_fault fault) ≢ 0
+pub fault-status : (fault : DealFault) → status_of (end_of_fault fault) ≢ 0
 fault-status (TooHigh h) = λ e. cc
 fault-status TooWide = λ e. cc
 fault-status (BadEntropy got want) = λ e. cc
@@ -62,13 +62,13 @@ pub dealt-status : (words : DealWords) (entropy : List ℕ) (outputs : List Outp
 dealt-status words entropy outputs done dealt = λ (e : status_of done ≡ 5). let is : ◌≡◌ {A = ℕ} 0 5 = sym (ap status_of dealt.done_is) ∙ e in cc
 
 -- memory ran out after all leaves
-pub no_memory-all : {P : Type 0} (told : P → ℕ → ℕ → P) (words : DealWords) (params : Params) (old new : P) → IsSet words params
+pub no_memory-all : {P : Type 0} (told : P → ℕ → ℕ → P) (words : DealWords) (params : Params) (old new : P) → words.large ≡ false → IsSet words params
     → new ≡ told_of told params.h old → ToldBy told words 14 old new
-no_memory-all told words params old new set all = all_told (λ e. cc) (record { params = params; set = set; all = all })
+no_memory-all told words params old new small set all = all_told (λ e. cc) (record { params = params; set = set; all = rw small all })
 
 -- what a dealing told that was refused, or that ran out of memory
-pub refused-told : {P : Type 0} (told : P → ℕ → ℕ → P) (words : DealWords) (params : Params) (entropy : List ℕ) (end : Ending) (old new : P) → IsSet words params
+pub refused-told : {P : Type 0} (told : P → ℕ → ℕ → P) (words : DealWords) (params : Params) (entropy : List ℕ) (end : Ending) (old new : P) → words.large ≡ false → IsSet words params
     → IsNotDealt words entropy end → (new ≡ old) ⊎ ((end ≡ ending.NoMemory) × (new ≡ told_of told params.h old)) → ToldBy told words (status_of end) old new
-refused-told told words params entropy end old new set refused (inl nothing) = nothing_told (undealt-status words entropy end refused) nothing
-refused-told told words params entropy end old new set refused (inr all) =
-    rw all.0 (no_memory-all told words params old new set all.1)
+refused-told told words params entropy end old new small set refused (inl nothing) = nothing_told (undealt-status words entropy end refused) nothing
+refused-told told words params entropy end old new small set refused (inr all) =
+    rw all.0 (no_memory-all told words params old new small set all.1)

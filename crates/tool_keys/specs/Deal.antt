@@ -94,7 +94,8 @@ pub data IsNotDealt (words : DealWords) (entropy : List ℕ) : Ending → Type 0
       → 2 ^ params.h < length (coalitions words.n words.k)
       → IsNotDealt words entropy (ending.NotDealt (Coalitions (length (coalitions words.n words.k))))
   faulty : (params : Params) (fault : DealFault) → IsSet words params → IsPlan (plan_of words params)
-      → HasFault false params (plan_of words params) entropy fault → IsNotDealt words entropy (end_of_fault fault)
+      → HasFault words.large params (plan_of words params) entropy fault
+      → IsNotDealt words entropy (end_of_fault fault)
   too_large : (params : Params) → IsTrue words.commit → IsSet words params → IsPlan (plan_of words params)
       → IsDealable false params (plan_of words params) entropy → 67108864 < commits_length params (plan_of words params)
       → IsNotDealt words entropy (ending.NotDealt (Commitments (commits_length params (plan_of words params))))

@@ -1,7 +1,9 @@
 pub mod Deal
 pub mod HssCheck
+pub mod Large
 pub mod Naming
 pub mod Rehearse
+pub mod Runs
 pub mod Steps
 pub mod Told
 pub mod Undealt

@@ -1,6 +1,7 @@
 -- The files of a dealing with their names.
 use Rattle.std.specs.Prelude.{ℕ, ◌+◌, List, [], ◌∷◌, ◌++◌, Option, codes, map}
 use Rattle.std.specs.Fmt.{decimal}
+use Rattle.std.specs.List.{range_with_len}
 use Rattle.dealer.specs.declared.files.DealingFiles.{DealingFiles}
 use Rattle.stream_io.specs.declared.store.Readers.TheVariants.{Anyone, OwnerAlone}
 use Rattle.tool_base.specs.Outputs.{Output}
@@ -21,3 +22,8 @@ named_files prefix files commits =
     ∷ record { name = tree_name prefix; bytes = files.tree.items; readers = Anyone }
     ∷ record { name = reference_name prefix; bytes = files.reference.items; readers = Anyone }
     ∷ (named_shares prefix 1 (map (λ share. share.items) files.shares.items) ++ commits_outputs prefix commits)
+
+-- the names of the files of a dealing to n trustees without commitments, in the order in which they are tested
+abbrev pub all_names : List ℕ → ℕ → List (List ℕ)
+all_names prefix n = key_name prefix ∷ tree_name prefix ∷ reference_name prefix
+    ∷ map (λ t. prefix ++ (codes ".share" ++ decimal t)) (range_with_len 1 n)

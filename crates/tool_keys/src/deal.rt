@@ -1,24 +1,26 @@
 //! The command `deal`.
 
-ghost use Rattle.std.specs.Prelude.{◌≡◌, ◌<◌, ◌≤◌, [], ◌∷◌, ◌++◌, List, ℕ, length, map, min, option_map};
-ghost use Rattle.std.specs.Prelude.{IfOk, IfErr, OnOk};
+ghost use Rattle.std.specs.Prelude.{◌≡◌, ◌<◌, ◌≤◌, ◌⊎◌, [], ◌∷◌, ◌++◌, List, ℕ, All, length, map, min, option_map};
+ghost use Rattle.std.specs.Prelude.{false, IfOk, IfErr, OnOk};
 ghost use Rattle.coalition_map.specs.Coalitions.{IsPlan};
 ghost use Rattle.dealer.specs.Dealt.{IsDealt};
 ghost use Rattle.dealer.specs.Entropy.{dealing_of};
 ghost use Rattle.dealer.specs.Told.{TellsLeaves};
 ghost use Rattle.stream_io.specs.declared.store.Readers.TheVariants.{Anyone};
 ghost use Rattle.tool_base.specs.Ending as spec;
-ghost use Rattle.tool_keys.specs.Naming.{named_files, named_shares};
+ghost use Rattle.tool_keys.specs.Naming.{all_names, named_files, named_shares};
 ghost use Rattle.tool_keys.specs.Deal.{AreAsked, DealEnds, IsDealableBy, IsDealtTo, IsNotDealt, IsReady, IsSet};
+ghost use Rattle.tool_keys.specs.Runs.{DealRun};
 ghost use Rattle.tool_keys.specs.Deal.{asked_commits, commits_outputs, plan_of};
 ghost use Rattle.tool_keys.specs.Told.{TellsBy, ToldBy};
 ghost use Rattle.tool_base.specs.Ending.{status_of};
 ghost use Rattle.tool_base.specs.Endings.{ending};
 ghost use Rattle.tool_base.specs.OutputOf.{output_of};
-ghost use Rattle.tool_base.specs.Outputs.{EndsWith};
+ghost use Rattle.tool_base.specs.Outputs.{EndsWith, FirstNotNew, IsNew};
 ghost use Rattle.tool_words.specs.Rows.{deal_words};
 ghost use Rattle.tool_base.specs.World.{InAnyRun, IsBack, IsUnchanged, from_to};
 
+use crate::large::deal_large;
 use crate::undealt::end_of_fault;
 use coalition_map::{Plan, PlanFault};
 use dealer::{CommittedFault, DealingFiles, Dealt, deal_beside, deal_committed_beside};
@@ -30,7 +32,7 @@ use tool_base::{Ending, FILE_LIMIT, Output, Undealt, read_file, test_all_new, wr
 use tool_words::DealWords;
 
 /// Deals a key, and writes its files. The leaves are built by several threads, and `progress` is told how many are
-/// built.
+/// built. Only if the words say `large`, a large set is dealt, and its reference never stands in memory whole.
 pub fn deal_files<R: Threads + Sync, P: Progress, S: Store>(
     rt: &R,
     progress: &mut P,
@@ -38,6 +40,27 @@ pub fn deal_files<R: Threads + Sync, P: Progress, S: Store>(
     store: &mut S,
     words: &DealWords,
 ) -> Ending
+    ensures ended { let run = from_to (S.state store.old) (S.state store.new) in
+        DealRun (deal_words words.now) run (ending result) }
+    ensures back { IsBack (S.state store.old) (S.state store.new) }
+    ensures told { ToldBy P.told (deal_words words.now) (status_of (ending result)) progress.old progress.new }
+{
+    if words.large {
+        deal_large(rt, progress, alloc, store, words)
+    } else {
+        deal_small(rt, progress, alloc, store, words)
+    }
+}
+
+/// Deals a key of a small set, and writes its files once they are all made.
+fn deal_small<R: Threads + Sync, P: Progress, S: Store>(
+    rt: &R,
+    progress: &mut P,
+    alloc: Global,
+    store: &mut S,
+    words: &DealWords,
+) -> Ending
+    requires small { words.now.large ≡ false }
     ensures ended { let run = from_to (S.state store.old) (S.state store.new) in
         EndsWith (DealEnds run (deal_words words.now)) run (ending result) }
     ensures back { IsBack (S.state store.old) (S.state store.new) }
@@ -61,6 +84,7 @@ fn new_outputs<R: Threads + Sync, P: Progress, S: Store>(
     store: &mut S,
     words: &DealWords,
 ) -> Result<(Vec<Output>, Ending), Ending>
+    requires small { words.now.large ≡ false }
     ensures ready { InAnyRun S.state store.old store.new (λ run. IfOk result (λ dealt.
         IsReady run (deal_words words.now) (map output_of dealt.0.items) (ending dealt.1))) }
     ensures refused { InAnyRun S.state store.old store.new (λ run.
@@ -82,6 +106,7 @@ fn dealt_outputs<R: Threads + Sync, P: Progress>(
     words: &DealWords,
     entropy: &[u8],
 ) -> Result<(Vec<Output>, Ending), Ending>
+    requires small { words.now.large ≡ false }
     ensures dealt { IfOk result (λ dealt.
         IsDealtTo (deal_words words.now) entropy.now (map output_of dealt.0.items) (ending dealt.1)) }
     ensures refused { IfErr result (λ end. IsNotDealt (deal_words words.now) entropy.now (ending end)) }
@@ -113,7 +138,8 @@ fn deal_as_asked<R: Threads + Sync, P: Progress>(
     plan: &Plan,
     entropy: &[u8],
 ) -> Result<(Dealt, Option<Vec<u8>>), Ending>
-    requires { AreAsked (deal_words words.now) params.now plan.now }
+    requires small { words.now.large ≡ false }
+    requires asked { AreAsked (deal_words words.now) params.now plan.now }
     ensures dealing { IfOk result (λ both. IsDealt (dealing_of params.now plan.now entropy.now) both.0) }
     ensures commits { IfOk result (λ both. option_map (λ file. file.items) both.1
         ≡ asked_commits words.now.commit (dealing_of params.now plan.now entropy.now)) }
@@ -159,8 +185,46 @@ fn named_outputs(
     Ok(outputs)
 }
 
+/// Tests that none of the names of a dealing to `n` trustees is in the store, in their order.
+pub(crate) fn test_names<S: Store>(
+    alloc: Global,
+    store: &mut S,
+    prefix: &str,
+    n: u8,
+) -> Result<(), Ending>
+    requires { n ≤ 12 }
+    ensures new { InAnyRun S.state store.old store.new (λ run. OnOk result (All (IsNew run) (all_names prefix.now n))) }
+    ensures refused { InAnyRun S.state store.old store.new (λ run.
+        IfErr result (λ end. (ending end ≡ spec.NoMemory) ⊎ FirstNotNew run (all_names prefix.now n) (ending end))) }
+    ensures unchanged { IsUnchanged (S.state store.old) (S.state store.new) }
+{
+    let Ok(outputs) = blank_outputs(alloc, prefix, n) else {
+        return Err(Ending::NoMemory);
+    };
+    test_all_new(alloc, store, &outputs)
+}
+
+/// Outputs with the names of a dealing to `n` trustees, and nothing in them.
+fn blank_outputs(alloc: Global, prefix: &str, n: u8) -> Result<Vec<Output>, AllocError>
+    requires { n ≤ 12 }
+    ensures { IfOk result (λ outputs.
+        map (λ output. output.name) (map output_of outputs.items) ≡ all_names prefix.now n) }
+{
+    let mut shares = Vec::new(alloc);
+    'shares: for _ in 0..n {
+        shares.push(Vec::new(alloc))?;
+    }
+    let files = DealingFiles {
+        public: Vec::new(alloc),
+        tree: Vec::new(alloc),
+        reference: Vec::new(alloc),
+        shares,
+    };
+    named_outputs(alloc, prefix, files, None)
+}
+
 /// Adds a file that anyone may read, under the prefix with an ending after it.
-fn push_file(
+pub(crate) fn push_file(
     alloc: Global,
     prefix: &str,
     end: &str,
@@ -179,7 +243,7 @@ fn push_file(
 }
 
 /// Adds the shares with their names, that of trustee 1 first. A share is its trustee's secret.
-fn push_shares(
+pub(crate) fn push_shares(
     alloc: Global,
     prefix: &str,
     shares: Vec<Vec<u8>>,
@@ -218,7 +282,7 @@ fn push_commits(
 }
 
 /// The parameter set of the words.
-fn set_of(words: &DealWords) -> Result<Params, Ending>
+pub(crate) fn set_of(words: &DealWords) -> Result<Params, Ending>
     ensures set { IfOk result (IsSet (deal_words words.now)) }
     ensures refused { IfErr result (λ end. (entropy : List ℕ)
         → IsNotDealt (deal_words words.now) entropy (ending end)) }
@@ -230,7 +294,7 @@ fn set_of(words: &DealWords) -> Result<Params, Ending>
 }
 
 /// The plan of the words.
-fn plan_of(words: &DealWords, params: &Params) -> Result<Plan, Ending>
+pub(crate) fn plan_of(words: &DealWords, params: &Params) -> Result<Plan, Ending>
     requires set { IsSet (deal_words words.now) params.now }
     ensures plan { IfOk result (λ plan. plan ≡ plan_of (deal_words words.now) params.now) }
     ensures sound { IfOk result IsPlan }

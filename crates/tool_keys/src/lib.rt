@@ -3,6 +3,7 @@
 
 mod deal;
 mod hss_check;
+mod large;
 mod reading;
 mod rehearse;
 mod undealt;

@@ -4,7 +4,7 @@ use Rattle.std.proofs.Common.{◌≡◌, ◌≢◌, ◌==◌, ◌⊎◌, ℕ, ze
 use Rattle.std.proofs.lemmas.Bool.Decides.{nat_tests}
 use Rattle.tool_base.specs.Ending.{Ending, status_of}
 use Rattle.tool_base.specs.World.{OutputRun}
-use Rattle.tool_keys.specs.Told.{all_told, nothing_told}
+use Rattle.tool_keys.specs.Told.{all_told, nothing_told, some_told}
 use Rattle.tool_run.specs.Told.{WordsTell}
 use Rattle.tool_run.specs.ToolRun.{EndsSo}
 use Rattle.tool_words.specs.Rows.{row}
@@ -46,6 +46,23 @@ end-status run end status n so is whole enough =
     let shown : status_of so.shown ≡ n = shown-status (status_of so.shown) status n (elim so.answered [ inl a ↦ inl a.1 | inr a ↦ inr a.1 ]) is whole in
     elim so.is [ inl none ↦ absurd (enough (sym shown ∙ ap status_of none)) | inr same ↦ ap status_of (sym same) ∙ shown ]
 
+-- at status 10 or 14 of an end, the status that is answered is one of them too
+cut-status : (shown status n : ℕ) → (status ≡ shown) ⊎ (status ≡ (if shown == 0 then 3 else shown)) → shown ≡ suc n → status ≡ suc n
+cut-status shown status n (inl whole) is = whole ∙ is
+cut-status zero status n (inr cut) is = absurd (cc)
+cut-status (suc shown) status n (inr cut) is = grind (arith, nat_tests)
+
+shown-as : (run : OutputRun) (end : Ending) (status n : ℕ) (so : EndsSo run end status) → status_of so.shown ≡ suc n → status ≡ suc n
+shown-as run end status n so is = cut-status (status_of so.shown) status n (elim so.answered [ inl a ↦ inl a.1 | inr a ↦ inr a.1 ]) is
+
+failed-status : (run : OutputRun) (end : Ending) (status : ℕ) → EndsSo run end status → status_of end ≡ 10 → (status ≡ 10) ⊎ (status ≡ 14)
+failed-status run end status so is = elim so.is
+    [ inl none ↦ inr (shown-as run end status 13 so (ap status_of none)) | inr same ↦ inl (shown-as run end status 9 so (ap status_of same ∙ is)) ]
+
+lost-status : (run : OutputRun) (end : Ending) (status : ℕ) → EndsSo run end status → status_of end ≡ 14 → status ≡ 14
+lost-status run end status so is = elim so.is
+    [ inl none ↦ shown-as run end status 13 so (ap status_of none) | inr same ↦ shown-as run end status 13 so (ap status_of same ∙ is) ]
+
 -- what words tell at the status of their end, they also tell at the status that is answered
 pub tells-answered : {P : Type 0} (told : P → ℕ → ℕ → P) (row : Option Row) (run : OutputRun) (end : Ending) (status : ℕ) (old new : P) → EndsSo run end status
     → WordsTell told row (status_of end) old new → WordsTell told row status old new
@@ -53,6 +70,8 @@ tells-answered told (Some (words.Deal deal)) run end status old new so (nothing_
     nothing_told (λ is. some (end-status run end status 0 so is (λ e. cc) (λ e. cc))) same
 tells-answered told (Some (words.Deal deal)) run end status old new so (all_told some all) =
     all_told (λ is. some (end-status run end status 5 so is (λ e. cc) (λ e. cc))) all
+tells-answered told (Some (words.Deal deal)) run end status old new so (some_told when some) =
+    some_told (elim when [ inl device ↦ failed-status run end status so device | inr none ↦ inr (lost-status run end status so none) ]) some
 tells-answered told None run end status old new so same = same
 tells-answered told (Some (words.Verify a b c)) run end status old new so same = same
 tells-answered told (Some (words.Rehearse a b c d)) run end status old new so same = same

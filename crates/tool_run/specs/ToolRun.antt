@@ -4,7 +4,7 @@ use Rattle.std.specs.Prelude.{if◌then◌else◌}
 use Rattle.disk_trait.specs.Faults.{Rose}
 use Rattle.stream_io.specs.Talk.{WrotePart}
 use Rattle.tool_base.specs.Ending.{Ending, Usage, NoMemory, status_of, line_of}
-use Rattle.tool_keys.specs.Deal.{DealEnds}
+use Rattle.tool_keys.specs.Runs.{DealRun}
 use Rattle.tool_base.specs.Outputs.{EndsWith}
 use Rattle.tool_base.specs.Touched.{EndsTouching}
 use Rattle.tool_blame.specs.Blame.{BlameRun}
@@ -58,7 +58,7 @@ CommandRun (Verify key message signature) =
     OnStore (λ store. EndsWith (VerifyEnds store key message signature) store)
 CommandRun (Rehearse entropy message key_out signature_out) =
     OnStore (λ store. EndsWith (RehearseEnds store entropy message key_out signature_out) store)
-CommandRun (Deal words) = OnStore (λ store. EndsWith (DealEnds store words) store)
+CommandRun (Deal words) = OnStore (DealRun words)
 CommandRun (Enrol file journal) = OnStore (λ store. EndsTouching (EnrolEnds store file journal) store)
 CommandRun (Migrate share journal new) = OnStore (λ store. EndsTouching (MigrateEnds store share journal new) store)
 CommandRun (Approve share book message) = OnStore (λ store. EndsTouching (ApproveEnds store share book message) store)

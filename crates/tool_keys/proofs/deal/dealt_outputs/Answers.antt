@@ -39,13 +39,13 @@ returns-in_err-plan-clause-told g c =
 pub returns-in_err-dealt-clause-told : goal.returns-in_err-dealt-clause-told
 returns-in_err-dealt-clause-told g c =
     let p = err_from_is_err_and c.from_residual-in_err-dealt.result c.from_residual-in_err-dealt.ensures.1 in
-    rw (p.1, p.2) (refused-told _ _ c.in_ok-params.params _ _ _ _ c.in_ok-params.ensures.set c.in_err-dealt.ensures.refused c.in_err-dealt.ensures.told)
+    rw (p.1, p.2) (refused-told _ _ c.in_ok-params.params _ _ _ _ c.requires.small c.in_ok-params.ensures.set c.in_err-dealt.ensures.refused c.in_err-dealt.ensures.told)
 
 pub returns-in_default-clause-told : goal.returns-in_default-clause-told
-returns-in_default-clause-told g c = no_memory-all _ _ c.in_ok-params.params _ _ c.in_ok-params.ensures.set c.in_ok-dealt.ensures.told
+returns-in_default-clause-told g c = no_memory-all _ _ c.in_ok-params.params _ _ c.requires.small c.in_ok-params.ensures.set c.in_ok-dealt.ensures.told
 
 pub returns-in_default-named_outputs-clause-told : goal.returns-in_default-named_outputs-clause-told
-returns-in_default-named_outputs-clause-told g c = no_memory-all _ _ c.in_ok-params.params _ _ c.in_ok-params.ensures.set c.in_ok-dealt.ensures.told
+returns-in_default-named_outputs-clause-told g c = no_memory-all _ _ c.in_ok-params.params _ _ c.requires.small c.in_ok-params.ensures.set c.in_ok-dealt.ensures.told
 
 pub returns-clause-told : goal.returns-clause-told
-returns-clause-told g c = record { params = c.in_ok-params.params; set = c.in_ok-params.ensures.set; all = c.in_ok-dealt.ensures.told }
+returns-clause-told g c = record { params = c.in_ok-params.params; set = c.in_ok-params.ensures.set; all = rw c.requires.small c.in_ok-dealt.ensures.told }
